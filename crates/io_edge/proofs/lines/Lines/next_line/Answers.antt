@@ -1,0 +1,28 @@
+use Rattle.std.proofs.Common.{rules, ◌≡◌, ◌≤◌, ◌+◌, ◌-◌, ◌++◌, ap, refl, sym, ◌∙◌, arith}
+use Rattle.io_edge.specs.Lines.{GivesStop}
+use Rattle.io_edge.proofs.lines.Lines.next_line.Goals as goal
+
+pub returns-in-Err : goal.returns-in-Err
+returns-in-Err g c =
+    rw (← c.self.view_is) (
+      (
+        refl,
+        λ _. tt,
+        record {
+          number = refl;
+          stop = refl;
+          within = (let held = c.advance.ensures.within in let fits = c.self.invariant in omega (arith, held, fits.0));
+          passed = refl;
+          kept = c.in-Err.ensures.kept;
+          clear = λ _. c.in-Err.ensures.clear;
+        },
+      ),
+      record {
+        number = tt;
+        text = tt;
+        after_borrow = tt;
+        stop = λ told _. c.in-Err.ensures.stop told;
+        cause = λ _. c.in-Err.ensures.cause;
+        again = rw c.in_default.is tt;
+      },
+    )

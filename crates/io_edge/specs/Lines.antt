@@ -1,0 +1,106 @@
+-- The lines of an input of which only so many bytes are taken.
+-- `lines` of `Rattle.std.specs.Str.Lines` says which lines a text has: it is cut at each newline, one carriage return
+-- before a newline is dropped, and a last piece that is not empty counts.
+use Rattle.std.specs.Prelude.{◌≡◌, ◌≢◌, ◌⊎◌, ℕ, ◌+◌, ◌-◌, ◌<◌, ◌≤◌, List, [], ◌∷◌, ◌++◌, length, Option, None, Some, Result, Ok, Err, MatchResult, All}
+use Rattle.std.specs.Str.Lines.{strip_carriage_return}
+use Rattle.io_edge.specs.Faults.{Rose}
+use Rattle.io_edge.specs.declared.line.TheConstants.{INPUT_LIMIT, LINE_LIMIT}
+use Rattle.io_edge.specs.declared.line.Line.{Line}
+use Rattle.io_edge.specs.declared.line.LineStop.{LineStop}
+use Rattle.io_edge.specs.declared.line.LineStop.TheVariants.{End, ReadFailed, TooLong, InputTooLong}
+
+abbrev pub NoNewline : List ℕ → Type 0
+NoNewline bytes = All (λ b. b ≢ 10) bytes
+
+-- How far the reading has come: the lines given, the bytes before those held, the bytes taken and not given yet,
+-- and the stop, if one has come.
+pub record Reading : Type 0 where
+  pub number : ℕ
+  pub passed : ℕ
+  pub held : List ℕ
+  pub stop : Option LineStop
+
+-- what stands ahead of a reading: what it holds, and then what its source has left
+abbrev pub ahead : Reading → List ℕ → List ℕ
+ahead reading left = reading.held ++ left
+
+-- how many of the bytes ahead may be taken
+abbrev pub room : Reading → ℕ
+room reading = INPUT_LIMIT - reading.passed
+
+-- a line with its newline, within the room
+pub record IsWhole (room : ℕ) (ahead text after : List ℕ) : Type 0 where
+  pub piece : List ℕ
+  pub no_newline : NoNewline piece
+  pub is : ahead ≡ piece ++ 10 ∷ after
+  pub within : length piece < room
+  pub stripped : text ≡ strip_carriage_return piece
+
+-- the last line of the input, with no newline: it keeps a carriage return
+pub record IsLast (room : ℕ) (ahead text after : List ℕ) : Type 0 where
+  pub no_newline : NoNewline ahead
+  pub some : 0 < length ahead
+  pub within : length ahead < room
+  pub is : text ≡ ahead
+  pub nothing : after ≡ []
+
+-- the next line is text, and after follows it
+abbrev pub IsLine : ℕ → List ℕ → List ℕ → List ℕ → Type 0
+IsLine room ahead text after = IsWhole room ahead text after ⊎ IsLast room ahead text after
+
+-- the room ends before the next line does: of that line it holds text
+pub record IsCut (room : ℕ) (ahead text : List ℕ) : Type 0 where
+  pub piece : List ℕ
+  pub rest : List ℕ
+  pub no_newline : NoNewline piece
+  pub is : ahead ≡ piece ++ rest
+  pub full : length piece ≡ room
+  pub stripped : text ≡ strip_carriage_return piece
+
+-- the next line, as it would be given
+abbrev pub IsNextText : ℕ → List ℕ → List ℕ → Type 0
+IsNextText room ahead text = ((after : List ℕ) × IsLine room ahead text after) ⊎ IsCut room ahead text
+
+-- What holds of the bytes ahead where no line is given, and the next one would have this number.
+abbrev pub Stops : ℕ → ℕ → List ℕ → LineStop → Type 0
+Stops room number ahead End = (ahead ≡ []) × (0 < room)
+Stops room number ahead (TooLong n) = (n ≡ number) × ((text : List ℕ) × IsNextText room ahead text × (LINE_LIMIT < length text))
+Stops room number ahead InputTooLong = (text : List ℕ) × IsCut room ahead text × (length text ≤ LINE_LIMIT)
+Stops room number ahead ReadFailed = Unit {0}
+
+-- the source's count of faults has risen where its read was refused, and stands still at each other stop
+abbrev pub StopCause : ℕ → ℕ → LineStop → Type 0
+StopCause before now ReadFailed = (before ≤ now) × Rose before now
+StopCause before now End = now ≡ before
+StopCause before now (TooLong n) = now ≡ before
+StopCause before now InputTooLong = now ≡ before
+
+-- the same of a line or a stop
+abbrev pub LineCause : {T : Type 0} → ℕ → ℕ → Result T LineStop → Type 0
+LineCause before now result = MatchResult result (λ _. now ≡ before) (StopCause before now)
+
+-- no more is taken than may be taken
+abbrev pub IsWithin : Reading → Type 0
+IsWithin reading = reading.passed + length reading.held ≤ INPUT_LIMIT
+
+-- The reading after a line is given.
+pub record GivesLine (tells : Type 0) (old new : Reading) (left left' : List ℕ) (given : Line) : Type 0 where
+  pub number : new.number ≡ given.number
+  pub stop : new.stop ≡ None
+  pub within : IsWithin new
+  pub line : tells → IsLine (room old) (ahead old left) given.text.now (ahead new left')
+  pub passed : tells → new.passed + length (ahead new left') ≡ old.passed + length (ahead old left)
+
+-- The reading after a stop: no byte is lost.
+pub record GivesStop (tells : Type 0) (old new : Reading) (left left' : List ℕ) (cause : LineStop) : Type 0 where
+  pub number : new.number ≡ old.number
+  pub stop : new.stop ≡ Some cause
+  pub within : IsWithin new
+  pub passed : new.passed ≡ old.passed
+  pub kept : tells → ahead new left' ≡ ahead old left
+  -- A read is refused only where no whole line is held.
+  pub clear : old.stop ≡ None → cause ≡ ReadFailed → NoNewline new.held
+
+abbrev pub Gives : Type 0 → Reading → Reading → List ℕ → List ℕ → Result Line LineStop → Type 0
+Gives tells old new left left' (Ok line) = GivesLine tells old new left left' line
+Gives tells old new left left' (Err stop) = GivesStop tells old new left left' stop

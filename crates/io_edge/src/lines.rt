@@ -1,0 +1,109 @@
+//! Lines of a source, one at a time.
+
+ghost use Rattle.std.specs.Prelude.{◌≡◌, ◌≢◌, ◌<◌, ◌≤◌, ◌+◌, ◌-◌, ◌++◌, List, [], ℕ, length, None, Some, Err, IfOk, IfErr, IfSome, OnOk, OnErr};
+ghost use Rattle.std.specs.Borrow.{sem};
+ghost use Rattle.std.specs.Io.BufRead.{Rests};
+ghost use Rattle.io_edge.specs.Ahead.{Finds};
+ghost use Rattle.io_edge.specs.Lines.{Reading, NoNewline, IsLine, IsWithin, Stops, LineCause, Gives, ahead, room};
+ghost use Rattle.io_edge.specs.declared.line.TheConstants.{INPUT_LIMIT};
+
+use crate::ahead::{Ahead, look_ahead};
+use crate::buffer::Buffer;
+use crate::cut::{cut_last, cut_whole, stop_at_limit};
+use crate::line::{INPUT_LIMIT, LINE_LIMIT, Line, LineStop};
+use crate::source::Source;
+use std::marker::Model;
+
+/// The lines of one input. It holds the bytes that were taken and not given yet.
+#[derive(Drop)]
+pub struct Lines {
+    buffer: Buffer,
+    number: u32,
+    passed: usize,
+    stop: Option<LineStop>,
+}
+
+impl Model for Lines {
+    ghost Value = { Reading };
+
+    ghost view = { λ l. record { number = l.number; passed = l.passed; held = l.buffer.held; stop = l.stop } };
+
+    ghost invariant = { λ l. (l.passed + length l.buffer.held ≤ INPUT_LIMIT) × (l.number ≤ l.passed) };
+}
+
+// Cuts off the next line, and answers how many bytes it took with its end.
+fn advance<S: Source>(
+    buffer: &mut Buffer,
+    source: &mut S,
+    room: usize,
+    number: u32,
+) -> Result<usize, LineStop>
+    requires within { length buffer.old.held ≤ room }
+    ensures line { S.tells → OnOk result (IsLine room (buffer.old.held ++ S.left source.old) buffer.new.text (buffer.new.held ++ S.left source.new)) }
+    ensures text { OnOk result (length buffer.new.text ≤ LINE_LIMIT) }
+    ensures within { length buffer.new.held ≤ room }
+    ensures count { IfOk result (λ n. (0 < n) × (n + length buffer.new.held ≤ room)
+        × (S.tells → n + length (buffer.new.held ++ S.left source.new) ≡ length (buffer.old.held ++ S.left source.old))) }
+    ensures stop { S.tells → IfErr result (Stops room number (buffer.old.held ++ S.left source.old)) }
+    ensures clear { IfErr result (λ stop. stop ≡ LineStop.ReadFailed → NoNewline buffer.new.held) }
+    ensures cause { LineCause (S.faults source.old) (S.faults source.new) result }
+    ensures kept { S.tells → OnErr result (buffer.new.held ++ S.left source.new ≡ buffer.old.held ++ S.left source.old) }
+{
+    match look_ahead(buffer, source, room) {
+        Ok(Ahead::Newline(at)) => cut_whole(buffer, at, room, number),
+        Ok(Ahead::Long) => Err(LineStop::TooLong(number)),
+        Ok(Ahead::Last) => cut_last(buffer, room, number),
+        Ok(Ahead::Limit) => Err(stop_at_limit(buffer.held(), room, number)),
+        Err(_) => Err(LineStop::ReadFailed),
+    }
+}
+
+impl Lines {
+    ghost use Rattle.io_edge.specs.contracts.lines.Lines.{the_row};
+
+    /// The lines of an input of which nothing was taken yet.
+    pub fn new() -> Lines
+        ensures { result ≡ record { number = 0; passed = 0; held = []; stop = None } }
+    {
+        Lines {
+            buffer: Buffer::new(),
+            number: 0,
+            passed: 0,
+            stop: None,
+        }
+    }
+
+    /// The next line of the source.
+    pub fn next_line<S: Source>(&mut self, source: &mut S) -> Result<Line<'_>, LineStop>
+        ensures number { IfOk result (λ line. line.number ≡ self.old.number + 1) }
+        ensures text { IfOk result (λ line. length line.text.now ≤ LINE_LIMIT) }
+        ensures* after_borrow { sem 𝓛 (Rests the_row self.entry (λ new.
+            Gives S.tells self.old new (S.left source.old) (S.left source.new) result)) }
+
+        // Why there is none, where it is said for the first time.
+        ensures stop { S.tells → self.old.stop ≡ None → IfErr result (Stops (room self.old) (self.old.number + 1) (ahead self.old (S.left source.old))) }
+        ensures cause { self.old.stop ≡ None → LineCause (S.faults source.old) (S.faults source.new) result }
+
+        // A stop is given again, with no call on the source.
+        ensures again { IfSome self.old.stop (λ stop. (result ≡ Err stop) × (source.new ≡ source.old)) }
+    {
+        if let Some(stop) = self.stop {
+            return Err(stop);
+        }
+        let room = INPUT_LIMIT - self.passed;
+        match advance(&mut self.buffer, source, room, self.number + 1) {
+            Ok(taken) => {
+                self.passed += taken;
+                self.number += 1;
+                Ok(Line {
+                    number: self.number,
+                    text: self.buffer.text(),
+                })
+            }
+            Err(stop) => {
+                self.stop = Some(stop);
+                Err(stop)
+            }
+        }
+    }
+}

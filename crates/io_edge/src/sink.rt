@@ -1,0 +1,31 @@
+//! What bytes go to.
+
+ghost use Rattle.std.specs.Prelude.{◌≡◌, ◌++◌, List, ℕ, take, OnOk, OnErr};
+ghost use Rattle.io_edge.specs.Faults.{HasCause};
+
+/// A write or a flush was refused.
+#[derive(Clone, Copy, Debug, PartialEq, Eq)]
+pub struct WriteFailed;
+
+/// A stream that bytes are appended to, which counts its faults. What it tells of its bytes is optional.
+pub trait Sink {
+    // A fact where the sink tells what was written, and `⊥` where it tells nothing.
+    ghost tells: { Type 0 };
+
+    // The bytes that were written.
+    ghost written: { Self → List ℕ };
+
+    // How many calls have failed.
+    ghost faults: { Self → ℕ };
+
+    /// Appends all the bytes. After an `Err` the first of them may have been appended.
+    fn write_all(&mut self, bytes: &[u8]) -> Result<(), WriteFailed>
+        ensures ok { tells → OnOk result (written self.new ≡ written self.old ++ bytes.now) }
+        ensures err { tells → OnErr result ((n : ℕ) × (written self.new ≡ written self.old ++ take n bytes.now)) }
+        ensures cause { HasCause (faults self.old) (faults self.new) result };
+
+    /// Hands on what was written.
+    fn flush(&mut self) -> Result<(), WriteFailed>
+        ensures same { tells → written self.new ≡ written self.old }
+        ensures cause { HasCause (faults self.old) (faults self.new) result };
+}
