@@ -1,3 +1,4 @@
+pub mod Cuts
 pub mod Long
 pub mod Ranges
 pub mod Whole

@@ -2,7 +2,7 @@
 -- `lines` of `Rattle.std.specs.Str.Lines` says which lines a text has: it is cut at each newline, one carriage return
 -- before a newline is dropped, and a last piece that is not empty counts.
 use Rattle.std.specs.Prelude.{◌≡◌, ◌≢◌, ◌⊎◌, ℕ, ◌+◌, ◌-◌, ◌<◌, ◌≤◌, List, [], ◌∷◌, ◌++◌, length, Option, None, Some, Result, Ok, Err, MatchResult, All}
-use Rattle.std.specs.Str.Lines.{strip_carriage_return}
+use Rattle.std.specs.Str.Lines.{lines, strip_carriage_return}
 use Rattle.io_edge.specs.Faults.{Rose}
 use Rattle.io_edge.specs.declared.line.TheConstants.{INPUT_LIMIT, LINE_LIMIT}
 use Rattle.io_edge.specs.declared.line.Line.{Line}
@@ -89,6 +89,7 @@ pub record GivesLine (tells : Type 0) (old new : Reading) (left left' : List ℕ
   pub stop : new.stop ≡ None
   pub within : IsWithin new
   pub line : tells → IsLine (room old) (ahead old left) given.text.now (ahead new left')
+  pub lines : tells → lines (ahead old left) ≡ given.text.now ∷ lines (ahead new left')
   pub passed : tells → new.passed + length (ahead new left') ≡ old.passed + length (ahead old left)
 
 -- The reading after a stop: no byte is lost.

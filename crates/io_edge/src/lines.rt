@@ -1,8 +1,9 @@
 //! Lines of a source, one at a time.
 
-ghost use Rattle.std.specs.Prelude.{◌≡◌, ◌≢◌, ◌<◌, ◌≤◌, ◌+◌, ◌-◌, ◌++◌, List, [], ℕ, length, None, Some, Err, IfOk, IfErr, IfSome, OnOk, OnErr};
+ghost use Rattle.std.specs.Prelude.{◌≡◌, ◌≢◌, ◌<◌, ◌≤◌, ◌+◌, ◌-◌, ◌∷◌, ◌++◌, List, [], ℕ, length, None, Some, Err, IfOk, IfErr, IfSome, OnOk, OnErr};
 ghost use Rattle.std.specs.Borrow.{sem};
 ghost use Rattle.std.specs.Io.BufRead.{Rests};
+ghost use Rattle.std.specs.Str.Lines.{lines};
 ghost use Rattle.io_edge.specs.Ahead.{Finds};
 ghost use Rattle.io_edge.specs.Lines.{Reading, NoNewline, IsLine, IsWithin, Stops, LineCause, Gives, ahead, room};
 ghost use Rattle.io_edge.specs.declared.line.TheConstants.{INPUT_LIMIT};
@@ -40,6 +41,7 @@ fn advance<S: Source>(
 ) -> Result<usize, LineStop>
     requires within { length buffer.old.held ≤ room }
     ensures line { S.tells → OnOk result (IsLine room (buffer.old.held ++ S.left source.old) buffer.new.text (buffer.new.held ++ S.left source.new)) }
+    ensures lines { S.tells → OnOk result (lines (buffer.old.held ++ S.left source.old) ≡ buffer.new.text ∷ lines (buffer.new.held ++ S.left source.new)) }
     ensures text { OnOk result (length buffer.new.text ≤ LINE_LIMIT) }
     ensures within { length buffer.new.held ≤ room }
     ensures count { IfOk result (λ n. (0 < n) × (n + length buffer.new.held ≤ room)
