@@ -1,0 +1,63 @@
+//! Command APDUs (ISO/IEC 7816-3:2006, 12.1).
+ghost use Rattle.std.specs.Prelude.{◌≡◌, ℕ, List, Option, IfOk, OnErr};
+ghost use Rattle.apdu_core.specs.Apdu.{Apdu, Short, after_header, apdu_of};
+
+/// A command APDU, whose body lies in the bytes that it was read from.
+#[derive(Clone, Copy, Debug, PartialEq, Eq)]
+pub struct Command<'a> {
+    pub class: u8,
+    pub ins: u8,
+    pub p1: u8,
+    pub p2: u8,
+    pub body: &'a [u8],
+
+    /// The Le byte, where there is one. A byte 00 asks for 256 bytes.
+    pub le: Option<u8>,
+}
+
+/// The bytes have none of the four short cases, or are no reply.
+#[derive(Clone, Copy, Debug, PartialEq, Eq)]
+pub struct NotShort;
+
+impl Command<'_> {
+    /// Reads a whole command.
+    pub fn read(bytes: &[u8]) -> Result<Command<'_>, NotShort>
+        ensures ok { IfOk result (λ c. Short (apdu_of c) bytes.now) }
+        ensures refused { OnErr result ((c : Apdu) → Short c bytes.now → ⊥) }
+    {
+        let [class, ins, p1, p2, rest @ ..] = bytes else {
+            return Err(NotShort);
+        };
+        let (body, le) = split_fields(rest)?;
+        Ok(Command {
+            class: *class,
+            ins: *ins,
+            p1: *p1,
+            p2: *p2,
+            body,
+            le,
+        })
+    }
+}
+
+/// The body and Le, from what follows the header.
+fn split_fields(fields: &[u8]) -> Result<(&[u8], Option<u8>), NotShort>
+    ensures ok { IfOk result (λ f. fields.now ≡ after_header f.0.now f.1) }
+    ensures refused { OnErr result ((body : List ℕ) (le : Option ℕ) → fields.now ≡ after_header body le → ⊥) }
+{
+    match fields {
+        [] => Ok((fields, None)),
+        [le] => Ok((&[], Some(*le))),
+        [0, ..] => Err(NotShort),
+        [count, rest @ ..] => {
+            let count = usize::from(*count);
+            if rest.len() == count {
+                Ok((rest, None))
+            } else if rest.len() == count + 1 {
+                Ok((&rest[..count], Some(rest[count])))
+            } else {
+                Err(NotShort)
+            }
+        }
+    }
+}
