@@ -1,6 +1,10 @@
 //! Command APDUs (ISO/IEC 7816-3:2006, 12.1).
-ghost use Rattle.std.specs.Prelude.{◌≡◌, ℕ, List, Option, IfOk, OnErr};
+ghost use Rattle.std.specs.Prelude.{◌≡◌, ℕ, ◌<◌, ◌≤◌, List, ◌++◌, length, Option, All, IfOk, OnErr};
 ghost use Rattle.apdu_core.specs.Apdu.{Apdu, Short, after_header, apdu_of};
+ghost use Rattle.arrayvec.specs.ArrayVec.{array_vec_len};
+
+use crate::NotShort;
+use arrayvec::ArrayVec;
 
 /// A command APDU, whose body lies in the bytes that it was read from.
 #[derive(Clone, Copy, Debug, PartialEq, Eq)]
@@ -14,10 +18,6 @@ pub struct Command<'a> {
     /// The Le byte, where there is one. A byte 00 asks for 256 bytes.
     pub le: Option<u8>,
 }
-
-/// The bytes have none of the four short cases, or are no reply.
-#[derive(Clone, Copy, Debug, PartialEq, Eq)]
-pub struct NotShort;
 
 impl Command<'_> {
     /// Reads a whole command.
@@ -37,6 +37,35 @@ impl Command<'_> {
             body,
             le,
         })
+    }
+
+    /// Replaces what `out` holds by the command's bytes. A body that is empty has no Lc.
+    pub fn write(&self, out: &mut ArrayVec<u8, 261>)
+        requires { length self.now.body.now ≤ 255 }
+        ensures spelled { Short (apdu_of self.now) out.new.items }
+    {
+        out.clear();
+        out.push(self.class);
+        out.push(self.ins);
+        out.push(self.p1);
+        out.push(self.p2);
+        push_fields(self.body, self.le, out);
+    }
+}
+
+/// Appends what follows the header: Lc and the body, where there is a body, and Le, where there is one.
+fn push_fields(body: &[u8], le: Option<u8>, out: &mut ArrayVec<u8, 261>)
+    requires short { length body.now ≤ 255 }
+    requires room { array_vec_len out.old ≤ 4 }
+    ensures appended { out.new.items ≡ out.old.items ++ after_header body.now le }
+    ensures octets { All (λ b. b < 256) (after_header body.now le) }
+{
+    if !body.is_empty() {
+        out.push(body.len() as u8);
+        out.try_extend_from_slice(body).unwrap();
+    }
+    if let Some(le) = le {
+        out.push(le);
     }
 }
 

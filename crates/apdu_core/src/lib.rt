@@ -2,5 +2,9 @@
 #![tactic(auto)]
 
 mod command;
+mod not_short;
+mod reply;
 
-pub use command::{Command, NotShort};
+pub use command::Command;
+pub use not_short::NotShort;
+pub use reply::{Reply, Status};
