@@ -16,4 +16,4 @@ All-after_header (b ∷ bs) None body_fits short le_fits =
 All-after_header (b ∷ bs) (Some le) body_fits short le_fits =
     All-cons (λ b. b < 256) (length (b ∷ bs)) (b ∷ bs ++ le ∷ []) (omega arith)
     (All-append (λ b. b < 256) (b ∷ bs) (le ∷ []) body_fits
-     (All-cons (λ b. b < 256) le [] (le_fits le refl) (All-nil (λ b. b < 256))))
+    (All-cons (λ b. b < 256) le [] (le_fits le refl) (All-nil (λ b. b < 256))))

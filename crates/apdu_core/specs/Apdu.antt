@@ -30,3 +30,11 @@ after_header (b ∷ bs) (Some le) = length (b ∷ bs) ∷ b ∷ bs ++ le ∷ []
 pub record Short (c : Apdu) (bytes : List ℕ) : Type 0 where
   pub spelling : bytes ≡ header c ++ after_header c.body c.le
   pub octets : All (λ b. b < 256) bytes
+
+-- no bytes spell two commands
+abbrev pub OneCommand : Type 0
+OneCommand = (c d : Apdu) (bytes : List ℕ) → Short c bytes → Short d bytes → c ≡ d
+
+-- no command has two spellings
+abbrev pub OneSpelling : Type 0
+OneSpelling = (c : Apdu) (bytes others : List ℕ) → Short c bytes → Short c others → bytes ≡ others

@@ -2,9 +2,14 @@
 #![tactic(auto)]
 
 mod command;
+mod laws;
 mod not_short;
 mod reply;
 
 pub use command::Command;
+pub use laws::one_spelling;
 pub use not_short::NotShort;
 pub use reply::{Reply, Status};
+
+#[cfg(test)]
+mod tests;
