@@ -2,8 +2,8 @@
 use Rattle.std.proofs.Common.{◌≡◌, ℕ, List, [], ◌∷◌, ◌++◌, ◌/◌, ◌%◌, length, Option, Some, None, refl, ap, sym, ◌∙◌, arith}
 use Rattle.std.proofs.lemmas.List.{same_from_push, length_push}
 use Rattle.std.proofs.Math.Seq.{append_snoc}
-use Rattle.apdu_core.specs.Apdu.{Apdu, Short, after_header, OneCommand, OneSpelling}
-use Rattle.apdu_core.specs.Reply.{ShortReply, status_bytes, OneReply}
+use Rattle.apdu_core.specs.Apdu.{after_header, OneCommand, OneSpelling}
+use Rattle.apdu_core.specs.Reply.{status_bytes, OneReply}
 
 -- what follows the header tells the body and Le
 pub after_header-injective : (b e : List ℕ) (l m : Option ℕ)

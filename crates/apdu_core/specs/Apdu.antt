@@ -1,5 +1,5 @@
 -- Command APDUs with short length fields (ISO/IEC 7816-3:2006, 12.1; ISO/IEC 7816-4, 5.1).
-use Rattle.std.specs.Prelude.{◌≡◌, ℕ, ◌<◌, ◌≤◌, List, [], ◌∷◌, ◌++◌, length, Option, Some, None, All}
+use Rattle.std.specs.Prelude.{◌≡◌, ℕ, ◌<◌, List, [], ◌∷◌, ◌++◌, length, Option, Some, None, All}
 use Rattle.apdu_core.specs.declared.command.Command.{Command}
 
 -- a command APDU, wherever its body lies in memory
