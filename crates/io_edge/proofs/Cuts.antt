@@ -1,6 +1,7 @@
 -- The lines of what is ahead, from its next line on.
-use Rattle.std.proofs.Common.{◌≡◌, ◌≢◌, ◌⊎◌, ℕ, ◌+◌, ◌<◌, Bool, true, false, ◌==◌, List, [], ◌∷◌, ◌++◌, length, slice_index_or, refl, sym, ap, ◌∙◌, inl, inr, arith}
+use Rattle.std.proofs.Common.{◌≡◌, ◌≢◌, ◌⊎◌, ℕ, ◌+◌, ◌<◌, append_assoc, Bool, true, false, ◌==◌, List, [], ◌∷◌, ◌++◌, length, slice_index_or, refl, sym, ap, ◌∙◌, inl, inr, arith}
 use Rattle.std.proofs.lemmas.Bool.Decides.{eqb_tells}
+use Rattle.std.proofs.lemmas.List.{append-nil}
 use Rattle.std.proofs.lemmas.List.Splits.{slice_split_at, slice_split_none, length-slice_split}
 use Rattle.std.specs.Prelude.{Result, Ok, Err, OnOk}
 use Rattle.std.specs.List.{slice_split, All}
@@ -22,13 +23,13 @@ lines-whole : (piece after : List ℕ) → NoNewline piece → lines (piece ++ 1
 lines-whole piece after none =
     let test : ℕ → Bool = λ b. b == 10 in
     let parts : slice_split test (piece ++ 10 ∷ after) ≡ piece ∷ slice_split test after
-        = slice_split_at test piece 10 after (none_pass piece none) refl in
+    = slice_split_at test piece 10 after (none_pass piece none) refl in
     ap lines_of_parts parts ∙ first_part piece (slice_split test after) (rw (length-slice_split test after) (omega arith))
 
 only_part : (bytes : List ℕ) → 0 < length bytes → lines_of_parts (bytes ∷ []) ≡ bytes ∷ []
 only_part bytes some =
     elim (eqb_tells (length bytes) 0) [
-      inl none ↦ (let empty = none.1 in absurd (omega (arith, empty, some)))
+      | inl none ↦ (let empty = none.1 in absurd (omega (arith, empty, some)))
       | inr apart ↦ (let filled = apart.0 in rw filled refl)
     ]
 
@@ -46,3 +47,9 @@ pub lines_if_ok : {X E : Type 0} (result : Result X E) (room : ℕ) (ahead text 
     → OnOk result (IsLine room ahead text after) → OnOk result (lines ahead ≡ text ∷ lines after)
 lines_if_ok (Ok x) room ahead text after line = lines_ahead room ahead text after line
 lines_if_ok (Err e) room ahead text after line = tt
+
+-- what follows the next line is an end of what is ahead
+pub line_suffix : (room : ℕ) (ahead text after : List ℕ) → IsLine room ahead text after → (front : List ℕ) × (ahead ≡ front ++ after)
+line_suffix room ahead text after (inl whole) =
+    (whole.piece ++ 10 ∷ [], whole.is ∙ sym (append_assoc whole.piece (10 ∷ []) after))
+line_suffix room ahead text after (inr last) = (ahead, sym (ap (λ rest. ahead ++ rest) last.nothing ∙ append-nil ahead))

@@ -90,6 +90,7 @@ pub record GivesLine (tells : Type 0) (old new : Reading) (left left' : List ℕ
   pub within : IsWithin new
   pub line : tells → IsLine (room old) (ahead old left) given.text.now (ahead new left')
   pub lines : tells → lines (ahead old left) ≡ given.text.now ∷ lines (ahead new left')
+  pub further : old.passed < new.passed
   pub passed : tells → new.passed + length (ahead new left') ≡ old.passed + length (ahead old left)
 
 -- The reading after a stop: no byte is lost.

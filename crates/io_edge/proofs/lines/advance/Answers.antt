@@ -26,6 +26,6 @@ returns-in-Ok-Newline-clause-lines g c told =
 pub returns-in-Ok-Last-clause-lines : goal.returns-in-Ok-Last-clause-lines
 returns-in-Ok-Last-clause-lines g c told =
     let none : g.S.Source.left c.look_ahead.new.source ≡ []
-        = c.look_ahead.ensures.last told (c.in-Ok-Last.is ∙ ap Ok c.in-Ok-Last.field-0-is) in
+    = c.look_ahead.ensures.last told (c.in-Ok-Last.is ∙ ap Ok c.in-Ok-Last.field-0-is) in
     rw (← c.look_ahead.ensures.bytes told, none, append-nil c.look_ahead.new.buffer.held, append-nil c.cut_last.new.buffer.held)
     (lines_if_ok c.cut_last.result c.args.room _ _ _ c.cut_last.ensures.line)
