@@ -1,0 +1,5 @@
+pub mod Card
+pub mod Effect
+pub mod Rules
+pub mod Run
+pub mod Step
