@@ -1,0 +1,139 @@
+-- The course of a run, from line to line and to its end.
+use Rattle.std.proofs.Common.{◌≡◌, ℕ, ◌+◌, ◌-◌, ◌<◌, ◌≤◌, List, [], ◌∷◌, ◌++◌, length, take, None, refl, sym, ap, subst, ◌∙◌, inl, inr, append_assoc, arith, length-append}
+use Rattle.std.proofs.lemmas.List.{append-nil}
+use Rattle.std.proofs.Math.Seq.{take-append-add}
+use Rattle.std.specs.Str.Lines.{lines}
+use Rattle.io_edge.specs.Lines.{Reading, ahead, room, IsCut}
+use Rattle.io_edge.specs.declared.line.TheConstants.{INPUT_LIMIT}
+use Rattle.policy_rules.specs.Card.{Card, factory_perm, powered_on}
+use Rattle.gp_tool.specs.Ends.{Outside, Reached, Ends, IsBad, room_for}
+use Rattle.gp_tool.specs.Going.{Going}
+use Rattle.gp_tool.specs.Plays.{Plays, bad_line}
+use Rattle.gp_tool.specs.Turn.{GoesOn, EndsWith, NextLine}
+use Rattle.gp_tool.specs.declared.ending.Ending.{Ending}
+use Rattle.gp_tool.specs.declared.ending.Ending.TheVariants.{Finished, BadLine, ReadFault, WriteFault, InputTooLong}
+use Rattle.gp_tool.proofs.PlaysMore.{plays_more, plays_none}
+
+-- nothing was read yet
+pub going_first : (before : Outside) → Going before before (record { number = 0; passed = 0; held = []; stop = None })
+going_first before = record {
+  given = [];
+  text = [];
+  number = refl;
+  passed = omega arith;
+  reached = record { passed = []; split = refl; lines = refl; plays = plays_none (powered_on factory_perm) };
+  written = sym (append-nil before.written);
+}
+
+-- one line further
+reached_next : (input : List ℕ) (given : List (List ℕ)) (text ahead after more : List ℕ) (next : NextLine ahead after more)
+    → Reached input given text ahead (powered_on factory_perm) → Reached input (given ++ next.line ∷ []) (text ++ more) after (powered_on factory_perm)
+reached_next input given text ahead after more next reached = record {
+  passed = reached.passed ++ next.front;
+  split = reached.split ∙ ap (λ rest. reached.passed ++ rest) next.split ∙ sym (append_assoc reached.passed next.front after);
+  lines = reached.lines ∙ ap (λ rest. given ++ rest) next.lines ∙ sym (append_assoc given (next.line ∷ []) (lines after));
+  plays = plays_more given (next.line ∷ []) text more _ _ _ reached.plays next.plays;
+}
+
+pub going_further : (tells : Type 0) (before now later : Outside) (old new : Reading)
+    → Going before now old → GoesOn tells old new now later → tells → Going before later new
+going_further tells before now later old new going on told =
+    let line = on.line told in
+    let next = line.1 in
+    let passed = on.passed told in
+    let old_passed = going.passed in
+    record {
+      given = going.given ++ next.line ∷ [];
+      text = going.text ++ line.0;
+      number = on.number ∙ ap (λ n. n + 1) going.number ∙ sym (length-append going.given (next.line ∷ []));
+      passed = passed ∙ old_passed;
+      reached = reached_next before.left going.given going.text _ _ line.0 next going.reached;
+      written = line.2 ∙ ap (λ w. w ++ line.0) going.written ∙ append_assoc before.written going.text line.0;
+    }
+
+-- the room is that behind the bytes that were passed
+room_is : (before now : Outside) (old : Reading) → Going before now old → room old ≡ room_for before.left (ahead old now.left)
+room_is before now old going =
+    let passed = going.passed in
+    let behind : old.passed ≡ length before.left - length (ahead old now.left) = omega arith in
+    ap (λ n. INPUT_LIMIT - n) behind
+
+-- a part of what was to be written behind the text
+part_written : (old text more written now : List ℕ) (n : ℕ) → written ≡ old ++ text → now ≡ written ++ take n more
+    → now ≡ old ++ take (length text + n) (text ++ more)
+part_written old text more written now n before after =
+    after ∙ ap (λ w. w ++ take n more) before ∙ append_assoc old text (take n more)
+    ∙ ap (λ part. old ++ part) (sym (take-append-add text more n))
+
+all_written : (old text more written now : List ℕ) → written ≡ old ++ text → now ≡ written ++ more → now ≡ old ++ (text ++ more)
+all_written old text more written now before after = after ∙ ap (λ w. w ++ more) before ∙ append_assoc old text more
+
+pub going_ends : (before now later : Outside) (old : Reading) (ending : Ending)
+    → Going before now old → EndsWith old now later ending → Ends ending before later
+going_ends before now later old Finished going ends =
+    let all : lines before.left ≡ going.given
+    = going.reached.lines ∙ ap (λ rest. going.given ++ lines rest) ends.0 ∙ append-nil going.given in
+    let passed = going.passed in
+    let none : length (ahead old now.left) ≡ 0 = ap length ends.0 in
+    let some = ends.1 in
+    record {
+      text = going.text;
+      card = powered_on factory_perm;
+      plays = rw all going.reached.plays;
+      short = omega arith;
+      read = ends.2;
+      written = ends.3 ∙ going.written;
+    }
+going_ends before now later old BadLine going ends = record {
+  given = going.given;
+  text = going.text;
+  ahead = ahead old now.left;
+  card = powered_on factory_perm;
+  reached = going.reached;
+  bad = subst (λ (n : ℕ). IsBad n (ahead old now.left)) (room_is before now old going) ends.0;
+  written = all_written before.written going.text (bad_line (length going.given + 1)) now.written later.written going.written
+      (ends.1 ∙ ap (λ n. now.written ++ bad_line (n + 1)) going.number);
+}
+going_ends before now later old ReadFault going ends = record {
+  given = going.given;
+  text = going.text;
+  held = ends.0;
+  card = powered_on factory_perm;
+  reached = subst (λ (rest : List ℕ). Reached before.left going.given going.text rest (powered_on factory_perm)) ends.2 going.reached;
+  no_line = ends.1;
+  written = ends.3 ∙ going.written;
+}
+going_ends before now later old InputTooLong going ends = record {
+  given = going.given;
+  text = going.text;
+  ahead = ahead old now.left;
+  cut = ends.0;
+  card = powered_on factory_perm;
+  reached = going.reached;
+  is_cut = subst (λ (n : ℕ). IsCut n (ahead old now.left) ends.0) (room_is before now old going) ends.1;
+  short = ends.2;
+  written = ends.3 ∙ going.written;
+}
+going_ends before now later old WriteFault going (inl line) = record {
+  given = going.given ++ line.3.line ∷ [];
+  text = going.text ++ line.0;
+  ahead = line.1;
+  whole = going.text ++ line.0;
+  count = length going.text + line.2;
+  card = powered_on factory_perm;
+  reached = reached_next before.left going.given going.text (ahead old now.left) line.1 line.0 line.3 going.reached;
+  is_whole = inl refl;
+  written = part_written before.written going.text line.0 now.written later.written line.2 going.written line.4;
+}
+going_ends before now later old WriteFault going (inr bad) = record {
+  given = going.given;
+  text = going.text;
+  ahead = ahead old now.left;
+  whole = going.text ++ bad_line (length going.given + 1);
+  count = length going.text + bad.1.0;
+  card = powered_on factory_perm;
+  reached = going.reached;
+  is_whole = inr (subst (λ (n : ℕ). IsBad n (ahead old now.left)) (room_is before now old going) bad.0, refl);
+  written = part_written before.written going.text (bad_line (length going.given + 1)) now.written later.written bad.1.0 going.written
+      (bad.1.1 ∙ ap (λ n. now.written ++ take bad.1.0 (bad_line (n + 1))) going.number);
+}

@@ -1,0 +1,57 @@
+-- A run whose flush at the end is refused: all of its text was written.
+use Rattle.std.proofs.Common.{◌≡◌, ◌≢◌, ◌⊎◌, ℕ, ◌+◌, List, [], ◌++◌, length, take, refl, sym, ap, ◌∙◌, inl, inr}
+use Rattle.std.proofs.lemmas.List.{append-nil}
+use Rattle.std.proofs.Math.Seq.{take-length}
+use Rattle.std.specs.Str.Lines.{lines}
+use Rattle.gp_tool.specs.Ends.{Outside, Ends, IsAtWriteFault}
+use Rattle.gp_tool.specs.Plays.{bad_line}
+use Rattle.gp_tool.specs.declared.ending.Ending.{Ending}
+use Rattle.gp_tool.specs.declared.ending.Ending.TheVariants.{Finished, BadLine, ReadFault, WriteFault, InputTooLong}
+
+-- all of a text is a front of it
+whole : (old text now : List ℕ) → now ≡ old ++ text → now ≡ old ++ take (length text) text
+whole old text now written = written ∙ ap (λ t. old ++ t) (sym (take-length text))
+
+pub flush_refused : (ending : Ending) (before later : Outside) → ending ≢ ReadFault → Ends ending before later → IsAtWriteFault before later
+flush_refused Finished before later other ends = record {
+  given = lines before.left;
+  text = ends.text;
+  ahead = [];
+  whole = ends.text;
+  count = length ends.text;
+  card = ends.card;
+  reached = record {
+    passed = before.left;
+    split = sym (append-nil before.left);
+    lines = sym (append-nil (lines before.left));
+    plays = ends.plays;
+  };
+  is_whole = inl refl;
+  written = whole before.written ends.text later.written ends.written;
+}
+flush_refused BadLine before later other ends =
+    let text : List ℕ = ends.text ++ bad_line (length ends.given + 1) in
+    record {
+      given = ends.given;
+      text = ends.text;
+      ahead = ends.ahead;
+      whole = text;
+      count = length text;
+      card = ends.card;
+      reached = ends.reached;
+      is_whole = inr (ends.bad, refl);
+      written = whole before.written text later.written ends.written;
+    }
+flush_refused ReadFault before later other ends = absurd (other refl)
+flush_refused WriteFault before later other ends = ends
+flush_refused InputTooLong before later other ends = record {
+  given = ends.given;
+  text = ends.text;
+  ahead = ends.ahead;
+  whole = ends.text;
+  count = length ends.text;
+  card = ends.card;
+  reached = ends.reached;
+  is_whole = inl refl;
+  written = whole before.written ends.text later.written ends.written;
+}

@@ -1,0 +1,24 @@
+use Rattle.std.proofs.Common.{◌≡◌, refl, arith, ◌∙◌}
+use Rattle.gp_tool.proofs.Course.{going_first, going_further, going_ends}
+use Rattle.gp_tool.proofs.run.take_lines.Goals as goal
+
+pub loop-ending-init : goal.loop-ending-init
+loop-ending-init g c =
+    rw c.new-lines.ensures (record { stop = refl; within = omega arith; reads = refl; writes = refl; going = λ told. going_first _ })
+
+pub returns-in-Some-clause-ends : goal.returns-in-Some-clause-ends
+returns-in-Some-clause-ends g c told =
+    going_ends _ _ _ c.loop-ending.lines c.in-Some.ending (c.loop-ending.invariant.going told) (c.in-Some.ensures.ends told)
+
+pub loop-ending-preserved : goal.loop-ending-preserved
+loop-ending-preserved g c =
+    let on = c.in_default.ensures.goes_on in
+    let quiet = c.in_default.ensures.quiet in
+    let kept = c.loop-ending.invariant in
+    record {
+      stop = on.stop;
+      within = on.within;
+      reads = quiet.0 ∙ kept.reads;
+      writes = quiet.1 ∙ kept.writes;
+      going = λ told. going_further (g.S.Source.tells × g.K.Sink.tells) _ _ _ c.loop-ending.lines _ (kept.going told) on told;
+    }

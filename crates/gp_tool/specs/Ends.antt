@@ -1,0 +1,109 @@
+-- How a run ends, and what has been read and written then.
+use Rattle.std.specs.Prelude.{◌≡◌, ◌⊎◌, ℕ, ◌+◌, ◌-◌, ◌<◌, ◌≤◌, List, [], ◌++◌, length, take}
+use Rattle.std.specs.Str.Lines.{lines}
+use Rattle.io_edge.specs.Faults.{Rose}
+use Rattle.io_edge.specs.Lines.{NoNewline, IsLine, IsCut, IsNextText}
+use Rattle.io_edge.specs.declared.line.TheConstants.{INPUT_LIMIT, LINE_LIMIT}
+use Rattle.policy_rules.specs.Card.{Card, factory_perm, powered_on}
+use Rattle.gp_tool.specs.Form.{HasNoForm}
+use Rattle.gp_tool.specs.Plays.{Plays, bad_line}
+use Rattle.gp_tool.specs.declared.ending.Ending.{Ending}
+use Rattle.gp_tool.specs.declared.ending.Ending.TheVariants.{Finished, BadLine, ReadFault, WriteFault, InputTooLong}
+
+-- the bytes that a source has left, and those that a sink was given
+pub record Outside : Type 0 where
+  pub left : List ℕ
+  pub written : List ℕ
+
+-- How far a run has come in an input: the lines that were given, their text, the bytes ahead, and the card.
+pub record Reached (input : List ℕ) (given : List (List ℕ)) (text ahead : List ℕ) (card : Card) : Type 0 where
+  pub passed : List ℕ
+  pub split : input ≡ passed ++ ahead
+  pub lines : lines input ≡ given ++ lines ahead
+  pub plays : Plays (powered_on factory_perm) given text card
+
+-- how many bytes may be taken of what stands ahead
+abbrev pub room_for : List ℕ → List ℕ → ℕ
+room_for input ahead = INPUT_LIMIT - (length input - length ahead)
+
+-- the next line has no form, or is too long
+abbrev pub IsBad : ℕ → List ℕ → Type 0
+IsBad room ahead =
+    (text : List ℕ) × (((after : List ℕ) × IsLine room ahead text after × HasNoForm text) ⊎ (IsNextText room ahead text × (LINE_LIMIT < length text)))
+
+-- The input was read to its end, each line has a form, and the text of all lines was written.
+pub record IsFinished (old new : Outside) : Type 0 where
+  pub text : List ℕ
+  pub card : Card
+  pub plays : Plays (powered_on factory_perm) (lines old.left) text card
+  pub short : length old.left < INPUT_LIMIT
+  pub read : new.left ≡ []
+  pub written : new.written ≡ old.written ++ text
+
+-- The next line is bad: the text of the lines before it was written, and then the line's number.
+pub record IsAtBadLine (old new : Outside) : Type 0 where
+  pub given : List (List ℕ)
+  pub text : List ℕ
+  pub ahead : List ℕ
+  pub card : Card
+  pub reached : Reached old.left given text ahead card
+  pub bad : IsBad (room_for old.left ahead) ahead
+  pub written : new.written ≡ old.written ++ (text ++ bad_line (length given + 1))
+
+-- A read was refused: the text of the whole lines of the bytes taken was written.
+pub record IsAtReadFault (old new : Outside) : Type 0 where
+  pub given : List (List ℕ)
+  pub text : List ℕ
+  pub held : List ℕ
+  pub card : Card
+  pub reached : Reached old.left given text (held ++ new.left) card
+  pub no_line : NoNewline held
+  pub written : new.written ≡ old.written ++ text
+
+-- The limit of the input comes before the next line's end.
+pub record IsAtLimit (old new : Outside) : Type 0 where
+  pub given : List (List ℕ)
+  pub text : List ℕ
+  pub ahead : List ℕ
+  pub cut : List ℕ
+  pub card : Card
+  pub reached : Reached old.left given text ahead card
+  pub is_cut : IsCut (room_for old.left ahead) ahead cut
+  pub short : length cut ≤ LINE_LIMIT
+  pub written : new.written ≡ old.written ++ text
+
+-- A write was refused: a front of the text was written, to which the number of a bad line belongs.
+pub record IsAtWriteFault (old new : Outside) : Type 0 where
+  pub given : List (List ℕ)
+  pub text : List ℕ
+  pub ahead : List ℕ
+  pub whole : List ℕ
+  pub count : ℕ
+  pub card : Card
+  pub reached : Reached old.left given text ahead card
+  pub is_whole : (whole ≡ text) ⊎ (IsBad (room_for old.left ahead) ahead × (whole ≡ text ++ bad_line (length given + 1)))
+  pub written : new.written ≡ old.written ++ take count whole
+
+-- what holds at each ending, where the source and the sink tell their bytes
+abbrev pub Ends : Ending → Outside → Outside → Type 0
+Ends Finished old new = IsFinished old new
+Ends BadLine old new = IsAtBadLine old new
+Ends ReadFault old new = IsAtReadFault old new
+Ends WriteFault old new = IsAtWriteFault old new
+Ends InputTooLong old new = IsAtLimit old new
+
+-- Whose count of faults has risen at an ending: the source's, from one number to another, or the sink's.
+abbrev pub EndCause : Ending → ℕ → ℕ → ℕ → ℕ → Type 0
+EndCause ReadFault reads reads' writes writes' = Rose reads reads'
+EndCause WriteFault reads reads' writes writes' = (reads' ≡ reads) × Rose writes writes'
+EndCause Finished reads reads' writes writes' = (reads' ≡ reads) × (writes' ≡ writes)
+EndCause BadLine reads reads' writes writes' = (reads' ≡ reads) × (writes' ≡ writes)
+EndCause InputTooLong reads reads' writes writes' = (reads' ≡ reads) × (writes' ≡ writes)
+
+-- the status of a program that ends so
+abbrev pub status_of : Ending → ℕ
+status_of Finished = 0
+status_of BadLine = 2
+status_of ReadFault = 5
+status_of WriteFault = 6
+status_of InputTooLong = 9

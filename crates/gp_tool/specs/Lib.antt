@@ -1,0 +1,9 @@
+pub mod Ends
+pub mod Form
+pub mod Going
+pub mod Good
+pub mod Plays
+pub mod Read
+pub mod Serve
+pub mod Turn
+pub mod Words

@@ -1,0 +1,73 @@
+//! The forms of a line.
+
+ghost use Rattle.std.specs.Prelude.{◌≡◌, ◌≤◌, ◌<◌, ◌*◌, ℕ, List, length, take, codes, IsTrue, ◌↔◌, IfSome, IfNone, IfOk, OnErr, All, Ok, MatchOption};
+ghost use Rattle.hex.specs.Hex.{decode_of};
+ghost use Rattle.gp_tool.specs.Form.{Spells, HasNoForm, IsBlank, IsComment};
+ghost use Rattle.gp_tool.specs.Read.{Fits, inputs_of};
+
+use io_edge::LINE_LIMIT;
+
+/// How many bytes a line can spell, at most.
+pub const COMMAND_LIMIT: usize = LINE_LIMIT / 2;
+
+/// What a line says.
+#[derive(Clone, Copy)]
+pub enum Form {
+    /// Nothing: it is blank or a comment.
+    Nothing,
+    Reset,
+    /// A command of so many bytes.
+    Command(usize),
+}
+
+// Decodes hexadecimal digits into the front of `bytes`, and answers how many bytes they are.
+fn decode(line: &[u8], bytes: &mut [u8; COMMAND_LIMIT]) -> Option<usize>
+    requires { length line.now ≤ LINE_LIMIT }
+    ensures { MatchOption result ((out : List ℕ) → decode_of line.now ≡ Ok out → ⊥)
+        (λ count. (2 * count ≡ length line.now) × (decode_of line.now ≡ Ok (take count bytes.new))) }
+{
+    let count = line.len() / 2;
+    match hex::decode_to_slice(line, &mut bytes[..count]) {
+        Ok(()) => Some(count),
+        Err(_) => None,
+    }
+}
+
+// Whether a line is empty or has spaces alone.
+fn is_blank(line: &[u8]) -> bool
+    ensures blank { IsTrue result ↔ IsBlank line.now }
+    ensures empty { length line.now ≡ 0 → IsTrue result }
+{
+    line.iter().all(|byte| *byte == b' ')
+}
+
+fn is_comment(line: &[u8]) -> bool
+    ensures { IsTrue result ↔ IsComment line.now }
+{
+    matches!(line, [b'#', ..])
+}
+
+fn is_reset(line: &[u8]) -> bool
+    ensures { IsTrue result ↔ (line.now ≡ codes "reset") }
+{
+    line == b"reset".as_slice()
+}
+
+/// What a line says, with the bytes of a command in the front of `bytes`, or nothing where it has no form.
+pub fn read_form(line: &[u8], bytes: &mut [u8; COMMAND_LIMIT]) -> Option<Form>
+    requires { length line.now ≤ LINE_LIMIT }
+    ensures spelled { MatchOption result (HasNoForm line.now) (λ form. Spells line.now (inputs_of form bytes.new)) }
+    ensures fits { IfSome result Fits }
+{
+    if is_blank(line) {
+        return Some(Form::Nothing);
+    }
+    if is_comment(line) {
+        return Some(Form::Nothing);
+    }
+    if is_reset(line) {
+        return Some(Form::Reset);
+    }
+    let count = decode(line, bytes)?;
+    Some(Form::Command(count))
+}

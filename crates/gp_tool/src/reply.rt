@@ -1,0 +1,58 @@
+//! The lines that are written.
+
+ghost use Rattle.std.specs.Prelude.{◌≡◌, ◌≤◌, ◌<◌, ◌*◌, ◌+◌, ◌++◌, [], ◌∷◌, ℕ, length, take, OnOk, OnErr};
+ghost use Rattle.hex.specs.Hex.{encode_lower};
+ghost use Rattle.io_edge.specs.Faults.{HasCause};
+ghost use Rattle.gp_tool.specs.Plays.{bad_line};
+
+use arrayvec::ArrayVec;
+use io_edge::{Sink, WriteFailed};
+use itoa::Buffer;
+
+/// How many bytes a reply has, at most.
+pub const REPLY_LIMIT: usize = 258;
+
+/// How many bytes a reply's line has, at most.
+pub const REPLY_LINE_LIMIT: usize = 2 * REPLY_LIMIT + 1;
+
+// The line of a reply, in the front of `text`: how many bytes it has.
+fn spell_reply(reply: &[u8], text: &mut [u8; REPLY_LINE_LIMIT]) -> usize
+    requires { length reply.now ≤ REPLY_LIMIT }
+    ensures within { result ≤ REPLY_LINE_LIMIT }
+    ensures spelled { take result text.new ≡ encode_lower reply.now ++ 10 ∷ [] }
+{
+    let digits = 2 * reply.len();
+    let _ = hex::encode_to_slice(reply, &mut text[..digits]);
+    text[digits] = b'\n';
+    digits + 1
+}
+
+/// Writes a reply as one line, by one write.
+pub fn write_reply<K: Sink>(
+    reply: &[u8],
+    text: &mut [u8; REPLY_LINE_LIMIT],
+    sink: &mut K,
+) -> Result<(), WriteFailed>
+    requires { length reply.now ≤ REPLY_LIMIT }
+    ensures ok { K.tells → OnOk result (K.written sink.new ≡ K.written sink.old ++ (encode_lower reply.now ++ 10 ∷ [])) }
+    ensures err { K.tells → OnErr result ((n : ℕ) × (K.written sink.new ≡ K.written sink.old ++ take n (encode_lower reply.now ++ 10 ∷ []))) }
+    ensures cause { HasCause (K.faults sink.old) (K.faults sink.new) result }
+{
+    let count = spell_reply(reply, text);
+    sink.write_all(&text[..count])
+}
+
+/// Writes the number of a line that has no form or is too long.
+pub fn write_bad_line<K: Sink>(number: u32, sink: &mut K) -> Result<(), WriteFailed>
+    ensures ok { K.tells → OnOk result (K.written sink.new ≡ K.written sink.old ++ bad_line number) }
+    ensures err { K.tells → OnErr result ((n : ℕ) × (K.written sink.new ≡ K.written sink.old ++ take n (bad_line number))) }
+    ensures cause { HasCause (K.faults sink.old) (K.faults sink.new) result }
+{
+    let mut digits = Buffer::new();
+    let mut line = ArrayVec::<u8, 46>::new();
+    line.try_extend_from_slice(b"line ").unwrap();
+    line.try_extend_from_slice(digits.format(number).as_bytes())
+        .unwrap();
+    line.push(b'\n');
+    sink.write_all(&line)
+}

@@ -1,0 +1,99 @@
+//! A run over the lines of a source.
+
+ghost use Rattle.std.specs.Prelude.{◌≡◌, ◌≢◌, ◌⊎◌, ℕ, None, IfNone, IfSome};
+ghost use Rattle.gp_tool.specs.Ends.{Ends, EndCause};
+ghost use Rattle.gp_tool.specs.Turn.{GoesOn, EndsWith, Refuses};
+
+use crate::ending::Ending;
+use crate::form::COMMAND_LIMIT;
+use crate::reply::{REPLY_LINE_LIMIT, write_bad_line};
+use crate::serve::{Served, Workspace, serve_line};
+use arrayvec::ArrayVec;
+use io_edge::{LineStop, Lines, Sink, Source};
+
+// Writes the number of a line that has no form or is too long.
+fn refuse_line<K: Sink>(number: u32, sink: &mut K) -> Ending
+    ensures refused { K.tells → Refuses number (K.written sink.old) (K.written sink.new) result }
+    ensures cause { (reads : ℕ) → EndCause result reads reads (K.faults sink.old) (K.faults sink.new) }
+{
+    match write_bad_line(number, sink) {
+        Ok(()) => Ending::BadLine,
+        Err(_) => Ending::WriteFault,
+    }
+}
+
+// Takes the next line and gives it to the card. It answers how the run ends, if it does.
+fn take_turn<S: Source, K: Sink>(
+    lines: &mut Lines,
+    source: &mut S,
+    space: &mut Workspace,
+    sink: &mut K,
+) -> Option<Ending>
+    requires { lines.old.stop ≡ None }
+    ensures goes_on { IfNone result (GoesOn (S.tells × K.tells) lines.old lines.new
+        (record { left = S.left source.old; written = K.written sink.old }) (record { left = S.left source.new; written = K.written sink.new })) }
+    ensures ends { S.tells × K.tells → IfSome result (EndsWith lines.old
+        (record { left = S.left source.old; written = K.written sink.old }) (record { left = S.left source.new; written = K.written sink.new })) }
+    ensures quiet { IfNone result ((S.faults source.new ≡ S.faults source.old) × (K.faults sink.new ≡ K.faults sink.old)) }
+    ensures cause { IfSome result (λ ending. EndCause ending (S.faults source.old) (S.faults source.new) (K.faults sink.old) (K.faults sink.new)) }
+{
+    match lines.next_line(source) {
+        Ok(line) => match serve_line(line.text, space, sink) {
+            Served::Done => None,
+            Served::NoForm => Some(refuse_line(line.number, sink)),
+            Served::WriteFault => Some(Ending::WriteFault),
+        },
+        Err(LineStop::End) => Some(Ending::Finished),
+        Err(LineStop::ReadFailed) => Some(Ending::ReadFault),
+        Err(LineStop::TooLong(number)) => Some(refuse_line(number, sink)),
+        Err(LineStop::InputTooLong) => Some(Ending::InputTooLong),
+    }
+}
+
+// Takes lines until the run ends.
+fn take_lines<S: Source, K: Sink>(source: &mut S, sink: &mut K) -> Ending
+    ensures ends { S.tells × K.tells → Ends result
+        (record { left = S.left source.old; written = K.written sink.old }) (record { left = S.left source.new; written = K.written sink.new }) }
+    ensures cause { EndCause result (S.faults source.old) (S.faults source.new) (K.faults sink.old) (K.faults sink.new) }
+{
+    let mut lines = Lines::new();
+    let mut space = Workspace {
+        command: [0; COMMAND_LIMIT],
+        reply: ArrayVec::new(),
+        text: [0; REPLY_LINE_LIMIT],
+    };
+    loop {
+        if let Some(ending) = take_turn(&mut lines, source, &mut space, sink) {
+            return ending;
+        }
+    }
+}
+
+// Flushes the sink at the end of a run, unless a write was refused.
+fn flush_at_end<K: Sink>(ending: Ending, sink: &mut K) -> Ending
+    ensures same { K.tells → K.written sink.new ≡ K.written sink.old }
+    ensures ending { (result ≡ ending) ⊎ ((result ≡ Ending.WriteFault) × (ending ≢ Ending.ReadFault)) }
+    ensures cause { (reads reads' writes : ℕ) → EndCause ending reads reads' writes (K.faults sink.old) → EndCause result reads reads' writes (K.faults sink.new) }
+{
+    match ending {
+        Ending::WriteFault => ending,
+        Ending::ReadFault => {
+            let _ = sink.flush();
+            ending
+        }
+        _ => match sink.flush() {
+            Ok(()) => ending,
+            Err(_) => Ending::WriteFault,
+        },
+    }
+}
+
+/// Gives the lines of a source to the factory card, and writes each reply before the next line is taken.
+pub fn run<S: Source, K: Sink>(source: &mut S, sink: &mut K) -> Ending
+    ensures ends { S.tells × K.tells → Ends result
+        (record { left = S.left source.old; written = K.written sink.old }) (record { left = S.left source.new; written = K.written sink.new }) }
+    ensures cause { EndCause result (S.faults source.old) (S.faults source.new) (K.faults sink.old) (K.faults sink.new) }
+{
+    let ending = take_lines(source, sink);
+    flush_at_end(ending, sink)
+}

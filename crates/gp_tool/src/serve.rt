@@ -1,0 +1,46 @@
+//! What is done with one line.
+
+ghost use Rattle.std.specs.Prelude.{◌≤◌, length};
+ghost use Rattle.gp_tool.specs.Serve.{Serves, ServeCause};
+
+use crate::card::process;
+use crate::form::{COMMAND_LIMIT, Form, read_form};
+use crate::reply::{REPLY_LIMIT, REPLY_LINE_LIMIT, write_reply};
+use arrayvec::ArrayVec;
+use io_edge::{LINE_LIMIT, Sink};
+
+/// Room for a command, its reply and the reply's line.
+#[derive(Drop)]
+pub struct Workspace {
+    pub command: [u8; COMMAND_LIMIT],
+    pub reply: ArrayVec<u8, REPLY_LIMIT>,
+    pub text: [u8; REPLY_LINE_LIMIT],
+}
+
+/// What came of a line.
+#[derive(Clone, Copy)]
+pub enum Served {
+    Done,
+    NoForm,
+    WriteFault,
+}
+
+/// Gives a line to the card, and writes the reply.
+pub fn serve_line<K: Sink>(line: &[u8], space: &mut Workspace, sink: &mut K) -> Served
+    requires { length line.now ≤ LINE_LIMIT }
+    ensures served { Serves K.tells line.now (K.written sink.old) (K.written sink.new) result }
+    ensures cause { ServeCause (K.faults sink.old) (K.faults sink.new) result }
+{
+    match read_form(line, &mut space.command) {
+        None => Served::NoForm,
+        Some(Form::Nothing) => Served::Done,
+        Some(Form::Reset) => Served::Done,
+        Some(Form::Command(count)) => {
+            process(&space.command[..count], &mut space.reply);
+            match write_reply(&space.reply, &mut space.text, sink) {
+                Ok(()) => Served::Done,
+                Err(_) => Served::WriteFault,
+            }
+        }
+    }
+}

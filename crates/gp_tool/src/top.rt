@@ -1,0 +1,83 @@
+//! The top call.
+
+ghost use Rattle.std.specs.Prelude.{◌≡◌, ◌≢◌, ◌⊎◌, ◌<◌, ◌++◌, ℕ, List, length, take, codes, string_bytes, IsTrue, OnOk, OnErr, ◌↔◌};
+ghost use Rattle.std.specs.Str.Lines.{lines};
+ghost use Rattle.io_edge.specs.Faults.{HasCause, Rose};
+ghost use Rattle.io_edge.specs.declared.line.TheConstants.{INPUT_LIMIT};
+ghost use Rattle.gp_tool.specs.Ends.{Ends, EndCause, status_of};
+ghost use Rattle.gp_tool.specs.Good.{AreGood};
+ghost use Rattle.gp_tool.specs.Words.{AreRun, usage_line};
+ghost use Rattle.gp_tool.specs.declared.ending.Ending.{Ending};
+
+use crate::run::run;
+use io_edge::{Sink, Source, WriteFailed};
+use std::alloc::Global;
+
+const USAGE: &[u8] = b"usage: gp run\n";
+
+fn is_run(word: &String) -> bool
+    ensures { IsTrue result ↔ (string_bytes word.now ≡ codes "run") }
+{
+    word.as_bytes() == b"run".as_slice()
+}
+
+// Whether the words are `run` alone.
+fn are_run(words: &[String]) -> bool
+    ensures { IsTrue result ↔ AreRun words.now }
+{
+    match words {
+        [word] => is_run(word),
+        _ => false,
+    }
+}
+
+// Writes the usage line, and hands it on.
+fn write_usage<K: Sink>(sink: &mut K) -> Result<(), WriteFailed>
+    ensures ok { K.tells → OnOk result (K.written sink.new ≡ K.written sink.old ++ usage_line) }
+    ensures err { K.tells → OnErr result ((n : ℕ) × (K.written sink.new ≡ K.written sink.old ++ take n usage_line)) }
+    ensures cause { HasCause (K.faults sink.old) (K.faults sink.new) result }
+{
+    sink.write_all(USAGE)?;
+    sink.flush()
+}
+
+// Writes the usage line, and answers the status.
+fn refuse_words<K: Sink>(sink: &mut K) -> u8
+    ensures status { (result ≡ 1) ⊎ (result ≡ 6) }
+    ensures written { K.tells → result ≡ 1 → K.written sink.new ≡ K.written sink.old ++ usage_line }
+    ensures part { K.tells → result ≡ 6 → (n : ℕ) × (K.written sink.new ≡ K.written sink.old ++ take n usage_line) }
+    ensures quiet { result ≡ 1 → K.faults sink.new ≡ K.faults sink.old }
+    ensures cause { result ≡ 6 → Rose (K.faults sink.old) (K.faults sink.new) }
+{
+    match write_usage(sink) {
+        Ok(()) => 1,
+        Err(_) => 6,
+    }
+}
+
+/// Does what the words say, and answers the status of the program.
+pub fn gp<S: Source, K: Sink>(_alloc: Global, words: &[String], source: &mut S, sink: &mut K) -> u8
+    // Words of no form: the usage line is written, and nothing is read.
+    ensures usage { (AreRun words.now → ⊥) → ((result ≡ 1) ⊎ (result ≡ 6)) × (source.new ≡ source.old) }
+    ensures usage_written { (AreRun words.now → ⊥) → K.tells → result ≡ 1 → K.written sink.new ≡ K.written sink.old ++ usage_line }
+    ensures usage_part { (AreRun words.now → ⊥) → K.tells → result ≡ 6 → (n : ℕ) × (K.written sink.new ≡ K.written sink.old ++ take n usage_line) }
+    ensures usage_quiet { (AreRun words.now → ⊥) → result ≡ 1 → K.faults sink.new ≡ K.faults sink.old }
+    ensures usage_cause { (AreRun words.now → ⊥) → result ≡ 6 → Rose (K.faults sink.old) (K.faults sink.new) }
+
+    // `run`: the status is that of an ending, which says what was read and written.
+    ensures run { AreRun words.now → (ending : Ending) × (result ≡ status_of ending)
+        × EndCause ending (S.faults source.old) (S.faults source.new) (K.faults sink.old) (K.faults sink.new)
+        × (S.tells × K.tells → Ends ending
+        (record { left = S.left source.old; written = K.written sink.old })
+        (record { left = S.left source.new; written = K.written sink.new })) }
+
+    // Where each line has a form, the input is short enough and nothing fails, all is done.
+    ensures complete { AreRun words.now → S.tells × K.tells → AreGood (lines (S.left source.old)) → length (S.left source.old) < INPUT_LIMIT
+        → (Rose (S.faults source.old) (S.faults source.new) → ⊥) → (Rose (K.faults sink.old) (K.faults sink.new) → ⊥) → result ≡ 0 }
+{
+    if are_run(words) {
+        run(source, sink).status()
+    } else {
+        refuse_words(sink)
+    }
+}
