@@ -1,0 +1,11 @@
+use Rattle.std.proofs.Common.{arith}
+use Rattle.card_types.proofs.PrivilegeFacts.{length-Spells}
+use Rattle.card_types.proofs.privileges.Privileges.from_bytes.Goals as goal
+
+pub returns-in_default-2-clause-none : goal.returns-in_default-2-clause-none
+returns-in_default-2-clause-none c =
+    λ privileges spelled. omega (arith, length-Spells privileges c.args.bytes.now spelled)
+
+pub returns-in_default-3-clause-none : goal.returns-in_default-3-clause-none
+returns-in_default-3-clause-none c =
+    λ privileges spelled. omega (arith, length-Spells privileges c.args.bytes.now spelled)

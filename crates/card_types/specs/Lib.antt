@@ -1,0 +1,4 @@
+pub mod Aid
+pub mod AidFields
+pub mod AidFacts
+pub mod Privileges
