@@ -2,7 +2,13 @@
 #![tactic(auto)]
 
 mod aid;
+mod card_life;
+mod level;
+mod life;
 mod privileges;
 
 pub use aid::Aid;
+pub use card_life::CardLife;
+pub use level::Level;
+pub use life::{Life, LifeMark};
 pub use privileges::Privileges;
