@@ -30,19 +30,23 @@ bits_of-bytes privileges first second third named spelled =
     omega (arith, named, and_le_r (bits_of privileges) named_bits) in
     omega arith
 
--- where the bytes have a bit without a name, they are those of no privileges
-pub IfNone-unnamed : (o : Option Privileges) (bits first second third : ℕ)
+-- the answer for the bytes of named privileges
+pub answer-named : (o : Option Privileges) (bits first second third : ℕ)
     → bits ≡ first * 65536 + second * 256 + third
+    → IfSome o (λ privileges. bits_of privileges ≡ bits)
     → (bit_and bits (known_bits privilege_table) ≡ bits → IsSome o)
-    → IfNone o ((privileges : Privileges) → IsNamed privileges
-    → bytes_of privileges ≡ first ∷ second ∷ third ∷ [] → ⊥)
-IfNone-unnamed None bits first second third value known = λ privileges named spelled.
+    → (privileges : Privileges) → IsNamed privileges
+    → bytes_of privileges ≡ first ∷ second ∷ third ∷ [] → o ≡ Some privileges
+answer-named None bits first second third number value known privileges named spelled =
     let same : bits_of privileges ≡ bits =
-    bits_of-bytes privileges first second third named spelled ∙ sym value in
+    bits_of-bytes privileges first second third named spelled ∙ sym number in
     let kept : bit_and bits named_bits ≡ bits = rw same at named in
     let some : IsSome {T = Privileges} None = known (rw known_bits-privilege_table kept) in
     cc
-IfNone-unnamed (Some privileges) bits first second third value known = tt
+answer-named (Some other) bits first second third number value known privileges named spelled =
+    let same : bits_of other ≡ bits_of privileges =
+    value ∙ number ∙ sym (bits_of-bytes privileges first second third named spelled) in
+    ap Some (λ i. record { 0 = same i })
 
 pub length-Spells : (privileges : Privileges) (bytes : List ℕ) → Spells privileges bytes
     → (length bytes ≡ 1) ⊎ (length bytes ≡ 3)

@@ -17,6 +17,7 @@ impl CardLife {
     pub fn from_code(code: u8) -> Option<CardLife>
         ensures some { IfSome result (λ life. code_of life ≡ code) }
         ensures none { IfNone result ((life : CardLife) → code_of life ≡ code → ⊥) }
+        ensures back { (life : CardLife) → code_of life ≡ code → result ≡ Some life }
     {
         match code {
             0x01 => Some(CardLife::OpReady),

@@ -26,6 +26,7 @@ impl Level {
     pub fn from_code(code: u8) -> Option<Level>
         ensures some { IfSome result (λ level. code_of level ≡ code) }
         ensures none { IfNone result ((level : Level) → code_of level ≡ code → ⊥) }
+        ensures back { (level : Level) → code_of level ≡ code → result ≡ Some level }
     {
         match code {
             0x01 => Some(Level::Mac),

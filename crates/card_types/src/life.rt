@@ -26,6 +26,7 @@ impl LifeMark {
     pub fn from_code(code: u8) -> Option<LifeMark>
         ensures some { IfSome result (λ mark. code_of mark ≡ code) }
         ensures none { IfNone result ((mark : LifeMark) → code_of mark ≡ code → ⊥) }
+        ensures back { (mark : LifeMark) → code_of mark ≡ code → result ≡ Some mark }
     {
         Some(LifeMark {
             life: life_with(code % LOCK)?,

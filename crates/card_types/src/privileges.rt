@@ -62,6 +62,7 @@ impl Privileges {
     pub fn from_bytes(bytes: &[u8]) -> Option<Privileges>
         ensures some { IfSome result (λ privileges. Spells privileges bytes.now) }
         ensures none { IfNone result ((privileges : Privileges) → Spells privileges bytes.now → ⊥) }
+        ensures back { (privileges : Privileges) → Spells privileges bytes.now → result ≡ Some privileges }
     {
         match *bytes {
             [first] => from_three(first, 0, 0),
@@ -83,7 +84,7 @@ impl Privileges {
 fn from_three(first: u8, second: u8, third: u8) -> Option<Privileges>
     ensures named { IfSome result IsNamed }
     ensures some { IfSome result (λ privileges. bytes_of privileges ≡ first ∷ second ∷ third ∷ []) }
-    ensures none { IfNone result ((privileges : Privileges) → IsNamed privileges → bytes_of privileges ≡ first ∷ second ∷ third ∷ [] → ⊥) }
+    ensures back { (privileges : Privileges) → IsNamed privileges → bytes_of privileges ≡ first ∷ second ∷ third ∷ [] → result ≡ Some privileges }
 {
     Privileges::from_bits(u32::from_be_bytes([0, first, second, third]))
 }

@@ -9,3 +9,11 @@ returns-in_default-2-clause-none c =
 pub returns-in_default-3-clause-none : goal.returns-in_default-3-clause-none
 returns-in_default-3-clause-none c =
     λ privileges spelled. omega (arith, length-Spells privileges c.args.bytes.now spelled)
+
+pub returns-in_default-2-clause-back : goal.returns-in_default-2-clause-back
+returns-in_default-2-clause-back c =
+    λ privileges spelled. absurd (omega (arith, length-Spells privileges c.args.bytes.now spelled))
+
+pub returns-in_default-3-clause-back : goal.returns-in_default-3-clause-back
+returns-in_default-3-clause-back c =
+    λ privileges spelled. absurd (omega (arith, length-Spells privileges c.args.bytes.now spelled))
