@@ -1,5 +1,5 @@
 -- What bits and bytes of privileges say of each other.
-use Rattle.std.proofs.Common.{◌≡◌, ℕ, ◌+◌, ◌*◌, ◌/◌, ◌%◌, ◌<◌, List, [], ◌∷◌, ◌++◌, ◌⊎◌, inl, inr, length, length-append, Option, Some, None, IfSome, IfNone, IsSome, refl, ap, sym, ◌∙◌, bit_and, arith, subst}
+use Rattle.std.proofs.Common.{◌≡◌, ℕ, ◌+◌, ◌*◌, ◌/◌, ◌%◌, ◌<◌, List, [], ◌∷◌, ◌⊎◌, inl, inr, length, length-append, Option, Some, None, IfSome, IsSome, refl, ap, sym, ◌∙◌, bit_and, arith}
 use Rattle.std.proofs.lemmas.Nat.{and_le_r}
 use Rattle.bitflags.specs.Sets.{known_bits, known_from}
 use Rattle.card_types.specs.declared.privileges.Privileges.{Privileges}

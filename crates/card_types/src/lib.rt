@@ -12,3 +12,6 @@ pub use card_life::CardLife;
 pub use level::Level;
 pub use life::{Life, LifeMark};
 pub use privileges::Privileges;
+
+#[cfg(test)]
+mod tests;
