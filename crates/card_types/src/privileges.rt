@@ -71,7 +71,7 @@ impl Privileges {
         }
     }
 
-    /// The three bytes.
+    /// The three bytes. A bit above them, which only `from_bits_retain` can set, is left out.
     pub fn to_bytes(&self) -> [u8; 3]
         ensures { result ≡ bytes_of self.now }
     {
