@@ -24,6 +24,7 @@ impl Command<'_> {
     pub fn read(bytes: &[u8]) -> Result<Command<'_>, NotShort>
         ensures ok { IfOk result (λ c. Short (apdu_of c) bytes.now) }
         ensures refused { OnErr result ((c : Apdu) → Short c bytes.now → ⊥) }
+        ensures short { IfOk result (λ c. length c.body.now ≤ 255) }
     {
         let [class, ins, p1, p2, rest @ ..] = bytes else {
             return Err(NotShort);
@@ -73,6 +74,7 @@ fn push_fields(body: &[u8], le: Option<u8>, out: &mut ArrayVec<u8, 261>)
 fn split_fields(fields: &[u8]) -> Result<(&[u8], Option<u8>), NotShort>
     ensures ok { IfOk result (λ f. fields.now ≡ after_header f.0.now f.1) }
     ensures refused { OnErr result ((body : List ℕ) (le : Option ℕ) → fields.now ≡ after_header body le → ⊥) }
+    ensures short { IfOk result (λ f. length f.0.now ≤ 255) }
 {
     match fields {
         [] => Ok((fields, None)),
