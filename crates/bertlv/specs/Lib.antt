@@ -1,0 +1,4 @@
+pub mod Tag
+pub mod Length
+pub mod Spelling
+pub mod Refusal

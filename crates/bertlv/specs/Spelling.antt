@@ -1,0 +1,24 @@
+-- BER-TLV data objects (ISO/IEC 7816-4:2005, 5.2.2).
+use Rattle.std.specs.Prelude.{◌≡◌, ℕ, ◌≤◌, List, ◌++◌, length}
+use Rattle.bertlv.specs.Tag.{TagBytes}
+use Rattle.bertlv.specs.Length.{LengthBytes}
+
+-- the bytes are the element of this tag and value: a tag field, a length field and the value
+pub record Spelling (tag : ℕ) (value bytes : List ℕ) : Type 0 where
+  pub tag_field : List ℕ
+  pub length_field : List ℕ
+  pub is_tag : TagBytes tag tag_field
+  pub is_length : LengthBytes (length value) length_field
+  pub joined : bytes ≡ tag_field ++ length_field ++ value
+
+-- a front of the bytes is the element, and rest follows it
+abbrev pub BeginsWith : (tag : ℕ) (value rest bytes : List ℕ) → Type 0
+BeginsWith tag value rest bytes = (front : List ℕ) × Spelling tag value front × (bytes ≡ front ++ rest)
+
+-- new is old with the element's spelling behind it
+abbrev pub Appends : (tag : ℕ) (value old new : List ℕ) → Type 0
+Appends tag value old new = (bytes : List ℕ) × Spelling tag value bytes × (new ≡ old ++ bytes)
+
+-- a spelling of the element has at most so many bytes
+abbrev pub FitsIn : (tag : ℕ) (value : List ℕ) (room : ℕ) → Type 0
+FitsIn tag value room = (bytes : List ℕ) × Spelling tag value bytes × (length bytes ≤ room)

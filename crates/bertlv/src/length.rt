@@ -1,0 +1,36 @@
+//! Length fields (ISO/IEC 7816-4:2005, 5.2.2.2).
+ghost use Rattle.std.specs.Prelude.{ℕ, List, IfOk, IfErr};
+ghost use Rattle.bertlv.specs.Refusal.{AfterLength, LengthRefused};
+
+/// Why bytes don't begin with a length field.
+pub(crate) enum LengthError {
+    /// The bytes end before the field does.
+    Short,
+
+    /// The field has none of the three forms.
+    Form,
+}
+
+/// The length at the front, and the bytes after its field.
+pub(crate) fn split_length(bytes: &[u8]) -> Result<(usize, &[u8]), LengthError>
+    ensures ok { IfOk result (λ r. (field : List ℕ) × AfterLength r.0 field r.1.now bytes.now) }
+    ensures err { IfErr result (LengthRefused bytes.now) }
+{
+    match bytes {
+        [] => Err(LengthError::Short),
+        [length @ 0..=0x7F, rest @ ..] => Ok((usize::from(*length), rest)),
+        [0x81, ..] => match bytes {
+            [_, length @ 0x80.., rest @ ..] => Ok((usize::from(*length), rest)),
+            [_, _, ..] => Err(LengthError::Form),
+            _ => Err(LengthError::Short),
+        },
+        [0x82, ..] => match bytes {
+            [_, high @ 1.., low, rest @ ..] => {
+                Ok((usize::from(u16::from_be_bytes([*high, *low])), rest))
+            }
+            [_, _, _, ..] => Err(LengthError::Form),
+            _ => Err(LengthError::Short),
+        },
+        _ => Err(LengthError::Form),
+    }
+}

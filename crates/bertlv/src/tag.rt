@@ -1,0 +1,50 @@
+//! Tag fields (ISO/IEC 7816-4:2005, 5.2.2.1).
+ghost use Rattle.std.specs.Prelude.{◌≡◌, ◌↔◌, ℕ, List, IsTrue, IfOk, IfErr};
+ghost use Rattle.bertlv.specs.Tag.{GoesOn, EndsTag, IsTag};
+ghost use Rattle.bertlv.specs.Refusal.{AfterTag, TagRefused};
+
+use crate::TlvError;
+
+/// Whether a number is a tag: one byte other than 00 whose five low bits are not all set, or two
+/// bytes, the first of which has them all set and the second of which is from 1F to 7F.
+pub fn is_tag(tag: u16) -> bool
+    ensures { IsTrue result ↔ IsTag tag }
+{
+    let [first, second] = tag.to_be_bytes();
+    if first == 0 {
+        second != 0 && !goes_on(second)
+    } else {
+        goes_on(first) && ends(second)
+    }
+}
+
+/// The tag at the front, and the bytes after its field.
+pub(crate) fn split_tag(bytes: &[u8]) -> Result<(u16, &[u8]), TlvError>
+    ensures ok { IfOk result (λ r. (field : List ℕ) × AfterTag r.0 field r.1.now bytes.now) }
+    ensures err { IfErr result (TagRefused bytes.now) }
+{
+    match bytes {
+        [] => Err(TlvError::Short(0)),
+        [0, ..] => Err(TlvError::Tag(0)),
+        [first, rest @ ..] if !goes_on(*first) => Ok((u16::from(*first), rest)),
+        [_] => Err(TlvError::Short(1)),
+        [first, second, rest @ ..] if ends(*second) => {
+            Ok((u16::from_be_bytes([*first, *second]), rest))
+        }
+        _ => Err(TlvError::Tag(1)),
+    }
+}
+
+/// Whether a first byte says that a second follows.
+fn goes_on(first: u8) -> bool
+    ensures { IsTrue result ↔ GoesOn first }
+{
+    first & 0x1F == 0x1F
+}
+
+/// Whether a second byte ends the field.
+fn ends(second: u8) -> bool
+    ensures { IsTrue result ↔ EndsTag second }
+{
+    (0x1F..=0x7F).contains(&second)
+}
