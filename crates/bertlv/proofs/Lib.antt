@@ -1,2 +1,5 @@
 pub mod TagLemmas
 pub mod LengthLemmas
+pub mod SpellingLemmas
+pub mod Answer
+pub mod ReadLemmas

@@ -2,8 +2,6 @@
 use Rattle.std.specs.Prelude.{◌≡◌, ℕ, ◌+◌, ◌*◌, ◌<◌, ◌≤◌, ◌⊎◌, List, [], ◌∷◌, ◌++◌, length}
 use Rattle.bertlv.specs.declared.element.TlvError.{TlvError}
 use Rattle.bertlv.specs.declared.element.TlvError.TheVariants.{Short, Tag, Length}
-use Rattle.bertlv.specs.declared.length.LengthError.{LengthError}
-use Rattle.bertlv.specs.declared.length.LengthError.TheVariants as length_errors
 use Rattle.bertlv.specs.Tag.{GoesOn, TagBytes}
 use Rattle.bertlv.specs.Length.{LengthBytes}
 
@@ -27,12 +25,6 @@ BadTagAt n [] = ⊥
 BadTagAt n (b ∷ []) = (n ≡ 0) × (b ≡ 0)
 BadTagAt n (b ∷ c ∷ more) = ((n ≡ 0) × (b ≡ 0)) ⊎ ((n ≡ 1) × GoesOn b × ((c < 0x1F) ⊎ (0x7F < c)))
 
--- why bytes don't begin with a whole tag field
-abbrev pub TagRefused : List ℕ → TlvError → Type 0
-TagRefused bytes (Short n) = (n ≡ length bytes) × EndsInTag bytes
-TagRefused bytes (Tag n) = BadTagAt n bytes
-TagRefused bytes (Length n) = ⊥
-
 -- the bytes end before their length field does
 abbrev pub EndsInLength : List ℕ → Type 0
 EndsInLength [] = Unit {0}
@@ -51,11 +43,6 @@ BadLength (a ∷ []) = BadFirst a
 BadLength (a ∷ b ∷ []) = BadFirst a ⊎ ((a ≡ 0x81) × (b < 0x80))
 BadLength (a ∷ b ∷ c ∷ more) = BadFirst a ⊎ ((a ≡ 0x81) × (b < 0x80)) ⊎ ((a ≡ 0x82) × (256 * b + c < 0x100))
 
--- why bytes don't begin with a whole length field
-abbrev pub LengthRefused : List ℕ → LengthError → Type 0
-LengthRefused bytes length_errors.Short = EndsInLength bytes
-LengthRefused bytes length_errors.Form = BadLength bytes
-
 -- the bytes end before their element does
 abbrev pub EndsShort : List ℕ → Type 0
 EndsShort bytes = EndsInTag bytes
@@ -63,12 +50,16 @@ EndsShort bytes = EndsInTag bytes
     ⊎ ((tag size : ℕ) × (field length_field rest value : List ℕ) × AfterTag tag field rest bytes
     × AfterLength size length_field value rest × (length value < size))
 
+-- the bytes end, at n, before their element does
+abbrev pub EndsShortAt : ℕ → List ℕ → Type 0
+EndsShortAt n bytes = (n ≡ length bytes) × EndsShort bytes
+
 -- the length field that begins at n has none of the three forms
 abbrev pub BadLengthAt : ℕ → List ℕ → Type 0
 BadLengthAt n bytes = (tag : ℕ) × (field rest : List ℕ) × AfterTag tag field rest bytes × (n ≡ length field) × BadLength rest
 
 -- the cause and the place of a refusal
 abbrev pub Refused : List ℕ → TlvError → Type 0
-Refused bytes (Short n) = (n ≡ length bytes) × EndsShort bytes
+Refused bytes (Short n) = EndsShortAt n bytes
 Refused bytes (Tag n) = BadTagAt n bytes
 Refused bytes (Length n) = BadLengthAt n bytes

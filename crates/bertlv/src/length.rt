@@ -1,8 +1,9 @@
 //! Length fields (ISO/IEC 7816-4:2005, 5.2.2.2).
-ghost use Rattle.std.specs.Prelude.{ℕ, List, IfOk, IfErr};
-ghost use Rattle.bertlv.specs.Refusal.{AfterLength, LengthRefused};
+ghost use Rattle.std.specs.Prelude.{ℕ, List, IfOk, IsErrOf};
+ghost use Rattle.bertlv.specs.Refusal.{AfterLength, EndsInLength, BadLength};
 
 /// Why bytes don't begin with a length field.
+#[derive(Clone, Copy)]
 pub(crate) enum LengthError {
     /// The bytes end before the field does.
     Short,
@@ -14,7 +15,8 @@ pub(crate) enum LengthError {
 /// The length at the front, and the bytes after its field.
 pub(crate) fn split_length(bytes: &[u8]) -> Result<(usize, &[u8]), LengthError>
     ensures ok { IfOk result (λ r. (field : List ℕ) × AfterLength r.0 field r.1.now bytes.now) }
-    ensures err { IfErr result (LengthRefused bytes.now) }
+    ensures short { IsErrOf result LengthError.Short → EndsInLength bytes.now }
+    ensures form { IsErrOf result LengthError.Form → BadLength bytes.now }
 {
     match bytes {
         [] => Err(LengthError::Short),

@@ -4,7 +4,9 @@
 
 mod element;
 mod length;
+mod reader;
 mod tag;
 
 pub use element::{NoRoom, Tlv, TlvError};
+pub use reader::read;
 pub use tag::is_tag;

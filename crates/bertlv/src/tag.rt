@@ -1,7 +1,7 @@
 //! Tag fields (ISO/IEC 7816-4:2005, 5.2.2.1).
 ghost use Rattle.std.specs.Prelude.{◌≡◌, ◌↔◌, ℕ, List, IsTrue, IfOk, IfErr};
 ghost use Rattle.bertlv.specs.Tag.{GoesOn, EndsTag, IsTag};
-ghost use Rattle.bertlv.specs.Refusal.{AfterTag, TagRefused};
+ghost use Rattle.bertlv.specs.Refusal.{AfterTag, Refused};
 
 use crate::TlvError;
 
@@ -21,7 +21,7 @@ pub fn is_tag(tag: u16) -> bool
 /// The tag at the front, and the bytes after its field.
 pub(crate) fn split_tag(bytes: &[u8]) -> Result<(u16, &[u8]), TlvError>
     ensures ok { IfOk result (λ r. (field : List ℕ) × AfterTag r.0 field r.1.now bytes.now) }
-    ensures err { IfErr result (TagRefused bytes.now) }
+    ensures err { IfErr result (Refused bytes.now) }
 {
     match bytes {
         [] => Err(TlvError::Short(0)),

@@ -14,6 +14,6 @@ pub returns-in-1-to-255-clause-ok : goal.returns-in-1-to-255-clause-ok
 returns-in-1-to-255-clause-ok c =
     after_82 c.args.bytes.now c.from-in-1-to-255.result (omega arith) (omega arith) (omega arith) (omega arith) (omega arith) (omega (arith, c.type_inv.bytes 2))
 
-pub returns-in-len3-up-clause-err : goal.returns-in-len3-up-clause-err
-returns-in-len3-up-clause-err c =
+pub returns-in-len3-up-clause-form : goal.returns-in-len3-up-clause-form
+returns-in-len3-up-clause-form c _ =
     bad_82 c.args.bytes.now (omega arith) (omega arith) (omega arith) (omega (arith, c.type_inv.bytes 2))
