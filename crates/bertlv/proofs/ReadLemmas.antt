@@ -4,7 +4,7 @@ use Rattle.bertlv.specs.declared.element.TlvError.{TlvError}
 use Rattle.bertlv.specs.Spelling.{Spelling, BeginsWith}
 use Rattle.bertlv.specs.Refusal.{Refused, AfterTag, AfterLength}
 use Rattle.bertlv.specs.Length.{LengthBytes}
-use Rattle.bertlv.proofs.SpellingLemmas.{spelling_front}
+use Rattle.bertlv.proofs.SpellingLemmas.{spelling_front, fields_spell}
 use Rattle.bertlv.proofs.Answer.{refused_alone, one_refusal}
 
 module _ {T : Type 0} (tag : T → ℕ) (value rest : T → List ℕ) (bytes : List ℕ) where
@@ -26,7 +26,5 @@ module _ {T : Type 0} (tag : T → ℕ) (value rest : T → List ℕ) (bytes : L
 -- the parts at the front are an element
 pub joined_front : (tag n : ℕ) (bytes after_tag after_length value rest : List ℕ) → (field : List ℕ) × AfterTag tag field after_tag bytes → (field : List ℕ) × AfterLength n field after_length after_tag → n ≡ length value → after_length ≡ value ++ rest → BeginsWith tag value rest bytes
 joined_front tag n bytes after_tag after_length value rest (field, (is_tag, at_tag)) (size_field, (is_length, at_length)) n_is at_value =
-    let spelled : Spelling tag value (field ++ size_field ++ value) =
-        record { tag_field = field; length_field = size_field; is_tag = is_tag; is_length = subst (λ m. LengthBytes m size_field) n_is is_length; joined = refl } in
-    (field ++ size_field ++ value, spelled,
+    (field ++ size_field ++ value, fields_spell tag n field size_field value is_tag is_length n_is,
     at_tag ∙ ap (λ z. field ++ z) (at_length ∙ ap (λ z. size_field ++ z) at_value) ∙ simp append_assoc)

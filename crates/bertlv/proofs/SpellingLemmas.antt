@@ -6,6 +6,12 @@ use Rattle.bertlv.specs.Spelling.{Spelling}
 use Rattle.bertlv.proofs.TagLemmas.{tag_front, one_tag_field}
 use Rattle.bertlv.proofs.LengthLemmas.{length_front, one_length_field}
 
+-- the fields and the value spell the element
+pub fields_spell : (tag n : ℕ) (tag_field length_field value : List ℕ) → TagBytes tag tag_field → LengthBytes n length_field → n ≡ length value → Spelling tag value (tag_field ++ length_field ++ value)
+fields_spell tag n tag_field length_field value is_tag is_length n_is = record {
+    tag_field = tag_field; length_field = length_field; is_tag = is_tag;
+    is_length = subst (λ m. LengthBytes m length_field) n_is is_length; joined = refl }
+
 -- fronts of one length are one front
 pub same_front : (v w x y : List ℕ) → length v ≡ length w → v ++ x ≡ w ++ y → (v ≡ w) × (x ≡ y)
 same_front [] [] x y n e = (refl, e)

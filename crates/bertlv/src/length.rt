@@ -1,6 +1,9 @@
 //! Length fields (ISO/IEC 7816-4:2005, 5.2.2.2).
 ghost use Rattle.std.specs.Prelude.{ℕ, List, IfOk, IsErrOf};
+ghost use Rattle.bertlv.specs.Length.{LengthBytes};
 ghost use Rattle.bertlv.specs.Refusal.{AfterLength, EndsInLength, BadLength};
+
+use arrayvec::ArrayVec;
 
 /// Why bytes don't begin with a length field.
 #[derive(Clone, Copy)]
@@ -35,4 +38,23 @@ pub(crate) fn split_length(bytes: &[u8]) -> Result<(usize, &[u8]), LengthError>
         },
         _ => Err(LengthError::Form),
     }
+}
+
+/// The field that spells the length.
+pub(crate) fn length_field(length: u16) -> ArrayVec<u8, 3>
+    ensures { LengthBytes length result.items }
+{
+    let [high, low] = length.to_be_bytes();
+    let mut field = ArrayVec::new();
+    if length < 0x80 {
+        field.push(low);
+    } else if length < 0x100 {
+        field.push(0x81);
+        field.push(low);
+    } else {
+        field.push(0x82);
+        field.push(high);
+        field.push(low);
+    }
+    field
 }

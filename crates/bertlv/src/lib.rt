@@ -6,7 +6,9 @@ mod element;
 mod length;
 mod reader;
 mod tag;
+mod writer;
 
 pub use element::{NoRoom, Tlv, TlvError};
 pub use reader::read;
 pub use tag::is_tag;
+pub use writer::write;

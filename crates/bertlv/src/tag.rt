@@ -1,9 +1,10 @@
 //! Tag fields (ISO/IEC 7816-4:2005, 5.2.2.1).
 ghost use Rattle.std.specs.Prelude.{◌≡◌, ◌↔◌, ℕ, List, IsTrue, IfOk, IfErr};
-ghost use Rattle.bertlv.specs.Tag.{GoesOn, EndsTag, IsTag};
+ghost use Rattle.bertlv.specs.Tag.{GoesOn, EndsTag, TagBytes, IsTag};
 ghost use Rattle.bertlv.specs.Refusal.{AfterTag, Refused};
 
 use crate::TlvError;
+use arrayvec::ArrayVec;
 
 /// Whether a number is a tag: one byte other than 00 whose five low bits are not all set, or two
 /// bytes, the first of which has them all set and the second of which is from 1F to 7F.
@@ -33,6 +34,20 @@ pub(crate) fn split_tag(bytes: &[u8]) -> Result<(u16, &[u8]), TlvError>
         }
         _ => Err(TlvError::Tag(1)),
     }
+}
+
+/// The field that spells the tag.
+pub(crate) fn tag_field(tag: u16) -> ArrayVec<u8, 2>
+    requires { IsTag tag }
+    ensures { TagBytes tag result.items }
+{
+    let [first, second] = tag.to_be_bytes();
+    let mut field = ArrayVec::new();
+    if first != 0 {
+        field.push(first);
+    }
+    field.push(second);
+    field
 }
 
 /// Whether a first byte says that a second follows.

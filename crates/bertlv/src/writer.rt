@@ -1,0 +1,35 @@
+//! Elements at the end of a buffer.
+ghost use Rattle.std.specs.Prelude.{◌≡◌, ◌↔◌, ◌+◌, ◌<◌, ◌++◌, ℕ, List, length, OnOk, OnErr, IsErr};
+ghost use Rattle.bertlv.specs.Tag.{IsTag};
+ghost use Rattle.bertlv.specs.Spelling.{Spelling, Appends};
+
+use crate::length::length_field;
+use crate::tag::tag_field;
+use crate::{NoRoom, Tlv};
+use arrayvec::ArrayVec;
+
+/// Appends the one spelling of the element (ISO/IEC 7816-4:2005, 5.2.2).
+pub fn write(tlv: &Tlv<'_>, out: &mut ArrayVec<u8, 261>) -> Result<(), NoRoom>
+    requires { IsTag tlv.now.tag }
+    ensures ok { OnOk result (Appends tlv.now.tag tlv.now.value.now out.old.items out.new.items) }
+
+    // No other bytes spell the element.
+    ensures only { (bytes : List ℕ) → Spelling tlv.now.tag tlv.now.value.now bytes
+        → OnOk result (out.new.items ≡ out.old.items ++ bytes) }
+    ensures no_room { IsErr result ↔ ((bytes : List ℕ) → Spelling tlv.now.tag tlv.now.value.now bytes
+        → 261 < length out.old.items + length bytes) }
+    ensures err { OnErr result (out.new ≡ out.old) }
+{
+    let Ok(length) = u16::try_from(tlv.value.len()) else {
+        return Err(NoRoom);
+    };
+    let tag = tag_field(tlv.tag);
+    let length = length_field(length);
+    if out.remaining_capacity() < tag.len() + length.len() + tlv.value.len() {
+        return Err(NoRoom);
+    }
+    out.try_extend_from_slice(tag.as_slice()).unwrap();
+    out.try_extend_from_slice(length.as_slice()).unwrap();
+    out.try_extend_from_slice(tlv.value).unwrap();
+    Ok(())
+}
