@@ -1,13 +1,12 @@
 -- Each bytes have one answer: an element, or one refusal. The proof computes it.
-use Rattle.std.proofs.Common.{◌≡◌, ◌≢◌, ℕ, ◌+◌, ◌*◌, ◌<◌, ◌≤◌, ◌⊎◌, List, [], ◌∷◌, ◌++◌, Bool, true, false, cond, eqb, ltb, bit_and, Result, Ok, Err, length, take, drop, append_assoc, length-append, arith, refl, ap, sym, ◌∙◌, subst, inl, inr, rules}
+use Rattle.std.proofs.Common.{◌≡◌, ◌≢◌, ℕ, ◌+◌, ◌*◌, ◌<◌, ◌≤◌, List, [], ◌∷◌, ◌++◌, cond, eqb, ltb, bit_and, Result, Ok, Err, length, take, drop, append_assoc, length-append, arith, refl, ap, sym, ◌∙◌, subst, inl, inr}
 use Rattle.std.proofs.Math.Seq.{take-append_seam, drop-append_seam}
 use Rattle.std.proofs.lemmas.Bool.Decides.{nat_tests}
 use Rattle.bertlv.specs.declared.element.TlvError.{TlvError}
 use Rattle.bertlv.specs.declared.element.TlvError.TheVariants.{Short, Tag, Length}
-use Rattle.bertlv.specs.Tag.{GoesOn, EndsTag, TagBytes}
-use Rattle.bertlv.specs.Length.{LengthBytes}
-use Rattle.bertlv.specs.Spelling.{Spelling, BeginsWith}
-use Rattle.bertlv.specs.Refusal.{AfterTag, AfterLength, EndsInTag, BadTagAt, EndsInLength, BadFirst, BadLength, EndsShort, EndsShortAt, BadLengthAt, Refused}
+use Rattle.bertlv.specs.Tag.{GoesOn}
+use Rattle.bertlv.specs.Spelling.{BeginsWith}
+use Rattle.bertlv.specs.Refusal.{AfterTag, AfterLength, EndsInTag, BadTagAt, EndsInLength, BadLength, Refused}
 
 -- how a field at the front of bytes comes out: its number, its bytes and what follows, or why there is none
 data Field : Type 0 where
@@ -118,7 +117,7 @@ few_value end tag size bytes few = grind (arith, nat_tests)
 pub answer_found : (t : ℕ) (value rest bytes : List ℕ) → BeginsWith t value rest bytes → answer bytes ≡ Ok (t, value, rest)
 answer_found t value rest bytes (front, spelled, is) =
     let parts : bytes ≡ spelled.tag_field ++ (spelled.length_field ++ (value ++ rest)) =
-        is ∙ ap (λ z. z ++ rest) spelled.joined ∙ simp append_assoc in
+    is ∙ ap (λ z. z ++ rest) spelled.joined ∙ simp append_assoc in
     behind_length t (length value) spelled.tag_field spelled.length_field (spelled.length_field ++ (value ++ rest)) (value ++ rest) bytes
     (spelled.is_tag, parts) (spelled.is_length, refl)
     ∙ whole_value (length bytes) t value rest

@@ -1,5 +1,5 @@
 -- What a length and its field say of each other.
-use Rattle.std.proofs.Common.{◌≡◌, ◌≢◌, ℕ, suc, ◌+◌, ◌-◌, ◌*◌, ◌<◌, ◌≤◌, List, [], ◌∷◌, ◌++◌, arith, subst, refl, ap, get_or, take, drop, length, inl, inr}
+use Rattle.std.proofs.Common.{◌≡◌, ℕ, ◌+◌, ◌-◌, ◌*◌, ◌<◌, ◌≤◌, List, [], ◌∷◌, ◌++◌, arith, get_or, take, drop, length, inr}
 use Rattle.std.proofs.lemmas.Grind.{common_steps}
 use Rattle.bertlv.specs.Length.{LengthBytes}
 use Rattle.bertlv.specs.Refusal.{AfterLength, BadLength}

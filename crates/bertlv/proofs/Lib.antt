@@ -2,4 +2,4 @@ pub mod TagLemmas
 pub mod LengthLemmas
 pub mod SpellingLemmas
 pub mod Answer
-pub mod ReadLemmas
+mod ReadLemmas

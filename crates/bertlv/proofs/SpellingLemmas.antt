@@ -1,5 +1,5 @@
 -- An element has one spelling, and no spelling is the front of another.
-use Rattle.std.proofs.Common.{◌≡◌, ℕ, suc, List, [], ◌∷◌, ◌++◌, arith, refl, ap, sym, ◌∙◌, subst, length, append_assoc}
+use Rattle.std.proofs.Common.{◌≡◌, ℕ, List, [], ◌∷◌, ◌++◌, arith, refl, ap, sym, ◌∙◌, subst, length, append_assoc}
 use Rattle.bertlv.specs.Tag.{TagBytes}
 use Rattle.bertlv.specs.Length.{LengthBytes}
 use Rattle.bertlv.specs.Spelling.{Spelling}
@@ -9,8 +9,12 @@ use Rattle.bertlv.proofs.LengthLemmas.{length_front, one_length_field}
 -- the fields and the value spell the element
 pub fields_spell : (tag n : ℕ) (tag_field length_field value : List ℕ) → TagBytes tag tag_field → LengthBytes n length_field → n ≡ length value → Spelling tag value (tag_field ++ length_field ++ value)
 fields_spell tag n tag_field length_field value is_tag is_length n_is = record {
-    tag_field = tag_field; length_field = length_field; is_tag = is_tag;
-    is_length = subst (λ m. LengthBytes m length_field) n_is is_length; joined = refl }
+  tag_field = tag_field;
+  length_field = length_field;
+  is_tag = is_tag;
+  is_length = subst (λ m. LengthBytes m length_field) n_is is_length;
+  joined = refl;
+}
 
 -- fronts of one length are one front
 pub same_front : (v w x y : List ℕ) → length v ≡ length w → v ++ x ≡ w ++ y → (v ≡ w) × (x ≡ y)
@@ -29,8 +33,8 @@ joined_to a b v rest = simp append_assoc
 pub spelling_front : (t u : ℕ) (v w r s x y : List ℕ) → Spelling t v r → Spelling u w s → r ++ x ≡ s ++ y → (t ≡ u) × (v ≡ w) × (r ≡ s) × (x ≡ y)
 spelling_front t u v w r s x y h k e =
     let bytes : h.tag_field ++ (h.length_field ++ (v ++ x)) ≡ k.tag_field ++ (k.length_field ++ (w ++ y)) =
-        sym (joined_to h.tag_field h.length_field v x) ∙ ap (λ z. z ++ x) (sym h.joined) ∙ e
-        ∙ ap (λ z. z ++ y) k.joined ∙ joined_to k.tag_field k.length_field w y in
+    sym (joined_to h.tag_field h.length_field v x) ∙ ap (λ z. z ++ x) (sym h.joined) ∙ e
+    ∙ ap (λ z. z ++ y) k.joined ∙ joined_to k.tag_field k.length_field w y in
     let tags = tag_front t u h.tag_field k.tag_field (h.length_field ++ (v ++ x)) (k.length_field ++ (w ++ y)) h.is_tag k.is_tag bytes in
     let lengths = length_front (length v) (length w) h.length_field k.length_field (v ++ x) (w ++ y) h.is_length k.is_length tags.2 in
     let values = same_front v w x y lengths.0 lengths.2 in

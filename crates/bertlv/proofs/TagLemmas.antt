@@ -1,5 +1,5 @@
 -- What a tag and its field say of each other.
-use Rattle.std.proofs.Common.{◌≡◌, ◌≢◌, ℕ, suc, ◌+◌, ◌-◌, ◌*◌, ◌<◌, ◌≤◌, List, [], ◌∷◌, ◌++◌, bit_and, arith, subst, refl, ap, get_or, take, drop, length, Bool, true, false, not, IsTrue, ◌↔◌, sym}
+use Rattle.std.proofs.Common.{◌≡◌, ◌≢◌, ℕ, ◌+◌, ◌-◌, ◌*◌, ◌<◌, ◌≤◌, List, [], ◌∷◌, ◌++◌, arith, subst, refl, get_or, take, drop, length, ◌/◌, ◌%◌, inl, inr, Bool, true, false, not, IsTrue, ◌↔◌, sym}
 use Rattle.std.proofs.lemmas.Bool.{false≢true}
 use Rattle.std.proofs.lemmas.Grind.{common_steps}
 use Rattle.bertlv.specs.Tag.{GoesOn, EndsTag, TagBytes, IsTag}
@@ -56,15 +56,23 @@ one_tag_field tag (p ∷ r ∷ []) (q ∷ s ∷ z ∷ b) h k = absurd k
 one_tag_field tag (p ∷ r ∷ w ∷ a) b h k = absurd h
 
 -- a tag below 256 doesn't go on
-ends_of : (tag : ℕ) → tag < 256 → (field : List ℕ) → TagBytes tag field → ¬ GoesOn tag
-ends_of tag small [] h = absurd h
-ends_of tag small (b ∷ []) h = λ on. h.3 (subst GoesOn h.0 on)
-ends_of tag small (b ∷ c ∷ []) h = absurd (small_first tag b c small h)
-ends_of tag small (b ∷ c ∷ d ∷ more) h = absurd h
+ends_of : (tag : ℕ) → tag < 256 → IsTag tag → ¬ GoesOn tag
+ends_of tag small (inl h) = h.3
+ends_of tag small (inr h) = absurd (small_first tag (tag / 256) (tag % 256) small h)
 
 -- below 256 a number is a tag exactly where it doesn't go on
 pub one_byte_test : (tag second : ℕ) (on : Bool) → second ≡ tag → tag < 256 → second ≢ 0 → (IsTrue on ↔ GoesOn second) → IsTrue (not on) ↔ IsTag tag
 one_byte_test tag second true is small nonzero on =
-    (λ off. absurd cc, λ t. absurd (ends_of tag small t.0 t.1 (subst GoesOn is (on.0 refl))))
+    (λ off. absurd cc, λ t. absurd (ends_of tag small t (subst GoesOn is (on.0 refl))))
 one_byte_test tag second false is small nonzero on =
-    (λ _. (second ∷ [], (sym is, omega arith, nonzero, λ goes. absurd (false≢true (on.1 goes)))), λ _. refl)
+    (λ _. inl (refl, small, omega arith, λ goes. absurd (false≢true (on.1 (subst GoesOn (sym is) goes)))), λ _. refl)
+
+-- what a field spells is a tag
+pub spelled_is_tag : (tag : ℕ) (field : List ℕ) → TagBytes tag field → IsTag tag
+spelled_is_tag tag [] h = absurd h
+spelled_is_tag tag (b ∷ []) h = inl (subst (λ n. TagBytes tag (n ∷ [])) (sym h.0) h)
+spelled_is_tag tag (b ∷ c ∷ []) h =
+    let high : b ≡ tag / 256 = omega arith in
+    let low : c ≡ tag % 256 = omega arith in
+    inr (subst (λ m. TagBytes tag (m ∷ tag % 256 ∷ [])) high (subst (λ n. TagBytes tag (b ∷ n ∷ [])) low h))
+spelled_is_tag tag (b ∷ c ∷ d ∷ more) h = absurd h

@@ -1,5 +1,5 @@
 -- BER-TLV data objects (ISO/IEC 7816-4:2005, 5.2.2).
-use Rattle.std.specs.Prelude.{◌≡◌, ℕ, ◌≤◌, List, ◌++◌, length}
+use Rattle.std.specs.Prelude.{◌≡◌, ℕ, List, ◌++◌, length}
 use Rattle.bertlv.specs.Tag.{TagBytes}
 use Rattle.bertlv.specs.Length.{LengthBytes}
 
@@ -18,7 +18,3 @@ BeginsWith tag value rest bytes = (front : List ℕ) × Spelling tag value front
 -- new is old with the element's spelling behind it
 abbrev pub Appends : (tag : ℕ) (value old new : List ℕ) → Type 0
 Appends tag value old new = (bytes : List ℕ) × Spelling tag value bytes × (new ≡ old ++ bytes)
-
--- a spelling of the element has at most so many bytes
-abbrev pub FitsIn : (tag : ℕ) (value : List ℕ) (room : ℕ) → Type 0
-FitsIn tag value room = (bytes : List ℕ) × Spelling tag value bytes × (length bytes ≤ room)

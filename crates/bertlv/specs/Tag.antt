@@ -1,5 +1,5 @@
 -- Tag fields of BER-TLV data objects (ISO/IEC 7816-4:2005, 5.2.2.1).
-use Rattle.std.specs.Prelude.{◌≡◌, ◌≢◌, ℕ, ◌+◌, ◌*◌, ◌<◌, ◌≤◌, List, [], ◌∷◌, bit_and}
+use Rattle.std.specs.Prelude.{◌≡◌, ◌≢◌, ℕ, ◌+◌, ◌*◌, ◌/◌, ◌%◌, ◌<◌, ◌≤◌, List, [], ◌∷◌, bit_and, ◌⊎◌}
 
 -- bits 5 to 1 of a first byte are all set: the field goes on
 abbrev pub GoesOn : ℕ → Type 0
@@ -16,6 +16,6 @@ TagBytes tag (b ∷ []) = (tag ≡ b) × (b < 256) × (b ≢ 0) × ¬ GoesOn b
 TagBytes tag (b ∷ c ∷ []) = (tag ≡ 256 * b + c) × (b < 256) × GoesOn b × EndsTag c
 TagBytes tag (b ∷ c ∷ d ∷ more) = ⊥
 
--- some field spells the tag
+-- the number is a tag: the field of its one byte spells it, or that of its two
 abbrev pub IsTag : ℕ → Type 0
-IsTag tag = (field : List ℕ) × TagBytes tag field
+IsTag tag = TagBytes tag (tag ∷ []) ⊎ TagBytes tag (tag / 256 ∷ tag % 256 ∷ [])

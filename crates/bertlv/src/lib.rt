@@ -6,6 +6,8 @@ mod element;
 mod length;
 mod reader;
 mod tag;
+#[cfg(test)]
+mod tests;
 mod writer;
 
 pub use element::{NoRoom, Tlv, TlvError};

@@ -1,6 +1,7 @@
 //! Elements at the front of bytes.
 ghost use Rattle.std.specs.Prelude.{◌≡◌, ◌↔◌, ◌++◌, ℕ, List, Ok, Err, IfOk, IfErr, IsOkAnd};
 ghost use Rattle.bertlv.specs.Spelling.{Spelling, BeginsWith};
+ghost use Rattle.bertlv.specs.Tag.{IsTag};
 ghost use Rattle.bertlv.specs.Refusal.{EndsShortAt, BadTagAt, BadLengthAt, Refused};
 
 use crate::length::{LengthError, split_length};
@@ -14,6 +15,8 @@ use crate::{Tlv, TlvError};
 pub fn read(bytes: &[u8]) -> Result<(Tlv<'_>, &[u8]), TlvError>
     ensures found { IfOk result (λ r. BeginsWith r.0.tag r.0.value.now r.1.now bytes.now) }
 
+    ensures is_tag { IfOk result (λ r. IsTag r.0.tag) }
+
     // What is spelled so is read so, whatever follows it: no front has a second reading.
     ensures only { (tag : ℕ) (value front rest : List ℕ) → Spelling tag value front → bytes.now ≡ front ++ rest
         → IsOkAnd result (λ r. (r.0.tag ≡ tag) × (r.0.value.now ≡ value) × (r.1.now ≡ rest)) }
@@ -21,11 +24,11 @@ pub fn read(bytes: &[u8]) -> Result<(Tlv<'_>, &[u8]), TlvError>
     ensures tag { (n : ℕ) → (result ≡ Err (TlvError.Tag n)) ↔ BadTagAt n bytes.now }
     ensures length { (n : ℕ) → (result ≡ Err (TlvError.Length n)) ↔ BadLengthAt n bytes.now }
 {
-    front_of(bytes)
+    element_at_front(bytes)
 }
 
-/// What `read` gives.
-fn front_of(bytes: &[u8]) -> Result<(Tlv<'_>, &[u8]), TlvError>
+/// What `read` gives: an element that stands there, or a cause that does.
+fn element_at_front(bytes: &[u8]) -> Result<(Tlv<'_>, &[u8]), TlvError>
     ensures found { IfOk result (λ r. BeginsWith r.0.tag r.0.value.now r.1.now bytes.now) }
     ensures refused { IfErr result (Refused bytes.now) }
 {

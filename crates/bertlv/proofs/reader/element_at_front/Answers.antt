@@ -1,7 +1,7 @@
-use Rattle.std.proofs.Common.{◌≡◌, length, take, drop, arith}
+use Rattle.std.proofs.Common.{arith}
 use Rattle.std.proofs.lemmas.Grind.{common_steps}
 use Rattle.bertlv.proofs.ReadLemmas.{joined_front}
-use Rattle.bertlv.proofs.reader.front_of.Goals as goal
+use Rattle.bertlv.proofs.reader.element_at_front.Goals as goal
 
 pub returns-clause-found : goal.returns-clause-found
 returns-clause-found c =
