@@ -8,7 +8,8 @@ use Rattle.bertlv.specs.Tag.{GoesOn}
 use Rattle.bertlv.specs.Spelling.{BeginsWith}
 use Rattle.bertlv.specs.Refusal.{AfterTag, AfterLength, EndsInTag, BadTagAt, EndsInLength, BadLength, Refused}
 
--- how a field at the front of bytes comes out: its number, its bytes and what follows, or why there is none
+-- how a field at the front of bytes comes out: its number, its bytes and what follows, or the
+-- bytes end in it, or a byte is bad
 data Field : Type 0 where
   whole : ℕ → List ℕ → List ℕ → Field
   cut : Field
@@ -33,7 +34,8 @@ length_field (a ∷ b ∷ c ∷ more) = cond (ltb a 128) (whole a (a ∷ []) (b 
 goes_on_nonzero : (b : ℕ) → GoesOn b → b ≢ 0
 goes_on_nonzero b on zero = let none : GoesOn 0 = subst GoesOn zero on in cc
 
-whole_tag : (t : ℕ) (field rest bytes : List ℕ) → AfterTag t field rest bytes → tag_field bytes ≡ whole t field rest
+whole_tag : (t : ℕ) (field rest bytes : List ℕ) → AfterTag t field rest bytes →
+    tag_field bytes ≡ whole t field rest
 whole_tag t [] rest bytes h = absurd h.0
 whole_tag t (b ∷ []) [] bytes h = ap tag_field h.1 ∙ grind (arith, nat_tests)
 whole_tag t (b ∷ []) (c ∷ more) bytes h = ap tag_field h.1 ∙ grind (arith, nat_tests)
@@ -57,7 +59,8 @@ bad_tag n (b ∷ c ∷ more) (inr h) =
     let nonzero : b ≢ 0 = goes_on_nonzero b h.1 in
     grind (arith, nat_tests)
 
-whole_length : (n : ℕ) (field rest bytes : List ℕ) → AfterLength n field rest bytes → length_field bytes ≡ whole n field rest
+whole_length : (n : ℕ) (field rest bytes : List ℕ) → AfterLength n field rest bytes →
+    length_field bytes ≡ whole n field rest
 whole_length n [] rest bytes h = absurd h.0
 whole_length n (a ∷ []) [] bytes h = ap length_field h.1 ∙ grind (arith, nat_tests)
 whole_length n (a ∷ []) (b ∷ []) bytes h = ap length_field h.1 ∙ grind (arith, nat_tests)
@@ -80,7 +83,8 @@ bad_length (a ∷ b ∷ []) h = grind (arith, nat_tests)
 bad_length (a ∷ b ∷ c ∷ more) h = grind (arith, nat_tests)
 
 abbrev value_answer : ℕ → ℕ → ℕ → List ℕ → Result (ℕ × List ℕ × List ℕ) TlvError
-value_answer end tag size bytes = cond (ltb (length bytes) size) (Err (Short end)) (Ok (tag, take size bytes, drop size bytes))
+value_answer end tag size bytes =
+    cond (ltb (length bytes) size) (Err (Short end)) (Ok (tag, take size bytes, drop size bytes))
 
 abbrev length_answer : ℕ → ℕ → ℕ → Field → Result (ℕ × List ℕ × List ℕ) TlvError
 length_answer end tag at (whole size field rest) = value_answer end tag size rest
@@ -97,35 +101,44 @@ pub answer : List ℕ → Result (ℕ × List ℕ × List ℕ) TlvError
 answer bytes = tag_answer (length bytes) (tag_field bytes)
 
 -- the answer once the tag field is whole, and once the length field is
-behind_tag : (t : ℕ) (field rest bytes : List ℕ) → AfterTag t field rest bytes → answer bytes ≡ length_answer (length bytes) t (length field) (length_field rest)
+behind_tag : (t : ℕ) (field rest bytes : List ℕ) → AfterTag t field rest bytes →
+    answer bytes ≡ length_answer (length bytes) t (length field) (length_field rest)
 unfolding answer
 behind_tag t field rest bytes h = ap (tag_answer (length bytes)) (whole_tag t field rest bytes h)
 
-behind_length : (t n : ℕ) (field size_field rest value bytes : List ℕ) → AfterTag t field rest bytes → AfterLength n size_field value rest → answer bytes ≡ value_answer (length bytes) t n value
+behind_length : (t n : ℕ) (field size_field rest value bytes : List ℕ) →
+    AfterTag t field rest bytes → AfterLength n size_field value rest →
+    answer bytes ≡ value_answer (length bytes) t n value
 behind_length t n field size_field rest value bytes h k =
-    behind_tag t field rest bytes h ∙ ap (length_answer (length bytes) t (length field)) (whole_length n size_field value rest k)
+    behind_tag t field rest bytes h
+    ∙ ap (length_answer (length bytes) t (length field)) (whole_length n size_field value rest k)
 
-whole_value : (end tag : ℕ) (value rest : List ℕ) → value_answer end tag (length value) (value ++ rest) ≡ Ok (tag, value, rest)
+whole_value : (end tag : ℕ) (value rest : List ℕ) →
+    value_answer end tag (length value) (value ++ rest) ≡ Ok (tag, value, rest)
 whole_value end tag value rest =
     let enough : length value ≤ length (value ++ rest) = omega (arith, length-append value rest) in
     rw (take-append_seam value rest, drop-append_seam value rest) (grind (arith, nat_tests))
 
-few_value : (end tag size : ℕ) (bytes : List ℕ) → length bytes < size → value_answer end tag size bytes ≡ Err (Short end)
+few_value : (end tag size : ℕ) (bytes : List ℕ) → length bytes < size →
+    value_answer end tag size bytes ≡ Err (Short end)
 few_value end tag size bytes few = grind (arith, nat_tests)
 
 -- an element at the front is the answer
-pub answer_found : (t : ℕ) (value rest bytes : List ℕ) → BeginsWith t value rest bytes → answer bytes ≡ Ok (t, value, rest)
+pub answer_found : (t : ℕ) (value rest bytes : List ℕ) → BeginsWith t value rest bytes →
+    answer bytes ≡ Ok (t, value, rest)
 answer_found t value rest bytes (front, spelled, is) =
     let parts : bytes ≡ spelled.tag_field ++ (spelled.length_field ++ (value ++ rest)) =
     is ∙ ap (λ z. z ++ rest) spelled.joined ∙ simp append_assoc in
-    behind_length t (length value) spelled.tag_field spelled.length_field (spelled.length_field ++ (value ++ rest)) (value ++ rest) bytes
+    behind_length t (length value) spelled.tag_field spelled.length_field
+    (spelled.length_field ++ (value ++ rest)) (value ++ rest) bytes
     (spelled.is_tag, parts) (spelled.is_length, refl)
     ∙ whole_value (length bytes) t value rest
 
 -- a refusal is the answer
 pub answer_refused : (e : TlvError) (bytes : List ℕ) → Refused bytes e → answer bytes ≡ Err e
 unfolding answer
-answer_refused (Short n) bytes (is, inl h) = ap (tag_answer (length bytes)) (cut_tag bytes h) ∙ ap (λ end. Err (Short end)) (sym is)
+answer_refused (Short n) bytes (is, inl h) =
+    ap (tag_answer (length bytes)) (cut_tag bytes h) ∙ ap (λ end. Err (Short end)) (sym is)
 answer_refused (Short n) bytes (is, inr (inl (t, field, rest, after, h))) =
     behind_tag t field rest bytes after
     ∙ ap (length_answer (length bytes) t (length field)) (cut_length rest h)
@@ -141,7 +154,8 @@ answer_refused (Length n) bytes (t, field, rest, after, is, h) =
     ∙ ap (λ at. Err (Length at)) (sym is)
 
 -- a refused front holds no element
-pub refused_alone : (e : TlvError) (t : ℕ) (value rest bytes : List ℕ) → Refused bytes e → BeginsWith t value rest bytes → ⊥
+pub refused_alone : (e : TlvError) (t : ℕ) (value rest bytes : List ℕ) → Refused bytes e →
+    BeginsWith t value rest bytes → ⊥
 refused_alone e t value rest bytes h k =
     let refused = answer_refused e bytes h in
     let found = answer_found t value rest bytes k in

@@ -7,7 +7,9 @@ use Rattle.bertlv.proofs.TagLemmas.{tag_front, one_tag_field}
 use Rattle.bertlv.proofs.LengthLemmas.{length_front, one_length_field}
 
 -- the fields and the value spell the element
-pub fields_spell : (tag n : ℕ) (tag_field length_field value : List ℕ) → TagBytes tag tag_field → LengthBytes n length_field → n ≡ length value → Spelling tag value (tag_field ++ length_field ++ value)
+pub fields_spell : (tag n : ℕ) (tag_field length_field value : List ℕ) → TagBytes tag tag_field →
+    LengthBytes n length_field → n ≡ length value →
+    Spelling tag value (tag_field ++ length_field ++ value)
 fields_spell tag n tag_field length_field value is_tag is_length n_is = record {
   tag_field = tag_field;
   length_field = length_field;
@@ -30,15 +32,22 @@ joined_to : (a b v rest : List ℕ) → (a ++ b ++ v) ++ rest ≡ a ++ (b ++ (v 
 joined_to a b v rest = simp append_assoc
 
 -- bytes begin with at most one element, and what follows it is fixed
-pub spelling_front : (t u : ℕ) (v w r s x y : List ℕ) → Spelling t v r → Spelling u w s → r ++ x ≡ s ++ y → (t ≡ u) × (v ≡ w) × (r ≡ s) × (x ≡ y)
+pub spelling_front : (t u : ℕ) (v w r s x y : List ℕ) → Spelling t v r → Spelling u w s →
+    r ++ x ≡ s ++ y → (t ≡ u) × (v ≡ w) × (r ≡ s) × (x ≡ y)
 spelling_front t u v w r s x y h k e =
     let bytes : h.tag_field ++ (h.length_field ++ (v ++ x)) ≡ k.tag_field ++ (k.length_field ++ (w ++ y)) =
     sym (joined_to h.tag_field h.length_field v x) ∙ ap (λ z. z ++ x) (sym h.joined) ∙ e
     ∙ ap (λ z. z ++ y) k.joined ∙ joined_to k.tag_field k.length_field w y in
-    let tags = tag_front t u h.tag_field k.tag_field (h.length_field ++ (v ++ x)) (k.length_field ++ (w ++ y)) h.is_tag k.is_tag bytes in
-    let lengths = length_front (length v) (length w) h.length_field k.length_field (v ++ x) (w ++ y) h.is_length k.is_length tags.2 in
+    let tags =
+    tag_front t u h.tag_field k.tag_field (h.length_field ++ (v ++ x)) (k.length_field ++ (w ++ y))
+    h.is_tag k.is_tag bytes in
+    let lengths =
+    length_front (length v) (length w) h.length_field k.length_field (v ++ x) (w ++ y)
+    h.is_length k.is_length tags.2 in
     let values = same_front v w x y lengths.0 lengths.2 in
-    let same : r ≡ s = h.joined ∙ ap (λ z. z ++ h.length_field ++ v) tags.1 ∙ ap (λ z. k.tag_field ++ z ++ v) lengths.1 ∙ ap (λ z. k.tag_field ++ k.length_field ++ z) values.0 ∙ sym k.joined in
+    let same : r ≡ s =
+    h.joined ∙ ap (λ z. z ++ h.length_field ++ v) tags.1 ∙ ap (λ z. k.tag_field ++ z ++ v) lengths.1
+    ∙ ap (λ z. k.tag_field ++ k.length_field ++ z) values.0 ∙ sym k.joined in
     (tags.0, values.0, same, values.1)
 
 -- an element has one spelling

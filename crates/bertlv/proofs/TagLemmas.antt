@@ -6,18 +6,26 @@ use Rattle.bertlv.specs.Tag.{GoesOn, EndsTag, TagBytes, IsTag}
 use Rattle.bertlv.specs.Refusal.{AfterTag}
 
 -- a first byte that doesn't go on is a whole field
-pub after_one : (bytes : List ℕ) (tag : ℕ) → 1 ≤ length bytes → tag ≡ get_or bytes 0 0 → get_or bytes 0 0 < 256 → get_or bytes 0 0 ≢ 0 → ¬ GoesOn (get_or bytes 0 0) → (field : List ℕ) × AfterTag tag field (take (length bytes - 1) (drop 1 bytes)) bytes
+pub after_one : (bytes : List ℕ) (tag : ℕ) → 1 ≤ length bytes → tag ≡ get_or bytes 0 0 →
+    get_or bytes 0 0 < 256 → get_or bytes 0 0 ≢ 0 → ¬ GoesOn (get_or bytes 0 0) →
+    (field : List ℕ) × AfterTag tag field (take (length bytes - 1) (drop 1 bytes)) bytes
 after_one [] tag some is fits nonzero ends = absurd (omega arith)
-after_one (b ∷ more) tag some is fits nonzero ends = (b ∷ [], ((is, fits, nonzero, ends), grind (arith, common_steps)))
+after_one (b ∷ more) tag some is fits nonzero ends =
+    (b ∷ [], ((is, fits, nonzero, ends), grind (arith, common_steps)))
 
 -- a first byte that goes on and a second that ends the field are a whole field
-pub after_two : (bytes : List ℕ) (tag : ℕ) → 2 ≤ length bytes → tag ≡ get_or bytes 0 0 * 256 + get_or bytes 1 0 → get_or bytes 0 0 < 256 → GoesOn (get_or bytes 0 0) → EndsTag (get_or bytes 1 0) → (field : List ℕ) × AfterTag tag field (take (length bytes - 2) (drop 2 bytes)) bytes
+pub after_two : (bytes : List ℕ) (tag : ℕ) → 2 ≤ length bytes →
+    tag ≡ get_or bytes 0 0 * 256 + get_or bytes 1 0 → get_or bytes 0 0 < 256 →
+    GoesOn (get_or bytes 0 0) → EndsTag (get_or bytes 1 0) →
+    (field : List ℕ) × AfterTag tag field (take (length bytes - 2) (drop 2 bytes)) bytes
 after_two [] tag two is fits on ends = absurd (omega arith)
 after_two (b ∷ []) tag two is fits on ends = absurd (omega arith)
-after_two (b ∷ c ∷ more) tag two is fits on ends = (b ∷ c ∷ [], ((omega arith, fits, on, ends), grind (arith, common_steps)))
+after_two (b ∷ c ∷ more) tag two is fits on ends =
+    (b ∷ c ∷ [], ((omega arith, fits, on, ends), grind (arith, common_steps)))
 
 -- no tag field begins another, and each has one tag
-pub tag_front : (t u : ℕ) (a b x y : List ℕ) → TagBytes t a → TagBytes u b → a ++ x ≡ b ++ y → (t ≡ u) × (a ≡ b) × (x ≡ y)
+pub tag_front : (t u : ℕ) (a b x y : List ℕ) → TagBytes t a → TagBytes u b → a ++ x ≡ b ++ y →
+    (t ≡ u) × (a ≡ b) × (x ≡ y)
 tag_front t u [] b x y h k e = absurd h
 tag_front t u (p ∷ []) [] x y h k e = absurd k
 tag_front t u (p ∷ []) (q ∷ []) x y h k e = (cc, cc, cc)
@@ -61,7 +69,8 @@ ends_of tag small (inl h) = h.3
 ends_of tag small (inr h) = absurd (small_first tag (tag / 256) (tag % 256) small h)
 
 -- below 256 a number is a tag exactly where it doesn't go on
-pub one_byte_test : (tag second : ℕ) (on : Bool) → second ≡ tag → tag < 256 → second ≢ 0 → (IsTrue on ↔ GoesOn second) → IsTrue (not on) ↔ IsTag tag
+pub one_byte_test : (tag second : ℕ) (on : Bool) → second ≡ tag → tag < 256 → second ≢ 0 →
+    (IsTrue on ↔ GoesOn second) → IsTrue (not on) ↔ IsTag tag
 one_byte_test tag second true is small nonzero on =
     (λ off. absurd cc, λ t. absurd (ends_of tag small t (subst GoesOn is (on.0 refl))))
 one_byte_test tag second false is small nonzero on =

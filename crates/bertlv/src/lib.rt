@@ -1,5 +1,9 @@
-//! BER-TLV elements (ISO/IEC 7816-4:2005, 5.2.2) with tags of one or two bytes and the shortest
-//! length field.
+//! BER-TLV elements (ISO/IEC 7816-4:2005, 5.2.2): a tag of one or two bytes, a length below 65,536 in
+//! its shortest form, and a value.
+//!
+//! Each element has one spelling, and bytes begin with at most one element. `read` takes the element
+//! from the front of bytes, `write` appends one to a buffer, and nothing allocates. Tags of three
+//! bytes and length fields of four and five are refused.
 #![tactic(auto)]
 
 mod element;

@@ -14,11 +14,11 @@ use crate::{Tlv, TlvError};
 /// its first byte where that is 80 or from 83 up, and otherwise once all its bytes are there.
 pub fn read(bytes: &[u8]) -> Result<(Tlv<'_>, &[u8]), TlvError>
     ensures found { IfOk result (λ r. BeginsWith r.0.tag r.0.value.now r.1.now bytes.now) }
-
     ensures is_tag { IfOk result (λ r. IsTag r.0.tag) }
 
     // What is spelled so is read so, whatever follows it: no front has a second reading.
-    ensures only { (tag : ℕ) (value front rest : List ℕ) → Spelling tag value front → bytes.now ≡ front ++ rest
+    ensures only { (tag : ℕ) (value front rest : List ℕ) → Spelling tag value front
+        → bytes.now ≡ front ++ rest
         → IsOkAnd result (λ r. (r.0.tag ≡ tag) × (r.0.value.now ≡ value) × (r.1.now ≡ rest)) }
     ensures short { (n : ℕ) → (result ≡ Err (TlvError.Short n)) ↔ EndsShortAt n bytes.now }
     ensures tag { (n : ℕ) → (result ≡ Err (TlvError.Tag n)) ↔ BadTagAt n bytes.now }

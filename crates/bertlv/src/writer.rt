@@ -8,7 +8,8 @@ use crate::tag::tag_field;
 use crate::{NoRoom, Tlv};
 use arrayvec::ArrayVec;
 
-/// Appends the one spelling of the element (ISO/IEC 7816-4:2005, 5.2.2).
+/// Appends the one spelling of the element (ISO/IEC 7816-4:2005, 5.2.2). The tag has the form that
+/// `is_tag` tests. A value of more than 65,535 bytes has no spelling, and so never fits.
 pub fn write(tlv: &Tlv<'_>, out: &mut ArrayVec<u8, 261>) -> Result<(), NoRoom>
     requires { IsTag tlv.now.tag }
     ensures ok { OnOk result (Appends tlv.now.tag tlv.now.value.now out.old.items out.new.items) }

@@ -12,7 +12,8 @@ returns-in-128-to-255-clause-ok c =
 
 pub returns-in-1-to-255-clause-ok : goal.returns-in-1-to-255-clause-ok
 returns-in-1-to-255-clause-ok c =
-    after_82 c.args.bytes.now c.from-in-1-to-255.result (omega arith) (omega arith) (omega arith) (omega arith) (omega arith) (omega (arith, c.type_inv.bytes 2))
+    after_82 c.args.bytes.now c.from-in-1-to-255.result (omega arith) (omega arith) (omega arith)
+    (omega arith) (omega arith) (omega (arith, c.type_inv.bytes 2))
 
 pub returns-in-len3-up-clause-form : goal.returns-in-len3-up-clause-form
 returns-in-len3-up-clause-form c _ =
