@@ -41,7 +41,8 @@ abbrev pub BadLength : List ℕ → Type 0
 BadLength [] = ⊥
 BadLength (a ∷ []) = BadFirst a
 BadLength (a ∷ b ∷ []) = BadFirst a ⊎ ((a ≡ 0x81) × (b < 0x80))
-BadLength (a ∷ b ∷ c ∷ more) = BadFirst a ⊎ ((a ≡ 0x81) × (b < 0x80)) ⊎ ((a ≡ 0x82) × (256 * b + c < 0x100))
+BadLength (a ∷ b ∷ c ∷ more) =
+    BadFirst a ⊎ ((a ≡ 0x81) × (b < 0x80)) ⊎ ((a ≡ 0x82) × (256 * b + c < 0x100))
 
 -- the bytes end before their element does
 abbrev pub EndsShort : List ℕ → Type 0
@@ -56,7 +57,8 @@ EndsShortAt n bytes = (n ≡ length bytes) × EndsShort bytes
 
 -- the length field that begins at n has none of the three forms
 abbrev pub BadLengthAt : ℕ → List ℕ → Type 0
-BadLengthAt n bytes = (tag : ℕ) × (field rest : List ℕ) × AfterTag tag field rest bytes × (n ≡ length field) × BadLength rest
+BadLengthAt n bytes = (tag : ℕ) × (field rest : List ℕ) × AfterTag tag field rest bytes
+    × (n ≡ length field) × BadLength rest
 
 -- the cause and the place of a refusal
 abbrev pub Refused : List ℕ → TlvError → Type 0

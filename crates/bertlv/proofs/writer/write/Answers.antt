@@ -12,7 +12,9 @@ returns-clause-no_room c = (
       let tag : List ℕ = c.tag_field-tag.result.items in
       let size : List ℕ = c.length_field-length.result.items in
       let spelled : Spelling c.args.tlv.now.tag value (tag ++ size ++ value) =
-      fields_spell c.args.tlv.now.tag c.in-Ok.length tag size value c.tag_field-tag.ensures c.length_field-length.ensures (search rules) in
-      let over : 261 < length c.args.out.now.items + length (tag ++ size ++ value) = none (tag ++ size ++ value) spelled in
+      fields_spell c.args.tlv.now.tag c.in-Ok.length tag size value
+      c.tag_field-tag.ensures c.length_field-length.ensures (search rules) in
+      let over : 261 < length c.args.out.now.items + length (tag ++ size ++ value) =
+      none (tag ++ size ++ value) spelled in
       absurd (omega (arith, over, length-append (tag ++ size) value, length-append tag size)),
 )
