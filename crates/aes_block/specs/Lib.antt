@@ -1,0 +1,4 @@
+pub mod Field
+pub mod Sbox
+pub mod Words
+pub mod Cipher

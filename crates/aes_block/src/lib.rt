@@ -1,0 +1,6 @@
+//! The block cipher AES (FIPS 197), as a key that seals and unseals blocks of sixteen bytes.
+#![tactic(auto)]
+
+mod block_key;
+
+pub use block_key::BlockKey;
