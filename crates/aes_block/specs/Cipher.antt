@@ -1,10 +1,9 @@
 -- The cipher (FIPS 197, 5.1). The state is sixteen bytes, and the byte of row r and column c has the place r + 4 * c (3.4).
 use Rattle.std.specs.Prelude.{◌≡◌, ℕ, zero, suc, ◌+◌, ◌-◌, ◌*◌, ◌/◌, ◌%◌, ◌<◌, ◌^◌, ◌⊎◌, List, [], ◌∷◌, ◌++◌, map, length, bit_xor, slice_index}
-use Rattle.std.specs.Int.{w32, to_be_bytes}
 use Rattle.std.specs.List.{range_with_len}
 use Rattle.aes_block.specs.Field.{times}
 use Rattle.aes_block.specs.Sbox.{sbox}
-use Rattle.aes_block.specs.Words.{key_words, rounds}
+use Rattle.aes_block.specs.Words.{key_words, rounds, word_bytes}
 
 -- a block: sixteen bytes
 pub record IsBlock (b : List ℕ) : Type 0 where
@@ -55,8 +54,8 @@ mix_columns s = mix_column_at s 0 ++ mix_column_at s 4 ++ mix_column_at s 8 ++ m
 -- the bytes of the four words from w[i] on
 unfoldable pub four_words : List ℕ → ℕ → List ℕ
 four_words w i =
-    to_be_bytes w32 (slice_index w i) ++ to_be_bytes w32 (slice_index w (i + 1))
-    ++ to_be_bytes w32 (slice_index w (i + 2)) ++ to_be_bytes w32 (slice_index w (i + 3))
+    word_bytes (slice_index w i) ++ word_bytes (slice_index w (i + 1))
+    ++ word_bytes (slice_index w (i + 2)) ++ word_bytes (slice_index w (i + 3))
 
 -- AddRoundKey of round r, with the key schedule w (5.1.4)
 unfoldable pub add_round_key : List ℕ → ℕ → List ℕ → List ℕ

@@ -2,3 +2,4 @@ pub mod Field
 pub mod Sbox
 pub mod Words
 pub mod Cipher
+pub mod Inverse

@@ -4,9 +4,13 @@ use Rattle.std.specs.Int.{w32, rotate_left, from_be_bytes, to_be_bytes}
 use Rattle.aes_block.specs.Field.{power}
 use Rattle.aes_block.specs.Sbox.{sbox}
 
+-- the bytes of a word
+unfoldable pub word_bytes : ℕ → List ℕ
+word_bytes w = to_be_bytes w32 w
+
 -- SubWord: the S-box on each byte of a word (5.2, equation 5.11)
 unfoldable pub sub_word : ℕ → ℕ
-sub_word w = from_be_bytes w32 (map sbox (to_be_bytes w32 w))
+sub_word w = from_be_bytes w32 (map sbox (word_bytes w))
 
 -- RotWord: the first byte becomes the last (5.2, equation 5.10)
 unfoldable pub rot_word : ℕ → ℕ

@@ -2,5 +2,6 @@
 #![tactic(auto)]
 
 mod block_key;
+mod tables;
 
 pub use block_key::BlockKey;
