@@ -3,4 +3,7 @@ pub mod Products
 pub mod Bytes
 pub mod TableRules
 pub mod MixRules
+pub mod Blocks
+pub mod Inverting
+pub mod CipherLemmas
 mod Vectors

@@ -1,6 +1,6 @@
 -- MixColumns and InvMixColumns undo each other, and go through exclusive or.
-use Rattle.std.proofs.Common.{◌≡◌, ℕ, ◌+◌, ◌-◌, ◌*◌, ◌%◌, ◌<◌, List, [], ◌∷◌, map, cond, ◌==◌, bit_xor, slice_index, refl, sym, ap, ◌∙◌, arith}
-use lib.Bits.{xor_zero_r, xor_zero_l}
+use Rattle.std.proofs.Common.{◌≡◌, ℕ, ◌+◌, ◌-◌, ◌%◌, ◌<◌, List, [], ◌∷◌, map, cond, ◌==◌, bit_xor, slice_index, refl, sym, ◌∙◌}
+use lib.Bits.{xor_zero_r}
 use Rattle.aes_block.specs.Field.{xtime, times, times_terms}
 use Rattle.aes_block.specs.Cipher.{row_times, mix_column, xor_bytes}
 use Rattle.aes_block.specs.Inverse.{inv_mix_column}

@@ -1,12 +1,12 @@
 -- Each table of the code, entry by entry.
-use Rattle.std.proofs.Common.{◌≡◌, ℕ, ◌<◌, List, [], ◌∷◌, map, slice_index, refl, sym, ap, ◌∙◌, ◌%◌, arith, mod-lt}
-use Rattle.std.specs.Int.{byte_at, w32, to_be_bytes}
+use Rattle.std.proofs.Common.{◌≡◌, ℕ, ◌<◌, [], ◌∷◌, map, slice_index, refl, sym, ap, ◌∙◌, ◌%◌, arith, mod-lt}
+use Rattle.std.specs.Int.{byte_at}
 use Rattle.aes_block.specs.Field.{xtime, times, times_terms, power}
 use Rattle.aes_block.specs.Sbox.{sbox, affine, affine_bit}
 use Rattle.aes_block.specs.Words.{word_bytes}
 use Rattle.aes_block.specs.Inverse.{inv_sbox}
 use Rattle.aes_block.specs.declared.tables.TheConstants.{SBOX, INVERSE_SBOX, SEAL_TABLE, UNSEAL_TABLE}
-use Rattle.aes_block.proofs.Bytes.{bytes, table_at, same_at, sbox-lt}
+use Rattle.aes_block.proofs.Bytes.{bytes, table_at, same_at}
 
 sbox_computed : map sbox bytes ≡ SBOX
 unfolding sbox affine affine_bit power times times_terms xtime
@@ -83,7 +83,7 @@ module _ (x : ℕ) (h : x < 256) where
   unfolding word_bytes
   seal_entry =
       let entry = λ (k c : ℕ) (e : map (λ (y : ℕ). byte_at k (slice_index SEAL_TABLE y)) bytes ≡ map (λ (y : ℕ). times c (slice_index SBOX y)) bytes).
-          same_at (λ (y : ℕ). byte_at k (slice_index SEAL_TABLE y)) (λ (y : ℕ). times c (slice_index SBOX y)) e x h ∙ ap (times c) (sbox_entry x h) in
+      same_at (λ (y : ℕ). byte_at k (slice_index SEAL_TABLE y)) (λ (y : ℕ). times c (slice_index SBOX y)) e x h ∙ ap (times c) (sbox_entry x h) in
       (λ t. entry 3 2 seal_row_0 t ∷ entry 2 1 seal_row_1 t ∷ entry 1 1 seal_row_2 t ∷ entry 0 3 seal_row_3 t ∷ [])
 
   pub unseal_entry : word_bytes (slice_index UNSEAL_TABLE x)
@@ -91,5 +91,5 @@ module _ (x : ℕ) (h : x < 256) where
   unfolding word_bytes inv_sbox
   unseal_entry =
       let entry = λ (k c : ℕ) (e : map (λ (y : ℕ). byte_at k (slice_index UNSEAL_TABLE y)) bytes ≡ map (λ (y : ℕ). times c (slice_index INVERSE_SBOX y)) bytes).
-          same_at (λ (y : ℕ). byte_at k (slice_index UNSEAL_TABLE y)) (λ (y : ℕ). times c (slice_index INVERSE_SBOX y)) e x h in
+      same_at (λ (y : ℕ). byte_at k (slice_index UNSEAL_TABLE y)) (λ (y : ℕ). times c (slice_index INVERSE_SBOX y)) e x h in
       (λ t. entry 3 0x0e unseal_row_0 t ∷ entry 2 0x09 unseal_row_1 t ∷ entry 1 0x0d unseal_row_2 t ∷ entry 0 0x0b unseal_row_3 t ∷ [])

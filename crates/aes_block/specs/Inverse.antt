@@ -37,11 +37,11 @@ inv_mix_columns s =
 unfoldable pub inv_state_after : List ℕ → ℕ → ℕ → List ℕ → List ℕ
 inv_state_after v n zero b = add_round_key v n b
 inv_state_after v n (suc j) b =
-    add_round_key v (n - suc j) (inv_mix_columns (inv_shift_rows (inv_sub_bytes (inv_state_after v n j b))))
+    add_round_key v (n - suc j) (inv_mix_columns (inv_sub_bytes (inv_shift_rows (inv_state_after v n j b))))
 
 -- EQINVCIPHER of n rounds (5.3.5, algorithm 4)
 unfoldable pub inv_cipher_rounds : List ℕ → ℕ → List ℕ → List ℕ
-inv_cipher_rounds v n b = add_round_key v 0 (inv_shift_rows (inv_sub_bytes (inv_state_after v n (n - 1) b)))
+inv_cipher_rounds v n b = add_round_key v 0 (inv_sub_bytes (inv_shift_rows (inv_state_after v n (n - 1) b)))
 
 -- v is the inverse key schedule of w, for n rounds: InvMixColumns of the middle round keys (5.3.5, algorithm 5)
 pub record IsInverseSchedule (w v : List ℕ) (n : ℕ) : Type 0 where
