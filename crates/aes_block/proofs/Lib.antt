@@ -6,4 +6,5 @@ pub mod MixRules
 pub mod Blocks
 pub mod Inverting
 pub mod CipherLemmas
+pub mod WordRules
 mod Vectors

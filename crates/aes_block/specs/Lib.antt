@@ -3,3 +3,4 @@ pub mod Sbox
 pub mod Words
 pub mod Cipher
 pub mod Inverse
+pub mod State

@@ -2,6 +2,7 @@
 #![tactic(auto)]
 
 mod block_key;
+mod columns;
 mod tables;
 
 pub use block_key::BlockKey;

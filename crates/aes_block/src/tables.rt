@@ -1,3 +1,45 @@
+// The tables that seal and unseal a byte at a time, and what each entry is.
+
+ghost use Rattle.std.specs.Prelude.{◌≡◌, ◌<◌, [], ◌∷◌};
+ghost use Rattle.aes_block.specs.Field.{times};
+ghost use Rattle.aes_block.specs.Inverse.{inv_sbox};
+ghost use Rattle.aes_block.specs.Sbox.{sbox};
+ghost use Rattle.aes_block.specs.Words.{word_bytes};
+
+#[inline(always)]
+pub fn substitute(x: usize) -> u8
+    requires { x < 256 }
+    ensures { result ≡ sbox x }
+{
+    SBOX[x]
+}
+
+#[inline(always)]
+pub fn substitute_back(x: usize) -> u8
+    requires { x < 256 }
+    ensures { result ≡ inv_sbox x }
+{
+    INVERSE_SBOX[x]
+}
+
+// What a byte of the first row adds to its column in a round of `seal`.
+#[inline(always)]
+pub fn sealing_column(x: usize) -> u32
+    requires { x < 256 }
+    ensures { word_bytes result ≡ times 2 (sbox x) ∷ times 1 (sbox x) ∷ times 1 (sbox x) ∷ times 3 (sbox x) ∷ [] }
+{
+    SEAL_TABLE[x]
+}
+
+// What a byte of the first row adds to its column in a round of `unseal`.
+#[inline(always)]
+pub fn unsealing_column(x: usize) -> u32
+    requires { x < 256 }
+    ensures { word_bytes result ≡ times 0x0e (inv_sbox x) ∷ times 0x09 (inv_sbox x) ∷ times 0x0d (inv_sbox x) ∷ times 0x0b (inv_sbox x) ∷ [] }
+{
+    UNSEAL_TABLE[x]
+}
+
 // The S-box (FIPS 197, table 4).
 pub const SBOX: [u8; 256] = [
     0x63, 0x7c, 0x77, 0x7b, 0xf2, 0x6b, 0x6f, 0xc5, 0x30, 0x01, 0x67, 0x2b, 0xfe, 0xd7, 0xab, 0x76,
