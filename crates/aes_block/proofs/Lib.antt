@@ -7,4 +7,6 @@ pub mod Blocks
 pub mod Inverting
 pub mod CipherLemmas
 pub mod WordRules
+pub mod RoundRules
+pub mod ScheduleRules
 mod Vectors

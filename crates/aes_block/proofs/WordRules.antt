@@ -1,8 +1,9 @@
 -- The bytes of a word under exclusive or and rotation.
 use Rattle.std.proofs.Common.{◌≡◌, ℕ, ◌+◌, ◌*◌, ◌/◌, ◌%◌, ◌^◌, ◌<◌, List, [], ◌∷◌, bit_or, bit_xor, slice_index, refl, ap, subst, ◌∙◌, arith}
-use Rattle.std.specs.Int.{w32, rotate_right}
-use Rattle.std.proofs.lemmas.Nat.{or_comm, or_shifted, xor_mod, xor_shr, shr_below}
+use Rattle.std.specs.Int.{w32, rotate_right, from_be_bytes}
+use Rattle.std.proofs.lemmas.Nat.{be_bytes_4, or_comm, or_shifted, xor_mod, xor_shr, shr_below}
 use Rattle.aes_block.specs.Words.{word_bytes}
+use Rattle.aes_block.proofs.Blocks.{AllBytes-nil, AllBytes-cons}
 use Rattle.aes_block.specs.Field.{times}
 use Rattle.aes_block.specs.Cipher.{xor_bytes, row_times}
 
@@ -86,3 +87,10 @@ turned_sum p q r s a b c d t u v w key hu hv hw et eu ev ew =
     word_bytes-xor v2 w2 ∙ (λ i. xor_bytes (ev2 i) (ew2 i)) in
     let sum = word_bytes-xor (bit_xor t u2) (bit_xor v2 w2) ∙ (λ i. xor_bytes (upper i) (lower i)) in
     word_bytes-xor (bit_xor (bit_xor t u2) (bit_xor v2 w2)) key ∙ (λ i. xor_bytes (sum i) (word_bytes key))
+
+-- the bytes of a word that four bytes write
+pub word_bytes-from : (p q r s n : ℕ) → p < 256 → q < 256 → r < 256 → s < 256
+    → n ≡ from_be_bytes w32 (p ∷ q ∷ r ∷ s ∷ []) → word_bytes n ≡ p ∷ q ∷ r ∷ s ∷ []
+unfolding word_bytes
+word_bytes-from p q r s n hp hq hr hs e =
+    be_bytes_4 (p ∷ q ∷ r ∷ s ∷ []) n refl (AllBytes-cons hp (AllBytes-cons hq (AllBytes-cons hr (AllBytes-cons hs AllBytes-nil)))).at e

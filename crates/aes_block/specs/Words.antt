@@ -52,3 +52,8 @@ rounds key = length key / 4 + 6
 -- KeyExpansion: 4 * (Nr + 1) words (5.2)
 unfoldable pub key_words : List ℕ → List ℕ
 key_words key = words_after (length key / 4) key (3 * (length key / 4) + 28)
+
+-- the bytes of the first n words
+unfoldable pub first_bytes : List ℕ → ℕ → List ℕ
+first_bytes w zero = []
+first_bytes w (suc n) = first_bytes w n ++ word_bytes (slice_index w n)

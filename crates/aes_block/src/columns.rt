@@ -2,11 +2,13 @@
 
 ghost use Rattle.std.specs.Prelude.{◌≡◌, ◌+◌, ◌<◌, ◌≤◌, [], ◌∷◌, length};
 ghost use Rattle.std.specs.Int.{byte_at};
-ghost use Rattle.aes_block.specs.Cipher.{mix_column, xor_bytes};
+ghost use Rattle.aes_block.specs.Cipher.{four_words, mix_column, mix_columns, shift_rows, sub_bytes, xor_bytes};
+ghost use Rattle.aes_block.specs.Inverse.{inv_mix_column, inv_mix_columns, inv_sbox, inv_shift_rows, inv_sub_bytes};
 ghost use Rattle.aes_block.specs.Sbox.{sbox};
+ghost use Rattle.aes_block.specs.State.{state_bytes};
 ghost use Rattle.aes_block.specs.Words.{word_bytes};
 
-use crate::tables::sealing_column;
+use crate::tables::{sealing_column, substitute, substitute_back, unsealing_column};
 
 /// The four columns of the state, each as the word whose highest byte is the first row's.
 #[derive(Clone, Copy)]
@@ -58,4 +60,151 @@ fn sealed_column(a: u32, b: u32, c: u32, d: u32, key: u32) -> u32
     let lower = sealing_column(third(c)).rotate_right(16)
         ^ sealing_column(fourth(d)).rotate_right(24);
     upper ^ lower ^ key
+}
+
+/// A column of the last round of `seal`.
+#[inline(always)]
+fn last_sealed_column(a: u32, b: u32, c: u32, d: u32, key: u32) -> u32
+    ensures { word_bytes result ≡ xor_bytes (sbox (byte_at 3 a) ∷ sbox (byte_at 2 b) ∷ sbox (byte_at 1 c) ∷ sbox (byte_at 0 d) ∷ []) (word_bytes key) }
+{
+    let bytes = [
+        substitute(first(a)),
+        substitute(second(b)),
+        substitute(third(c)),
+        substitute(fourth(d)),
+    ];
+    u32::from_be_bytes(bytes) ^ key
+}
+
+/// A column of a round of `unseal`.
+#[inline(always)]
+pub fn unsealed_column(a: u32, b: u32, c: u32, d: u32, key: u32) -> u32
+    ensures { word_bytes result ≡ xor_bytes (inv_mix_column (inv_sbox (byte_at 3 a)) (inv_sbox (byte_at 2 b)) (inv_sbox (byte_at 1 c)) (inv_sbox (byte_at 0 d))) (word_bytes key) }
+{
+    let upper = unsealing_column(first(a)) ^ unsealing_column(second(b)).rotate_right(8);
+    let lower = unsealing_column(third(c)).rotate_right(16)
+        ^ unsealing_column(fourth(d)).rotate_right(24);
+    upper ^ lower ^ key
+}
+
+/// A column of the last round of `unseal`.
+#[inline(always)]
+fn last_unsealed_column(a: u32, b: u32, c: u32, d: u32, key: u32) -> u32
+    ensures { word_bytes result ≡ xor_bytes (inv_sbox (byte_at 3 a) ∷ inv_sbox (byte_at 2 b) ∷ inv_sbox (byte_at 1 c) ∷ inv_sbox (byte_at 0 d) ∷ []) (word_bytes key) }
+{
+    let bytes = [
+        substitute_back(first(a)),
+        substitute_back(second(b)),
+        substitute_back(third(c)),
+        substitute_back(fourth(d)),
+    ];
+    u32::from_be_bytes(bytes) ^ key
+}
+
+impl Columns {
+    /// The columns of a block (FIPS 197, 3.4).
+    #[inline(always)]
+    pub fn load(block: &[u8; 16]) -> Columns
+        ensures { state_bytes result ≡ block.now }
+    {
+        Columns {
+            a: u32::from_be_bytes([block[0], block[1], block[2], block[3]]),
+            b: u32::from_be_bytes([block[4], block[5], block[6], block[7]]),
+            c: u32::from_be_bytes([block[8], block[9], block[10], block[11]]),
+            d: u32::from_be_bytes([block[12], block[13], block[14], block[15]]),
+        }
+    }
+
+    /// The block of the columns.
+    #[inline(always)]
+    pub fn store(self) -> [u8; 16]
+        ensures { result ≡ state_bytes self }
+    {
+        let [a0, a1, a2, a3] = self.a.to_be_bytes();
+        let [b0, b1, b2, b3] = self.b.to_be_bytes();
+        let [c0, c1, c2, c3] = self.c.to_be_bytes();
+        let [d0, d1, d2, d3] = self.d.to_be_bytes();
+        [
+            a0, a1, a2, a3, b0, b1, b2, b3, c0, c1, c2, c3, d0, d1, d2, d3,
+        ]
+    }
+
+    /// The four words of a key schedule from word `i` on.
+    #[inline(always)]
+    pub fn round_key(words: &[u32], i: usize) -> Columns
+        requires { i + 4 ≤ length words.now }
+        ensures { state_bytes result ≡ four_words words.now i }
+    {
+        Columns {
+            a: words[i],
+            b: words[i + 1],
+            c: words[i + 2],
+            d: words[i + 3],
+        }
+    }
+
+    /// AddRoundKey (FIPS 197, 5.1.4).
+    #[inline(always)]
+    pub fn plus(self, key: Columns) -> Columns
+        ensures { state_bytes result ≡ xor_bytes (state_bytes self) (state_bytes key) }
+    {
+        Columns {
+            a: self.a ^ key.a,
+            b: self.b ^ key.b,
+            c: self.c ^ key.c,
+            d: self.d ^ key.d,
+        }
+    }
+
+    /// A round of the cipher (FIPS 197, 5.1).
+    #[inline(always)]
+    pub fn sealed(self, key: Columns) -> Columns
+        ensures { state_bytes result ≡ xor_bytes (mix_columns (shift_rows (sub_bytes (state_bytes self)))) (state_bytes key) }
+    {
+        Columns {
+            a: sealed_column(self.a, self.b, self.c, self.d, key.a),
+            b: sealed_column(self.b, self.c, self.d, self.a, key.b),
+            c: sealed_column(self.c, self.d, self.a, self.b, key.c),
+            d: sealed_column(self.d, self.a, self.b, self.c, key.d),
+        }
+    }
+
+    /// The last round of the cipher (FIPS 197, 5.1).
+    #[inline(always)]
+    pub fn sealed_last(self, key: Columns) -> Columns
+        ensures { state_bytes result ≡ xor_bytes (shift_rows (sub_bytes (state_bytes self))) (state_bytes key) }
+    {
+        Columns {
+            a: last_sealed_column(self.a, self.b, self.c, self.d, key.a),
+            b: last_sealed_column(self.b, self.c, self.d, self.a, key.b),
+            c: last_sealed_column(self.c, self.d, self.a, self.b, key.c),
+            d: last_sealed_column(self.d, self.a, self.b, self.c, key.d),
+        }
+    }
+
+    /// A round of the equivalent inverse cipher (FIPS 197, 5.3.5).
+    #[inline(always)]
+    pub fn unsealed(self, key: Columns) -> Columns
+        ensures { state_bytes result ≡ xor_bytes (inv_mix_columns (inv_sub_bytes (inv_shift_rows (state_bytes self)))) (state_bytes key) }
+    {
+        Columns {
+            a: unsealed_column(self.a, self.d, self.c, self.b, key.a),
+            b: unsealed_column(self.b, self.a, self.d, self.c, key.b),
+            c: unsealed_column(self.c, self.b, self.a, self.d, key.c),
+            d: unsealed_column(self.d, self.c, self.b, self.a, key.d),
+        }
+    }
+
+    /// The last round of the equivalent inverse cipher (FIPS 197, 5.3.5).
+    #[inline(always)]
+    pub fn unsealed_last(self, key: Columns) -> Columns
+        ensures { state_bytes result ≡ xor_bytes (inv_sub_bytes (inv_shift_rows (state_bytes self))) (state_bytes key) }
+    {
+        Columns {
+            a: last_unsealed_column(self.a, self.d, self.c, self.b, key.a),
+            b: last_unsealed_column(self.b, self.a, self.d, self.c, key.b),
+            c: last_unsealed_column(self.c, self.b, self.a, self.d, key.c),
+            d: last_unsealed_column(self.d, self.c, self.b, self.a, key.d),
+        }
+    }
 }

@@ -3,6 +3,8 @@
 
 mod block_key;
 mod columns;
+mod rounds;
+mod schedule;
 mod tables;
 
 pub use block_key::BlockKey;

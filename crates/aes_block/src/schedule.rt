@@ -1,0 +1,88 @@
+// The key schedule and its inverse.
+
+ghost use Rattle.std.specs.Prelude.{◌≡◌, ℕ, ◌+◌, ◌-◌, ◌*◌, ◌/◌, ◌<◌, ◌≤◌, length};
+ghost use Rattle.aes_block.specs.Cipher.{IsKeyLength};
+ghost use Rattle.aes_block.specs.Inverse.{IsInverseSchedule, IsInverseWord, inv_mix_word};
+ghost use Rattle.aes_block.specs.Words.{key_word, key_words, schedule_core, sub_word, word_bytes};
+
+use crate::columns::{first, fourth, second, third, unsealed_column};
+use crate::tables::{ROUND_CONSTANTS, substitute};
+
+fn word_at(key: &[u8], i: usize) -> u32
+    requires { i + 4 ≤ length key.now }
+    ensures { result ≡ key_word key.now i }
+{
+    u32::from_be_bytes([key[i], key[i + 1], key[i + 2], key[i + 3]])
+}
+
+fn substituted(word: u32) -> u32
+    ensures { result ≡ sub_word word }
+{
+    u32::from_be_bytes([
+        substitute(first(word)),
+        substitute(second(word)),
+        substitute(third(word)),
+        substitute(fourth(word)),
+    ])
+}
+
+// What the word `key_words` places before word `i` is xored with.
+fn carried(key_words: usize, i: usize, before: u32) -> u32
+    requires any { 0 < key_words }
+    requires low { key_words ≤ i }
+    requires high { i < 11 * key_words }
+    ensures { result ≡ schedule_core key_words i before }
+{
+    if i % key_words == 0 {
+        substituted(before.rotate_left(8)) ^ (ROUND_CONSTANTS[i / key_words - 1] as u32) << 24
+    } else if key_words == 8 && i % 8 == 4 {
+        substituted(before)
+    } else {
+        before
+    }
+}
+
+/// KEYEXPANSION (FIPS 197, 5.2), for a key of 16, 24 or 32 bytes.
+pub fn expand(key: &[u8], words: &mut [u32])
+    requires standard { IsKeyLength (length key.now) }
+    requires whole { length words.old ≡ length key.now + 28 }
+    ensures { words.new ≡ key_words key.now }
+{
+    let key_len = key.len() / 4;
+    'first: for i in 0..key_len {
+        words[i] = word_at(key, 4 * i);
+    }
+    'next: for i in 0..words.len() - key_len {
+        words[key_len + i] = words[i] ^ carried(key_len, key_len + i, words[key_len + i - 1]);
+    }
+}
+
+fn unmixed(word: u32) -> u32
+    ensures { word_bytes result ≡ inv_mix_word word }
+{
+    let bytes = substituted(word);
+    unsealed_column(bytes, bytes, bytes, bytes, 0)
+}
+
+fn inverse_word(words: &[u32], rounds: usize, i: usize) -> u32
+    requires whole { length words.now ≡ 4 * rounds + 4 }
+    requires within { i < length words.now }
+    ensures { IsInverseWord words.now rounds i result }
+{
+    if i < 4 || 4 * rounds <= i {
+        words[i]
+    } else {
+        unmixed(words[i])
+    }
+}
+
+/// KEYEXPANSIONEIC (FIPS 197, 5.3.5): the inverse key schedule of the words.
+pub fn invert(words: &[u32], rounds: usize, inverse: &mut [u32])
+    requires whole { length words.now ≡ 4 * rounds + 4 }
+    requires same { length inverse.old ≡ length words.now }
+    ensures { IsInverseSchedule words.now inverse.new rounds }
+{
+    'word: for i in 0..words.len() {
+        inverse[i] = inverse_word(words, rounds, i);
+    }
+}
