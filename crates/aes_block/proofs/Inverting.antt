@@ -1,7 +1,10 @@
 -- The equivalent inverse cipher gives a block that the cipher turns into the old one.
-use Rattle.std.proofs.Common.{◌≡◌, ℕ, zero, suc, ◌+◌, ◌-◌, ◌*◌, ◌<◌, List, [], ◌∷◌, ◌++◌, length, bit_xor, slice_index, refl, sym, ap, ◌∙◌, arith}
-use Rattle.aes_block.specs.Cipher.{IsBlock, xor_bytes, sub_bytes, shift_rows, mix_columns, four_words, add_round_key, state_after, cipher_rounds}
+use Rattle.std.proofs.Common.{◌≡◌, ℕ, zero, suc, ◌+◌, ◌-◌, ◌*◌, ◌/◌, ◌<◌, List, [], ◌∷◌, ◌++◌, length, bit_xor, slice_index, refl, sym, ap, ◌∙◌, arith}
+use Rattle.aes_block.specs.Cipher.{IsBlock, xor_bytes, sub_bytes, shift_rows, mix_columns, four_words, add_round_key, state_after, cipher_rounds, cipher}
+use Rattle.aes_block.specs.KeyLaw.{first_bytes_are_key}
+use Rattle.aes_block.specs.Words.{key_words, first_bytes, rounds}
 use Rattle.aes_block.specs.Inverse.{inv_sub_bytes, inv_shift_rows, inv_mix_column, inv_mix_column_at, inv_mix_columns, inv_state_after, inv_cipher_rounds, IsInverseSchedule}
+use Rattle.aes_block.proofs.CipherLemmas.{same_block}
 use Rattle.aes_block.proofs.MixRules.{inv_mix_column-xor}
 use Rattle.aes_block.proofs.Blocks.{AllBytes-block, xor_bytes_is_block, xor_bytes_twice, four_words_is_block, sub-inv_sub, inv_sub_bytes_is_block, shift-inv_shift, inv_shift_rows_is_block, inv_mix_columns_is_block, mix-inv_mix}
 
@@ -52,6 +55,10 @@ module _ (w v : List ℕ) (n : ℕ) (positive : 0 < n) (inverse : IsInverseSched
   found : List ℕ
   found = inv_cipher_rounds v n b
 
+  pub found_is_block : IsBlock (inv_cipher_rounds v n b)
+  unfolding inv_cipher_rounds add_round_key back
+  found_is_block = xor_bytes_is_block (back (n - 1)) (four_words v 0) (back_block (n - 1)) (four_words_is_block v 0)
+
   kept : (s k l : List ℕ) → IsBlock s → IsBlock k → l ≡ k → xor_bytes (xor_bytes s l) k ≡ s
   kept s k l hs hk e = ap (λ (x : List ℕ). xor_bytes (xor_bytes s x) k) e ∙ xor_bytes_twice s k (omega (arith, hs.sixteen, hk.sixteen))
 
@@ -83,3 +90,22 @@ module _ (w v : List ℕ) (n : ℕ) (positive : 0 < n) (inverse : IsInverseSched
       ap (λ (s : List ℕ). xor_bytes (shift_rows (sub_bytes s)) key) (states_meet (n - 1) 0 (omega arith))
       ∙ ap (λ (s : List ℕ). xor_bytes s key) (forward 0)
       ∙ kept b key (four_words v (4 * n)) block (four_words_is_block w (4 * n)) inverse.last
+
+-- the same of a key's schedule, read as the key of its first words
+module _ (w v : List ℕ) (nk : ℕ) (schedule : w ≡ key_words (first_bytes w nk)) where
+  pub cipher_of : (b : List ℕ) → cipher (first_bytes w nk) b ≡ cipher_rounds w (nk + 6) b
+  unfolding cipher rounds
+  cipher_of b =
+      let key : List ℕ = first_bytes w nk in
+      let count : length key / 4 + 6 ≡ nk + 6 = omega (arith, (first_bytes_are_key w nk).len) in
+      (λ t. cipher_rounds (sym schedule t) (count t) b)
+
+  module _ (inverse : IsInverseSchedule w v (nk + 6)) (b x : List ℕ) (block : IsBlock b) (ex : x ≡ inv_cipher_rounds v (nk + 6) b) where
+    pub given_back : cipher (first_bytes w nk) x ≡ b
+    given_back =
+        cipher_of x ∙ ap (cipher_rounds w (nk + 6)) ex ∙ sealed_again w v (nk + 6) (omega arith) inverse b block
+
+    pub only_one : (y : List ℕ) → IsBlock y → cipher (first_bytes w nk) y ≡ b → y ≡ x
+    only_one y hy e =
+        let hx : IsBlock x = rw ex (found_is_block w v (nk + 6) (omega arith) inverse b block) in
+        same_block (first_bytes w nk) y x hy hx (e ∙ sym given_back)

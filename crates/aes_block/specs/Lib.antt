@@ -4,3 +4,4 @@ pub mod Words
 pub mod Cipher
 pub mod Inverse
 pub mod State
+pub mod KeyLaw
