@@ -10,3 +10,6 @@ mod tables;
 
 pub use aes128::Aes128;
 pub use block_key::BlockKey;
+
+#[cfg(test)]
+mod tests;

@@ -26,16 +26,16 @@ fn substituted(word: u32) -> u32
     ])
 }
 
-// What the word `key_words` places before word `i` is xored with.
-fn carried(key_words: usize, i: usize, before: u32) -> u32
-    requires any { 0 < key_words }
-    requires low { key_words ≤ i }
-    requires high { i < 11 * key_words }
-    ensures { result ≡ schedule_core key_words i before }
+// What the word `key_len` places before word `i` is xored with, where the key has `key_len` words.
+fn carried(key_len: usize, i: usize, before: u32) -> u32
+    requires any { 0 < key_len }
+    requires low { key_len ≤ i }
+    requires high { i < 11 * key_len }
+    ensures { result ≡ schedule_core key_len i before }
 {
-    if i % key_words == 0 {
-        substituted(before.rotate_left(8)) ^ (ROUND_CONSTANTS[i / key_words - 1] as u32) << 24
-    } else if key_words == 8 && i % 8 == 4 {
+    if i % key_len == 0 {
+        substituted(before.rotate_left(8)) ^ (ROUND_CONSTANTS[i / key_len - 1] as u32) << 24
+    } else if key_len == 8 && i % 8 == 4 {
         substituted(before)
     } else {
         before
