@@ -17,13 +17,17 @@ bytes = range_with_len 0 256
 pub table_at : (f : ℕ → ℕ) (table : List ℕ) → map f bytes ≡ table → (x : ℕ) → x < 256 → slice_index table x ≡ f x
 table_at f table e x h = rw (← e) (get_or-map-range_with_len f 0 256 x x 0 h (omega arith))
 
--- functions that agree on the list of all bytes agree at each
-pub same_at : (f g : ℕ → ℕ) → map f bytes ≡ map g bytes → (x : ℕ) → x < 256 → f x ≡ g x
-same_at f g e x h =
-    sym (get_or-map-range_with_len f 0 256 x x 0 h (omega arith)) ∙ ap (λ (l : List ℕ). get_or l x 0) e
-    ∙ get_or-map-range_with_len g 0 256 x x 0 h (omega arith)
+-- functions that agree on the list of the numbers below n agree at each
+pub same_below : (n : ℕ) (f g : ℕ → ℕ) → map f (range_with_len 0 n) ≡ map g (range_with_len 0 n) → (x : ℕ) → x < n → f x ≡ g x
+same_below n f g e x h =
+    sym (get_or-map-range_with_len f 0 n x x 0 h (omega arith)) ∙ ap (λ (l : List ℕ). get_or l x 0) e
+    ∙ get_or-map-range_with_len g 0 n x x 0 h (omega arith)
 
-affine_bit-lt : (b i : ℕ) → affine_bit b i < 2
+-- and on the list of all bytes
+pub same_at : (f g : ℕ → ℕ) → map f bytes ≡ map g bytes → (x : ℕ) → x < 256 → f x ≡ g x
+same_at f g e x h = same_below 256 f g e x h
+
+pub affine_bit-lt : (b i : ℕ) → affine_bit b i < 2
 unfolding affine_bit
 affine_bit-lt b i =
     let lt = λ (j : ℕ). bit_at-lt b j in
@@ -34,7 +38,7 @@ affine_bit-lt b i =
 pow_two : (n : ℕ) → 2 ^ suc n ≡ 2 ^ n + 2 ^ n
 pow_two n = omega (arith, pow-suc 2 n)
 
-affine-lt : (b n : ℕ) → affine b n < 2 ^ n
+pub affine-lt : (b n : ℕ) → affine b n < 2 ^ n
 unfolding affine
 affine-lt b zero = omega arith
 affine-lt b (suc n) =

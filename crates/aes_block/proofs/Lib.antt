@@ -9,4 +9,5 @@ pub mod CipherLemmas
 pub mod WordRules
 pub mod RoundRules
 pub mod ScheduleRules
+mod PlainRules
 mod Vectors

@@ -1,4 +1,19 @@
 //! The block cipher AES (FIPS 197), as a key that seals and unseals blocks of sixteen bytes.
+//!
+//! ```rust
+//! use aes_block::{Aes128, BlockKey};
+//!
+//! let key = Aes128::from_key(b"0123456789abcdef");
+//! let mut block = *b"sixteen bytes...";
+//! key.seal(&mut block);
+//! key.unseal(&mut block);
+//! assert_eq!(rt; block, *b"sixteen bytes...");
+//! ```
+//!
+//! `specs/` has the cipher in the standard's terms, for keys of 16, 24 and 32 bytes. The trait
+//! `BlockKey` says what a key type does with them, and the rounds and the key schedule here serve
+//! any of the three lengths. The code looks columns up in tables, each entry of which is proved
+//! from the S-box. How long a call takes may depend on the key and on the block.
 #![tactic(auto)]
 
 mod aes128;
@@ -11,5 +26,7 @@ mod tables;
 pub use aes128::Aes128;
 pub use block_key::BlockKey;
 
+#[cfg(test)]
+mod plain;
 #[cfg(test)]
 mod tests;

@@ -1,7 +1,8 @@
 // Example vectors of FIPS 197, appendices B and C.1.
 ghost use Rattle.std.specs.Prelude.{◌≡◌};
 
-use super::{Aes128, BlockKey};
+use super::schedule::expand;
+use super::{Aes128, BlockKey, plain};
 
 // Each row: the key, the block, and the block that the cipher makes of it.
 const VECTORS: [([u8; 16], [u8; 16], [u8; 16]); 2] = [
@@ -72,5 +73,17 @@ fn published_vectors(rt: HostRuntime) {
         there_and_back(&key, &mut block);
         back_and_there(&key, &mut block);
         assert_eq!(rt; block, *plain);
+    }
+}
+
+// The program that goes as the definition does finds the same.
+#[test]
+fn published_vectors_by_the_definition(rt: HostRuntime) {
+    for (key, plain, cipher) in &VECTORS {
+        let mut words = [0; 44];
+        expand(key, &mut words);
+        let mut block = *plain;
+        plain::seal_rounds(&words, 10, &mut block);
+        assert_eq!(rt; block, *cipher);
     }
 }
