@@ -1,0 +1,108 @@
+#!/usr/bin/env bash
+# How fast `gp run` answers lines, beside a C program that only splits its input into
+# lines and answers each by a fixed one. It prints numbers and goals, and judges nothing.
+#
+#   bench/lines.sh [FILE]      FILE holds the lines of one round, repeated to 60 MB
+#
+# TRIES says how many times each run is timed, 3 if unset: more on a busy machine.
+set -euo pipefail
+
+here=$(dirname "$(readlink -f "${BASH_SOURCE[0]}")")
+gp=$here/../crates/gp/out/gp
+round=${1-}
+tries=${TRIES:-3}
+
+# The program takes fewer than 67,108,864 bytes, so the whole input stays below that.
+readonly whole_bytes=60000000
+
+tmp=$(mktemp -d "${TMPDIR:-/tmp}/gp-lines.XXXXXX")
+trap 'rm -rf "$tmp"' EXIT
+
+fail() {
+    echo "lines: $1" >&2
+    exit 1
+}
+
+if [[ -n $round ]]; then
+    # awk also gives the last line a newline where it has none.
+    awk 1 "$round" >"$tmp/round"
+else
+    echo 00A4040008A000000151000000 >"$tmp/round"
+fi
+[[ -s $tmp/round ]] || fail "$round has no line"
+
+# Both inputs hold whole rounds, and the whole just twice as many as the half.
+rounds=$((whole_bytes / 2 / $(stat -c %s "$tmp/round")))
+((rounds > 0)) || fail "$round has more than $((whole_bytes / 2)) bytes"
+awk -v rounds="$rounds" '
+    { round = round $0 "\n" }
+    END { for (done = 0; done < rounds; done++) printf "%s", round }
+' "$tmp/round" >"$tmp/half"
+cat "$tmp/half" "$tmp/half" >"$tmp/whole"
+lines=$(wc -l <"$tmp/whole")
+
+# The launcher builds what is missing. With no words the program only says its usage,
+# and ends with 1.
+"$here/../gp" >/dev/null || (($? == 1))
+gcc -std=c99 -O2 -o "$tmp/lines" "$here/lines.c"
+
+gp_file() { "$gp" run <"$1" >/dev/null; }
+gp_pipe() { cat "$1" | "$gp" run >/dev/null; }
+c_file() { "$tmp/lines" <"$1" >/dev/null; }
+c_pipe() { cat "$1" | "$tmp/lines" >/dev/null; }
+
+# Times runs, each given as 'HOW INPUT', and leaves the best time of each in `best`, in
+# microseconds. They take turns, so that a busy moment of the machine meets them alike.
+declare -A best
+race() {
+    local try run how input begin took
+    best=()
+    for ((try = 0; try < tries; try++)); do
+        for run in "$@"; do
+            read -r how input <<<"$run"
+            begin=${EPOCHREALTIME//[!0-9]/}
+            "$how" "$tmp/$input" || fail "$how ended with status $?"
+            took=$((${EPOCHREALTIME//[!0-9]/} - begin))
+            if [[ -z ${best[$run]-} ]] || ((took < best[$run])); then
+                best[$run]=$took
+            fi
+        done
+    done
+}
+
+say() { printf "  %-10s $2\n" "$1" "${@:3}"; }
+seconds() { awk -v t="$1" 'BEGIN { printf "%.3f", t / 1e6 }'; }
+rate() { awk -v n="$lines" -v t="$1" 'BEGIN { printf "%.0f", n * 1e6 / t }'; }
+over() { awk -v a="$1" -v b="$2" 'BEGIN { printf "%.2f", a / b }'; }
+
+echo "$lines lines, $(stat -c %s "$tmp/whole") bytes, best of $tries"
+
+for from in file pipe; do
+    race "gp_$from whole" "c_$from whole"
+    of_gp=${best["gp_$from whole"]}
+    of_c=${best["c_$from whole"]}
+    echo "from a $from"
+    say gp "%s s  %9s lines a second" "$(seconds "$of_gp")" "$(rate "$of_gp")"
+    say C "%s s  %9s lines a second" "$(seconds "$of_c")" "$(rate "$of_c")"
+    say gp/C "%s of its lines a second (goal: at least 0.5)" "$(over "$of_c" "$of_gp")"
+done
+
+race "gp_file half" "gp_file whole"
+of_half=${best["gp_file half"]}
+of_whole=${best["gp_file whole"]}
+echo "twice the input, from a file"
+say half "%s s" "$(seconds "$of_half")"
+say whole "%s s" "$(seconds "$of_whole")"
+say whole/half "%s of its time (goal: 2.0 within 0.1)" "$(over "$of_whole" "$of_half")"
+
+# The peak is read while the program waits for more after the whole input. Linux keeps it
+# for the program alone, so it counts nothing of the shell that started it.
+exec 3> >(exec "$gp" run >/dev/null)
+pid=$!
+cat "$tmp/whole" >&3
+sleep 1
+peak=$(awk '/^VmHWM:/ { printf "%.1f", $2 * 1024 / 1e6 }' "/proc/$pid/status")
+exec 3>&-
+wait "$pid"
+echo "memory"
+say gp "%s MB at its peak (goal: below 8)" "$peak"
