@@ -9,12 +9,15 @@ use crate::columns::Columns;
 /// CIPHER (FIPS 197, 5.1), with the words of the key schedule.
 #[inline(always)]
 pub fn seal_rounds(words: &[u32], rounds: usize, block: &mut [u8; 16])
-    requires any { 0 < rounds }
+    requires some { 1 < rounds }
     requires whole { length words.now ≡ 4 * rounds + 4 }
     ensures { block.new ≡ cipher_rounds words.now rounds block.old }
 {
-    let mut state = Columns::load(block).plus(Columns::round_key(words, 0));
-    for round in 0..rounds - 1 {
+    let start = Columns::load(block).plus(Columns::round_key(words, 0));
+    // One round stands before the loop: else the compiler keeps the state of the loop in a vector
+    // register, and takes it apart in every round.
+    let mut state = start.sealed(Columns::round_key(words, 4));
+    for round in 1..rounds - 1 {
         state = state.sealed(Columns::round_key(words, 4 * round + 4));
     }
     *block = state
@@ -25,12 +28,14 @@ pub fn seal_rounds(words: &[u32], rounds: usize, block: &mut [u8; 16])
 /// EQINVCIPHER (FIPS 197, 5.3.5), with the words of the inverse key schedule.
 #[inline(always)]
 pub fn unseal_rounds(words: &[u32], rounds: usize, block: &mut [u8; 16])
-    requires any { 0 < rounds }
+    requires some { 1 < rounds }
     requires whole { length words.now ≡ 4 * rounds + 4 }
     ensures { block.new ≡ inv_cipher_rounds words.now rounds block.old }
 {
-    let mut state = Columns::load(block).plus(Columns::round_key(words, 4 * rounds));
-    for round in 0..rounds - 1 {
+    let start = Columns::load(block).plus(Columns::round_key(words, 4 * rounds));
+    // As in `seal_rounds`.
+    let mut state = start.unsealed(Columns::round_key(words, 4 * (rounds - 1)));
+    for round in 1..rounds - 1 {
         state = state.unsealed(Columns::round_key(words, 4 * (rounds - 1 - round)));
     }
     *block = state.unsealed_last(Columns::round_key(words, 0)).store();
