@@ -9,6 +9,7 @@ use Rattle.io_edge.specs.declared.line.Line.{Line}
 use Rattle.io_edge.specs.declared.line.LineStop.{LineStop}
 use Rattle.io_edge.specs.declared.line.LineStop.TheVariants.{End, ReadFailed, TooLong, InputTooLong}
 
+-- no byte is a newline
 abbrev pub NoNewline : List ℕ → Type 0
 NoNewline bytes = All (λ b. b ≢ 10) bytes
 
@@ -103,6 +104,7 @@ pub record GivesStop (tells : Type 0) (old new : Reading) (left left' : List ℕ
   -- A read is refused only where no whole line is held.
   pub clear : old.stop ≡ None → cause ≡ ReadFailed → NoNewline new.held
 
+-- The reading after a call, by its answer.
 abbrev pub Gives : Type 0 → Reading → Reading → List ℕ → List ℕ → Result Line LineStop → Type 0
 Gives tells old new left left' (Ok line) = GivesLine tells old new left left' line
 Gives tells old new left left' (Err stop) = GivesStop tells old new left left' stop

@@ -97,6 +97,7 @@ fn read_on<S: Source>(
     Ok(count)
 }
 
+/// The text that was cut off last, and the bytes held behind it.
 #[derive(Drop)]
 pub struct Buffer {
     bytes: [u8; ROOM],
@@ -117,6 +118,7 @@ impl Model for Buffer {
 }
 
 impl Buffer {
+    /// A buffer with no text and no bytes.
     pub fn new() -> Buffer
         ensures { result ≡ record { text = []; held = [] } }
     {
@@ -144,8 +146,8 @@ impl Buffer {
         &self.bytes[..self.to][self.from..]
     }
 
-    #[tactic(auto, using(crate::proofs::Ranges::ranges))]
     /// Cuts off the first `whole` bytes held, and keeps the first `text` of them as the text.
+    #[tactic(auto, using(crate::proofs::Ranges::ranges))]
     pub fn cut(&mut self, text: usize, whole: usize)
         requires within { text ≤ whole }
         requires held { whole ≤ length self.old.held }

@@ -1,4 +1,11 @@
 //! The edges of a program that reads lines and writes replies.
+//!
+//! A `Source` gives bytes and a `Sink` takes them. Each counts its faults, and a call fails only where
+//! that count rose in it. `Lines` cuts what a source gives into lines, in whatever pieces it comes: of
+//! `reset`, 0D 0A, `00A404` it gives line 1 `reset` and line 2 `00A404`, and then `LineStop::End`.
+//!
+//! A line of more than `LINE_LIMIT` bytes is refused, and so is what stands behind the first
+//! `INPUT_LIMIT` bytes of an input. A stop, once given, is given again.
 #![tactic(auto)]
 
 mod ahead;
@@ -12,6 +19,8 @@ mod memory_source;
 mod sink;
 mod source;
 mod standard;
+#[cfg(test)]
+mod tests;
 
 pub use line::{INPUT_LIMIT, LINE_LIMIT, Line, LineStop};
 pub use lines::Lines;

@@ -75,7 +75,8 @@ impl Lines {
         }
     }
 
-    /// The next line of the source.
+    /// The next line of the source, or why there is none. A last line without a newline counts where it is
+    /// not empty, and keeps a 0D at its end. Each call is given the same source.
     pub fn next_line<S: Source>(&mut self, source: &mut S) -> Result<Line<'_>, LineStop>
         ensures number { IfOk result (λ line. line.number ≡ self.old.number + 1) }
         ensures text { IfOk result (λ line. length line.text.now ≤ LINE_LIMIT) }

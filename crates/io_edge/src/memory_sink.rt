@@ -29,7 +29,8 @@ impl Model for MemSink {
 
 impl MemSink {
     /// An empty sink with room for so many bytes, which refuses the calls numbered in `fails`.
-    /// Its calls of `write_all` and `flush` are numbered together, from 0.
+    /// Its calls of `write_all` and `flush` are numbered together, from 0. `AllocError` is want of memory for
+    /// that room.
     pub fn new(alloc: Global, room: usize, fails: &[u32]) -> Result<MemSink, AllocError>
         ensures { IfOk result (λ s. s ≡ record { written = []; room = room; fails = fails.now; calls = 0; faults = 0 }) }
     {

@@ -29,7 +29,8 @@ impl Model for MemSource {
 }
 
 impl MemSource {
-    /// A source of these bytes that gives at most `piece` of them a call, and refuses the calls numbered in `fails`, from 0.
+    /// A source of these bytes that gives at most `piece` of them a call, and refuses the calls numbered in
+    /// `fails`, from 0. `AllocError` is want of memory for its copies.
     pub fn new(
         alloc: Global,
         bytes: &[u8],

@@ -24,7 +24,7 @@ pub trait Sink {
         ensures err { tells → OnErr result ((n : ℕ) × (written self.new ≡ written self.old ++ take n bytes.now)) }
         ensures cause { HasCause (faults self.old) (faults self.new) result };
 
-    /// Hands on what was written.
+    /// Hands on what was written, and appends nothing.
     fn flush(&mut self) -> Result<(), WriteFailed>
         ensures same { tells → written self.new ≡ written self.old }
         ensures cause { HasCause (faults self.old) (faults self.new) result };

@@ -3,7 +3,7 @@
 ghost use Rattle.std.specs.Prelude.{◌≡◌, ◌<◌, ◌≤◌, ◌++◌, List, [], ℕ, length, take, Ok, IfOk, OnErr};
 ghost use Rattle.io_edge.specs.Faults.{HasCause};
 
-/// A read was refused.
+/// A read was refused, and nothing was taken.
 #[derive(Clone, Copy, Debug, PartialEq, Eq)]
 pub struct ReadFailed;
 
@@ -18,7 +18,8 @@ pub trait Source {
     // How many calls have failed.
     ghost faults: { Self → ℕ };
 
-    /// Puts the next bytes in front of the buffer, and answers how many. It answers 0 only at the end.
+    /// Takes the next bytes, puts them in front of the buffer, and answers how many they are. It answers 0 only
+    /// at the end. The buffer is not empty.
     fn read_some(&mut self, buf: &mut [u8]) -> Result<usize, ReadFailed>
         requires room { 0 < length buf.old }
         ensures bound { IfOk result (λ count. count ≤ length buf.new) }
