@@ -1,12 +1,12 @@
 -- The lines of what is ahead, from its next line on.
-use Rattle.std.proofs.Common.{◌≡◌, ◌≢◌, ◌⊎◌, ℕ, ◌+◌, ◌<◌, append_assoc, Bool, true, false, ◌==◌, List, [], ◌∷◌, ◌++◌, length, slice_index_or, refl, sym, ap, ◌∙◌, inl, inr, arith}
+use Rattle.std.proofs.Common.{◌≡◌, ◌≢◌, ℕ, ◌<◌, append_assoc, Bool, false, ◌==◌, List, [], ◌∷◌, ◌++◌, length, slice_index_or, refl, sym, ap, ◌∙◌, inl, inr, arith}
 use Rattle.std.proofs.lemmas.Bool.Decides.{eqb_tells}
 use Rattle.std.proofs.lemmas.List.{append-nil}
 use Rattle.std.proofs.lemmas.List.Splits.{slice_split_at, slice_split_none, length-slice_split}
 use Rattle.std.specs.Prelude.{Result, Ok, Err, OnOk}
 use Rattle.std.specs.List.{slice_split, All}
 use Rattle.std.specs.Str.Lines.{lines, lines_of_parts, strip_carriage_return}
-use Rattle.io_edge.specs.Lines.{NoNewline, IsWhole, IsLast, IsLine}
+use Rattle.io_edge.specs.Lines.{NoNewline, IsLine}
 
 no_newline : (b : ℕ) → b ≢ 10 → (b == 10) ≡ false
 no_newline b other = elim (eqb_tells b 10) [ inl here ↦ absurd (other here.1) | inr apart ↦ apart.0 ]

@@ -1,5 +1,5 @@
 -- What a source and a sink in memory stand for.
-use Rattle.std.specs.Prelude.{◌≡◌, ℕ, ◌+◌, ◌-◌, ◌^◌, List, min}
+use Rattle.std.specs.Prelude.{ℕ, ◌+◌, ◌-◌, ◌^◌, List, min}
 
 -- a source: the bytes left, the most that one call gives, the numbers of the calls that fail, and the counts of calls and faults
 pub record MemorySource : Type 0 where

@@ -1,6 +1,8 @@
 //! The adapters over std's readers and writers: the edge that is trusted to give and take the right bytes.
 
-ghost use Rattle.std.specs.Prelude.{◌≡◌, ℕ, []};
+ghost use Rattle.std.specs.Prelude.{◌≡◌, ◌<◌, ◌≤◌, ℕ, [], length, IfOk, OnOk};
+ghost use Rattle.std.specs.Io.KnownBytes.{Appends, Keeps, ReadConsumes};
+ghost use Rattle.io_edge.specs.Counted.{Counted};
 ghost use Rattle.io_edge.specs.Faults.{HasCause};
 
 use crate::sink::{Sink, WriteFailed};
@@ -8,24 +10,24 @@ use crate::source::{ReadFailed, Source};
 use std::io::{Read, Write};
 use std::marker::Model;
 
-/// A reader of std. It counts the errors that the reader answers, and tells nothing of its bytes.
+/// A reader of std. It counts the errors that the reader answers. As a source it tells nothing of its bytes.
 #[derive(Drop)]
 pub struct StdSource<R: Read> {
     inner: R,
     faults: u64,
 }
 
-// Contracts see it as its count of faults.
+// Contracts see the reader and the count of faults.
 impl<R: Read> Model for StdSource<R> {
-    ghost Value = { ℕ };
+    ghost Value = { Counted R };
 
-    ghost view = { λ s. s.faults };
+    ghost view = { λ s. record { inner = s.inner; faults = s.faults } };
 }
 
 impl<R: Read> StdSource<R> {
     /// A source over the reader, with no faults yet.
     pub fn new(inner: R) -> StdSource<R>
-        ensures { result ≡ 0 }
+        ensures { result ≡ record { inner = inner; faults = 0 } }
     {
         StdSource { inner, faults: 0 }
     }
@@ -36,9 +38,16 @@ impl<R: Read> Source for StdSource<R> {
 
     ghost left = { λ _. [] };
 
-    ghost faults = { λ s. s };
+    ghost faults = { λ s. s.faults };
 
-    fn read_some(&mut self, buf: &mut [u8]) -> Result<usize, ReadFailed> {
+    fn read_some(&mut self, buf: &mut [u8]) -> Result<usize, ReadFailed>
+        requires room { 0 < length buf.old }
+        ensures bound { IfOk result (λ count. count ≤ length buf.new) }
+        ensures cause { HasCause self.old.faults self.new.faults result }
+
+        // What the reader tells of its bytes holds of these.
+        ensures told { ReadConsumes (R.remaining self.old.inner) (R.remaining self.new.inner) result buf.new }
+    {
         match self.inner.read(buf) {
             Ok(count) => Ok(count),
             Err(_) => {
@@ -49,38 +58,27 @@ impl<R: Read> Source for StdSource<R> {
     }
 }
 
-/// A writer of std. It counts the errors that the writer answers, and tells nothing of its bytes.
+/// A writer of std. It counts the errors that the writer answers. As a sink it tells nothing of its bytes.
 #[derive(Drop)]
 pub struct StdSink<W: Write> {
     inner: W,
     faults: u64,
 }
 
-// Contracts see it as its count of faults.
+// Contracts see the writer and the count of faults.
 impl<W: Write> Model for StdSink<W> {
-    ghost Value = { ℕ };
+    ghost Value = { Counted W };
 
-    ghost view = { λ s. s.faults };
+    ghost view = { λ s. record { inner = s.inner; faults = s.faults } };
 }
 
 impl<W: Write> StdSink<W> {
     /// A sink over the writer, with no faults yet.
     pub fn new(inner: W) -> StdSink<W>
-        ensures { result ≡ 0 }
+        ensures { result ≡ record { inner = inner; faults = 0 } }
     {
         StdSink { inner, faults: 0 }
     }
-}
-
-// Counts a call that failed.
-fn counted(outcome: std::io::Result<()>, faults: &mut u64) -> Result<(), WriteFailed>
-    ensures { HasCause faults.old faults.new result }
-{
-    if outcome.is_err() {
-        *faults = faults.saturating_add(1);
-        return Err(WriteFailed);
-    }
-    Ok(())
 }
 
 impl<W: Write> Sink for StdSink<W> {
@@ -88,15 +86,33 @@ impl<W: Write> Sink for StdSink<W> {
 
     ghost written = { λ _. [] };
 
-    ghost faults = { λ s. s };
+    ghost faults = { λ s. s.faults };
 
-    fn write_all(&mut self, bytes: &[u8]) -> Result<(), WriteFailed> {
-        let outcome = self.inner.write_all(bytes);
-        counted(outcome, &mut self.faults)
+    fn write_all(&mut self, bytes: &[u8]) -> Result<(), WriteFailed>
+        ensures cause { HasCause self.old.faults self.new.faults result }
+
+        // What the writer tells of its bytes holds of these.
+        ensures told { OnOk result (Appends (W.contents self.old.inner) (W.contents self.new.inner) bytes.now) }
+    {
+        match self.inner.write_all(bytes) {
+            Ok(()) => Ok(()),
+            Err(_) => {
+                self.faults = self.faults.saturating_add(1);
+                Err(WriteFailed)
+            }
+        }
     }
 
-    fn flush(&mut self) -> Result<(), WriteFailed> {
-        let outcome = self.inner.flush();
-        counted(outcome, &mut self.faults)
+    fn flush(&mut self) -> Result<(), WriteFailed>
+        ensures cause { HasCause self.old.faults self.new.faults result }
+        ensures told { Keeps (W.contents self.old.inner) (W.contents self.new.inner) }
+    {
+        match self.inner.flush() {
+            Ok(()) => Ok(()),
+            Err(_) => {
+                self.faults = self.faults.saturating_add(1);
+                Err(WriteFailed)
+            }
+        }
     }
 }

@@ -1,4 +1,4 @@
-use Rattle.std.proofs.Common.{◌≡◌, ◌++◌, slice_range, append_assoc, sym, ap, ◌∙◌}
+use Rattle.std.proofs.Common.{◌++◌, slice_range, append_assoc, sym, ap, ◌∙◌}
 use Rattle.io_edge.proofs.Ranges.{slice_range-grown}
 use Rattle.io_edge.proofs.buffer.read_on.Goals as goal
 

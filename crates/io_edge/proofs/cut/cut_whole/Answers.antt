@@ -1,7 +1,6 @@
-use Rattle.std.proofs.Common.{◌≡◌, ◌+◌, ◌≤◌, ◌<◌, ◌++◌, List, ℕ, length, take, drop, sym, ap, ◌∙◌, arith, inl, refl, subst}
+use Rattle.std.proofs.Common.{◌≡◌, ◌+◌, ◌++◌, length, take, drop, sym, ◌∙◌, arith, inl, refl}
 use Rattle.std.proofs.lemmas.List.{take-take, length-take}
 use Rattle.std.specs.Str.Lines.{strip_carriage_return}
-use Rattle.io_edge.specs.Lines.{IsLine}
 use Rattle.io_edge.proofs.Whole.{whole_line}
 use Rattle.io_edge.proofs.cut.cut_whole.Goals as goal
 

@@ -1,4 +1,4 @@
-use Rattle.std.proofs.Common.{◌≡◌, ◌++◌, [], refl, ap, ◌∙◌, Ok}
+use Rattle.std.proofs.Common.{◌≡◌, [], refl, ap, ◌∙◌, Ok}
 use Rattle.std.proofs.lemmas.List.{append-nil}
 use Rattle.io_edge.proofs.Cuts.{lines_if_ok}
 use Rattle.io_edge.proofs.Long.{too_long}

@@ -1,4 +1,4 @@
-use Rattle.std.proofs.Common.{◌≡◌, ◌+◌, ◌≤◌, length, sym, arith}
+use Rattle.std.proofs.Common.{◌≤◌, length, sym, arith}
 use Rattle.std.proofs.lemmas.List.{length-take}
 use Rattle.io_edge.proofs.Ranges.{drop-slice_range}
 use Rattle.io_edge.proofs.buffer.Buffer.cut.Goals as goal

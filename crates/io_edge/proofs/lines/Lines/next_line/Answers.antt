@@ -1,5 +1,4 @@
-use Rattle.std.proofs.Common.{rules, ◌≡◌, ◌≤◌, ◌+◌, ◌-◌, ◌++◌, ap, refl, sym, ◌∙◌, arith}
-use Rattle.io_edge.specs.Lines.{GivesStop}
+use Rattle.std.proofs.Common.{refl, arith}
 use Rattle.io_edge.proofs.lines.Lines.next_line.Goals as goal
 
 pub returns-in-Err : goal.returns-in-Err
