@@ -1,7 +1,6 @@
 -- What an accepted command does, and its reply.
 use Rattle.std.specs.Prelude.{ℕ, List, [], ◌∷◌, ◌++◌, length}
 use Rattle.apdu_core.specs.Apdu.{Apdu}
-use Rattle.apdu_core.specs.Reply.{status_bytes}
 use Rattle.policy_rules.specs.Card.{Card}
 
 -- the card after a command, and the body and status of the reply

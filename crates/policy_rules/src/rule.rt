@@ -8,26 +8,32 @@ use apdu_core::Status;
 /// A rule of the policy, by its group.
 #[derive(Clone, Copy, Debug, PartialEq, Eq)]
 pub enum Rule {
+    /// Judged of each command.
     G(RuleG),
+    /// What is not built yet.
     N(RuleN),
+    /// SELECT.
     SE(RuleSE),
 }
 
 /// The rules for each command.
 #[derive(Clone, Copy, Debug, PartialEq, Eq)]
 pub enum RuleG {
+    /// The bytes are no short command: 6700.
     G1,
 }
 
 /// The rules for what is not built yet.
 #[derive(Clone, Copy, Debug, PartialEq, Eq)]
 pub enum RuleN {
+    /// Class, instruction, P1 and P2 are not 00 A4 04 00: 6D00.
     N1,
 }
 
 /// The rules of SELECT.
 #[derive(Clone, Copy, Debug, PartialEq, Eq)]
 pub enum RuleSE {
+    /// The body is not the AID of the issuer domain: 6A82.
     SE1,
 }
 
@@ -43,7 +49,7 @@ impl Rule {
         })
     }
 
-    /// The rule's name.
+    /// The rule's name, as `SE1`.
     pub fn name(&self) -> &'static str
         ensures { result.now ≡ name_of self.now }
     {

@@ -25,7 +25,7 @@ fn judge(command: &Command<'_>) -> Option<Rule>
     None
 }
 
-/// The first rule that fails for a line of bytes, on the factory card.
+/// The first rule that fails for a line of bytes, on the factory card, or none where it is accepted.
 pub fn first(bytes: &[u8]) -> Option<Rule>
     ensures { First (powered_on factory_perm) bytes.now result }
 {
@@ -35,7 +35,8 @@ pub fn first(bytes: &[u8]) -> Option<Rule>
     }
 }
 
-/// Appends the file control information of an entry.
+/// Appends the file control information of an entry (GlobalPlatform Card Specification 2.3.1, 11.9.3): ten
+/// bytes, and its AID among them.
 pub fn write_control_information(aid: &[u8], reply: &mut ArrayVec<u8, 258>)
     requires aid { length aid.now ≤ 16 }
     requires room { array_vec_len reply.old + 28 ≤ 258 }
