@@ -1,14 +1,14 @@
 -- The course of a run, from line to line and to its end.
-use Rattle.std.proofs.Common.{◌≡◌, ℕ, ◌+◌, ◌-◌, ◌<◌, ◌≤◌, List, [], ◌∷◌, ◌++◌, length, take, None, refl, sym, ap, subst, ◌∙◌, inl, inr, append_assoc, arith, length-append}
+use Rattle.std.proofs.Common.{◌≡◌, ℕ, ◌+◌, ◌-◌, ◌≤◌, List, [], ◌∷◌, ◌++◌, length, take, None, refl, sym, ap, subst, ◌∙◌, inl, inr, append_assoc, arith, length-append}
 use Rattle.std.proofs.lemmas.List.{append-nil}
 use Rattle.std.proofs.Math.Seq.{take-append-add}
 use Rattle.std.specs.Str.Lines.{lines}
 use Rattle.io_edge.specs.Lines.{Reading, ahead, room, IsCut}
-use Rattle.io_edge.specs.declared.line.TheConstants.{INPUT_LIMIT}
-use Rattle.policy_rules.specs.Card.{Card, factory_perm, powered_on}
-use Rattle.gp_tool.specs.Ends.{Outside, Reached, Ends, IsBad, room_for}
+use Rattle.io_edge.specs.declared.line.TheConstants.{INPUT_LIMIT, LINE_LIMIT}
+use Rattle.policy_rules.specs.Card.{factory_perm, powered_on}
+use Rattle.gp_tool.specs.Ends.{Outside, AreShort, Reached, Ends, IsBad, room_for}
 use Rattle.gp_tool.specs.Going.{Going}
-use Rattle.gp_tool.specs.Plays.{Plays, bad_line}
+use Rattle.gp_tool.specs.Plays.{bad_line}
 use Rattle.gp_tool.specs.Turn.{GoesOn, EndsWith, NextLine}
 use Rattle.gp_tool.specs.declared.ending.Ending.{Ending}
 use Rattle.gp_tool.specs.declared.ending.Ending.TheVariants.{Finished, BadLine, ReadFault, WriteFault, InputTooLong}
@@ -21,19 +21,37 @@ going_first before = record {
   text = [];
   number = refl;
   passed = omega arith;
-  reached = record { passed = []; split = refl; lines = refl; plays = plays_none (powered_on factory_perm) };
+  reached = record { passed = []; split = refl; within = omega arith; lines = refl; fits = tt; plays = plays_none (powered_on factory_perm) };
   written = sym (append-nil before.written);
 }
 
+-- one more line that is not too long
+short_more : (given : List (List ℕ)) (line : List ℕ) → AreShort given → length line ≤ LINE_LIMIT → AreShort (given ++ line ∷ [])
+short_more [] line none fits = (fits, tt)
+short_more (first ∷ given) line short fits = (short.0, short_more given line short.1 fits)
+
 -- one line further
-reached_next : (input : List ℕ) (given : List (List ℕ)) (text ahead after more : List ℕ) (next : NextLine ahead after more)
-    → Reached input given text ahead (powered_on factory_perm) → Reached input (given ++ next.line ∷ []) (text ++ more) after (powered_on factory_perm)
-reached_next input given text ahead after more next reached = record {
+reached_next : (room : ℕ) (input : List ℕ) (given : List (List ℕ)) (text ahead after more : List ℕ) (next : NextLine room ahead after more)
+    → room ≡ room_for input ahead → Reached input given text ahead (powered_on factory_perm) → Reached input (given ++ next.line ∷ []) (text ++ more) after (powered_on factory_perm)
+reached_next room input given text ahead after more next is reached = record {
   passed = reached.passed ++ next.front;
   split = reached.split ∙ ap (λ rest. reached.passed ++ rest) next.split ∙ sym (append_assoc reached.passed next.front after);
+  within =
+      (let read = ap length reached.split ∙ length-append reached.passed ahead in
+      let before = reached.within in
+      let front = next.within in
+      rw (length-append reached.passed next.front) (omega arith));
   lines = reached.lines ∙ ap (λ rest. given ++ rest) next.lines ∙ sym (append_assoc given (next.line ∷ []) (lines after));
+  fits = short_more given next.line reached.fits next.fits;
   plays = plays_more given (next.line ∷ []) text more _ _ _ reached.plays next.plays;
 }
+
+-- the room is that behind the bytes that were passed
+room_is : (before now : Outside) (old : Reading) → Going before now old → room old ≡ room_for before.left (ahead old now.left)
+room_is before now old going =
+    let passed = going.passed in
+    let behind : old.passed ≡ length before.left - length (ahead old now.left) = omega arith in
+    ap (λ n. INPUT_LIMIT - n) behind
 
 pub going_further : (tells : Type 0) (before now later : Outside) (old new : Reading)
     → Going before now old → GoesOn tells old new now later → tells → Going before later new
@@ -47,16 +65,9 @@ going_further tells before now later old new going on told =
       text = going.text ++ line.0;
       number = on.number ∙ ap (λ n. n + 1) going.number ∙ sym (length-append going.given (next.line ∷ []));
       passed = passed ∙ old_passed;
-      reached = reached_next before.left going.given going.text _ _ line.0 next going.reached;
+      reached = reached_next (room old) before.left going.given going.text _ _ line.0 next (room_is before now old going) going.reached;
       written = line.2 ∙ ap (λ w. w ++ line.0) going.written ∙ append_assoc before.written going.text line.0;
     }
-
--- the room is that behind the bytes that were passed
-room_is : (before now : Outside) (old : Reading) → Going before now old → room old ≡ room_for before.left (ahead old now.left)
-room_is before now old going =
-    let passed = going.passed in
-    let behind : old.passed ≡ length before.left - length (ahead old now.left) = omega arith in
-    ap (λ n. INPUT_LIMIT - n) behind
 
 -- a part of what was to be written behind the text
 part_written : (old text more written now : List ℕ) (n : ℕ) → written ≡ old ++ text → now ≡ written ++ take n more
@@ -80,6 +91,7 @@ going_ends before now later old Finished going ends =
       text = going.text;
       card = powered_on factory_perm;
       plays = rw all going.reached.plays;
+      fits = rw all going.reached.fits;
       short = omega arith;
       read = ends.2;
       written = ends.3 ∙ going.written;
@@ -99,9 +111,10 @@ going_ends before now later old ReadFault going ends = record {
   text = going.text;
   held = ends.0;
   card = powered_on factory_perm;
-  reached = subst (λ (rest : List ℕ). Reached before.left going.given going.text rest (powered_on factory_perm)) ends.2 going.reached;
+  reached = subst (λ (rest : List ℕ). Reached before.left going.given going.text rest (powered_on factory_perm)) ends.3 going.reached;
   no_line = ends.1;
-  written = ends.3 ∙ going.written;
+  within = rw (← ends.3, ← room_is before now old going) ends.2;
+  written = ends.4 ∙ going.written;
 }
 going_ends before now later old InputTooLong going ends = record {
   given = going.given;
@@ -121,7 +134,8 @@ going_ends before now later old WriteFault going (inl line) = record {
   whole = going.text ++ line.0;
   count = length going.text + line.2;
   card = powered_on factory_perm;
-  reached = reached_next before.left going.given going.text (ahead old now.left) line.1 line.0 line.3 going.reached;
+  reached = reached_next (room old) before.left going.given going.text (ahead old now.left) line.1 line.0 line.3
+      (room_is before now old going) going.reached;
   is_whole = inl refl;
   written = part_written before.written going.text line.0 now.written later.written line.2 going.written line.4;
 }

@@ -1,5 +1,5 @@
 -- A run whose flush at the end is refused: all of its text was written.
-use Rattle.std.proofs.Common.{◌≡◌, ◌≢◌, ◌⊎◌, ℕ, ◌+◌, List, [], ◌++◌, length, take, refl, sym, ap, ◌∙◌, inl, inr}
+use Rattle.std.proofs.Common.{◌≡◌, ◌≢◌, ℕ, ◌+◌, List, [], ◌++◌, length, take, refl, sym, ap, ◌∙◌, inl, inr, arith}
 use Rattle.std.proofs.lemmas.List.{append-nil}
 use Rattle.std.proofs.Math.Seq.{take-length}
 use Rattle.std.specs.Str.Lines.{lines}
@@ -23,7 +23,9 @@ flush_refused Finished before later other ends = record {
   reached = record {
     passed = before.left;
     split = sym (append-nil before.left);
+    within = (let short = ends.short in omega arith);
     lines = sym (append-nil (lines before.left));
+    fits = ends.fits;
     plays = ends.plays;
   };
   is_whole = inl refl;

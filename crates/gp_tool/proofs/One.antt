@@ -1,5 +1,5 @@
 -- One line on a card.
-use Rattle.std.proofs.Common.{◌≡◌, ℕ, List, [], ◌∷◌, ◌++◌, refl, sym}
+use Rattle.std.proofs.Common.{ℕ, List, [], ◌∷◌, refl, sym}
 use Rattle.std.proofs.lemmas.List.{append-nil}
 use Rattle.policy_rules.specs.Card.{Card, powered_on}
 use Rattle.policy_rules.specs.Run.{Command, Reset}

@@ -1,8 +1,9 @@
 -- How a turn ends.
-use Rattle.std.proofs.Common.{◌≡◌, ◌+◌, List, ℕ, inl, inr}
+use Rattle.std.proofs.Common.{◌+◌, ◌≤◌, List, ℕ, length, inl, inr}
 use Rattle.io_edge.proofs.Cuts.{line_suffix}
 use Rattle.io_edge.specs.Lines.{Reading, GivesLine, ahead, room}
 use Rattle.io_edge.specs.declared.line.Line.{Line}
+use Rattle.io_edge.specs.declared.line.TheConstants.{LINE_LIMIT}
 use Rattle.gp_tool.specs.Form.{HasNoForm}
 use Rattle.gp_tool.specs.Serve.{PlaysAlone}
 use Rattle.gp_tool.specs.Ends.{Outside, IsBad}
@@ -21,10 +22,11 @@ refusal_ends old before now InputTooLong bad refuses = absurd refuses
 
 -- the line that was given is the next one ahead
 pub given_line : (tells : Type 0) (old new : Reading) (left left' : List ℕ) (line : Line) (text : List ℕ)
-    → GivesLine tells old new left left' line → tells → PlaysAlone line.text.now text → NextLine (ahead old left) (ahead new left') text
-given_line tells old new left left' line text gives told plays =
+    → GivesLine tells old new left left' line → tells → length line.text.now ≤ LINE_LIMIT → PlaysAlone line.text.now text
+    → NextLine (room old) (ahead old left) (ahead new left') text
+given_line tells old new left left' line text gives told fits plays =
     let suffix = line_suffix (room old) (ahead old left) line.text.now (ahead new left') (gives.line told) in
-    record { line = line.text.now; front = suffix.0; split = suffix.1; lines = gives.lines told; plays = plays }
+    record { line = line.text.now; front = suffix.0; split = suffix.1; within = suffix.2; lines = gives.lines told; fits = fits; plays = plays }
 
 -- a line of no form that was given is a bad one
 pub bad_form : (tells : Type 0) (old new : Reading) (left left' : List ℕ) (line : Line)

@@ -1,5 +1,6 @@
 -- How a run ends, and what has been read and written then.
 use Rattle.std.specs.Prelude.{◌≡◌, ◌⊎◌, ℕ, ◌+◌, ◌-◌, ◌<◌, ◌≤◌, List, [], ◌++◌, length, take}
+use Rattle.std.specs.List.{AllByRecursion}
 use Rattle.std.specs.Str.Lines.{lines}
 use Rattle.io_edge.specs.Faults.{Rose}
 use Rattle.io_edge.specs.Lines.{NoNewline, IsLine, IsCut, IsNextText}
@@ -15,11 +16,18 @@ pub record Outside : Type 0 where
   pub left : List ℕ
   pub written : List ℕ
 
--- How far a run has come in an input: the lines that were given, their text, the bytes ahead, and the card.
+-- no line is too long
+abbrev pub AreShort : List (List ℕ) → Type 0
+AreShort lines = AllByRecursion (λ line. length line ≤ LINE_LIMIT) lines
+
+-- How far a run has come in an input: the bytes passed, the lines that were given, their text, the bytes ahead, and
+-- the card.
 pub record Reached (input : List ℕ) (given : List (List ℕ)) (text ahead : List ℕ) (card : Card) : Type 0 where
   pub passed : List ℕ
   pub split : input ≡ passed ++ ahead
+  pub within : length passed ≤ INPUT_LIMIT
   pub lines : lines input ≡ given ++ lines ahead
+  pub fits : AreShort given
   pub plays : Plays (powered_on factory_perm) given text card
 
 -- how many bytes may be taken of what stands ahead
@@ -31,11 +39,12 @@ abbrev pub IsBad : ℕ → List ℕ → Type 0
 IsBad room ahead =
     (text : List ℕ) × (((after : List ℕ) × IsLine room ahead text after × HasNoForm text) ⊎ (IsNextText room ahead text × (LINE_LIMIT < length text)))
 
--- The input was read to its end, each line has a form, and the text of all lines was written.
+-- The input was read to its end, each line has a form and is not too long, and the text of all lines was written.
 pub record IsFinished (old new : Outside) : Type 0 where
   pub text : List ℕ
   pub card : Card
   pub plays : Plays (powered_on factory_perm) (lines old.left) text card
+  pub fits : AreShort (lines old.left)
   pub short : length old.left < INPUT_LIMIT
   pub read : new.left ≡ []
   pub written : new.written ≡ old.written ++ text
@@ -58,6 +67,7 @@ pub record IsAtReadFault (old new : Outside) : Type 0 where
   pub card : Card
   pub reached : Reached old.left given text (held ++ new.left) card
   pub no_line : NoNewline held
+  pub within : length held ≤ room_for old.left (held ++ new.left)
   pub written : new.written ≡ old.written ++ text
 
 -- The limit of the input comes before the next line's end.

@@ -1,7 +1,6 @@
 -- What one more line does to a run, and how a run ends with it.
 use Rattle.std.specs.Prelude.{◌≡◌, ◌⊎◌, ℕ, ◌+◌, ◌<◌, ◌≤◌, List, [], ◌∷◌, ◌++◌, length, take, None}
 use Rattle.std.specs.Str.Lines.{lines}
-use Rattle.io_edge.specs.Faults.{Rose}
 use Rattle.io_edge.specs.Lines.{Reading, NoNewline, IsCut, IsWithin, ahead, room}
 use Rattle.io_edge.specs.declared.line.TheConstants.{LINE_LIMIT}
 use Rattle.gp_tool.specs.Ends.{Outside, IsBad}
@@ -10,12 +9,14 @@ use Rattle.gp_tool.specs.Serve.{PlaysAlone}
 use Rattle.gp_tool.specs.declared.ending.Ending.{Ending}
 use Rattle.gp_tool.specs.declared.ending.Ending.TheVariants.{Finished, BadLine, ReadFault, WriteFault, InputTooLong}
 
--- the next line of what is ahead, played alone, with its text
-pub record NextLine (ahead after text : List ℕ) : Type 0 where
+-- the next line of what is ahead, within the room, played alone, with its text
+pub record NextLine (room : ℕ) (ahead after text : List ℕ) : Type 0 where
   pub line : List ℕ
   pub front : List ℕ
   pub split : ahead ≡ front ++ after
+  pub within : length front ≤ room
   pub lines : lines ahead ≡ line ∷ lines after
+  pub fits : length line ≤ LINE_LIMIT
   pub plays : PlaysAlone line text
 
 -- The run goes on after a line, whose text was written.
@@ -25,7 +26,7 @@ pub record GoesOn (tells : Type 0) (old new : Reading) (before now : Outside) : 
   pub within : IsWithin new
   pub further : old.passed < new.passed
   pub passed : tells → new.passed + length (ahead new now.left) ≡ old.passed + length (ahead old before.left)
-  pub line : tells → (text : List ℕ) × NextLine (ahead old before.left) (ahead new now.left) text × (now.written ≡ before.written ++ text)
+  pub line : tells → (text : List ℕ) × NextLine (room old) (ahead old before.left) (ahead new now.left) text × (now.written ≡ before.written ++ text)
 
 -- what is written of a bad line, whole or up to a fault
 abbrev pub Refuses : ℕ → List ℕ → List ℕ → Ending → Type 0
@@ -40,9 +41,9 @@ abbrev pub EndsWith : Reading → Outside → Outside → Ending → Type 0
 EndsWith old before now Finished = (ahead old before.left ≡ []) × (0 < room old) × (now.left ≡ []) × (now.written ≡ before.written)
 EndsWith old before now BadLine = IsBad (room old) (ahead old before.left) × Refuses (old.number + 1) before.written now.written BadLine
 EndsWith old before now ReadFault =
-    (held : List ℕ) × NoNewline held × (ahead old before.left ≡ held ++ now.left) × (now.written ≡ before.written)
+    (held : List ℕ) × NoNewline held × (length held ≤ room old) × (ahead old before.left ≡ held ++ now.left) × (now.written ≡ before.written)
 EndsWith old before now InputTooLong =
     (cut : List ℕ) × IsCut (room old) (ahead old before.left) cut × (length cut ≤ LINE_LIMIT) × (now.written ≡ before.written)
 EndsWith old before now WriteFault =
-    ((text after : List ℕ) × (n : ℕ) × NextLine (ahead old before.left) after text × (now.written ≡ before.written ++ take n text))
+    ((text after : List ℕ) × (n : ℕ) × NextLine (room old) (ahead old before.left) after text × (now.written ≡ before.written ++ take n text))
     ⊎ (IsBad (room old) (ahead old before.left) × Refuses (old.number + 1) before.written now.written WriteFault)

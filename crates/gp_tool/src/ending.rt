@@ -6,15 +6,15 @@ ghost use Rattle.gp_tool.specs.Ends.{status_of};
 /// How a run over the lines of a source ends.
 #[derive(Clone, Copy, Debug, PartialEq, Eq)]
 pub enum Ending {
-    /// The input was read to its end, and all was written.
+    /// The input was read to its end, and all was written: 0.
     Finished,
-    /// A line has no form or is too long.
+    /// A line has no form or is too long, and its number was written: 2.
     BadLine,
-    /// The source refused a read.
+    /// The source refused a read: 5.
     ReadFault,
-    /// The sink refused a write or a flush.
+    /// The sink refused a write or a flush: 6.
     WriteFault,
-    /// The input has too many bytes.
+    /// The input has too many bytes: 9.
     InputTooLong,
 }
 

@@ -15,6 +15,7 @@ pub const COMMAND_LIMIT: usize = LINE_LIMIT / 2;
 pub enum Form {
     /// Nothing: it is blank or a comment.
     Nothing,
+    /// Power off and on.
     Reset,
     /// A command of so many bytes.
     Command(usize),

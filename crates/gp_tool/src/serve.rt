@@ -20,8 +20,11 @@ pub struct Workspace {
 /// What came of a line.
 #[derive(Clone, Copy)]
 pub enum Served {
+    /// Its reply was written, if it has one.
     Done,
+    /// It has no form, and nothing was written.
     NoForm,
+    /// The sink refused its reply.
     WriteFault,
 }
 

@@ -56,6 +56,9 @@ fn refuse_words<K: Sink>(sink: &mut K) -> u8
 }
 
 /// Does what the words say, and answers the status of the program.
+///
+/// 0: the input was read to its end. 1: words of no form. 2: a line of no form or too long. 5: the source
+/// refused a read. 6: the sink refused a write or its flush. 9: the input is too long.
 pub fn gp<S: Source, K: Sink>(_alloc: Global, words: &[String], source: &mut S, sink: &mut K) -> u8
     // Words of no form: the usage line is written, and nothing is read.
     ensures usage { (AreRun words.now → ⊥) → ((result ≡ 1) ⊎ (result ≡ 6)) × (source.new ≡ source.old) }

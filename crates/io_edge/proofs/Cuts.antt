@@ -1,5 +1,5 @@
 -- The lines of what is ahead, from its next line on.
-use Rattle.std.proofs.Common.{◌≡◌, ◌≢◌, ℕ, ◌<◌, append_assoc, Bool, false, ◌==◌, List, [], ◌∷◌, ◌++◌, length, slice_index_or, refl, sym, ap, ◌∙◌, inl, inr, arith}
+use Rattle.std.proofs.Common.{◌≡◌, ◌≢◌, ℕ, ◌+◌, ◌<◌, ◌≤◌, length-append, append_assoc, Bool, false, ◌==◌, List, [], ◌∷◌, ◌++◌, length, slice_index_or, refl, sym, ap, ◌∙◌, inl, inr, arith}
 use Rattle.std.proofs.lemmas.Bool.Decides.{eqb_tells}
 use Rattle.std.proofs.lemmas.List.{append-nil}
 use Rattle.std.proofs.lemmas.List.Splits.{slice_split_at, slice_split_none, length-slice_split}
@@ -48,8 +48,16 @@ pub lines_if_ok : {X E : Type 0} (result : Result X E) (room : ℕ) (ahead text 
 lines_if_ok (Ok x) room ahead text after line = lines_ahead room ahead text after line
 lines_if_ok (Err e) room ahead text after line = tt
 
--- what follows the next line is an end of what is ahead
-pub line_suffix : (room : ℕ) (ahead text after : List ℕ) → IsLine room ahead text after → (front : List ℕ) × (ahead ≡ front ++ after)
+-- what follows the next line is an end of what is ahead, and the line with its end fits the room
+pub line_suffix : (room : ℕ) (ahead text after : List ℕ) → IsLine room ahead text after
+    → (front : List ℕ) × (ahead ≡ front ++ after) × (length front ≤ room)
 line_suffix room ahead text after (inl whole) =
-    (whole.piece ++ 10 ∷ [], whole.is ∙ sym (append_assoc whole.piece (10 ∷ []) after))
-line_suffix room ahead text after (inr last) = (ahead, sym (ap (λ rest. ahead ++ rest) last.nothing ∙ append-nil ahead))
+    let within = whole.within in
+    (
+      whole.piece ++ 10 ∷ [],
+      whole.is ∙ sym (append_assoc whole.piece (10 ∷ []) after),
+      rw (length-append whole.piece (10 ∷ [])) (omega arith),
+    )
+line_suffix room ahead text after (inr last) =
+    let within = last.within in
+    (ahead, sym (ap (λ rest. ahead ++ rest) last.nothing ∙ append-nil ahead), omega arith)

@@ -1,4 +1,4 @@
-use Rattle.std.proofs.Common.{◌≡◌, ◌++◌, inl, inr, refl, None, Some}
+use Rattle.std.proofs.Common.{inl, inr, refl}
 use Rattle.gp_tool.proofs.card.process.Goals as goal
 
 pub returns-in-Some : goal.returns-in-Some

@@ -1,4 +1,4 @@
-use Rattle.std.proofs.Common.{◌≡◌, refl, arith, ◌∙◌}
+use Rattle.std.proofs.Common.{refl, arith, ◌∙◌}
 use Rattle.gp_tool.proofs.Course.{going_first, going_further, going_ends}
 use Rattle.gp_tool.proofs.run.take_lines.Goals as goal
 

@@ -1,4 +1,4 @@
-use Rattle.std.proofs.Common.{◌≡◌, ◌+◌, ◌∙◌, sym, inl, inr}
+use Rattle.std.proofs.Common.{◌∙◌, inl, inr}
 use Rattle.gp_tool.proofs.Turns.{given_line, bad_form, refusal_ends}
 use Rattle.gp_tool.proofs.run.take_turn.Goals as goal
 
@@ -13,7 +13,7 @@ returns-in-Done-clause-goes_on g c =
       passed = λ told. gives.passed told.0;
       line = λ told.
           (let served = c.in-Done.ensures.served told.1 in
-          (served.0, given_line g.S.Source.tells _ _ _ _ c.in-Ok.line served.0 gives told.0 served.1, served.2));
+          (served.0, given_line g.S.Source.tells _ _ _ _ c.in-Ok.line served.0 gives told.0 c.in-Ok.ensures.text served.1, served.2));
     }
 
 pub returns-in-NoForm-clause-ends : goal.returns-in-NoForm-clause-ends
@@ -28,7 +28,7 @@ pub returns-in-WriteFault-clause-ends : goal.returns-in-WriteFault-clause-ends
 returns-in-WriteFault-clause-ends g c told =
     let gives = rw c.in-Ok.is at c.next_line.follows.holds-at-none in
     let served = c.in-WriteFault.ensures.served told.1 in
-    inl (served.0, _, served.1, given_line g.S.Source.tells _ _ _ _ c.in-Ok.line served.0 gives told.0 served.2, served.3)
+    inl (served.0, _, served.1, given_line g.S.Source.tells _ _ _ _ c.in-Ok.line served.0 gives told.0 c.in-Ok.ensures.text served.2, served.3)
 
 pub returns-in-Err-TooLong-clause-ends : goal.returns-in-Err-TooLong-clause-ends
 returns-in-Err-TooLong-clause-ends g c told =

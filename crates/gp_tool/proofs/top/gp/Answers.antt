@@ -1,4 +1,4 @@
-use Rattle.std.proofs.Common.{◌≡◌, ap, ◌∙◌}
+use Rattle.std.proofs.Common.{ap, ◌∙◌}
 use Rattle.gp_tool.specs.Ends.{status_of}
 use Rattle.gp_tool.proofs.Complete.{finishes}
 use Rattle.gp_tool.proofs.top.gp.Goals as goal
