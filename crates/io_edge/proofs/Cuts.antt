@@ -52,8 +52,7 @@ lines_if_ok (Err e) room ahead text after line = tt
 pub line_suffix : (room : ℕ) (ahead text after : List ℕ) → IsLine room ahead text after
     → (front : List ℕ) × (ahead ≡ front ++ after) × (length front ≤ room)
 line_suffix room ahead text after (inl whole) =
-    let within = whole.within in
-    (
+    let within = whole.within in (
       whole.piece ++ 10 ∷ [],
       whole.is ∙ sym (append_assoc whole.piece (10 ∷ []) after),
       rw (length-append whole.piece (10 ∷ [])) (omega arith),

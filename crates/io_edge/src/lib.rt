@@ -1,8 +1,9 @@
 //! The edges of a program that reads lines and writes replies.
 //!
 //! A `Source` gives bytes and a `Sink` takes them. Each counts its faults, and a call fails only where
-//! that count rose in it. `Lines` cuts what a source gives into lines, in whatever pieces it comes: of
-//! `reset`, 0D 0A, `00A404` it gives line 1 `reset` and line 2 `00A404`, and then `LineStop::End`.
+//! that count rose in it or stands at the last value of 64 bits. `Lines` cuts what a source gives into
+//! lines, in whatever pieces it comes: of `reset`, 0D 0A, `00A404` it gives line 1 `reset` and line 2
+//! `00A404`, and then `LineStop::End`.
 //!
 //! A line of more than `LINE_LIMIT` bytes is refused, and so is what stands behind the first
 //! `INPUT_LIMIT` bytes of an input. A stop, once given, is given again.
