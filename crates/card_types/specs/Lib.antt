@@ -5,3 +5,5 @@ pub mod Privileges
 pub mod CardLife
 pub mod LifeMark
 pub mod Level
+pub mod Factory
+pub mod Perm

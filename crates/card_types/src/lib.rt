@@ -3,15 +3,19 @@
 
 mod aid;
 mod card_life;
+mod factory;
 mod level;
 mod life;
 mod privileges;
+mod tables;
 
 pub use aid::Aid;
 pub use card_life::CardLife;
+pub use factory::{FACTORY_FILE, FACTORY_KEY, FACTORY_MODULE, FACTORY_VERSION, ISSUER};
 pub use level::Level;
 pub use life::{Life, LifeMark};
 pub use privileges::Privileges;
+pub use tables::{ENTRIES, Entry, FILES, KEYS, KeyRec, LoadFile, OBJECTS, Object, Tables};
 
 #[cfg(test)]
 mod tests;

@@ -1,0 +1,17 @@
+use Rattle.std.proofs.Common.{refl}
+use Rattle.card_types.proofs.tables.Tables.factory.Goals as goal
+
+pub returns : goal.returns
+returns c = record {
+  life = refl;
+  entries = rw (c.in_ok-fill.ensures, c.in_ok-push.ensures.items, c.new-entries.ensures.items, c.issuer.ensures) refl;
+  files = rw (c.in_ok-fill-2.ensures, c.in_ok-push-2.ensures.items, c.new-files.ensures.items, c.file.ensures) refl;
+  first = c.key.result;
+  second = c.key-2.result;
+  third = c.key-3.result;
+  first_key = c.key.ensures;
+  second_key = c.key-2.ensures;
+  third_key = c.key-3.ensures;
+  keys = rw (c.in_ok-fill-3.ensures, c.in_ok-push-5.ensures.items, c.in_ok-push-4.ensures.items, c.in_ok-push-3.ensures.items, c.new-keys.ensures.items) refl;
+  objects = rw (c.in_ok-fill-4.ensures, c.new.ensures.items) refl;
+}

@@ -1,0 +1,109 @@
+//! The card as it leaves the factory.
+
+ghost use Rattle.std.specs.Prelude.{◌≡◌, ◌<◌, ◌≤◌, ◌++◌, None, replicate, vec_len, vec_capacity, IfOk};
+ghost use Rattle.card_types.specs.Factory.{IsFactory, IsFactoryKey, factory_entry, factory_file};
+ghost use Rattle.card_types.specs.declared.factory.TheConstants.{ISSUER};
+
+use crate::aid::Aid;
+use crate::card_life::CardLife;
+use crate::life::{Life, LifeMark};
+use crate::privileges::Privileges;
+use crate::tables::{ENTRIES, Entry, FILES, KEYS, KeyRec, LoadFile, OBJECTS, Tables};
+use arrayvec::ArrayVec;
+use bitflags::Flags;
+use std::alloc::{AllocError, Global};
+
+/// The AID of the issuer domain.
+pub const ISSUER: [u8; 8] = [0xA0, 0x00, 0x00, 0x01, 0x51, 0x00, 0x00, 0x00];
+
+/// The AID of the load file that security domains come from.
+pub const FACTORY_FILE: [u8; 7] = [0xA0, 0x00, 0x00, 0x01, 0x51, 0x53, 0x50];
+
+/// The AID of the module in it.
+pub const FACTORY_MODULE: [u8; 8] = [0xA0, 0x00, 0x00, 0x01, 0x51, 0x53, 0x50, 0x41];
+
+/// The privileges of the issuer domain.
+pub const FACTORY_PRIVILEGES: u32 = 0x9E_FE_80;
+
+/// The version of the issuer domain's first key set.
+pub const FACTORY_VERSION: u8 = 0x30;
+
+/// Each key of that set.
+pub const FACTORY_KEY: [u8; 16] = [
+    0x40, 0x41, 0x42, 0x43, 0x44, 0x45, 0x46, 0x47, 0x48, 0x49, 0x4A, 0x4B, 0x4C, 0x4D, 0x4E, 0x4F,
+];
+
+fn issuer() -> Entry
+    ensures { result ≡ factory_entry }
+{
+    Entry {
+        aid: Aid::new(&ISSUER).unwrap(),
+        domain: 0,
+        file: 0,
+        module: Aid::new(&FACTORY_MODULE).unwrap(),
+        life: LifeMark {
+            life: Life::Personalized,
+            locked: false,
+        },
+        privileges: Privileges::from_bits_retain(FACTORY_PRIVILEGES),
+        receipts: 0,
+    }
+}
+
+fn file() -> LoadFile
+    ensures { result ≡ factory_file }
+{
+    LoadFile {
+        aid: Aid::new(&FACTORY_FILE).unwrap(),
+        domain: 0,
+        len: 0,
+        pages: [0; 128],
+    }
+}
+
+fn key(identifier: u8) -> KeyRec
+    ensures { IsFactoryKey identifier result }
+{
+    let mut bytes = ArrayVec::new();
+    bytes.try_extend_from_slice(&FACTORY_KEY).unwrap();
+    KeyRec {
+        owner: 0,
+        version: FACTORY_VERSION,
+        identifier,
+        bytes,
+        counter: 0,
+    }
+}
+
+// Free slots, behind those that are used.
+fn fill<T: Drop>(mut slots: Vec<Option<T>>, count: usize) -> Result<Vec<Option<T>>, AllocError>
+    ensures { IfOk result (λ v. v.items ≡ slots.items ++ replicate count None) }
+{
+    for index in 0..count {
+        slots.push(None)?;
+    }
+    Ok(slots)
+}
+
+impl Tables {
+    /// The registry of the factory card.
+    pub fn factory(alloc: Global) -> Result<Tables, AllocError>
+        ensures { IfOk result IsFactory }
+    {
+        let mut entries = Vec::new(alloc);
+        entries.push(Some(issuer()))?;
+        let mut files = Vec::new(alloc);
+        files.push(Some(file()))?;
+        let mut keys = Vec::new(alloc);
+        keys.push(Some(key(1)))?;
+        keys.push(Some(key(2)))?;
+        keys.push(Some(key(3)))?;
+        Ok(Tables {
+            life: CardLife::OpReady,
+            entries: fill(entries, ENTRIES - 1)?,
+            files: fill(files, FILES - 1)?,
+            keys: fill(keys, KEYS - 3)?,
+            objects: fill(Vec::new(alloc), OBJECTS)?,
+        })
+    }
+}
