@@ -7,3 +7,5 @@ pub mod LifeMark
 pub mod Level
 pub mod Factory
 pub mod Perm
+pub mod Slots
+pub mod Found
