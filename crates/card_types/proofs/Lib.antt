@@ -1,1 +1,2 @@
 pub mod PrivilegeFacts
+pub mod Next

@@ -9,3 +9,4 @@ pub mod Factory
 pub mod Perm
 pub mod Slots
 pub mod Found
+pub mod Search

@@ -1,10 +1,14 @@
 //! Entries and load files by their AIDs.
 
 ghost use Rattle.std.specs.Prelude.{◌≡◌, ◌≢◌, ◌↔◌, IsTrue, IfSome, IfNone, vec_len, option_copied};
-ghost use Rattle.card_types.specs.Found.{aid_of};
+ghost use Rattle.std.specs.Ordering.{nat_cmp};
+ghost use Rattle.std.specs.Cmp.Lexicographic.{slice_cmp};
+ghost use Rattle.card_types.specs.Found.{IsNext, NoneFollows, aid_of};
+ghost use Rattle.card_types.specs.Search.{IsNearer, bounds, place};
 
 use crate::aid::Aid;
 use crate::tables::{ENTRIES, FILES, Tables};
+use std::cmp::Ordering;
 
 /// A thing of the registry, by its slot.
 #[derive(Clone, Copy, Debug, PartialEq, Eq)]
@@ -64,4 +68,68 @@ pub fn find(tables: &Tables, aid: &Aid) -> Option<Found>
         }
     }
     None
+}
+
+fn is_below(a: &Aid, b: &Aid) -> bool
+    ensures { IsTrue result ↔ (slice_cmp nat_cmp a.now b.now ≡ Ordering.Less) }
+{
+    a.as_bytes().cmp(b.as_bytes()) == Ordering::Less
+}
+
+// Whether `found` is there, with an AID above `after` and below that of the best thing so far.
+fn is_nearer(tables: &Tables, after: Option<&Aid>, best: Option<Found>, found: Found) -> bool
+    ensures { IsTrue result ↔ IsNearer tables.now (option_copied after.entry) best found }
+{
+    let Some(aid) = aid_at(tables, found) else {
+        return false;
+    };
+    if let Some(after) = after {
+        if !is_below(after, aid) {
+            return false;
+        }
+    }
+    match best.and_then(|best| aid_at(tables, best)) {
+        Some(best) => is_below(aid, best),
+        None => true,
+    }
+}
+
+impl Kind {
+    fn bounds(self) -> (u8, u8)
+        ensures { result ≡ bounds self }
+    {
+        match self {
+            Kind::Issuer => (0, 1),
+            Kind::Entries => (1, ENTRIES as u8),
+            Kind::Files => (0, FILES as u8),
+        }
+    }
+
+    fn place(self, slot: u8) -> Found
+        ensures { result ≡ place self slot }
+    {
+        match self {
+            Kind::Issuer | Kind::Entries => Found::Entry(slot),
+            Kind::Files => Found::File(slot),
+        }
+    }
+}
+
+/// The thing of this kind with the least AID above `after`, or with the least of all. AIDs are in
+/// byte order, a prefix first.
+pub fn next_after(tables: &Tables, kind: Kind, after: Option<&Aid>) -> Option<Found>
+    requires entries { vec_len tables.now.entries ≡ ENTRIES }
+    requires files { vec_len tables.now.files ≡ FILES }
+    ensures some { IfSome result (IsNext tables.now kind (option_copied after.entry)) }
+    ensures none { IfNone result (NoneFollows tables.now kind (option_copied after.entry)) }
+{
+    let mut next = None;
+    let (first, end) = kind.bounds();
+    for slot in first..end {
+        let found = kind.place(slot);
+        if is_nearer(tables, after, next, found) {
+            next = Some(found);
+        }
+    }
+    next
 }

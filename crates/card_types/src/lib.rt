@@ -13,7 +13,7 @@ mod tables;
 pub use aid::Aid;
 pub use card_life::CardLife;
 pub use factory::{FACTORY_FILE, FACTORY_KEY, FACTORY_MODULE, FACTORY_VERSION, ISSUER};
-pub use found::{Found, Kind, find};
+pub use found::{Found, Kind, find, next_after};
 pub use level::Level;
 pub use life::{Life, LifeMark};
 pub use privileges::Privileges;
