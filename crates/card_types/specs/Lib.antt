@@ -10,3 +10,4 @@ pub mod Perm
 pub mod Slots
 pub mod Found
 pub mod Search
+pub mod KeySets

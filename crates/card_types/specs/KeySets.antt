@@ -1,0 +1,41 @@
+-- Key sets: the three keys of one version (GlobalPlatform Amendment D, 4.1.1).
+use Rattle.std.specs.Prelude.{◌≡◌, ℕ, ◌≤◌, ◌⊎◌, List, [], ◌∷◌, Option, MatchOption}
+use Rattle.card_types.specs.Slots.{held}
+use Rattle.card_types.specs.declared.tables.KeyRec.{KeyRec}
+
+-- the key of this owner and version with this identifier
+pub record IsKey (owner version identifier : ℕ) (key : KeyRec) : Type 0 where
+  pub same_owner : key.owner ≡ owner
+  pub same_version : key.version ≡ version
+  pub same_identifier : key.identifier ≡ identifier
+
+-- the slot holds that key
+abbrev pub HasKey : List (Option KeyRec) → ℕ → ℕ → ℕ → ℕ → Type 0
+HasKey keys owner version identifier slot = MatchOption (held keys slot) ⊥ (IsKey owner version identifier)
+
+-- the slots hold the three keys of this version
+pub record HasKeys (keys : List (Option KeyRec)) (owner version : ℕ) (slots : List ℕ) : Type 0 where
+  pub first : ℕ
+  pub second : ℕ
+  pub third : ℕ
+  pub are : slots ≡ first ∷ second ∷ third ∷ []
+  pub first_key : HasKey keys owner version 1 first
+  pub second_key : HasKey keys owner version 2 second
+  pub third_key : HasKey keys owner version 3 third
+
+-- a version of a key set that is asked for: the given one, or any where 00 is given
+pub record IsAsked (given version : ℕ) : Type 0 where
+  pub asked : (given ≡ 0) ⊎ (given ≡ version)
+  pub least : 0x01 ≤ version
+  pub most : version ≤ 0x6F
+
+-- the slots hold the key set asked for, with the lowest version
+pub record IsSetOf (keys : List (Option KeyRec)) (owner given : ℕ) (slots : List ℕ) : Type 0 where
+  pub version : ℕ
+  pub asked : IsAsked given version
+  pub whole : HasKeys keys owner version slots
+  pub lowest : (other : ℕ) (others : List ℕ) → IsAsked given other → HasKeys keys owner other others → version ≤ other
+
+-- there is no key set that was asked for
+abbrev pub NoSetOf : List (Option KeyRec) → ℕ → ℕ → Type 0
+NoSetOf keys owner given = (version : ℕ) (slots : List ℕ) → IsAsked given version → HasKeys keys owner version slots → ⊥
