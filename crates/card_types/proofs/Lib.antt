@@ -1,2 +1,3 @@
 pub mod PrivilegeFacts
 pub mod Next
+pub mod FactoryPerm

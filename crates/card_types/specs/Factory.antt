@@ -9,6 +9,7 @@ use Rattle.card_types.specs.declared.tables.LoadFile.{LoadFile}
 use Rattle.card_types.specs.declared.tables.KeyRec.{KeyRec}
 use Rattle.card_types.specs.declared.tables.Tables.{Tables}
 
+-- the issuer domain, and the load file that security domains come from
 abbrev pub factory_entry : Entry
 factory_entry = record {
   aid = ISSUER;
@@ -45,9 +46,11 @@ pub record IsFactory (tables : Tables) : Type 0 where
   pub keys : tables.keys.items ≡ Some first ∷ Some second ∷ Some third ∷ replicate 45 None
   pub objects : tables.objects.items ≡ replicate 16 None
 
+-- a key of the factory's key set, by names
 abbrev pub key_of : ℕ → perm.Key
 key_of identifier = record { owner = ISSUER; version = FACTORY_VERSION; identifier = identifier; bytes = FACTORY_KEY }
 
+-- the factory card, by names
 abbrev pub factory_perm : perm.Perm
 factory_perm = record {
   life = OpReady;

@@ -1,4 +1,4 @@
--- Things by their AIDs. AIDs are in byte order, a prefix first (GlobalPlatform Card Specification 2.3.1, 6.4).
+-- Things by their AIDs, which are in byte order, a prefix first.
 use Rattle.std.specs.Prelude.{◌≡◌, ◌≢◌, ℕ, ◌<◌, List, Option, None, Some}
 use Rattle.std.specs.Option.{option_map}
 use Rattle.std.specs.Ordering.{nat_cmp}
@@ -16,7 +16,8 @@ abbrev pub aid_of : Tables → Found → Option (List ℕ)
 aid_of tables (Entry slot) = option_map (λ entry. entry.aid) (held tables.entries.items slot)
 aid_of tables (File slot) = option_map (λ file. file.aid) (held tables.files.items slot)
 
--- the issuer domain is the entry in slot 0, and the entries are those in all other slots
+-- the kinds of GET STATUS (GlobalPlatform Card Specification 2.3.1, 11.4.2.1): the issuer domain is the entry in slot 0,
+-- and the other entries are in all other slots
 abbrev pub IsOf : Kind → Found → Type 0
 IsOf Issuer (Entry slot) = slot ≡ 0
 IsOf Issuer (File slot) = ⊥

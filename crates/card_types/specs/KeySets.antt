@@ -1,4 +1,5 @@
--- Key sets: the three keys of one version (GlobalPlatform Amendment D, 4.1.1).
+-- Key sets: the three keys of one version. Version 00 asks for any set (GlobalPlatform Card Specification 2.3.1, 11.8;
+-- Amendment D, 7.1.1).
 use Rattle.std.specs.Prelude.{◌≡◌, ℕ, ◌≤◌, ◌⊎◌, List, [], ◌∷◌, Option, MatchOption}
 use Rattle.card_types.specs.Slots.{held}
 use Rattle.card_types.specs.declared.tables.KeyRec.{KeyRec}

@@ -11,3 +11,4 @@ pub mod Slots
 pub mod Found
 pub mod Search
 pub mod KeySets
+pub mod Says

@@ -1,8 +1,8 @@
 //! The card as it leaves the factory.
 
-ghost use Rattle.std.specs.Prelude.{◌≡◌, ◌<◌, ◌≤◌, ◌++◌, None, replicate, vec_len, vec_capacity, IfOk};
-ghost use Rattle.card_types.specs.Factory.{IsFactory, IsFactoryKey, factory_entry, factory_file};
-ghost use Rattle.card_types.specs.declared.factory.TheConstants.{ISSUER};
+ghost use Rattle.std.specs.Prelude.{◌≡◌, ℕ, List, ◌++◌, None, replicate, IfOk};
+ghost use Rattle.card_types.specs.Factory.{IsFactory, IsFactoryKey, factory_entry, factory_file, factory_perm};
+ghost use Rattle.card_types.specs.Says.{Says};
 
 use crate::aid::Aid;
 use crate::card_life::CardLife;
@@ -86,9 +86,10 @@ fn fill<T: Drop>(mut slots: Vec<Option<T>>, count: usize) -> Result<Vec<Option<T
 }
 
 impl Tables {
-    /// The registry of the factory card.
+    /// The registry of the factory card. An error is want of memory.
     pub fn factory(alloc: Global) -> Result<Tables, AllocError>
-        ensures { IfOk result IsFactory }
+        ensures slots { IfOk result IsFactory }
+        ensures names { IfOk result (λ tables. (page : ℕ → List ℕ) → Says page tables factory_perm) }
     {
         let mut entries = Vec::new(alloc);
         entries.push(Some(issuer()))?;

@@ -13,16 +13,23 @@ use std::cmp::Ordering;
 /// A thing of the registry, by its slot.
 #[derive(Clone, Copy, Debug, PartialEq, Eq)]
 pub enum Found {
+    /// An application or a security domain.
     Entry(u8),
+
+    /// A load file.
     File(u8),
 }
 
-/// What GET STATUS lists: the issuer domain, the other entries, or the load files (GlobalPlatform
-/// Card Specification 2.3.1, 11.4.2.1).
+/// What GET STATUS lists (GlobalPlatform Card Specification 2.3.1, 11.4.2.1).
 #[derive(Clone, Copy, Debug, PartialEq, Eq)]
 pub enum Kind {
+    /// The entry in slot 0.
     Issuer,
+
+    /// The entries in all other slots.
     Entries,
+
+    /// The load files.
     Files,
 }
 

@@ -1,33 +1,35 @@
 //! What a card keeps without power, in slots.
 
-ghost use Rattle.std.specs.Prelude.{◌≡◌, None, replicate, IfOk};
-ghost use Rattle.card_types.specs.Factory.{IsFactory};
-
 use crate::aid::Aid;
 use crate::card_life::CardLife;
-use crate::life::{Life, LifeMark};
+use crate::life::LifeMark;
 use crate::privileges::Privileges;
 use arrayvec::ArrayVec;
-use std::alloc::{AllocError, Global};
 
 /// How many entries a card has room for, the issuer domain among them.
 pub const ENTRIES: usize = 32;
 
-/// How many load files, the factory file among them.
+/// How many load files it has room for, the factory file among them.
 pub const FILES: usize = 16;
 
-/// How many keys.
+/// How many keys a card has room for.
 pub const KEYS: usize = 48;
 
 /// How many data objects.
 pub const OBJECTS: usize = 16;
 
-/// An application or a security domain. Its domain and its load file are named by their slots.
+/// An application or a security domain.
 #[derive(Clone, Copy, Debug)]
 pub struct Entry {
     pub aid: Aid,
+
+    /// The slot of its security domain. The issuer domain is its own.
     pub domain: u8,
+
+    /// The slot of the load file that it comes from.
     pub file: u8,
+
+    /// The AID of its module in that file.
     pub module: Aid,
     pub life: LifeMark,
     pub privileges: Privileges,
@@ -36,22 +38,28 @@ pub struct Entry {
     pub receipts: u16,
 }
 
-/// A load file of `len` bytes. As many of the pages count as the bytes need.
+/// A load file of `len` bytes.
 #[derive(Clone, Copy, Debug)]
 pub struct LoadFile {
     pub aid: Aid,
+
+    /// The slot of its security domain.
     pub domain: u8,
     pub len: u16,
+
+    /// The numbers of the pages of 256 bytes that hold it. As many count as `len` bytes need.
     pub pages: [u16; 128],
 }
 
-/// A key of the domain in the slot `owner`. The key with identifier 01 of a set keeps the set's counter.
+/// A key of the domain in the slot `owner`.
 #[derive(Drop)]
 pub struct KeyRec {
     pub owner: u8,
     pub version: u8,
     pub identifier: u8,
     pub bytes: ArrayVec<u8, 32>,
+
+    /// The sequence counter of the key set, where this is its key with identifier 01.
     pub counter: u32,
 }
 
@@ -63,7 +71,9 @@ pub struct Object {
     pub value: ArrayVec<u8, 120>,
 }
 
-/// The registry: the life of the card, and a slot for each thing that it has room for.
+/// The registry: the life of the card, and a slot for each thing that it has room for. There are
+/// `ENTRIES`, `FILES`, `KEYS` and `OBJECTS` slots, in any order, and the issuer domain is in slot 0
+/// of the entries.
 #[derive(Drop)]
 pub struct Tables {
     pub life: CardLife,

@@ -1,8 +1,9 @@
 use Rattle.std.proofs.Common.{refl}
+use Rattle.card_types.proofs.FactoryPerm.{factory_says}
 use Rattle.card_types.proofs.tables.Tables.factory.Goals as goal
 
-pub returns : goal.returns
-returns c = record {
+pub returns-clause-slots : goal.returns-clause-slots
+returns-clause-slots c = record {
   life = refl;
   entries = rw (c.in_ok-fill.ensures, c.in_ok-push.ensures.items, c.new-entries.ensures.items, c.issuer.ensures) refl;
   files = rw (c.in_ok-fill-2.ensures, c.in_ok-push-2.ensures.items, c.new-files.ensures.items, c.file.ensures) refl;
@@ -15,3 +16,6 @@ returns c = record {
   keys = rw (c.in_ok-fill-3.ensures, c.in_ok-push-5.ensures.items, c.in_ok-push-4.ensures.items, c.in_ok-push-3.ensures.items, c.new-keys.ensures.items) refl;
   objects = rw (c.in_ok-fill-4.ensures, c.new.ensures.items) refl;
 }
+
+pub returns-clause-names : goal.returns-clause-names
+returns-clause-names c page = factory_says page _ (returns-clause-slots c)
