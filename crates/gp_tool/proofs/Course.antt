@@ -5,7 +5,8 @@ use Rattle.std.proofs.Math.Seq.{take-append-add}
 use Rattle.std.specs.Str.Lines.{lines}
 use Rattle.io_edge.specs.Lines.{Reading, ahead, room, IsCut}
 use Rattle.io_edge.specs.declared.line.TheConstants.{INPUT_LIMIT, LINE_LIMIT}
-use Rattle.policy_rules.specs.Card.{factory_perm, powered_on}
+use Rattle.card_types.specs.Factory.{factory_perm}
+use Rattle.policy_rules.specs.Card.{powered_on}
 use Rattle.gp_tool.specs.Ends.{Outside, AreShort, Reached, Ends, IsBad, room_for}
 use Rattle.gp_tool.specs.Going.{Going}
 use Rattle.gp_tool.specs.Plays.{bad_line}

@@ -5,7 +5,8 @@ use Rattle.std.specs.Str.Lines.{lines}
 use Rattle.io_edge.specs.Faults.{Rose}
 use Rattle.io_edge.specs.Lines.{NoNewline, IsLine, IsCut, IsNextText}
 use Rattle.io_edge.specs.declared.line.TheConstants.{INPUT_LIMIT, LINE_LIMIT}
-use Rattle.policy_rules.specs.Card.{Card, factory_perm, powered_on}
+use Rattle.card_types.specs.Factory.{factory_perm}
+use Rattle.policy_rules.specs.Card.{Card, powered_on}
 use Rattle.gp_tool.specs.Form.{HasNoForm}
 use Rattle.gp_tool.specs.Plays.{Plays, bad_line}
 use Rattle.gp_tool.specs.declared.ending.Ending.{Ending}

@@ -1,7 +1,8 @@
 -- A run that goes on, between two lines.
 use Rattle.std.specs.Prelude.{◌≡◌, ℕ, ◌+◌, List, ◌++◌, length}
 use Rattle.io_edge.specs.Lines.{Reading, ahead}
-use Rattle.policy_rules.specs.Card.{factory_perm, powered_on}
+use Rattle.card_types.specs.Factory.{factory_perm}
+use Rattle.policy_rules.specs.Card.{powered_on}
 use Rattle.gp_tool.specs.Ends.{Outside, Reached}
 
 -- The lines that were given have their text written, and the reading stands behind them.

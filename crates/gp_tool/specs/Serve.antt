@@ -1,7 +1,8 @@
 -- What comes of one line, on the factory card, which no line of this stage changes.
 use Rattle.std.specs.Prelude.{◌≡◌, ℕ, List, [], ◌∷◌, ◌++◌, take}
 use Rattle.io_edge.specs.Faults.{Rose}
-use Rattle.policy_rules.specs.Card.{factory_perm, powered_on}
+use Rattle.card_types.specs.Factory.{factory_perm}
+use Rattle.policy_rules.specs.Card.{powered_on}
 use Rattle.gp_tool.specs.Form.{HasNoForm}
 use Rattle.gp_tool.specs.Plays.{Plays}
 use Rattle.gp_tool.specs.declared.serve.Served.{Served}

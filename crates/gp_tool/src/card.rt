@@ -3,12 +3,14 @@
 ghost use Rattle.std.specs.Prelude.{◌≡◌, ◌≤◌, ◌+◌, ◌++◌};
 ghost use Rattle.arrayvec.specs.ArrayVec.{array_vec_len};
 ghost use Rattle.apdu_core.specs.Reply.{status_bytes};
-ghost use Rattle.policy_rules.specs.Card.{factory_perm, powered_on};
+ghost use Rattle.card_types.specs.Factory.{factory_perm};
+ghost use Rattle.policy_rules.specs.Card.{powered_on};
 ghost use Rattle.policy_rules.specs.Step.{Step};
 
 use apdu_core::Status;
 use arrayvec::ArrayVec;
-use policy_rules::{ISSUER, Rule, first, write_control_information};
+use card_types::ISSUER;
+use policy_rules::{Rule, first, write_control_information};
 
 fn write_status(status: Status, reply: &mut ArrayVec<u8, 258>)
     requires { array_vec_len reply.old + 2 ≤ 258 }

@@ -1,6 +1,7 @@
 -- What an accepted command does, and its reply.
 use Rattle.std.specs.Prelude.{ℕ, List, [], ◌∷◌, ◌++◌, length}
 use Rattle.apdu_core.specs.Apdu.{Apdu}
+use Rattle.card_types.specs.declared.factory.TheConstants.{ISSUER}
 use Rattle.policy_rules.specs.Card.{Card}
 
 -- the card after a command, and the body and status of the reply
@@ -21,7 +22,7 @@ control_information aid = element 0x6F (element 0x84 aid ++ element 0xA5 (0x9F �
 -- SELECT selects the issuer domain
 abbrev pub effect : Card → Apdu → Effect
 effect card command = record {
-  card = record { perm = card.perm; vol = record { selected = card.perm.issuer } };
-  body = control_information card.perm.issuer;
+  card = record { perm = card.perm; vol = record { selected = ISSUER } };
+  body = control_information ISSUER;
   status = 0x9000;
 }

@@ -1,6 +1,7 @@
 -- The rules of the policy: for each its name, its status word, and where it fails.
 use Rattle.std.specs.Prelude.{◌≡◌, ◌⊎◌, ℕ, List, [], ◌∷◌, Option, None, Some, codes}
 use Rattle.apdu_core.specs.Apdu.{Apdu, Short, header}
+use Rattle.card_types.specs.declared.factory.TheConstants.{ISSUER}
 use Rattle.policy_rules.specs.Card.{Card}
 use Rattle.policy_rules.specs.declared.rule.Rule.{Rule}
 use Rattle.policy_rules.specs.declared.rule.Rule.TheVariants.{G, N, SE}
@@ -33,7 +34,7 @@ Fails card command (G G1) = ⊥
 -- no other form of command is built yet
 Fails card command (N N1) = header command ≡ select_header → ⊥
 -- the body is not the AID of the issuer domain
-Fails card command (SE SE1) = command.body ≡ card.perm.issuer → ⊥
+Fails card command (SE SE1) = command.body ≡ ISSUER → ⊥
 
 -- the rules of a command, in the order in which they are judged
 abbrev pub rules_of : Apdu → List Rule

@@ -8,12 +8,10 @@
 //! any other name, a front of the AID among them (SE1). The order of the rules decides.
 #![tactic(auto)]
 
-mod factory;
 mod rule;
 mod select;
 #[cfg(test)]
 mod tests;
 
-pub use factory::ISSUER;
 pub use rule::{Rule, RuleG, RuleN, RuleSE};
 pub use select::{first, write_control_information};

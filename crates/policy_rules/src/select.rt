@@ -3,14 +3,15 @@
 ghost use Rattle.std.specs.Prelude.{◌≡◌, ◌≤◌, ◌++◌, ◌+◌, length};
 ghost use Rattle.apdu_core.specs.Apdu.{apdu_of};
 ghost use Rattle.arrayvec.specs.ArrayVec.{array_vec_len};
-ghost use Rattle.policy_rules.specs.Card.{factory_perm, powered_on};
+ghost use Rattle.card_types.specs.Factory.{factory_perm};
+ghost use Rattle.policy_rules.specs.Card.{powered_on};
 ghost use Rattle.policy_rules.specs.Effect.{control_information};
 ghost use Rattle.policy_rules.specs.Rules.{First, Judges};
 
-use crate::factory::ISSUER;
 use crate::rule::{Rule, RuleG, RuleN, RuleSE};
 use apdu_core::Command;
 use arrayvec::ArrayVec;
+use card_types::ISSUER;
 
 // The first rule that fails for a command, on the factory card.
 fn judge(command: &Command<'_>) -> Option<Rule>

@@ -1,6 +1,7 @@
-use crate::{ISSUER, Rule, RuleG, RuleN, RuleSE, first, write_control_information};
+use crate::{Rule, RuleG, RuleN, RuleSE, first, write_control_information};
 use apdu_core::Status;
 use arrayvec::ArrayVec;
+use card_types::ISSUER;
 
 #[test]
 fn each_rule_has_its_name_and_status(rt: HostRuntime) {

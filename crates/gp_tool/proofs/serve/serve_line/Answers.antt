@@ -1,6 +1,7 @@
 use Rattle.std.proofs.Common.{[], sym}
 use Rattle.std.proofs.lemmas.List.{append-nil}
-use Rattle.policy_rules.specs.Card.{factory_perm, powered_on}
+use Rattle.card_types.specs.Factory.{factory_perm}
+use Rattle.policy_rules.specs.Card.{powered_on}
 use Rattle.policy_rules.specs.Step.{Outcome}
 use Rattle.gp_tool.specs.Plays.{reply_line}
 use Rattle.gp_tool.proofs.One.{plays_nothing, plays_reset, plays_command}
