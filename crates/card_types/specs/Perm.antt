@@ -1,5 +1,5 @@
 -- What a card keeps without power, by names: each list is in ascending order of its names, AIDs by their bytes, a
--- prefix first (GlobalPlatform Card Specification 2.3.1, 6.4).
+-- prefix first (GlobalPlatform Card Specification 2.3.1, 6.5).
 use Rattle.std.specs.Prelude.{ℕ, List}
 use Rattle.card_types.specs.declared.card_life.CardLife.{CardLife}
 use Rattle.card_types.specs.declared.life.LifeMark.{LifeMark}
