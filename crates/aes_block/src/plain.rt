@@ -91,13 +91,13 @@ fn shift_rows(state: &[u8; 16]) -> [u8; 16]
     out
 }
 
-// A row of the matrix of MixColumns, by its coefficients, times a column.
-fn row_times(row: [u8; 4], column: [u8; 4]) -> u8
-    ensures { result ≡ row_times (slice_index row 0) (slice_index row 1) (slice_index row 2) (slice_index row 3)
+// A row of the matrix of MixColumns, by its factors, times a column.
+fn row_times(factors: [u8; 4], column: [u8; 4]) -> u8
+    ensures { result ≡ row_times (slice_index factors 0) (slice_index factors 1) (slice_index factors 2) (slice_index factors 3)
         (slice_index column 0) (slice_index column 1) (slice_index column 2) (slice_index column 3) }
 {
-    (times(row[0], column[0]) ^ times(row[1], column[1]))
-        ^ (times(row[2], column[2]) ^ times(row[3], column[3]))
+    (times(factors[0], column[0]) ^ times(factors[1], column[1]))
+        ^ (times(factors[2], column[2]) ^ times(factors[3], column[3]))
 }
 
 fn mix_column(column: [u8; 4]) -> [u8; 4]
