@@ -60,10 +60,7 @@ pub fn read_form(line: &[u8], bytes: &mut [u8; COMMAND_LIMIT]) -> Option<Form>
     ensures spelled { MatchOption result (HasNoForm line.now) (λ form. Spells line.now (inputs_of form bytes.new)) }
     ensures fits { IfSome result Fits }
 {
-    if is_blank(line) {
-        return Some(Form::Nothing);
-    }
-    if is_comment(line) {
+    if is_blank(line) || is_comment(line) {
         return Some(Form::Nothing);
     }
     if is_reset(line) {
