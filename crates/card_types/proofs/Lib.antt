@@ -1,3 +1,4 @@
-pub mod PrivilegeFacts
-pub mod Next
 pub mod FactoryPerm
+pub mod Next
+pub mod NotAbove
+pub mod PrivilegeFacts

@@ -1,13 +1,11 @@
 -- The next thing, slot by slot.
-use Rattle.std.proofs.Common.{◌≡◌, ◌≢◌, ◌⊎◌, ℕ, ◌+◌, ◌<◌, ◌≤◌, List, Option, None, Some, refl, sym, ap, subst, ◌∙◌, inl, inr, arith, length}
+use Rattle.std.proofs.Common.{◌≡◌, ◌⊎◌, ℕ, ◌+◌, ◌<◌, ◌≤◌, List, Option, None, Some, refl, sym, ap, subst, ◌∙◌, inl, inr, arith, length}
 use Rattle.std.specs.Prelude.{IfSome, IfNone, MatchOption}
 use Rattle.std.specs.Option.{option_map}
 use Rattle.std.proofs.Math.Nat.{eq-or-lt_of_le}
 use Rattle.std.proofs.lemmas.List.{get_or_past}
-use Rattle.std.specs.Ordering.{nat_cmp, ordering_reverse}
-use Rattle.std.specs.Cmp.Lexicographic.{slice_cmp, nat_list_cmp_total}
-use Rattle.std.specs.declared.cmp.Ordering.{Ordering}
-use Rattle.std.specs.declared.cmp.Ordering.TheVariants.{Less, Equal, Greater}
+use Rattle.card_types.specs.AidOrder.{NotAbove}
+use Rattle.card_types.proofs.NotAbove.{not_above_self, not_above_third, not_below}
 use Rattle.card_types.specs.Found.{Follows, IsAbove, IsNext, IsOf, NoneFollows, aid_of}
 use Rattle.card_types.specs.Search.{IsBelow, IsNearer, best_aid, bounds, place}
 use Rattle.card_types.specs.Slots.{held}
@@ -21,30 +19,6 @@ use Rattle.card_types.specs.declared.tables.TheConstants.{ENTRIES, FILES}
 abbrev pub slot_of : Found → ℕ
 slot_of (Entry slot) = slot
 slot_of (File slot) = slot
-
--- a is not above b
-abbrev pub NotAbove : List ℕ → List ℕ → Type 0
-NotAbove a b = slice_cmp nat_cmp a b ≢ Greater
-
-not_above_self : (a : List ℕ) → NotAbove a a
-not_above_self a above =
-    let turned = nat_list_cmp_total.antisymm a a in
-    let clash = rw above at turned in cc
-
--- below what is not above a third, so not above that
-not_above_third : (a b c : List ℕ) → slice_cmp nat_cmp a b ≡ Less → NotAbove b c → NotAbove a c
-not_above_third a b c below not_above above = by (slice_cmp nat_cmp b c) refl
-  where
-    by : (r : Ordering) → slice_cmp nat_cmp b c ≡ r → ⊥
-    by Less is = (let chained = nat_list_cmp_total.trans a b c below is in cc)
-    by Equal is =
-        (let same = nat_list_cmp_total.congr b c a is in
-        let up = nat_list_cmp_total.antisymm b a ∙ ap ordering_reverse below in
-        let back = nat_list_cmp_total.antisymm a c ∙ ap ordering_reverse (sym same ∙ up) in cc)
-    by Greater is = not_above is
-
-not_below : (a b : List ℕ) → (slice_cmp nat_cmp a b ≡ Less → ⊥) → NotAbove b a
-not_below a b least above = least (nat_list_cmp_total.antisymm a b ∙ ap ordering_reverse above)
 
 place_of : (kind : Kind) (found : Found) → IsOf kind found → found ≡ place kind (slot_of found)
 place_of Issuer (Entry slot) of = refl

@@ -50,19 +50,23 @@ pub record IsFactory (tables : Tables) : Type 0 where
 abbrev pub key_of : ℕ → perm.Key
 key_of identifier = record { owner = ISSUER; version = FACTORY_VERSION; identifier = identifier; bytes = FACTORY_KEY }
 
+-- the issuer domain, by names
+abbrev pub issuer_of_factory : perm.Entry
+issuer_of_factory = record {
+  aid = ISSUER;
+  domain = ISSUER;
+  file = FACTORY_FILE;
+  module_ = FACTORY_MODULE;
+  life = record { life = Personalized; locked = false };
+  privileges = record { 0 = FACTORY_PRIVILEGES };
+  receipts = 0;
+}
+
 -- the factory card, by names
 abbrev pub factory_perm : perm.Perm
 factory_perm = record {
   life = OpReady;
-  entries = record {
-    aid = ISSUER;
-    domain = ISSUER;
-    file = FACTORY_FILE;
-    module_ = FACTORY_MODULE;
-    life = record { life = Personalized; locked = false };
-    privileges = record { 0 = FACTORY_PRIVILEGES };
-    receipts = 0;
-  } ∷ [];
+  entries = issuer_of_factory ∷ [];
   files = record { aid = FACTORY_FILE; domain = ISSUER; bytes = [] } ∷ [];
   keys = key_of 1 ∷ key_of 2 ∷ key_of 3 ∷ [];
   counters = record { owner = ISSUER; version = FACTORY_VERSION; number = 0 } ∷ [];

@@ -1,5 +1,6 @@
 pub mod Aid
 pub mod AidFields
+pub mod AidOrder
 pub mod AidFacts
 pub mod Privileges
 pub mod CardLife

@@ -1,9 +1,11 @@
 //! Application identifiers (ISO/IEC 7816-4, 8.2.1.2).
-ghost use Rattle.std.specs.Prelude.{◌≡◌, IfSome, IfNone, OnSome, nat_eq};
+ghost use Rattle.std.specs.Prelude.{◌≡◌, ◌↔◌, IsTrue, IfSome, IfNone, OnSome, nat_eq};
+ghost use Rattle.std.specs.Ordering.{nat_cmp};
 ghost use Rattle.std.specs.Cmp;
-ghost use Rattle.std.specs.Cmp.Lexicographic.{pointwise, nat_list_eq_equiv};
+ghost use Rattle.std.specs.Cmp.Lexicographic.{pointwise, nat_list_eq_equiv, slice_cmp};
 ghost use Rattle.card_types.specs.Aid.{IsAid};
 
+use std::cmp::Ordering;
 use std::marker::Model;
 
 /// The identifier of an application, a module or a load file: 5 to 16 bytes. The bytes past its
@@ -57,6 +59,13 @@ impl Aid {
         ensures length { IsAid self.now }
     {
         &self.padded[..usize::from(self.len)]
+    }
+
+    /// Whether it comes before the other: by their bytes, a prefix before what it begins.
+    pub fn is_below(&self, other: &Aid) -> bool
+        ensures { IsTrue result ↔ (slice_cmp nat_cmp self.now other.now ≡ Ordering.Less) }
+    {
+        self.as_bytes().cmp(other.as_bytes()) == Ordering::Less
     }
 }
 

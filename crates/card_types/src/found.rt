@@ -1,14 +1,11 @@
 //! Entries and load files by their AIDs.
 
 ghost use Rattle.std.specs.Prelude.{◌≡◌, ◌≢◌, ◌↔◌, IsTrue, IfSome, IfNone, vec_len, option_copied};
-ghost use Rattle.std.specs.Ordering.{nat_cmp};
-ghost use Rattle.std.specs.Cmp.Lexicographic.{slice_cmp};
 ghost use Rattle.card_types.specs.Found.{IsNext, NoneFollows, aid_of};
 ghost use Rattle.card_types.specs.Search.{IsNearer, bounds, place};
 
 use crate::aid::Aid;
 use crate::tables::{ENTRIES, FILES, Tables};
-use std::cmp::Ordering;
 
 /// A thing of the registry, by its slot.
 #[derive(Clone, Copy, Debug, PartialEq, Eq)]
@@ -77,12 +74,6 @@ pub fn find(tables: &Tables, aid: &Aid) -> Option<Found>
     None
 }
 
-fn is_below(a: &Aid, b: &Aid) -> bool
-    ensures { IsTrue result ↔ (slice_cmp nat_cmp a.now b.now ≡ Ordering.Less) }
-{
-    a.as_bytes().cmp(b.as_bytes()) == Ordering::Less
-}
-
 // Whether `found` is there, with an AID above `after` and below that of the best thing so far.
 fn is_nearer(tables: &Tables, after: Option<&Aid>, best: Option<Found>, found: Found) -> bool
     ensures { IsTrue result ↔ IsNearer tables.now (option_copied after.entry) best found }
@@ -91,12 +82,12 @@ fn is_nearer(tables: &Tables, after: Option<&Aid>, best: Option<Found>, found: F
         return false;
     };
     if let Some(after) = after {
-        if !is_below(after, aid) {
+        if !after.is_below(aid) {
             return false;
         }
     }
     match best.and_then(|best| aid_at(tables, best)) {
-        Some(best) => is_below(aid, best),
+        Some(best) => aid.is_below(best),
         None => true,
     }
 }
