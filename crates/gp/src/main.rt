@@ -1,8 +1,8 @@
 //! `gp`, over standard input and standard output.
 //!
 //! `gp run` reads lines such as `00A4040008A000000151000000` and writes a reply for each command. The status is
-//! that of `gp_tool::gp`; a word that is no UTF-8 gives 1, and want of memory for the words 7, with nothing
-//! written.
+//! that of `gp_tool::gp`, which is 7 where there is no memory for the card; a word that is no UTF-8 gives 1, and
+//! want of memory for the words 7 too, with nothing written.
 #![tactic(auto)]
 
 use gp_tool::gp;

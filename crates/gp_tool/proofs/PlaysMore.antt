@@ -1,8 +1,8 @@
 -- Lines after lines.
 use Rattle.std.proofs.Common.{ℕ, List, [], ◌∷◌, ◌++◌, refl, sym, ap, ◌∙◌, append_assoc}
 use Rattle.std.proofs.lemmas.Grind.{flat_map-append}
-use Rattle.policy_rules.specs.Card.{Card, powered_on}
 use Rattle.policy_rules.specs.Run.{Input, Run, Command, Reset}
+use Rattle.policy_rules.specs.State.{State, powered_on}
 use Rattle.policy_rules.specs.Step.{Outcome}
 use Rattle.gp_tool.specs.Form.{AreSpelled}
 use Rattle.gp_tool.specs.Plays.{Plays, text_of, reply_line}
@@ -17,22 +17,23 @@ spelled_more (x ∷ xs) ys a b some more = (
   ap (λ inputs. inputs ++ b) some.4 ∙ append_assoc some.0 some.1 b,
 )
 
-run_more : (a b : List Input) (card mid last : Card) (xs ys : List Outcome) → Run card a xs mid → Run mid b ys last → Run card (a ++ b) (xs ++ ys) last
-run_more [] b card mid last xs ys done more = rw (done.0, ← done.1) more
-run_more (Command bytes ∷ a) b card mid last [] ys done more = absurd done
-run_more (Command bytes ∷ a) b card mid last (x ∷ xs) ys done more = (done.0, run_more a b x.card mid last xs ys done.1 more)
-run_more (Reset ∷ a) b card mid last xs ys done more = run_more a b (powered_on card.perm) mid last xs ys done more
+run_more : (a b : List Input) (state mid last : State) (xs ys : List Outcome)
+    → Run state a xs mid → Run mid b ys last → Run state (a ++ b) (xs ++ ys) last
+run_more [] b state mid last xs ys done more = rw (done.0, ← done.1) more
+run_more (Command bytes ∷ a) b state mid last [] ys done more = absurd done
+run_more (Command bytes ∷ a) b state mid last (x ∷ xs) ys done more = (done.0, run_more a b x.state mid last xs ys done.1 more)
+run_more (Reset ∷ a) b state mid last xs ys done more = run_more a b (powered_on state.perm) mid last xs ys done more
 
-pub plays_more : (xs ys : List (List ℕ)) (text more : List ℕ) (card mid last : Card)
-    → Plays card xs text mid → Plays mid ys more last → Plays card (xs ++ ys) (text ++ more) last
-plays_more xs ys text more card mid last first second = record {
+pub plays_more : (xs ys : List (List ℕ)) (text more : List ℕ) (state mid last : State)
+    → Plays state xs text mid → Plays mid ys more last → Plays state (xs ++ ys) (text ++ more) last
+plays_more xs ys text more state mid last first second = record {
   inputs = first.inputs ++ second.inputs;
   outcomes = first.outcomes ++ second.outcomes;
   spelled = spelled_more xs ys first.inputs second.inputs first.spelled second.spelled;
-  run = run_more first.inputs second.inputs card mid last first.outcomes second.outcomes first.run second.run;
+  run = run_more first.inputs second.inputs state mid last first.outcomes second.outcomes first.run second.run;
   written = ap (λ t. t ++ more) first.written ∙ ap (λ t. text_of first.outcomes ++ t) second.written
       ∙ sym (flat_map-append reply_line first.outcomes second.outcomes);
 }
 
-pub plays_none : (card : Card) → Plays card [] [] card
-plays_none card = record { inputs = []; outcomes = []; spelled = refl; run = (refl, refl); written = refl }
+pub plays_none : (state : State) → Plays state [] [] state
+plays_none state = record { inputs = []; outcomes = []; spelled = refl; run = (refl, refl); written = refl }

@@ -1,30 +1,32 @@
 -- How a turn ends.
-use Rattle.std.proofs.Common.{◌+◌, ◌≤◌, List, ℕ, length, inl, inr}
+use Rattle.std.proofs.Common.{◌+◌, ◌≤◌, List, [], ◌∷◌, ℕ, length, inl, inr}
 use Rattle.io_edge.proofs.Cuts.{line_suffix}
 use Rattle.io_edge.specs.Lines.{Reading, GivesLine, ahead, room}
 use Rattle.io_edge.specs.declared.line.Line.{Line}
 use Rattle.io_edge.specs.declared.line.TheConstants.{LINE_LIMIT}
+use Rattle.card_core.specs.Kept.{Kept}
+use Rattle.policy_rules.specs.State.{State}
 use Rattle.gp_tool.specs.Form.{HasNoForm}
-use Rattle.gp_tool.specs.Serve.{PlaysAlone}
+use Rattle.gp_tool.specs.Plays.{Plays}
 use Rattle.gp_tool.specs.Ends.{Outside, IsBad}
 use Rattle.gp_tool.specs.Turn.{EndsWith, NextLine, Refuses}
 use Rattle.gp_tool.specs.declared.ending.Ending.{Ending}
 use Rattle.gp_tool.specs.declared.ending.Ending.TheVariants.{Finished, BadLine, ReadFault, WriteFault, InputTooLong}
 
 -- a run ends with a bad line as its number was written
-pub refusal_ends : (old : Reading) (before now : Outside) (ending : Ending) → IsBad (room old) (ahead old before.left)
-    → Refuses (old.number + 1) before.written now.written ending → EndsWith old before now ending
-refusal_ends old before now BadLine bad refuses = (bad, refuses)
-refusal_ends old before now WriteFault bad refuses = inr (bad, refuses)
-refusal_ends old before now Finished bad refuses = absurd refuses
-refusal_ends old before now ReadFault bad refuses = absurd refuses
-refusal_ends old before now InputTooLong bad refuses = absurd refuses
+pub refusal_ends : (card : Kept) (old : Reading) (before now : Outside) (ending : Ending)
+    → IsBad (room old) (ahead old before.left) → Refuses (old.number + 1) before.written now.written ending → EndsWith card old before now ending
+refusal_ends card old before now BadLine bad refuses = (bad, refuses)
+refusal_ends card old before now WriteFault bad refuses = inr (bad, refuses)
+refusal_ends card old before now Finished bad refuses = absurd refuses
+refusal_ends card old before now ReadFault bad refuses = absurd refuses
+refusal_ends card old before now InputTooLong bad refuses = absurd refuses
 
 -- the line that was given is the next one ahead
-pub given_line : (tells : Type 0) (old new : Reading) (left left' : List ℕ) (line : Line) (text : List ℕ)
-    → GivesLine tells old new left left' line → tells → length line.text.now ≤ LINE_LIMIT → PlaysAlone line.text.now text
-    → NextLine (room old) (ahead old left) (ahead new left') text
-given_line tells old new left left' line text gives told fits plays =
+pub given_line : (tells : Type 0) (old new : Reading) (left left' : List ℕ) (line : Line) (text : List ℕ) (state last : State)
+    → GivesLine tells old new left left' line → tells → length line.text.now ≤ LINE_LIMIT
+    → Plays state (line.text.now ∷ []) text last → NextLine state last (room old) (ahead old left) (ahead new left') text
+given_line tells old new left left' line text state last gives told fits plays =
     let suffix = line_suffix (room old) (ahead old left) line.text.now (ahead new left') (gives.line told) in
     record { line = line.text.now; front = suffix.0; split = suffix.1; within = suffix.2; lines = gives.lines told; fits = fits; plays = plays }
 

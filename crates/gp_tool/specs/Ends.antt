@@ -6,7 +6,7 @@ use Rattle.io_edge.specs.Faults.{Rose}
 use Rattle.io_edge.specs.Lines.{NoNewline, IsLine, IsCut, IsNextText}
 use Rattle.io_edge.specs.declared.line.TheConstants.{INPUT_LIMIT, LINE_LIMIT}
 use Rattle.card_types.specs.Factory.{factory_perm}
-use Rattle.policy_rules.specs.Card.{Card, powered_on}
+use Rattle.policy_rules.specs.State.{State, powered_on}
 use Rattle.gp_tool.specs.Form.{HasNoForm}
 use Rattle.gp_tool.specs.Plays.{Plays, bad_line}
 use Rattle.gp_tool.specs.declared.ending.Ending.{Ending}
@@ -22,14 +22,14 @@ abbrev pub AreShort : List (List ℕ) → Type 0
 AreShort lines = AllByRecursion (λ line. length line ≤ LINE_LIMIT) lines
 
 -- How far a run has come in an input: the bytes passed, the lines that were given, their text, the bytes ahead, and
--- the card.
-pub record Reached (input : List ℕ) (given : List (List ℕ)) (text ahead : List ℕ) (card : Card) : Type 0 where
+-- the state of the card.
+pub record Reached (input : List ℕ) (given : List (List ℕ)) (text ahead : List ℕ) (state : State) : Type 0 where
   pub passed : List ℕ
   pub split : input ≡ passed ++ ahead
   pub within : length passed ≤ INPUT_LIMIT
   pub lines : lines input ≡ given ++ lines ahead
   pub fits : AreShort given
-  pub plays : Plays (powered_on factory_perm) given text card
+  pub plays : Plays (powered_on factory_perm) given text state
 
 -- how many bytes may be taken of what stands ahead
 abbrev pub room_for : List ℕ → List ℕ → ℕ
@@ -43,8 +43,8 @@ IsBad room ahead =
 -- The input was read to its end, each line has a form and is not too long, and the text of all lines was written.
 pub record IsFinished (old new : Outside) : Type 0 where
   pub text : List ℕ
-  pub card : Card
-  pub plays : Plays (powered_on factory_perm) (lines old.left) text card
+  pub state : State
+  pub plays : Plays (powered_on factory_perm) (lines old.left) text state
   pub fits : AreShort (lines old.left)
   pub short : length old.left < INPUT_LIMIT
   pub read : new.left ≡ []
@@ -55,8 +55,8 @@ pub record IsAtBadLine (old new : Outside) : Type 0 where
   pub given : List (List ℕ)
   pub text : List ℕ
   pub ahead : List ℕ
-  pub card : Card
-  pub reached : Reached old.left given text ahead card
+  pub state : State
+  pub reached : Reached old.left given text ahead state
   pub bad : IsBad (room_for old.left ahead) ahead
   pub written : new.written ≡ old.written ++ (text ++ bad_line (length given + 1))
 
@@ -65,8 +65,8 @@ pub record IsAtReadFault (old new : Outside) : Type 0 where
   pub given : List (List ℕ)
   pub text : List ℕ
   pub held : List ℕ
-  pub card : Card
-  pub reached : Reached old.left given text (held ++ new.left) card
+  pub state : State
+  pub reached : Reached old.left given text (held ++ new.left) state
   pub no_line : NoNewline held
   pub within : length held ≤ room_for old.left (held ++ new.left)
   pub written : new.written ≡ old.written ++ text
@@ -77,8 +77,8 @@ pub record IsAtLimit (old new : Outside) : Type 0 where
   pub text : List ℕ
   pub ahead : List ℕ
   pub cut : List ℕ
-  pub card : Card
-  pub reached : Reached old.left given text ahead card
+  pub state : State
+  pub reached : Reached old.left given text ahead state
   pub is_cut : IsCut (room_for old.left ahead) ahead cut
   pub short : length cut ≤ LINE_LIMIT
   pub written : new.written ≡ old.written ++ text
@@ -90,8 +90,8 @@ pub record IsAtWriteFault (old new : Outside) : Type 0 where
   pub ahead : List ℕ
   pub whole : List ℕ
   pub count : ℕ
-  pub card : Card
-  pub reached : Reached old.left given text ahead card
+  pub state : State
+  pub reached : Reached old.left given text ahead state
   pub is_whole : (whole ≡ text) ⊎ (IsBad (room_for old.left ahead) ahead × (whole ≡ text ++ bad_line (length given + 1)))
   pub written : new.written ≡ old.written ++ take count whole
 

@@ -2,8 +2,8 @@
 use Rattle.std.specs.Prelude.{◌≡◌, ℕ, List, [], ◌∷◌, ◌++◌, codes, decimal}
 use Rattle.std.specs.List.{flat_map}
 use Rattle.hex.specs.Hex.{encode_lower}
-use Rattle.policy_rules.specs.Card.{Card}
 use Rattle.policy_rules.specs.Run.{Input, Run}
+use Rattle.policy_rules.specs.State.{State}
 use Rattle.policy_rules.specs.Step.{Outcome}
 use Rattle.gp_tool.specs.Form.{AreSpelled}
 
@@ -14,12 +14,12 @@ reply_line outcome = encode_lower outcome.reply ++ 10 ∷ []
 abbrev pub text_of : List Outcome → List ℕ
 text_of outcomes = flat_map reply_line outcomes
 
--- From one card the lines, each of a form, lead to another, and write this text.
-pub record Plays (card : Card) (lines : List (List ℕ)) (text : List ℕ) (last : Card) : Type 0 where
+-- From one state of the card the lines, each of a form, lead to another, and write this text.
+pub record Plays (state : State) (lines : List (List ℕ)) (text : List ℕ) (last : State) : Type 0 where
   pub inputs : List Input
   pub outcomes : List Outcome
   pub spelled : AreSpelled lines inputs
-  pub run : Run card inputs outcomes last
+  pub run : Run state inputs outcomes last
   pub written : text ≡ text_of outcomes
 
 -- what is written of a line that has no form or is too long

@@ -6,11 +6,9 @@ ghost use Rattle.io_edge.specs.Faults.{HasCause};
 ghost use Rattle.gp_tool.specs.Plays.{bad_line};
 
 use arrayvec::ArrayVec;
+use card_core::REPLY_LIMIT;
 use io_edge::{Sink, WriteFailed};
 use itoa::Buffer;
-
-/// How many bytes a reply has, at most.
-pub const REPLY_LIMIT: usize = 258;
 
 /// How many bytes a reply's line has, at most.
 pub const REPLY_LINE_LIMIT: usize = 2 * REPLY_LIMIT + 1;

@@ -1,6 +1,9 @@
 //! A run over the lines of a source.
 
 ghost use Rattle.std.specs.Prelude.{◌≡◌, ◌≢◌, ◌⊎◌, ℕ, None, IfNone, IfSome};
+ghost use Rattle.card_core.specs.Kept.{Stands};
+ghost use Rattle.card_types.specs.Factory.{factory_perm};
+ghost use Rattle.policy_rules.specs.State.{powered_on};
 ghost use Rattle.gp_tool.specs.Ends.{Ends, EndCause};
 ghost use Rattle.gp_tool.specs.Turn.{GoesOn, EndsWith, Refuses};
 
@@ -9,6 +12,7 @@ use crate::form::COMMAND_LIMIT;
 use crate::reply::{REPLY_LINE_LIMIT, write_bad_line};
 use crate::serve::{Served, Workspace, serve_line};
 use arrayvec::ArrayVec;
+use card_core::Card;
 use io_edge::{LineStop, Lines, Sink, Source};
 
 // Writes the number of a line that has no form or is too long.
@@ -26,19 +30,20 @@ fn refuse_line<K: Sink>(number: u32, sink: &mut K) -> Ending
 fn take_turn<S: Source, K: Sink>(
     lines: &mut Lines,
     source: &mut S,
+    card: &mut Card,
     space: &mut Workspace,
     sink: &mut K,
 ) -> Option<Ending>
     requires { lines.old.stop ≡ None }
-    ensures goes_on { IfNone result (GoesOn (S.tells × K.tells) lines.old lines.new
+    ensures goes_on { IfNone result (GoesOn (S.tells × K.tells) card.old card.new lines.old lines.new
         (record { left = S.left source.old; written = K.written sink.old }) (record { left = S.left source.new; written = K.written sink.new })) }
-    ensures ends { S.tells × K.tells → IfSome result (EndsWith lines.old
+    ensures ends { S.tells × K.tells → IfSome result (EndsWith card.old lines.old
         (record { left = S.left source.old; written = K.written sink.old }) (record { left = S.left source.new; written = K.written sink.new })) }
     ensures quiet { IfNone result ((S.faults source.new ≡ S.faults source.old) × (K.faults sink.new ≡ K.faults sink.old)) }
     ensures cause { IfSome result (λ ending. EndCause ending (S.faults source.old) (S.faults source.new) (K.faults sink.old) (K.faults sink.new)) }
 {
     match lines.next_line(source) {
-        Ok(line) => match serve_line(line.text, space, sink) {
+        Ok(line) => match serve_line(line.text, card, space, sink) {
             Served::Done => None,
             Served::NoForm => Some(refuse_line(line.number, sink)),
             Served::WriteFault => Some(Ending::WriteFault),
@@ -51,8 +56,8 @@ fn take_turn<S: Source, K: Sink>(
 }
 
 // Takes lines until the run ends.
-fn take_lines<S: Source, K: Sink>(source: &mut S, sink: &mut K) -> Ending
-    ensures ends { S.tells × K.tells → Ends result
+fn take_lines<S: Source, K: Sink>(card: &mut Card, source: &mut S, sink: &mut K) -> Ending
+    ensures ends { Stands card.old (powered_on factory_perm) → S.tells × K.tells → Ends result
         (record { left = S.left source.old; written = K.written sink.old }) (record { left = S.left source.new; written = K.written sink.new }) }
     ensures cause { EndCause result (S.faults source.old) (S.faults source.new) (K.faults sink.old) (K.faults sink.new) }
 {
@@ -63,7 +68,7 @@ fn take_lines<S: Source, K: Sink>(source: &mut S, sink: &mut K) -> Ending
         text: [0; REPLY_LINE_LIMIT],
     };
     loop {
-        if let Some(ending) = take_turn(&mut lines, source, &mut space, sink) {
+        if let Some(ending) = take_turn(&mut lines, source, card, &mut space, sink) {
             return ending;
         }
     }
@@ -88,12 +93,12 @@ fn flush_at_end<K: Sink>(ending: Ending, sink: &mut K) -> Ending
     }
 }
 
-/// Gives the lines of a source to the factory card, and writes each reply before the next line is taken.
-pub fn run<S: Source, K: Sink>(source: &mut S, sink: &mut K) -> Ending
-    ensures ends { S.tells × K.tells → Ends result
+/// Gives the lines of a source to a card, and writes each reply before the next line is taken.
+pub fn run<S: Source, K: Sink>(card: &mut Card, source: &mut S, sink: &mut K) -> Ending
+    ensures ends { Stands card.old (powered_on factory_perm) → S.tells × K.tells → Ends result
         (record { left = S.left source.old; written = K.written sink.old }) (record { left = S.left source.new; written = K.written sink.new }) }
     ensures cause { EndCause result (S.faults source.old) (S.faults source.new) (K.faults sink.old) (K.faults sink.new) }
 {
-    let ending = take_lines(source, sink);
+    let ending = take_lines(card, source, sink);
     flush_at_end(ending, sink)
 }

@@ -3,10 +3,10 @@
 ghost use Rattle.std.specs.Prelude.{◌≤◌, length};
 ghost use Rattle.gp_tool.specs.Serve.{Serves, ServeCause};
 
-use crate::card::process;
 use crate::form::{COMMAND_LIMIT, Form, read_form};
-use crate::reply::{REPLY_LIMIT, REPLY_LINE_LIMIT, write_reply};
+use crate::reply::{REPLY_LINE_LIMIT, write_reply};
 use arrayvec::ArrayVec;
+use card_core::{Card, REPLY_LIMIT};
 use io_edge::{LINE_LIMIT, Sink};
 
 /// Room for a command, its reply and the reply's line.
@@ -29,17 +29,25 @@ pub enum Served {
 }
 
 /// Gives a line to the card, and writes the reply.
-pub fn serve_line<K: Sink>(line: &[u8], space: &mut Workspace, sink: &mut K) -> Served
+pub fn serve_line<K: Sink>(
+    line: &[u8],
+    card: &mut Card,
+    space: &mut Workspace,
+    sink: &mut K,
+) -> Served
     requires { length line.now ≤ LINE_LIMIT }
-    ensures served { Serves K.tells line.now (K.written sink.old) (K.written sink.new) result }
+    ensures served { Serves K.tells line.now card.old card.new (K.written sink.old) (K.written sink.new) result }
     ensures cause { ServeCause (K.faults sink.old) (K.faults sink.new) result }
 {
     match read_form(line, &mut space.command) {
         None => Served::NoForm,
         Some(Form::Nothing) => Served::Done,
-        Some(Form::Reset) => Served::Done,
+        Some(Form::Reset) => {
+            card.reset();
+            Served::Done
+        }
         Some(Form::Command(count)) => {
-            process(&space.command[..count], &mut space.reply);
+            card.process(&space.command[..count], &mut space.reply);
             match write_reply(&space.reply, &mut space.text, sink) {
                 Ok(()) => Served::Done,
                 Err(_) => Served::WriteFault,

@@ -7,6 +7,9 @@ const SELECT: &[u8] = b"00A4040008A000000151000000\n";
 
 const SELECTED: &[u8] = b"6f108408a000000151000000a5049f6501ff9000\n";
 
+/// The reply to SELECT of the issuer domain.
+const ISSUER: &[u8] = b"6f108408a000000151000000a5049f6501ff9000";
+
 /// How a sink is made: its room, and the numbers of the calls that it refuses.
 #[derive(Clone, Copy)]
 struct SinkPlan<'a> {
@@ -67,32 +70,33 @@ fn refuses_words_that_are_not_run(rt: HostRuntime) -> Result<(), Fail> {
 
 #[test]
 fn answers_each_line(rt: HostRuntime) -> Result<(), Fail> {
-    let cases: [(&[u8], &[u8], u8); 20] = [
+    let cases: [(&[u8], &[u8], u8); 21] = [
         (b"", b"", 0),
         (SELECT, SELECTED, 0),
         (
-            b"00A4040008A000000151000000\n00A404\n00A4040005D200000001\n00700000\n",
+            b"00A4040008A000000151000000\n00A404\n00A4040005D200000001\n00B00000\n",
             b"6f108408a000000151000000a5049f6501ff9000\n6700\n6a82\n6d00\n",
             0,
         ),
         (b"00a4040008A000000151000000", SELECTED, 0),
-        (b"\n   \n# x\n#\nreset\n00700000\r\n\r\n", b"6d00\n", 0),
+        (b"\n   \n# x\n#\nreset\n00B00000\r\n\r\n", b"6d00\n", 0),
         (b"00", b"6700\n", 0),
         (b"0", b"line 1\n", 2),
-        (b"00700000\n0070000\n00700000\n", b"6d00\nline 2\n", 2),
-        (b"00700000\n\nreset \n", b"6d00\nline 3\n", 2),
+        (b"00B00000\n0070000\n00B00000\n", b"6d00\nline 2\n", 2),
+        (b"00B00000\n\nreset \n", b"6d00\nline 3\n", 2),
+        (b"00700000\nxyz\n", b"019000\nline 2\n", 2),
         (b"Reset", b"line 1\n", 2),
-        (b" 00700000\n", b"line 1\n", 2),
-        (b"00700000 \n", b"line 1\n", 2),
+        (b" 00B00000\n", b"line 1\n", 2),
+        (b"00B00000 \n", b"line 1\n", 2),
         (b"00 70 00 00\n", b"line 1\n", 2),
         (b" # x\n", b"line 1\n", 2),
-        (b"xyz\n00700000\n", b"line 1\n", 2),
+        (b"xyz\n00B00000\n", b"line 1\n", 2),
         (b"=\n", b"line 1\n", 2),
         (b"\xFF\n", b"line 1\n", 2),
         (b"\t\n", b"line 1\n", 2),
-        (b"00700000\n00700000\r", b"6d00\nline 2\n", 2),
+        (b"00B00000\n00B00000\r", b"6d00\nline 2\n", 2),
         (
-            b"00700000\n00700000\n00700000\n00700000\n00700000\n00700000\n00700000\n00700000\n00700000\nx",
+            b"00B00000\n00B00000\n00B00000\n00B00000\n00B00000\n00B00000\n00B00000\n00B00000\n00B00000\nx",
             b"6d00\n6d00\n6d00\n6d00\n6d00\n6d00\n6d00\n6d00\n6d00\nline 10\n",
             2,
         ),
@@ -104,6 +108,124 @@ fn answers_each_line(rt: HostRuntime) -> Result<(), Fail> {
             assert_eq!(rt; written.as_slice(), text, "{input:?} by {piece}");
             assert_eq!(rt; got, status, "{input:?} by {piece}");
         }
+    }
+    Ok(())
+}
+
+/// Each list of lines, with its replies, is given to a card just made. The status 0 shows that `gp` doesn't answer want
+/// of memory where there is enough.
+#[test]
+fn one_card_answers_the_commands_of_a_run(rt: HostRuntime) -> Result<(), Fail> {
+    let runs: [&[(&[u8], &[u8])]; 10] = [
+        // Commands that are refused alike each time.
+        &[
+            (b"00A404", b"6700"),
+            (b"00A4040008A0000001510000", b"6700"),
+            (b"00A404000000", b"6700"),
+            (b"10A40400", b"6e00"),
+            (b"01A4040000", b"6881"),
+            (b"00B0000000", b"6d00"),
+            (b"00A4000000", b"6a86"),
+            (b"80F28002024F00", b"6d00"),
+            (b"848201001000000000000000000000000000000000", b"6d00"),
+            (b"00A4040005D200000001", b"6a82"),
+        ],
+        // SELECT by the front of a name.
+        &[
+            (b"00A4040000", ISSUER),
+            (b"00A40400", ISSUER),
+            (b"00A4040005A000000151", ISSUER),
+        ],
+        // Channels are opened and closed.
+        &[
+            (b"00700000", b"019000"),
+            (b"00700000", b"029000"),
+            (b"00700000", b"039000"),
+            (b"00700000", b"6a81"),
+            (b"00708001", b"9000"),
+            (b"00708001", b"6200"),
+            (b"00708000", b"6a86"),
+        ],
+        // GET DATA.
+        &[
+            (
+                b"80CA00E000",
+                b"e012c00401308810c00402308810c004033088109000",
+            ),
+            (b"80CA00C100", b"c1030000009000"),
+            (b"80CA004200", b"6a88"),
+            (b"80CA004201AA", b"6a80"),
+        ],
+        // A closed channel's number is opened again, the lowest first.
+        &[
+            (b"00700000", b"019000"),
+            (b"00700000", b"029000"),
+            (b"00700000", b"039000"),
+            (b"00708003", b"9000"),
+            (b"00708001", b"9000"),
+            (b"00700000", b"019000"),
+            (b"00700000", b"039000"),
+            (b"00700000", b"6a81"),
+        ],
+        // A channel answers only while it is open.
+        &[
+            (b"01A4040000", b"6881"),
+            (b"81CA00C100", b"6881"),
+            (b"01700000", b"6881"),
+            (b"00700000", b"019000"),
+            (b"01A4040000", ISSUER),
+            (b"81CA00C100", b"c1030000009000"),
+            (b"01700000", b"029000"),
+            (b"00708001", b"9000"),
+            (b"01A4040000", b"6881"),
+            (b"81CA00C100", b"6881"),
+        ],
+        // A reset closes the channels but the base one.
+        &[
+            (b"00700000", b"019000"),
+            (b"reset", b""),
+            (b"00700000", b"019000"),
+        ],
+        &[
+            (b"00700000", b"019000"),
+            (b"01A4040000", ISSUER),
+            (b"reset", b""),
+            (b"01A4040000", b"6881"),
+            (b"00708001", b"6200"),
+        ],
+        // Lines that are no command change nothing.
+        &[
+            (b"00700000", b"019000"),
+            (b"", b""),
+            (b"# reset", b""),
+            (b"   ", b""),
+            (b"00700000", b"029000"),
+        ],
+        // A refused command opens no channel.
+        &[
+            (b"00700000", b"019000"),
+            (b"00A404", b"6700"),
+            (b"10700000", b"6e00"),
+            (b"00B00000", b"6d00"),
+            (b"00700001", b"6a86"),
+            (b"00700000", b"029000"),
+        ],
+    ];
+    for (number, run) in runs.iter().enumerate() {
+        let mut input = Vec::new(rt.alloc());
+        let mut text = Vec::new(rt.alloc());
+        for (line, reply) in *run {
+            input.extend_from_slice(line)?;
+            input.push(b'\n')?;
+            if !reply.is_empty() {
+                text.extend_from_slice(reply)?;
+                text.push(b'\n')?;
+            }
+        }
+        let source = MemSource::new(rt.alloc(), &input, 64, &[])?;
+        let (status, written) = answer(rt.alloc(), &["run"], source, AMPLE)?;
+        assert_eq!(rt; written.as_slice(), text.as_slice(), "run {number}");
+        assert_eq!(rt; status, 0, "run {number}");
     }
     Ok(())
 }
@@ -147,7 +269,7 @@ fn stops_at_a_refused_read(rt: HostRuntime) -> Result<(), Fail> {
         (6, &[], b"6d00\n6d00\n", 0),
     ];
     for (call, fails, text, status) in cases {
-        let source = MemSource::new(rt.alloc(), b"00700000\n00700000\n", 4, &[call])?;
+        let source = MemSource::new(rt.alloc(), b"00B00000\n00B00000\n", 4, &[call])?;
         let plan = SinkPlan { room: 10, fails };
         let (got, written) = answer(rt.alloc(), &["run"], source, plan)?;
         assert_eq!(rt; written.as_slice(), text, "{call} {fails:?}");
@@ -170,7 +292,7 @@ fn stops_at_a_refused_write(rt: HostRuntime) -> Result<(), Fail> {
         (4, &[], b"", 6),
     ];
     for (room, fails, text, status) in cases {
-        let source = MemSource::new(rt.alloc(), b"00700000\n00700000\n", 64, &[])?;
+        let source = MemSource::new(rt.alloc(), b"00B00000\n00B00000\n", 64, &[])?;
         let plan = SinkPlan { room, fails };
         let (got, written) = answer(rt.alloc(), &["run"], source, plan)?;
         assert_eq!(rt; written.as_slice(), text, "{room} {fails:?}");

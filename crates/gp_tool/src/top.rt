@@ -10,6 +10,7 @@ ghost use Rattle.gp_tool.specs.Words.{AreRun, usage_line};
 ghost use Rattle.gp_tool.specs.declared.ending.Ending.{Ending};
 
 use crate::run::run;
+use card_core::Card;
 use io_edge::{Sink, Source, WriteFailed};
 use std::alloc::Global;
 
@@ -58,8 +59,9 @@ fn refuse_words<K: Sink>(sink: &mut K) -> u8
 /// Does what the words say, and answers the status of the program.
 ///
 /// 0: the input was read to its end. 1: words of no form. 2: a line of no form or too long. 5: the source
-/// refused a read. 6: the sink refused a write or its flush. 9: the input is too long.
-pub fn gp<S: Source, K: Sink>(_alloc: Global, words: &[String], source: &mut S, sink: &mut K) -> u8
+/// refused a read. 6: the sink refused a write or its flush. 7: want of memory for the card. 9: the input is too
+/// long.
+pub fn gp<S: Source, K: Sink>(alloc: Global, words: &[String], source: &mut S, sink: &mut K) -> u8
     // Words of no form: the usage line is written, and nothing is read.
     ensures usage { (AreRun words.now → ⊥) → ((result ≡ 1) ⊎ (result ≡ 6)) × (source.new ≡ source.old) }
     ensures usage_written { (AreRun words.now → ⊥) → K.tells → result ≡ 1 → K.written sink.new ≡ K.written sink.old ++ usage_line }
@@ -67,19 +69,27 @@ pub fn gp<S: Source, K: Sink>(_alloc: Global, words: &[String], source: &mut S, 
     ensures usage_quiet { (AreRun words.now → ⊥) → result ≡ 1 → K.faults sink.new ≡ K.faults sink.old }
     ensures usage_cause { (AreRun words.now → ⊥) → result ≡ 6 → Rose (K.faults sink.old) (K.faults sink.new) }
 
+    // Want of memory for the card: nothing is read or written.
+    ensures memory { AreRun words.now → result ≡ 7 → (source.new ≡ source.old) × (sink.new ≡ sink.old) }
+
     // `run`: the status is that of an ending, which says what was read and written.
-    ensures run { AreRun words.now → (ending : Ending) × (result ≡ status_of ending)
+    ensures run { AreRun words.now → result ≢ 7 → (ending : Ending) × (result ≡ status_of ending)
         × EndCause ending (S.faults source.old) (S.faults source.new) (K.faults sink.old) (K.faults sink.new)
         × (S.tells × K.tells → Ends ending
         (record { left = S.left source.old; written = K.written sink.old })
         (record { left = S.left source.new; written = K.written sink.new })) }
 
-    // Where each line has a form, the input is short enough and nothing fails, all is done.
+    // Where each line has a form, the input is short enough and nothing fails, all is done. Only want of memory comes
+    // then besides.
     ensures complete { AreRun words.now → S.tells × K.tells → AreGood (lines (S.left source.old)) → length (S.left source.old) < INPUT_LIMIT
-        → (Rose (S.faults source.old) (S.faults source.new) → ⊥) → (Rose (K.faults sink.old) (K.faults sink.new) → ⊥) → result ≡ 0 }
+        → (Rose (S.faults source.old) (S.faults source.new) → ⊥) → (Rose (K.faults sink.old) (K.faults sink.new) → ⊥)
+        → (result ≡ 0) ⊎ (result ≡ 7) }
 {
     if are_run(words) {
-        run(source, sink).status()
+        match Card::factory(alloc) {
+            Ok(mut card) => run(&mut card, source, sink).status(),
+            Err(_) => 7,
+        }
     } else {
         refuse_words(sink)
     }

@@ -1,17 +1,28 @@
 //! The policy of a card: which rule refuses a command, and what an accepted one does.
-//!
-//! `first` judges a line of bytes on the card as it leaves the factory: `00 A4 04 00 05 D2 00 00 00 01` is
-//! SELECT of a name that the card does not have, so SE1 fails, and its status word is 6A82. SELECT of the
-//! issuer domain by its whole AID is refused by no rule.
-//!
-//! Refused are bytes that are no short command (G1), each command but SELECT by name (N1), and SELECT of
-//! any other name, a front of the AID among them (SE1). The order of the rules decides.
 #![tactic(auto)]
 
+mod action;
+mod class;
+mod datum;
+mod instruction;
+mod key_order;
+mod laws;
+mod live;
+mod order;
+mod request;
 mod rule;
 mod select;
 #[cfg(test)]
 mod tests;
 
-pub use rule::{Rule, RuleG, RuleN, RuleSE};
-pub use select::{first, write_control_information};
+pub use action::Action;
+pub use class::{Class, channel_of};
+pub use datum::{Datum, datum_on, object_at};
+pub use instruction::{GET_DATA, MANAGE_CHANNEL, SELECT};
+pub use key_order::{Name, key_at, name, next_key};
+pub use laws::steps_keep;
+pub use live::{CHANNELS, ISSUER_SLOT, Live};
+pub use order::{decide, judge, judge_class};
+pub use request::{Request, parse};
+pub use rule::{Rule, RuleG, RuleGD, RuleMC, RulePS, RuleSE};
+pub use select::{entry_at, fitting};

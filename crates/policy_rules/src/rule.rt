@@ -8,33 +8,56 @@ use apdu_core::Status;
 /// A rule of the policy, by its group.
 #[derive(Clone, Copy, Debug, PartialEq, Eq)]
 pub enum Rule {
-    /// Judged of each command.
     G(RuleG),
-    /// What is not built yet.
-    N(RuleN),
-    /// SELECT.
+    PS(RulePS),
     SE(RuleSE),
+    MC(RuleMC),
+    GD(RuleGD),
 }
 
 /// The rules for each command.
 #[derive(Clone, Copy, Debug, PartialEq, Eq)]
 pub enum RuleG {
-    /// The bytes are no short command: 6700.
+    /// The bytes are no short command.
     G1,
+    /// The class byte is none that the card takes.
+    G2,
+    /// The channel is closed.
+    G3,
+    /// The class has no such instruction, or the selected application does not take it.
+    G4,
+    /// The card is terminated.
+    G5,
 }
 
-/// The rules for what is not built yet.
+/// The rules on the form of a command.
 #[derive(Clone, Copy, Debug, PartialEq, Eq)]
-pub enum RuleN {
-    /// Class, instruction, P1 and P2 are not 00 A4 04 00: 6D00.
-    N1,
+pub enum RulePS {
+    /// P1 and P2 are none that the instruction takes.
+    P,
+    /// The data field is none that the instruction takes.
+    S,
 }
 
 /// The rules of SELECT.
 #[derive(Clone, Copy, Debug, PartialEq, Eq)]
 pub enum RuleSE {
-    /// The body is not the AID of the issuer domain: 6A82.
+    /// No entry fits.
     SE1,
+}
+
+/// The rules of MANAGE CHANNEL.
+#[derive(Clone, Copy, Debug, PartialEq, Eq)]
+pub enum RuleMC {
+    /// No channel is closed.
+    MC1,
+}
+
+/// The rules of GET DATA.
+#[derive(Clone, Copy, Debug, PartialEq, Eq)]
+pub enum RuleGD {
+    /// There is no such data.
+    GD1,
 }
 
 impl Rule {
@@ -44,19 +67,33 @@ impl Rule {
     {
         Status(match self {
             Rule::G(RuleG::G1) => 0x6700,
-            Rule::N(RuleN::N1) => 0x6D00,
+            Rule::G(RuleG::G2) => 0x6E00,
+            Rule::G(RuleG::G3) => 0x6881,
+            Rule::G(RuleG::G4) => 0x6D00,
+            Rule::G(RuleG::G5) => 0x6985,
+            Rule::PS(RulePS::P) => 0x6A86,
+            Rule::PS(RulePS::S) => 0x6A80,
             Rule::SE(RuleSE::SE1) => 0x6A82,
+            Rule::MC(RuleMC::MC1) => 0x6A81,
+            Rule::GD(RuleGD::GD1) => 0x6A88,
         })
     }
 
-    /// The rule's name, as `SE1`.
+    /// The rule's name.
     pub fn name(&self) -> &'static str
         ensures { result.now ≡ name_of self.now }
     {
         match self {
             Rule::G(RuleG::G1) => "G1",
-            Rule::N(RuleN::N1) => "N1",
+            Rule::G(RuleG::G2) => "G2",
+            Rule::G(RuleG::G3) => "G3",
+            Rule::G(RuleG::G4) => "G4",
+            Rule::G(RuleG::G5) => "G5",
+            Rule::PS(RulePS::P) => "P",
+            Rule::PS(RulePS::S) => "S",
             Rule::SE(RuleSE::SE1) => "SE1",
+            Rule::MC(RuleMC::MC1) => "MC1",
+            Rule::GD(RuleGD::GD1) => "GD1",
         }
     }
 }

@@ -1,55 +1,75 @@
-//! SELECT of the issuer domain.
+//! Which entry SELECT takes.
 
-ghost use Rattle.std.specs.Prelude.{◌≡◌, ◌≤◌, ◌++◌, ◌+◌, length};
-ghost use Rattle.apdu_core.specs.Apdu.{apdu_of};
-ghost use Rattle.arrayvec.specs.ArrayVec.{array_vec_len};
-ghost use Rattle.card_types.specs.Factory.{factory_perm};
-ghost use Rattle.policy_rules.specs.Card.{powered_on};
-ghost use Rattle.policy_rules.specs.Effect.{control_information};
-ghost use Rattle.policy_rules.specs.Rules.{First, Judges};
+ghost use Rattle.std.specs.Prelude.{◌≡◌, ℕ, ◌+◌, ◌<◌, ◌≤◌, ◌↔◌, IsTrue, MatchOption, Some, None, if◌then◌else◌};
+ghost use Rattle.std.specs.Ordering.{nat_cmp};
+ghost use Rattle.std.specs.Cmp.Lexicographic.{slice_cmp};
+ghost use Rattle.card_types.specs.Slots.{held};
+ghost use Rattle.card_types.specs.declared.factory.TheConstants.{ISSUER};
+ghost use Rattle.policy_rules.specs.Registry.{same};
+ghost use Rattle.policy_rules.specs.Slots.{Fitting, entry_fits};
 
-use crate::rule::{Rule, RuleG, RuleN, RuleSE};
-use apdu_core::Command;
-use arrayvec::ArrayVec;
-use card_types::ISSUER;
+use card_types::{Aid, CardLife, ENTRIES, Entry, ISSUER, Life, Tables};
 
-// The first rule that fails for a command, on the factory card.
-fn judge(command: &Command<'_>) -> Option<Rule>
-    ensures { Judges (powered_on factory_perm) (apdu_of command.now) result }
+fn is_issuer(aid: &Aid) -> bool
+    ensures { result ≡ same aid.now ISSUER }
 {
-    if [command.class, command.ins, command.p1, command.p2] != [0x00, 0xA4, 0x04, 0x00] {
-        return Some(Rule::N(RuleN::N1));
-    }
-    if command.body != ISSUER.as_slice() {
-        return Some(Rule::SE(RuleSE::SE1));
-    }
-    None
+    aid.as_bytes() == ISSUER.as_slice()
 }
 
-/// The first rule that fails for a line of bytes, on the factory card, or none where it is accepted.
-pub fn first(bytes: &[u8]) -> Option<Rule>
-    ensures { First (powered_on factory_perm) bytes.now result }
+/// Whether an entry fits the data field of SELECT.
+fn fits(card_life: CardLife, prefix: &[u8], entry: &Entry) -> bool
+    ensures { result ≡ entry_fits card_life prefix.now entry.now }
 {
-    match Command::read(bytes) {
-        Ok(command) => judge(&command),
-        Err(_) => Some(Rule::G(RuleG::G1)),
+    if prefix.is_empty() {
+        return is_issuer(&entry.aid);
+    }
+    entry.aid.as_bytes().starts_with(prefix)
+        && !entry.life.locked
+        && entry.life.life != Life::Installed
+        && (card_life != CardLife::Locked || is_issuer(&entry.aid))
+}
+
+/// The entry in a slot, where there is one.
+pub fn entry_at(entries: &[Option<Entry>], slot: u8) -> Option<&Entry>
+    ensures { MatchOption result (held entries.now slot ≡ None) (λ entry. held entries.now slot ≡ Some entry.now) }
+{
+    match entries.get(usize::from(slot)) {
+        Some(Some(entry)) => Some(entry),
+        _ => None,
     }
 }
 
-/// Appends the file control information of an entry (GlobalPlatform Card Specification 2.3.1, 11.9.3): ten
-/// bytes, and its AID among them.
-pub fn write_control_information(aid: &[u8], reply: &mut ArrayVec<u8, 258>)
-    requires aid { length aid.now ≤ 16 }
-    requires room { array_vec_len reply.old + 28 ≤ 258 }
-    ensures { reply.new.items ≡ reply.old.items ++ control_information aid.now }
+// Whether an entry fits and its AID is below that of the least one so far, if there is one. It is no part of the loop
+// over the slots, most of which are free, so that this loop stays short.
+#[inline(never)]
+fn is_less(tables: &Tables, prefix: &[u8], least: Option<u8>, entry: &Entry) -> bool
+    ensures { (slot : ℕ) → held tables.now.entries.items slot ≡ Some entry.now
+        → Fitting tables.now.life prefix.now tables.now.entries.items slot least
+        → Fitting tables.now.life prefix.now tables.now.entries.items (slot + 1) (if result then Some slot else least) }
 {
-    let len = aid.len() as u8;
-    reply.push(0x6F);
-    reply.push(len + 8);
-    reply.push(0x84);
-    reply.push(len);
-    reply.try_extend_from_slice(aid).unwrap();
-    reply
-        .try_extend_from_slice(&[0xA5, 0x04, 0x9F, 0x65, 0x01, 0xFF])
-        .unwrap();
+    if !fits(tables.life, prefix, entry) {
+        return false;
+    }
+    let Some(least) = least else {
+        return true;
+    };
+    match entry_at(&tables.entries, least) {
+        Some(other) => entry.aid.is_below(&other.aid),
+        None => true,
+    }
+}
+
+/// The slot of the entry that SELECT takes: the least AID of those that fit.
+pub fn fitting(tables: &Tables, prefix: &[u8]) -> Option<u8>
+    ensures { Fitting tables.now.life prefix.now tables.now.entries.items ENTRIES result }
+{
+    let mut least = None;
+    for slot in 0..ENTRIES as u8 {
+        if let Some(entry) = entry_at(&tables.entries, slot) {
+            if is_less(tables, prefix, least, entry) {
+                least = Some(slot);
+            }
+        }
+    }
+    least
 }

@@ -3,8 +3,8 @@ use Rattle.gp_tool.proofs.Flush.{flush_refused}
 use Rattle.gp_tool.proofs.run.run.Goals as goal
 
 pub returns-clause-ends : goal.returns-clause-ends
-returns-clause-ends g c told =
-    let ends = c.take_lines-ending.ensures.ends told in
+returns-clause-ends g c stands told =
+    let ends = c.take_lines-ending.ensures.ends stands told in
     rw (c.flush_at_end.ensures.same told.1)
     (elim c.flush_at_end.ensures.ending [
       | inl same ↦ rw same ends

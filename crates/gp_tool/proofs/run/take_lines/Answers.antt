@@ -4,11 +4,17 @@ use Rattle.gp_tool.proofs.run.take_lines.Goals as goal
 
 pub loop-ending-init : goal.loop-ending-init
 loop-ending-init g c =
-    rw c.new-lines.ensures (record { stop = refl; within = omega arith; reads = refl; writes = refl; going = λ told. going_first _ })
+    rw c.new-lines.ensures (record {
+      stop = refl;
+      within = omega arith;
+      reads = refl;
+      writes = refl;
+      going = λ stands told. going_first _ _ stands;
+    })
 
 pub returns-in-Some-clause-ends : goal.returns-in-Some-clause-ends
-returns-in-Some-clause-ends g c told =
-    going_ends _ _ _ c.loop-ending.lines c.in-Some.ending (c.loop-ending.invariant.going told) (c.in-Some.ensures.ends told)
+returns-in-Some-clause-ends g c stands told =
+    going_ends _ _ _ _ c.loop-ending.lines c.in-Some.ending (c.loop-ending.invariant.going stands told) (c.in-Some.ensures.ends told)
 
 pub loop-ending-preserved : goal.loop-ending-preserved
 loop-ending-preserved g c =
@@ -20,5 +26,5 @@ loop-ending-preserved g c =
       within = on.within;
       reads = quiet.0 ∙ kept.reads;
       writes = quiet.1 ∙ kept.writes;
-      going = λ told. going_further (g.S.Source.tells × g.K.Sink.tells) _ _ _ c.loop-ending.lines _ (kept.going told) on told;
+      going = λ stands told. going_further (g.S.Source.tells × g.K.Sink.tells) _ _ _ _ _ c.loop-ending.lines _ (kept.going stands told) on told;
     }

@@ -1,8 +1,9 @@
-use Rattle.std.proofs.Common.{ap, ◌∙◌}
+use Rattle.std.proofs.Common.{ap, ◌∙◌, inl}
 use Rattle.gp_tool.specs.Ends.{status_of}
 use Rattle.gp_tool.proofs.Complete.{finishes}
 use Rattle.gp_tool.proofs.top.gp.Goals as goal
 
-pub returns-then-are_run-clause-complete : goal.returns-then-are_run-clause-complete
-returns-then-are_run-clause-complete g c words told good short no_read no_write =
-    c.status.ensures ∙ ap status_of (finishes c.run.result _ _ _ _ _ _ c.run.ensures.cause (c.run.ensures.ends told) good short no_read no_write)
+pub returns-in-Ok-clause-complete : goal.returns-in-Ok-clause-complete
+returns-in-Ok-clause-complete g c words told good short no_read no_write =
+    let ends = c.run.ensures.ends c.in-Ok.ensures.stands told in
+    inl (c.status.ensures ∙ ap status_of (finishes c.run.result _ _ _ _ _ _ c.run.ensures.cause ends good short no_read no_write))

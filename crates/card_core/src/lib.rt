@@ -1,0 +1,17 @@
+//! A card: what it keeps, and what it does with each command.
+//!
+//! A card answers any bytes by a reply, which ends in a status word. It takes no memory for that.
+#![tactic(auto)]
+
+mod admit;
+mod card;
+mod data;
+mod element;
+mod reply;
+mod selection;
+mod serve;
+#[cfg(test)]
+mod tests;
+
+pub use card::Card;
+pub use reply::REPLY_LIMIT;

@@ -1,0 +1,21 @@
+//! The end of a reply.
+
+ghost use Rattle.std.specs.Prelude.{◌≡◌, ◌≤◌, ◌+◌, ◌++◌};
+ghost use Rattle.arrayvec.specs.ArrayVec.{array_vec_len};
+ghost use Rattle.apdu_core.specs.Reply.{status_bytes};
+
+use apdu_core::Status;
+use arrayvec::ArrayVec;
+
+/// How many bytes a reply has, at most: 256 of data, and the status word.
+pub const REPLY_LIMIT: usize = 258;
+
+/// Closes a reply by its status word.
+pub fn write_status(status: Status, reply: &mut ArrayVec<u8, REPLY_LIMIT>)
+    requires room { array_vec_len reply.old + 2 ≤ REPLY_LIMIT }
+    ensures written { reply.new.items ≡ reply.old.items ++ status_bytes status.0 }
+{
+    reply
+        .try_extend_from_slice(&status.0.to_be_bytes())
+        .unwrap();
+}

@@ -1,0 +1,10 @@
+pub mod Channels
+pub mod Deciding
+pub mod FactoryData
+pub mod FactoryKeys
+pub mod FirstOf
+pub mod Keeping
+pub mod LeastFit
+pub mod Selecting
+pub mod SetChannel
+pub mod Unchanged

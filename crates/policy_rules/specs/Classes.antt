@@ -1,0 +1,36 @@
+-- Class bytes and instructions (ISO/IEC 7816-4, 5.1.1; GlobalPlatform Card Specification 2.3.1, 11.1.4).
+use Rattle.std.specs.Prelude.{◌≡◌, ℕ, Bool, true, false, ◌/◌, ◌%◌, List, [], ◌∷◌, Option, None, Some, if◌then◌else◌, ◌==◌, Contains, MatchOption}
+use Rattle.apdu_core.specs.Apdu.{Apdu}
+use Rattle.policy_rules.specs.declared.class.Class.{Class}
+use Rattle.policy_rules.specs.declared.class.Class.TheVariants.{Interindustry, Plain, Secure}
+use Rattle.policy_rules.specs.declared.instruction.TheConstants.{SELECT, MANAGE_CHANNEL, GET_DATA}
+
+-- the class of a class byte, whatever its channel
+abbrev pub class_of : ℕ → Option Class
+class_of byte =
+    if byte / 4 == 0x00 then Some Interindustry
+    else if byte / 4 == 0x20 then Some Plain
+    else if byte / 4 == 0x21 then Some Secure
+    else None
+
+-- the low two bits name the logical channel
+abbrev pub channel_of : ℕ → ℕ
+channel_of byte = byte % 4
+
+-- the instructions of a class, as far as they are built
+abbrev pub instructions_of : Class → List ℕ
+instructions_of Interindustry = SELECT ∷ MANAGE_CHANNEL ∷ GET_DATA ∷ []
+instructions_of Plain = GET_DATA ∷ []
+instructions_of Secure = []
+
+abbrev pub IsKnown : ℕ → ℕ → Type 0
+IsKnown byte ins = MatchOption (class_of byte) ⊥ (λ class. Contains (instructions_of class) ins)
+
+abbrev pub is_secure : Class → Bool
+is_secure Interindustry = false
+is_secure Plain = false
+is_secure Secure = true
+
+-- GET DATA outside of secure messaging
+abbrev pub IsPlainGetData : Apdu → Type 0
+IsPlainGetData command = (command.ins ≡ GET_DATA) × MatchOption (class_of command.class) ⊥ (λ class. is_secure class ≡ false)

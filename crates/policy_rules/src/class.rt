@@ -1,0 +1,49 @@
+//! Class bytes (ISO/IEC 7816-4, 5.1.1; GlobalPlatform Card Specification 2.3.1, 11.1.4).
+
+ghost use Rattle.std.specs.Prelude.{◌≡◌, ◌↔◌, IsTrue, Contains};
+ghost use Rattle.policy_rules.specs.Classes.{class_of as class_of_byte, channel_of as channel_of_byte, instructions_of, is_secure};
+
+use crate::instruction::{GET_DATA, MANAGE_CHANNEL, SELECT};
+
+/// The classes that a card takes.
+#[derive(Clone, Copy, Debug, PartialEq, Eq)]
+pub enum Class {
+    /// 00 to 03.
+    Interindustry,
+    /// 80 to 83.
+    Plain,
+    /// 84 to 87, with secure messaging.
+    Secure,
+}
+
+impl Class {
+    /// The class of a class byte.
+    pub fn of(byte: u8) -> Option<Class>
+        ensures { result ≡ class_of_byte byte }
+    {
+        match byte >> 2 {
+            0x00 => Some(Class::Interindustry),
+            0x20 => Some(Class::Plain),
+            0x21 => Some(Class::Secure),
+            _ => None,
+        }
+    }
+
+    /// Whether the class has this instruction.
+    pub fn has(self, ins: u8) -> bool
+        ensures { IsTrue result ↔ Contains (instructions_of self) ins }
+    {
+        match self {
+            Class::Interindustry => ins == SELECT || ins == MANAGE_CHANNEL || ins == GET_DATA,
+            Class::Plain => ins == GET_DATA,
+            Class::Secure => false,
+        }
+    }
+}
+
+/// The logical channel that a class byte names.
+pub fn channel_of(byte: u8) -> u8
+    ensures { result ≡ channel_of_byte byte }
+{
+    byte % 4
+}

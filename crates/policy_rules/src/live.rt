@@ -1,0 +1,34 @@
+//! What a card keeps while it has power, as the rules see it.
+
+ghost use Rattle.std.specs.Prelude.{◌≡◌, ◌<◌, [], ◌∷◌, None, Some, IfSome, position, is_none};
+
+/// How many logical channels a card has.
+pub const CHANNELS: usize = 4;
+
+/// The slot of the issuer domain.
+pub const ISSUER_SLOT: u8 = 0;
+
+/// The logical channels: for each open one the slot of the entry that is selected.
+#[derive(Clone, Copy, Debug)]
+pub struct Live {
+    pub selected: [Option<u8>; CHANNELS],
+}
+
+impl Live {
+    /// After power on or reset: channel 0 alone is open, with the issuer domain selected.
+    pub fn powered_on() -> Live
+        ensures { result.selected ≡ Some 0 ∷ None ∷ None ∷ None ∷ [] }
+    {
+        Live {
+            selected: [Some(ISSUER_SLOT), None, None, None],
+        }
+    }
+
+    /// The lowest closed channel.
+    pub fn first_closed(&self) -> Option<usize>
+        ensures lowest { result ≡ position is_none self.now.selected }
+        ensures below { IfSome result (λ number. number < CHANNELS) }
+    {
+        self.selected.iter().position(Option::is_none)
+    }
+}
