@@ -9,12 +9,16 @@ import subprocess
 import sys
 import time
 
-# Each line that is sent, and the reply that must come.
+# Each line that is sent, and the reply that must come. The card is behind the last line
+# as it was before the first, so the table can be sent again and again.
 TABLE = [
     ("00A4040008A000000151000000", "6f108408a000000151000000a5049f6501ff9000"),
     ("00A404", "6700"),
     ("00A4040005D200000001", "6a82"),
-    ("00700000", "6d00"),
+    ("00B00000", "6d00"),
+    ("00700000", "019000"),
+    ("80CA00E000", "e012c00401308810c00402308810c004033088109000"),
+    ("00708001", "9000"),
 ]
 LINES = 1000
 SECONDS = 5
