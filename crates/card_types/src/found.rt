@@ -5,7 +5,7 @@ ghost use Rattle.card_types.specs.Found.{IsNext, NoneFollows, aid_of};
 ghost use Rattle.card_types.specs.Search.{IsNearer, bounds, place};
 
 use crate::aid::Aid;
-use crate::tables::{ENTRIES, FILES, Tables};
+use crate::tables::{ENTRIES, FILES, Tables, in_slot};
 
 /// A thing of the registry, by its slot.
 #[derive(Clone, Copy, Debug, PartialEq, Eq)]
@@ -34,13 +34,13 @@ fn aid_at(tables: &Tables, found: Found) -> Option<&Aid>
     ensures { option_copied result ≡ aid_of tables.now found }
 {
     match found {
-        Found::Entry(slot) => match tables.entries.get(usize::from(slot)) {
-            Some(Some(entry)) => Some(&entry.aid),
-            _ => None,
+        Found::Entry(slot) => match in_slot(&tables.entries, slot) {
+            Some(entry) => Some(&entry.aid),
+            None => None,
         },
-        Found::File(slot) => match tables.files.get(usize::from(slot)) {
-            Some(Some(file)) => Some(&file.aid),
-            _ => None,
+        Found::File(slot) => match in_slot(&tables.files, slot) {
+            Some(file) => Some(&file.aid),
+            None => None,
         },
     }
 }

@@ -3,7 +3,7 @@
 ghost use Rattle.std.specs.Prelude.{◌≡◌, ◌↔◌, ◌⊎◌, ℕ, List, IsTrue, IfSome, IfNone, length};
 ghost use Rattle.card_types.specs.KeySets.{HasKey, HasKeys, IsSetOf, NoSetOf};
 
-use crate::tables::{KEYS, KeyRec};
+use crate::tables::{KEYS, KeyRec, in_slot};
 
 /// The highest version of a key set. Keys of higher versions stand alone.
 const LAST_VERSION: u8 = 0x6F;
@@ -11,11 +11,9 @@ const LAST_VERSION: u8 = 0x6F;
 fn has_key(keys: &[Option<KeyRec>], owner: u8, version: u8, identifier: u8, slot: u8) -> bool
     ensures { IsTrue result ↔ HasKey keys.now owner version identifier slot }
 {
-    match keys.get(usize::from(slot)) {
-        Some(Some(key)) => {
-            key.owner == owner && key.version == version && key.identifier == identifier
-        }
-        _ => false,
+    match in_slot(keys, slot) {
+        Some(key) => key.owner == owner && key.version == version && key.identifier == identifier,
+        None => false,
     }
 }
 

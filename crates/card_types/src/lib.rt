@@ -19,7 +19,7 @@ pub use key_set::set_of;
 pub use level::Level;
 pub use life::{Life, LifeMark};
 pub use privileges::Privileges;
-pub use tables::{ENTRIES, Entry, FILES, KEYS, KeyRec, LoadFile, OBJECTS, Object, Tables};
+pub use tables::{ENTRIES, Entry, FILES, KEYS, KeyRec, LoadFile, OBJECTS, Object, Tables, in_slot};
 
 #[cfg(test)]
 mod tests;

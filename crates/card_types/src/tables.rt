@@ -1,5 +1,8 @@
 //! What a card keeps without power, in slots.
 
+ghost use Rattle.std.specs.Prelude.{◌≡◌, None, Some, MatchOption};
+ghost use Rattle.card_types.specs.Slots.{held};
+
 use crate::aid::Aid;
 use crate::card_life::CardLife;
 use crate::life::LifeMark;
@@ -81,4 +84,14 @@ pub struct Tables {
     pub files: Vec<Option<LoadFile>>,
     pub keys: Vec<Option<KeyRec>>,
     pub objects: Vec<Option<Object>>,
+}
+
+/// What a slot holds, where it holds something.
+pub fn in_slot<T>(slots: &[Option<T>], slot: u8) -> Option<&T>
+    ensures { MatchOption result (held slots.now slot ≡ None) (λ thing. held slots.now slot ≡ Some thing.now) }
+{
+    match slots.get(usize::from(slot)) {
+        Some(Some(thing)) => Some(thing),
+        _ => None,
+    }
 }
