@@ -13,8 +13,8 @@ use crate::element::{write_element, write_header};
 use crate::reply::REPLY_LIMIT;
 use apdu_core::Status;
 use arrayvec::ArrayVec;
-use card_types::{KeyRec, Object, Tables};
-use policy_rules::{Datum, key_at, name, next_key, object_at};
+use card_types::{KeyRec, Tables, in_slot};
+use policy_rules::{Datum, name, next_key};
 
 /// How many keys a domain has, at most.
 const DOMAIN_KEYS: usize = 12;
@@ -45,7 +45,7 @@ fn write_keys(keys: &[Option<KeyRec>], owner: u8, reply: &mut ArrayVec<u8, REPLY
         let Some(slot) = next_key(keys, owner, after) else {
             return;
         };
-        if let Some(key) = key_at(keys, slot) {
+        if let Some(key) = in_slot(keys, slot) {
             write_key(key, reply);
             after = Some(name(key));
         }
@@ -85,7 +85,7 @@ pub fn give(tables: &Tables, datum: Datum, reply: &mut ArrayVec<u8, REPLY_LIMIT>
         Datum::Keys { owner } => write_key_information(&tables.keys, owner, reply),
         Datum::Counter { number } => write_counter(number, reply),
         Datum::Object { slot } => {
-            if let Some(object) = object_at(&tables.objects, slot) {
+            if let Some(object) = in_slot(&tables.objects, slot) {
                 write_element(object.tag, &object.value, reply);
             }
         }

@@ -14,8 +14,8 @@ use crate::element::{write_element, write_header};
 use crate::reply::REPLY_LIMIT;
 use apdu_core::Status;
 use arrayvec::ArrayVec;
-use card_types::{CardLife, Tables};
-use policy_rules::{CHANNELS, ISSUER_SLOT, Live, entry_at};
+use card_types::{CardLife, Tables, in_slot};
+use policy_rules::{CHANNELS, ISSUER_SLOT, Live};
 
 /// The longest data field of a command, as the control information gives it.
 const LONGEST_DATA: u8 = 0xFF;
@@ -57,7 +57,7 @@ pub fn select(
     ensures room { length reply.new.items ≤ 256 }
 {
     live.selected[usize::from(channel)] = Some(slot);
-    if let Some(entry) = entry_at(&tables.entries, slot) {
+    if let Some(entry) = in_slot(&tables.entries, slot) {
         write_control_information(entry.aid.as_bytes(), reply);
     }
     selected_status(tables.life)

@@ -4,7 +4,7 @@ use Rattle.card_types.specs.Factory.{IsFactory, factory_perm}
 use Rattle.card_types.specs.declared.factory.TheConstants.{ISSUER}
 use Rattle.card_types.specs.declared.tables.KeyRec.{KeyRec}
 use Rattle.card_types.specs.declared.tables.Tables.{Tables}
-use Rattle.card_types.specs.declared.tables.TheConstants.{ENTRIES, KEYS}
+use Rattle.card_types.specs.declared.tables.TheConstants.{KEYS}
 use Rattle.policy_rules.specs.Bodies.{sequence_counter}
 use Rattle.policy_rules.specs.Data.{data_of}
 use Rattle.policy_rules.specs.Datum.{IsOwnCounter, UsedCounter, counter_in, held_by}
@@ -26,7 +26,7 @@ own_is tables is own (slot, next, counter) =
     ∙ ap counter_in key.1.at ∙ counter_is tables key.0 key.1
 
 -- the counter of its key set is 0
-pub used_is : (tables : Tables) → IsFactory tables → (found : Option ℕ) → UsedCounter tables ENTRIES 0 found → found ≡ Some 0
+pub used_is : (tables : Tables) → IsFactory tables → (found : Option ℕ) → UsedCounter tables 0 found → found ≡ Some 0
 used_is tables is found (own, own_counter, used) = rw (own_is tables is own own_counter) at used
 
 pub counter_data : (tag number : ℕ) → tag ≡ 0xC1 → Some number ≡ Some 0 → data_of factory_perm ISSUER tag ≡ Some (sequence_counter number)

@@ -5,6 +5,7 @@ pub mod FactoryKeys
 pub mod FirstOf
 pub mod Keeping
 pub mod LeastFit
+pub mod LineUp
 pub mod Selecting
 pub mod SetChannel
 pub mod Unchanged

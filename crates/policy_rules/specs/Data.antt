@@ -1,5 +1,5 @@
 -- What GET DATA gives of a domain (GlobalPlatform Card Specification 2.3.1, 11.3.3).
-use Rattle.std.specs.Prelude.{ℕ, zero, suc, List, Bool, ◌&&◌, ◌||◌, Option, None, Some, find, filter, is_some, length, if◌then◌else◌, ◌==◌}
+use Rattle.std.specs.Prelude.{ℕ, zero, suc, List, [], ◌∷◌, Bool, ◌&&◌, ◌||◌, Option, None, Some, find, filter, is_some, length, if◌then◌else◌, ◌==◌}
 use Rattle.std.specs.Option.{option_map}
 use Rattle.card_types.specs.Perm.{Perm, Entry, Key, Counter, Object}
 use Rattle.policy_rules.specs.Bodies.{element, key_information_template, sequence_counter}
@@ -20,21 +20,24 @@ keys_of perm owner = filter (λ key. same key.owner owner) perm.keys
 abbrev pub counter_of : Perm → List ℕ → Option Counter
 counter_of perm owner = find (λ counter. same counter.owner owner) perm.counters
 
--- the domain of an entry, where that is another one
-abbrev pub next_up : List ℕ → Option Entry → Option (List ℕ)
-next_up aid None = None
-next_up aid (Some entry) = if same entry.domain aid then None else Some entry.domain
+-- the line of the domain of an entry, where that is another one
+abbrev pub line_above : List ℕ → Option Entry → (List ℕ → List (List ℕ)) → List (List ℕ)
+line_above aid None line = []
+line_above aid (Some entry) line = if same entry.domain aid then [] else line entry.domain
 
--- the counter of the lowest version of the key sets that a session would use, looked for up to so many steps up: those
--- of the domain itself, or else of the nearest domain above that has one
-abbrev pub counter_up : Perm → ℕ → Option (List ℕ) → Option Counter
-counter_up perm zero place = None
-counter_up perm (suc steps) None = None
-counter_up perm (suc steps) (Some aid) =
-    if is_some (counter_of perm aid) then counter_of perm aid else counter_up perm steps (next_up aid (entry_of perm aid))
+-- a domain and those above it, nearest first, so many at most
+abbrev pub line_up : Perm → ℕ → List ℕ → List (List ℕ)
+line_up perm zero aid = []
+line_up perm (suc count) aid = aid ∷ line_above aid (entry_of perm aid) (line_up perm count)
 
+abbrev pub counter_at : Perm → Option (List ℕ) → Option Counter
+counter_at perm None = None
+counter_at perm (Some aid) = counter_of perm aid
+
+-- the counter of the lowest version of the key sets that a session would use: those of the domain itself, or else of the
+-- nearest domain above that has one
 abbrev pub used_counter : Perm → List ℕ → Option Counter
-used_counter perm aid = counter_up perm (length perm.entries) (Some aid)
+used_counter perm aid = counter_at perm (find (λ domain. is_some (counter_of perm domain)) (line_up perm (length perm.entries) aid))
 
 -- the reply's data field for a tag, where there is such data
 abbrev pub data_of : Perm → List ℕ → ℕ → Option (List ℕ)

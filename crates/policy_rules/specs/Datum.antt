@@ -1,12 +1,13 @@
 -- What GET DATA finds in the slots of a card.
-use Rattle.std.specs.Prelude.{◌≡◌, ◌≢◌, ◌⊎◌, ℕ, zero, suc, ◌<◌, List, Option, None, Some, MatchOption, if◌then◌else◌, nat_lt}
+use Rattle.std.specs.Prelude.{◌≡◌, ℕ, zero, suc, ◌<◌, List, [], ◌∷◌, Option, None, Some, MatchOption, if◌then◌else◌, ◌==◌, nat_lt}
 use Rattle.card_types.specs.Factory.{factory_perm}
 use Rattle.card_types.specs.Slots.{held}
 use Rattle.card_types.specs.declared.factory.TheConstants.{ISSUER}
+use Rattle.card_types.specs.declared.tables.Entry.{Entry}
 use Rattle.card_types.specs.declared.tables.KeyRec.{KeyRec}
 use Rattle.card_types.specs.declared.tables.Object.{Object}
 use Rattle.card_types.specs.declared.tables.Tables.{Tables}
-use Rattle.card_types.specs.declared.tables.TheConstants.{KEYS}
+use Rattle.card_types.specs.declared.tables.TheConstants.{ENTRIES, KEYS}
 use Rattle.policy_rules.specs.Bodies.{element, key_information_template, sequence_counter}
 use Rattle.policy_rules.specs.Data.{data_of, keys_of}
 use Rattle.policy_rules.specs.Keys.{NextKey}
@@ -26,15 +27,25 @@ held_by keys (Some slot) = held keys slot
 abbrev pub IsOwnCounter : List (Option KeyRec) → ℕ → Option ℕ → Type 0
 IsOwnCounter keys owner found = (slot : Option ℕ) × NextKey keys owner None KEYS slot × (found ≡ counter_in (held_by keys slot))
 
--- the counter of the domain in a slot, or else of the nearest domain above that has one, within so many steps up
-abbrev pub UsedCounter : Tables → ℕ → ℕ → Option ℕ → Type 0
-UsedCounter tables zero place found = found ≡ None
-UsedCounter tables (suc steps) place found =
-    (own : Option ℕ) × IsOwnCounter tables.keys.items place own
-    × MatchOption own
-    (MatchOption (held tables.entries.items place) (found ≡ None)
-    (λ entry. ((entry.domain ≡ place) × (found ≡ None)) ⊎ ((entry.domain ≢ place) × UsedCounter tables steps entry.domain found)))
-    (λ number. found ≡ Some number)
+-- the line of the domain of the entry in a slot, where that is another one
+abbrev pub slots_above : ℕ → Option Entry → (ℕ → List ℕ) → List ℕ
+slots_above slot None line = []
+slots_above slot (Some entry) line = if entry.domain == slot then [] else line entry.domain
+
+-- the slots of a domain and of those above it, nearest first, so many at most
+abbrev pub slots_up : List (Option Entry) → ℕ → ℕ → List ℕ
+slots_up entries zero slot = []
+slots_up entries (suc count) slot = slot ∷ slots_above slot (held entries slot) (slots_up entries count)
+
+-- the counter of the first of these domains that has one of its own, or none
+abbrev pub IsFirstCounter : List (Option KeyRec) → List ℕ → Option ℕ → Type 0
+IsFirstCounter keys [] found = found ≡ None
+IsFirstCounter keys (slot ∷ slots) found =
+    (own : Option ℕ) × IsOwnCounter keys slot own × MatchOption own (IsFirstCounter keys slots found) (λ number. found ≡ Some number)
+
+-- the counter of a domain, or else of the nearest domain above that has one
+abbrev pub UsedCounter : Tables → ℕ → Option ℕ → Type 0
+UsedCounter tables domain found = IsFirstCounter tables.keys.items (slots_up tables.entries.items ENTRIES domain) found
 
 -- the slot holds an object of the domain, with this tag
 pub record HasObject (objects : List (Option Object)) (owner tag slot : ℕ) : Type 0 where

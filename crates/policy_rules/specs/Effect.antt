@@ -21,9 +21,13 @@ pub record Effect : Type 0 where
 abbrev pub selected_status : Perm → ℕ
 selected_status perm = if is_card_locked perm.life then 0x6283 else 0x9000
 
+-- where nothing was found a rule refuses the command, so this stands for no effect
+abbrev pub nothing : State → Effect
+nothing state = record { state = state; body = []; status = 0x9000 }
+
 -- SELECT selects the entry, and all that the channel had ends.
 abbrev pub selects : State → ℕ → Option Entry → Effect
-selects state number None = record { state = state; body = []; status = 0x6A82 }
+selects state number None = nothing state
 selects state number (Some entry) = record {
   state = record { perm = state.perm; vol = without_load (with_channel state.vol number (Some (fresh entry.aid))) number };
   body = control_information entry.aid;
@@ -32,7 +36,7 @@ selects state number (Some entry) = record {
 
 -- MANAGE CHANNEL opens the lowest closed channel, with the issuer domain selected, and answers its number.
 abbrev pub opens : State → Option ℕ → Effect
-opens state None = record { state = state; body = []; status = 0x6A81 }
+opens state None = nothing state
 opens state (Some number) = record {
   state = record { perm = state.perm; vol = with_channel state.vol number (Some (fresh ISSUER)) };
   body = number ∷ [];
@@ -50,7 +54,7 @@ closes state number (Some channel) = record {
 
 -- GET DATA answers the data.
 abbrev pub gives : State → Option (List ℕ) → Effect
-gives state None = record { state = state; body = []; status = 0x6A88 }
+gives state None = nothing state
 gives state (Some body) = record { state = state; body = body; status = 0x9000 }
 
 abbrev pub effect : State → Apdu → Effect

@@ -9,10 +9,9 @@ ghost use Rattle.policy_rules.specs.Means.{Says};
 ghost use Rattle.policy_rules.specs.State.{State};
 ghost use Rattle.policy_rules.specs.Vol.{selected_on};
 
-use crate::key_order::{key_at, next_key};
+use crate::key_order::next_key;
 use crate::live::{CHANNELS, Live};
-use crate::select::entry_at;
-use card_types::{ENTRIES, KeyRec, OBJECTS, Object, Tables};
+use card_types::{ENTRIES, KeyRec, OBJECTS, Object, Tables, in_slot};
 
 /// The tag of the key information template.
 const KEY_INFORMATION: u16 = 0x00E0;
@@ -41,7 +40,7 @@ fn own_counter(keys: &[Option<KeyRec>], owner: u8) -> Option<u32>
     ensures { IsOwnCounter keys.now owner result }
 {
     let slot = next_key(keys, owner, None)?;
-    let first = key_at(keys, slot)?;
+    let first = in_slot(keys, slot)?;
     if first.version < LONE_VERSION {
         Some(first.counter)
     } else {
@@ -51,14 +50,14 @@ fn own_counter(keys: &[Option<KeyRec>], owner: u8) -> Option<u32>
 
 // The counter of the domain's own key sets, or else of those of the nearest domain above that has one.
 fn used_counter(tables: &Tables, domain: u8) -> Option<u32>
-    ensures { UsedCounter tables.now ENTRIES domain result }
+    ensures { UsedCounter tables.now domain result }
 {
     let mut place = domain;
     for _ in 0..ENTRIES {
         if let Some(number) = own_counter(&tables.keys, place) {
             return Some(number);
         }
-        let entry = entry_at(&tables.entries, place)?;
+        let entry = in_slot(&tables.entries, place)?;
         if entry.domain == place {
             return None;
         }
@@ -67,20 +66,10 @@ fn used_counter(tables: &Tables, domain: u8) -> Option<u32>
     None
 }
 
-/// The object in a slot, where there is one.
-pub fn object_at(objects: &[Option<Object>], slot: u8) -> Option<&Object>
-    ensures { MatchOption result (held objects.now slot ≡ None) (λ object. held objects.now slot ≡ Some object.now) }
-{
-    match objects.get(usize::from(slot)) {
-        Some(Some(object)) => Some(object),
-        _ => None,
-    }
-}
-
 fn has_object(objects: &[Option<Object>], owner: u8, tag: u16, slot: u8) -> bool
     ensures { IsTrue result ↔ HasObject objects.now owner tag slot }
 {
-    match object_at(objects, slot) {
+    match in_slot(objects, slot) {
         Some(object) => object.owner == owner && object.tag == tag,
         None => false,
     }

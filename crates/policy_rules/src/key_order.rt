@@ -4,7 +4,7 @@ ghost use Rattle.std.specs.Prelude.{◌≡◌, ℕ, ◌+◌, ◌↔◌, IsTrue, 
 ghost use Rattle.card_types.specs.Slots.{held};
 ghost use Rattle.policy_rules.specs.Keys.{Follows, IsBelow, IsPast, NextKey, name_of};
 
-use card_types::{KEYS, KeyRec};
+use card_types::{KEYS, KeyRec, in_slot};
 
 /// A version and an identifier.
 pub type Name = (u8, u8);
@@ -21,16 +21,6 @@ fn is_past(after: Option<Name>, name: Name) -> bool
     match after {
         Some(after) => is_below(after, name),
         None => true,
-    }
-}
-
-/// The key in a slot, where there is one.
-pub fn key_at(keys: &[Option<KeyRec>], slot: u8) -> Option<&KeyRec>
-    ensures { MatchOption result (held keys.now slot ≡ None) (λ key. held keys.now slot ≡ Some key.now) }
-{
-    match keys.get(usize::from(slot)) {
-        Some(Some(key)) => Some(key),
-        _ => None,
     }
 }
 
@@ -52,7 +42,7 @@ fn is_next(
     ensures { (n : ℕ) → n ≡ slot → NextKey keys.now owner after n best
         → NextKey keys.now owner after (n + 1) (if result then Some slot else best) }
 {
-    let Some(key) = key_at(keys, slot) else {
+    let Some(key) = in_slot(keys, slot) else {
         return false;
     };
     if key.owner != owner || !is_past(after, name(key)) {
@@ -61,7 +51,7 @@ fn is_next(
     let Some(best) = best else {
         return true;
     };
-    match key_at(keys, best) {
+    match in_slot(keys, best) {
         Some(other) => is_below(name(key), name(other)),
         None => true,
     }

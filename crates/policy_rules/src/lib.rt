@@ -17,12 +17,12 @@ mod tests;
 
 pub use action::Action;
 pub use class::{Class, channel_of};
-pub use datum::{Datum, datum_on, object_at};
+pub use datum::{Datum, datum_on};
 pub use instruction::{GET_DATA, MANAGE_CHANNEL, SELECT};
-pub use key_order::{Name, key_at, name, next_key};
+pub use key_order::{Name, name, next_key};
 pub use laws::steps_keep;
 pub use live::{CHANNELS, ISSUER_SLOT, Live};
 pub use order::{decide, judge, judge_class};
 pub use request::{Request, parse};
 pub use rule::{Rule, RuleG, RuleGD, RuleMC, RulePS, RuleSE};
-pub use select::{entry_at, fitting};
+pub use select::fitting;

@@ -16,16 +16,16 @@ use crate::instruction::{GET_DATA, MANAGE_CHANNEL, SELECT};
 use crate::live::{CHANNELS, Live};
 use crate::request::Request;
 use crate::rule::{Rule, RuleG, RuleGD, RuleMC, RuleSE};
-use crate::select::{entry_at, fitting};
+use crate::select::fitting;
 use apdu_core::Command;
 use bitflags::Flags;
-use card_types::{CardLife, Privileges, Tables};
+use card_types::{CardLife, Privileges, Tables, in_slot};
 
 // Whether the entry in a slot is a security domain.
 fn is_domain(tables: &Tables, slot: u8) -> bool
     ensures { IsFactory tables.now → slot ≡ 0 → IsTrue result }
 {
-    match entry_at(&tables.entries, slot) {
+    match in_slot(&tables.entries, slot) {
         Some(entry) => entry.privileges.contains(Privileges::SECURITY_DOMAIN),
         None => false,
     }

@@ -8,7 +8,7 @@ ghost use Rattle.card_types.specs.declared.factory.TheConstants.{ISSUER};
 ghost use Rattle.policy_rules.specs.Registry.{same};
 ghost use Rattle.policy_rules.specs.Slots.{Fitting, entry_fits};
 
-use card_types::{Aid, CardLife, ENTRIES, Entry, ISSUER, Life, Tables};
+use card_types::{Aid, CardLife, ENTRIES, Entry, ISSUER, Life, Tables, in_slot};
 
 fn is_issuer(aid: &Aid) -> bool
     ensures { result ≡ same aid.now ISSUER }
@@ -29,16 +29,6 @@ fn fits(card_life: CardLife, prefix: &[u8], entry: &Entry) -> bool
         && (card_life != CardLife::Locked || is_issuer(&entry.aid))
 }
 
-/// The entry in a slot, where there is one.
-pub fn entry_at(entries: &[Option<Entry>], slot: u8) -> Option<&Entry>
-    ensures { MatchOption result (held entries.now slot ≡ None) (λ entry. held entries.now slot ≡ Some entry.now) }
-{
-    match entries.get(usize::from(slot)) {
-        Some(Some(entry)) => Some(entry),
-        _ => None,
-    }
-}
-
 // Whether an entry fits and its AID is below that of the least one so far, if there is one. It is no part of the loop
 // over the slots, most of which are free, so that this loop stays short.
 #[inline(never)]
@@ -53,7 +43,7 @@ fn is_less(tables: &Tables, prefix: &[u8], least: Option<u8>, entry: &Entry) -> 
     let Some(least) = least else {
         return true;
     };
-    match entry_at(&tables.entries, least) {
+    match in_slot(&tables.entries, least) {
         Some(other) => entry.aid.is_below(&other.aid),
         None => true,
     }
@@ -65,7 +55,7 @@ pub fn fitting(tables: &Tables, prefix: &[u8]) -> Option<u8>
 {
     let mut least = None;
     for slot in 0..ENTRIES as u8 {
-        if let Some(entry) = entry_at(&tables.entries, slot) {
+        if let Some(entry) = in_slot(&tables.entries, slot) {
             if is_less(tables, prefix, least, entry) {
                 least = Some(slot);
             }

@@ -7,7 +7,7 @@ use Rattle.card_core.proofs.selection.select.Goals.{in-Some, in_default}
 use Rattle.card_core.proofs.selection.select.Goals as goal
 
 pub returns-clause-selects : goal.returns-clause-selects
-returns-clause-selects c state prefix says first some = elim c.match-entry_at.branch [
+returns-clause-selects c state prefix says first some = elim c.match-in_slot.branch [
   | in-Some w ↦
       (let at = rw c.deref.ensures.value at w.in-Some.ensures in
       let aid = entry_is_issuer c.args.tables.now c.args.slot w.in-Some.entry.now says.registry at in

@@ -11,10 +11,10 @@ pub returns-in_default : goal.returns-in_default
 returns-in_default c slot at so_far =
     first_fits _ _ _ slot slot c.args.entry.now refl at (sym c.fits.ensures ∙ c.if-not-fits.false) (rw c.in_default.is at so_far)
 
-pub returns-in-Some-entry_at : goal.returns-in-Some-entry_at
-returns-in-Some-entry_at c slot at so_far =
-    let other_at = rw c.deref.ensures.value at c.in-Some-entry_at.ensures in
+pub returns-in-Some-in_slot : goal.returns-in-Some-in_slot
+returns-in-Some-in_slot c slot at so_far =
+    let other_at = rw c.deref.ensures.value at c.in-Some-in_slot.ensures in
     let least = rw c.in-Some.is at so_far in
-    let other = same_entry c.args.tables.now.entries.items c.in-Some.least c.in-Some-entry_at.other.now least.entry other_at least.at in
+    let other = same_entry c.args.tables.now.entries.items c.in-Some.least c.in-Some-in_slot.other.now least.entry other_at least.at in
     let tells = subst (λ (e : Entry). IsTrue c.is_below.result ↔ (slice_cmp nat_cmp c.args.entry.now.aid e.aid ≡ Less)) other c.is_below.ensures in
     rw c.in-Some.is (next_fits _ _ _ slot slot c.in-Some.least c.args.entry.now c.is_below.result least refl at (sym c.fits.ensures ∙ c.if-not-fits.false) tells)
