@@ -1,8 +1,10 @@
 -- Sums of blocks, a block's double, and the blocks of a list.
-use Rattle.std.proofs.Common.{◌≡◌, ℕ, zero, suc, ◌+◌, ◌*◌, ◌/◌, ◌%◌, ◌<◌, ◌≤◌, List, [], ◌∷◌, ◌++◌, length, take, drop, get_or, slice_index, set, ◌≢◌, inl, inr, bit_xor, refl, sym, ap, ◌∙◌, arith}
-use Rattle.std.proofs.lemmas.List.{length-append, length-drop, take-append-le, drop-append-le, nil_from_length, ext_get_or, take_all, get_or-set_other, get_or-set_same, get_or_past, length-set}
+use Rattle.std.proofs.Common.{◌≡◌, ℕ, zero, suc, ◌+◌, ◌*◌, ◌/◌, ◌%◌, ◌^◌, ◌<◌, ◌≤◌, List, [], ◌∷◌, ◌++◌, length, take, drop, get_or, inl, inr, bit_xor, refl, sym, ap, ◌∙◌, arith}
+use Rattle.std.proofs.lemmas.List.{length-append, length-drop, take-append-le, drop-append-le, nil_from_length, ext_get_or, take_all}
 use Rattle.std.proofs.lemmas.Bool.{cases_lt, le-leb, lt-leb}
-use Rattle.std.proofs.lemmas.List.FromFn.{fill_by_all}
+use Rattle.std.proofs.lemmas.Nat.{xor_mod, xor_shr}
+use Rattle.std.specs.Int.{w128, from_be_bytes, to_be_bytes}
+use lib.Bits.{xor_zero_r}
 use Rattle.aes_block.specs.Cipher.{xor_bytes}
 use Rattle.aes_block.proofs.CipherLemmas.{length-xor_bytes}
 use Rattle.cmac_kdf.specs.Blocks.{first_blocks, blocks}
@@ -22,35 +24,36 @@ xor_from_places old with new lo lw ln each =
     ext_get_or 0 new (xor_bytes old with) (ln ∙ sym lo ∙ sym (length-xor_bytes old with (omega arith)))
     (λ k h. each k (omega arith) ∙ sym (get_or-xor_bytes old with k (omega arith) (omega arith)))
 
-pub shifted_from_places : (x new : List ℕ) → length new ≡ 16
-    → ((k : ℕ) → k < 16 → get_or new k 0 ≡ 2 * get_or x k 0 % 256 + get_or x (k + 1) 0 / 128) → new ≡ shifted_left x
-unfolding shifted_left
-shifted_from_places x new ln each = fill_by_all (λ (i : ℕ). 2 * slice_index x i % 256 + slice_index x (i + 1) / 128) new 16 0 ln each
+byte-xor : (x y k : ℕ) → bit_xor x y / 2 ^ k % 2 ^ 8 ≡ bit_xor (x / 2 ^ k % 2 ^ 8) (y / 2 ^ k % 2 ^ 8)
+byte-xor x y k = ap (λ (n : ℕ). n % 2 ^ 8) (xor_shr x y k) ∙ xor_mod (x / 2 ^ k) (y / 2 ^ k) 8
 
--- one more byte of a shifted block
-pub shifted_more : (x s : List ℕ) (i v : ℕ) → i < length s → v ≡ 2 * get_or x i 0 % 256 + get_or x (i + 1) 0 / 128
-    → ((k : ℕ) → k < i → get_or s k 0 ≡ 2 * get_or x k 0 % 256 + get_or x (k + 1) 0 / 128)
-    → (k : ℕ) → k < i + 1 → get_or (set s i v) k 0 ≡ 2 * get_or x k 0 % 256 + get_or x (k + 1) 0 / 128
-shifted_more x s i v lt ev each k h = elim (cases_lt k i) [
-  | inl below ↦ let ne : k ≢ i = omega arith in get_or-set_other s i k v 0 ne ∙ each k below
-  | inr ge ↦ let e : k ≡ i = omega arith in rw e (get_or-set_same s i v 0 lt ∙ ev)
-]
+-- the bytes of a sum of numbers
+bytes-xor : (x y : ℕ) → to_be_bytes w128 (bit_xor x y) ≡ xor_bytes (to_be_bytes w128 x) (to_be_bytes w128 y)
+unfolding xor_bytes
+bytes-xor x y =
+    let b = byte-xor x y in
+    (λ i. b 120 i ∷ b 112 i ∷ b 104 i ∷ b 96 i ∷ b 88 i ∷ b 80 i ∷ b 72 i ∷ b 64 i ∷ b 56 i ∷ b 48 i ∷ b 40 i ∷ b 32 i ∷ b 24 i ∷ b 16 i ∷ b 8 i ∷ xor_mod x y 8 i ∷ [])
 
--- the last byte, which takes in nothing
-pub shifted_last : (x s : List ℕ) (v : ℕ) → length x ≡ 16 → length s ≡ 16 → v ≡ get_or x 15 0 % 128 * 2
-    → ((k : ℕ) → k < 15 → get_or s k 0 ≡ 2 * get_or x k 0 % 256 + get_or x (k + 1) 0 / 128) → set s 15 v ≡ shifted_left x
-shifted_last x s v lx ls ev each =
-    let past : get_or x 16 0 ≡ 0 = get_or_past x 16 0 (omega arith) in
-    shifted_from_places x (set s 15 v) (length-set s 15 v ∙ ls)
-    (shifted_more x s 15 v (omega arith) (omega (arith, past)) each)
-
-pub double_carried : (x s r : List ℕ) → 128 ≤ get_or x 0 0 → s ≡ shifted_left x → r ≡ xor_bytes s field_constant → r ≡ double x
-unfolding double
-double_carried x s r top es er = er ∙ rw (le-leb 128 (get_or x 0 0) top) (ap (λ (t : List ℕ). xor_bytes t field_constant) es)
-
-pub double_plain : (x s : List ℕ) → get_or x 0 0 < 128 → s ≡ shifted_left x → s ≡ double x
-unfolding double
-double_plain x s top es = rw (lt-leb 128 (get_or x 0 0) top) es
+-- a block's double, of the number that the block writes and of its first bit
+pub double_of : (x : List ℕ) (n : ℕ) → get_or x 0 0 < 256 → n ≡ from_be_bytes w128 x
+    → to_be_bytes w128 (bit_xor (n * 2 % 2 ^ 128) (get_or x 0 0 / 128 * 0x87)) ≡ double x
+unfolding double shifted_left
+double_of x n lt en =
+    let twice : n * 2 ≡ 2 * n = omega arith in
+    let shifted : n * 2 % 2 ^ 128 ≡ 2 * from_be_bytes w128 x % 2 ^ 128 = ap (λ (k : ℕ). k % 2 ^ 128) (twice ∙ ap (λ (k : ℕ). 2 * k) en) in
+    elim (cases_lt (get_or x 0 0) 128) [
+      | inl low ↦
+          let none : get_or x 0 0 / 128 * 0x87 ≡ 0 = omega arith in
+          rw (lt-leb 128 (get_or x 0 0) low)
+          (ap (λ (k : ℕ). to_be_bytes w128 (bit_xor (n * 2 % 2 ^ 128) k)) none
+          ∙ ap (to_be_bytes w128) (xor_zero_r (n * 2 % 2 ^ 128) ∙ shifted))
+      | inr high ↦
+          let one : get_or x 0 0 / 128 * 0x87 ≡ 0x87 = omega arith in
+          rw (le-leb 128 (get_or x 0 0) high)
+          (ap (λ (k : ℕ). to_be_bytes w128 (bit_xor (n * 2 % 2 ^ 128) k)) one
+          ∙ bytes-xor (n * 2 % 2 ^ 128) 0x87
+          ∙ ap (λ (k : ℕ). xor_bytes (to_be_bytes w128 k) field_constant) shifted)
+    ]
 
 -- ---- the blocks of a list
 

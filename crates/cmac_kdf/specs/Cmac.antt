@@ -1,18 +1,18 @@
 -- CMAC (NIST SP 800-38B) with a block of sixteen bytes. A key is given by its bytes.
-use Rattle.std.specs.Prelude.{ℕ, ◌+◌, ◌-◌, ◌*◌, ◌/◌, ◌%◌, ◌==◌, nat_le, if◌then◌else◌, List, [], ◌∷◌, ◌++◌, length, drop, map, replicate, slice_index}
-use Rattle.std.specs.List.{range_with_len}
+use Rattle.std.specs.Prelude.{ℕ, ◌-◌, ◌*◌, ◌/◌, ◌%◌, ◌^◌, ◌==◌, nat_le, if◌then◌else◌, List, [], ◌∷◌, ◌++◌, length, drop, replicate, slice_index}
+use Rattle.std.specs.Int.{w128, from_be_bytes, to_be_bytes}
 use Rattle.aes_block.specs.Cipher.{cipher, xor_bytes}
 use Rattle.cmac_kdf.specs.Blocks.{zero_block, first_blocks, padded}
 
--- X << 1: each byte takes in the top bit of the next (4.2)
+-- X << 1, of the 128 bits of a block: the first is dropped, and a 0 comes last (4.2)
 unfoldable pub shifted_left : List ℕ → List ℕ
-shifted_left x = map (λ i. 2 * slice_index x i % 256 + slice_index x (i + 1) / 128) (range_with_len 0 16)
+shifted_left x = to_be_bytes w128 (2 * from_be_bytes w128 x % 2 ^ 128)
 
 -- R128: the constant of the field of the blocks (5.3)
 abbrev pub field_constant : List ℕ
 field_constant = replicate 15 0 ++ 0x87 ∷ []
 
--- the block times x: shifted, and R128 added where its top bit was set (6.1, steps 2 and 3)
+-- the block times x: shifted, and R128 added where its first bit was 1 (6.1, steps 2 and 3)
 unfoldable pub double : List ℕ → List ℕ
 double x = if nat_le 128 (slice_index x 0) then xor_bytes (shifted_left x) field_constant else shifted_left x
 
