@@ -68,28 +68,28 @@ padded_cancel p q e =
 
 -- ---- a buffer that is padded in place
 
-pub padded_in_place : (s zeros : List ℕ) (n k : ℕ) → padded_length n ≤ length s → k ≡ padded_length n - (n + 1) → zeros ≡ replicate (length (take k (drop (n + 1) (set s n 0x80)))) 0
-    → take (padded_length n) (put_mid (n + 1) k (set s n 0x80) zeros) ≡ padded (take n s)
+pub padded_in_place : (s zeros : List ℕ) (n end k : ℕ) → padded_length n ≤ length s → end ≡ padded_length n → k ≡ end - (n + 1) → zeros ≡ replicate (length (take k (drop (n + 1) (set s n 0x80)))) 0
+    → take end (put_mid (n + 1) k (set s n 0x80) zeros) ≡ padded (take n s)
 unfolding padded
-padded_in_place s zeros n k room ek ez =
+padded_in_place s zeros n end k room ee ek ez =
     let ls : length (set s n 0x80) ≡ length s = length-set s n 0x80 in
     let part : length (take k (drop (n + 1) (set s n 0x80))) ≡ k = length-take-le k _ (omega (arith, length-drop (n + 1) (set s n 0x80))) in
     let lz : length zeros ≡ k = ap length ez ∙ length-replicate {A = ℕ} _ 0 ∙ part in
     let lt : length (take n s) ≡ n = length-take-le n s (omega arith) in
     let count : length (take k (drop (n + 1) (set s n 0x80))) ≡ 15 - length (take n s) % 16 = omega arith in
-    take-put_mid (n + 1) k (set s n 0x80) zeros (padded_length n) (omega arith) (omega arith)
+    take-put_mid (n + 1) k (set s n 0x80) zeros end (omega arith) (omega arith)
     ∙ (λ i. take_more_set s n 0x80 (omega arith) i ++ ez i)
     ∙ append_assoc (take n s) (0x80 ∷ []) (replicate (length (take k (drop (n + 1) (set s n 0x80)))) 0)
     ∙ ap (λ (j : ℕ). take n s ++ 0x80 ∷ replicate j 0) count
 
-pub behind_padding : (s zeros : List ℕ) (n k : ℕ) → padded_length n ≤ length s → k ≡ padded_length n - (n + 1) → zeros ≡ replicate (length (take k (drop (n + 1) (set s n 0x80)))) 0
-    → drop (padded_length n) (put_mid (n + 1) k (set s n 0x80) zeros) ≡ drop (padded_length n) s
-behind_padding s zeros n k room ek ez =
+pub behind_padding : (s zeros : List ℕ) (n end k : ℕ) → padded_length n ≤ length s → end ≡ padded_length n → k ≡ end - (n + 1) → zeros ≡ replicate (length (take k (drop (n + 1) (set s n 0x80)))) 0
+    → drop end (put_mid (n + 1) k (set s n 0x80) zeros) ≡ drop end s
+behind_padding s zeros n end k room ee ek ez =
     let ls : length (set s n 0x80) ≡ length s = length-set s n 0x80 in
     let part : length (take k (drop (n + 1) (set s n 0x80))) ≡ k = length-take-le k _ (omega (arith, length-drop (n + 1) (set s n 0x80))) in
     let lz : length zeros ≡ k = ap length ez ∙ length-replicate {A = ℕ} _ 0 ∙ part in
-    drop-put_mid (n + 1) k (set s n 0x80) zeros (padded_length n) (omega arith) (omega arith) lz
-    ∙ drop-set-lt (padded_length n) s n 0x80 (omega arith)
+    drop-put_mid (n + 1) k (set s n 0x80) zeros end (omega arith) (omega arith) lz
+    ∙ drop-set-lt end s n 0x80 (omega arith)
 
 -- ---- padding that is stripped
 

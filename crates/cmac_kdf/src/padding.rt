@@ -1,7 +1,16 @@
 // Padding method 2 of ISO/IEC 9797-1.
 
-ghost use Rattle.std.specs.Prelude.{◌≡◌, ℕ, ◌%◌, ◌<◌, ◌≤◌, List, length, take, drop, IfSome, IfNone};
+ghost use Rattle.std.specs.Prelude.{◌≡◌, ℕ, ◌%◌, ◌^◌, ◌<◌, ◌≤◌, List, length, take, drop, IfSome, IfNone};
 ghost use Rattle.cmac_kdf.specs.Blocks.{padded, padded_length};
+
+/// The length of so many bytes with their padding: the next multiple of sixteen above it.
+#[inline]
+pub fn padded_len(len: usize) -> usize
+    requires { padded_length len < 2 ^ 64 }
+    ensures { result ≡ padded_length len }
+{
+    16 * (len / 16 + 1)
+}
 
 /// Pads the first `len` bytes to whole blocks, and answers their new length.
 #[inline]
@@ -11,7 +20,7 @@ pub fn pad(bytes: &mut [u8], len: usize) -> usize
     ensures padded { take result bytes.new ≡ padded (take len bytes.old) }
     ensures behind { drop result bytes.new ≡ drop result bytes.old }
 {
-    let end = 16 * (len / 16 + 1);
+    let end = padded_len(len);
     bytes[len] = 0x80;
     bytes[len + 1..end].fill(0);
     end
