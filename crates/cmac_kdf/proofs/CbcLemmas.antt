@@ -128,6 +128,11 @@ module _ (key icv old now chain : List ℕ) (i : ℕ) (long : length now ≡ len
       let o : take (16 * i) old ≡ old = take_all (16 * i) old (omega arith) in
       ap (cbc key icv) (sym n) ∙ sym (Encrypts_all key icv (take (16 * i) now) (take (16 * i) old) chain s.front) ∙ o
 
+-- no bytes are encrypted to none
+pub cbc_none : (key icv p : List ℕ) → length p ≡ 0 → cbc key icv p ≡ p
+unfolding cbc cbc_blocks
+cbc_none key icv p e = rw (nil_from_length p e) refl
+
 -- ---- lengths
 
 length-cbc_blocks : (key c p : List ℕ) (n : ℕ) → length (cbc_blocks key c (first_blocks n p)) ≡ 16 * n

@@ -59,8 +59,10 @@ pub fn cbc_seal<K: BlockKey>(key: &K, icv: &[u8; 16], buf: &mut [u8], len: usize
 }
 
 /// Decrypts the buffer and strips the padding: the bytes that `cbc_seal` turned into the old ones
-/// are the first ones of the buffer, as many as the answer says. After `BadPadding` nothing is
-/// said of the buffer.
+/// are the first ones of the buffer, as many as the answer says.
+///
+/// After `BadPadding` the buffer holds nothing to go by: the decrypted blocks, with their wrong
+/// padding, or, where it is not whole blocks, the old bytes.
 pub fn cbc_unseal<K: BlockKey>(key: &K, icv: &[u8; 16], buf: &mut [u8]) -> Result<usize, BadPadding>
     ensures ok { IfOk result (λ n.
         sealed (K.key_bytes key.now) icv.now (take n buf.new) ≡ buf.old) }
@@ -73,6 +75,9 @@ pub fn cbc_unseal<K: BlockKey>(key: &K, icv: &[u8; 16], buf: &mut [u8]) -> Resul
     // No bytes at all are sealed as these.
     ensures refused { OnErr result ((p : List ℕ) → IsBytes p
         → sealed (K.key_bytes key.now) icv.now p ≡ buf.old → ⊥) }
+    ensures decrypted { OnErr result (length buf.old % 16 ≡ 0
+        → cbc (K.key_bytes key.now) icv.now buf.new ≡ buf.old) }
+    ensures untouched { OnErr result ((length buf.old % 16 ≡ 0 → ⊥) → buf.new ≡ buf.old) }
 {
     if buf.is_empty() || buf.len() % 16 != 0 {
         return Err(BadPadding);
