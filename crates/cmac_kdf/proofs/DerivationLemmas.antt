@@ -1,18 +1,26 @@
 -- The input of a round of the derivation, and its output of one round or two.
 use Rattle.std.proofs.Common.{◌≡◌, ℕ, ◌+◌, ◌-◌, ◌*◌, ◌/◌, ◌<◌, ◌≤◌, List, [], ◌∷◌, ◌++◌, length, take, drop, get_or, sym, ap, ◌∙◌, arith}
 use Rattle.std.specs.Int.{w16, to_be_bytes}
-use Rattle.std.proofs.lemmas.List.{length-drop, take_at, drop_all, append-nil}
+use Rattle.std.proofs.lemmas.List.{length-append, length-drop, take_at, drop_all, append-nil}
 use Rattle.std.proofs.Math.Seq.{take-append-add}
-use borrow.Rule.Slice.PartMut.{post_of}
+use Rattle.std.proofs.lemmas.Slice.{take-put_mid}
+use borrow.Rule.Slice.PartMut.{post_of, put_mid}
 use Rattle.cmac_kdf.specs.Cmac.{cmac}
 use Rattle.cmac_kdf.specs.Derivation.{derivation_data, derived_blocks, kdf}
 use Rattle.cmac_kdf.proofs.CmacLemmas.{cmac_is_block}
 
-pub derivation_input : (constant bits i : ℕ) (context b : List ℕ) → b ≡ to_be_bytes w16 bits
-    → (0 ∷ 0 ∷ 0 ∷ 0 ∷ 0 ∷ 0 ∷ 0 ∷ 0 ∷ 0 ∷ 0 ∷ 0 ∷ constant ∷ 0 ∷ get_or b 0 0 ∷ get_or b 1 0 ∷ i ∷ []) ++ context ≡ derivation_data constant bits context i
+abbrev header : ℕ → List ℕ → ℕ → List ℕ
+header constant b i = 0 ∷ 0 ∷ 0 ∷ 0 ∷ 0 ∷ 0 ∷ 0 ∷ 0 ∷ 0 ∷ 0 ∷ 0 ∷ constant ∷ 0 ∷ get_or b 0 0 ∷ get_or b 1 0 ∷ i ∷ []
+
+-- the front of a buffer over which the header x and then the context y were written
+pub derivation_input : (constant bits i k : ℕ) (context b x y z : List ℕ) → b ≡ to_be_bytes w16 bits → x ≡ header constant b i → y ≡ context
+    → take (16 + length context) (put_mid 16 k (x ++ z) y) ≡ derivation_data constant bits context i
 unfolding derivation_data
-derivation_input constant bits i context b e =
-    ap (λ (s : List ℕ). (0 ∷ 0 ∷ 0 ∷ 0 ∷ 0 ∷ 0 ∷ 0 ∷ 0 ∷ 0 ∷ 0 ∷ 0 ∷ constant ∷ 0 ∷ get_or s 0 0 ∷ get_or s 1 0 ∷ i ∷ []) ++ context) e
+derivation_input constant bits i k context b x y z eb ex ey =
+    let lx : length x ≡ 16 = ap length ex in
+    take-put_mid 16 k (x ++ z) y (16 + length context) (omega (arith, ap length ey)) (omega (arith, length-append x z))
+    ∙ (λ j. (take_at x z 16 lx ∙ ex) j ++ ey j)
+    ∙ ap (λ (s : List ℕ). header constant s i ++ context) eb
 
 module _ (key context : List ℕ) (constant n : ℕ) where
   pub kdf_one : (x : List ℕ) → 0 < n → n ≤ 16 → x ≡ cmac key (derivation_data constant (8 * n) context 1) → take n x ≡ kdf key constant (8 * n) context

@@ -1,5 +1,12 @@
 // The examples of NIST SP 800-38A and SP 800-38B for AES-128, and each call once at that key type.
-use super::{Mac, cbc_seal, cbc_seal_blocks, cbc_unseal, cbc_unseal_blocks, cmac, derive};
+ghost use Rattle.std.specs.Prelude.{◌≡◌, ℕ, List, ◌++◌};
+ghost use Rattle.cmac_kdf.specs.Cmac as standard;
+ghost use Rattle.cmac_kdf.specs.Feeding.{mac_of, state_of};
+
+use super::{
+    CmacKey, CmacState, Mac, cbc_seal, cbc_seal_blocks, cbc_unseal, cbc_unseal_blocks, cmac,
+    derive, padded_len,
+};
 use aes_block::{Aes128, BlockKey};
 
 const KEY: [u8; 16] = [
@@ -45,6 +52,40 @@ const CODE_64: [u8; 16] = [
     0x51, 0xf0, 0xbe, 0xbf, 0x7e, 0x3b, 0x9d, 0x92, 0xfc, 0x49, 0x74, 0x17, 0x79, 0x36, 0x3c, 0xfe,
 ];
 
+// What is fed in two pieces is what is fed in one: the caller of the crate's documentation.
+fn code_of_two<K: BlockKey>(key: &K, front: &[u8], back: &[u8]) -> [u8; 16]
+    ensures { result ≡ standard.cmac (K.key_bytes key.now) (front.now ++ back.now) }
+{
+    let mut mac = Mac::new(key);
+    mac.feed(front);
+    mac.feed(back);
+    mac.finish()
+}
+
+// The state after two pieces is the one after their join.
+fn feed_two<K: BlockKey>(mac: &mut Mac<'_, K>, front: &[u8], back: &[u8])
+    ensures { (key m : List ℕ) → mac.old ≡ mac_of key m → mac.new ≡ mac_of key (m ++ (front.now ++ back.now)) }
+{
+    mac.feed(front);
+    mac.feed(back);
+}
+
+// A key and a message under way, in one value.
+#[derive(Drop)]
+struct Owned<K: BlockKey> {
+    key: CmacKey<K>,
+    state: CmacState,
+}
+
+impl<K: BlockKey> Owned<K> {
+    fn feed(&mut self, bytes: &[u8])
+        ensures key { self.new.key ≡ self.old.key }
+        ensures state { (m : List ℕ) → self.old.state ≡ state_of self.old.key m → self.new.state ≡ state_of self.old.key (m ++ bytes.now) }
+    {
+        self.key.feed(&mut self.state, bytes);
+    }
+}
+
 #[test]
 fn published_codes(rt: HostRuntime) {
     let key = Aes128::from_key(&KEY);
@@ -57,13 +98,21 @@ fn published_codes(rt: HostRuntime) {
 #[test]
 fn pieces_give_the_same_code(rt: HostRuntime) {
     let key = Aes128::from_key(&KEY);
+    assert_eq!(rt; code_of_two(&key, &MESSAGE[..7], &MESSAGE[7..]), CODE_64);
     let mut mac = Mac::new(&key);
-    mac.feed(&MESSAGE[..7]);
-    mac.feed(&[]);
-    mac.feed(&MESSAGE[7..16]);
-    mac.feed(&MESSAGE[16..39]);
-    mac.feed(&MESSAGE[39..]);
-    assert_eq!(rt; mac.finish(), CODE_64);
+    feed_two(&mut mac, &MESSAGE[..16], &MESSAGE[16..40]);
+    assert_eq!(rt; mac.finish(), CODE_40);
+}
+
+#[test]
+fn a_kept_key_gives_the_same_codes(rt: HostRuntime) {
+    let key = CmacKey::new(Aes128::from_key(&KEY));
+    assert_eq!(rt; key.cmac(&MESSAGE[..16]), CODE_16);
+    let state = key.start();
+    let mut owned = Owned { key, state };
+    owned.feed(&MESSAGE[..39]);
+    owned.feed(&MESSAGE[39..]);
+    assert_eq!(rt; owned.key.finish(&owned.state), CODE_64);
 }
 
 // OpenSSL's CMAC of eleven 00, 04, 00, 0100, the counter and 01 to 10, for the counters 01 and 02.
@@ -73,12 +122,15 @@ fn derived_from_two_rounds(rt: HostRuntime) {
     let context = [1, 2, 3, 4, 5, 6, 7, 8, 9, 10, 11, 12, 13, 14, 15, 16];
     let mut out = [0; 32];
     derive(&key, 4, &context, &mut out);
+    let mut kept = [0; 32];
+    CmacKey::new(Aes128::from_key(&KEY)).derive(4, &context, &mut kept);
     let expected = [
         0xaf, 0x75, 0x2c, 0x0c, 0x01, 0xd7, 0xb1, 0x93, 0xf2, 0x65, 0xde, 0xeb, 0x49, 0x59, 0xc5,
         0x16, 0x72, 0x84, 0x50, 0xc7, 0x8e, 0x89, 0x7b, 0x35, 0xa8, 0x26, 0x20, 0x0c, 0x68, 0x46,
         0x9d, 0x43,
     ];
     assert_eq!(rt; out, expected);
+    assert_eq!(rt; kept, expected);
 }
 
 #[test]
@@ -97,6 +149,7 @@ fn unsealed_as_sealed(rt: HostRuntime) {
     let mut buf = MESSAGE;
     let sealed = cbc_seal(&key, &ICV, &mut buf, 48);
     assert_eq!(rt; sealed, 64);
+    assert_eq!(rt; sealed, padded_len(48));
     let front = &buf[..48];
     assert_eq!(rt; front, &ENCRYPTED[..48]);
     let opened = cbc_unseal(&key, &ICV, &mut buf);

@@ -1,23 +1,11 @@
-use Rattle.std.proofs.Common.{◌≡◌, ◌∙◌, ap, sym, subst, refl, ℕ, ◌+◌, ◌-◌, ◌*◌, ◌/◌, length, take, arith}
-use Rattle.std.proofs.lemmas.List.{length-take-le, take_rest}
-use Rattle.cmac_kdf.specs.Feeding.{MacState, Stands}
-use Rattle.cmac_kdf.proofs.CmacLemmas.{Stands_short, Stands_fed, held_more}
+use Rattle.std.proofs.Common.{◌≡◌, ◌∙◌, ◌++◌, ap, sym, ℕ, List}
+use Rattle.cmac_kdf.specs.Feeding.{state_of, mac_of}
+use Rattle.cmac_kdf.proofs.CmacLemmas.{mac_parts}
 use Rattle.cmac_kdf.proofs.message_code.Mac.feed.Goals as goal
 
-pub returns-then-bytes-room : goal.returns-then-bytes-room
-returns-then-bytes-room g c = λ key m stands.
-    let P : MacState → Type 0 = λ s. Stands key s m in
-    let held : length (take c.self.inside.held_len c.self.inside.held) ≡ c.self.inside.held_len =
-    length-take-le c.self.inside.held_len c.self.inside.held (omega (arith, c.self.told.1, c.self.invariant)) in
-    Stands_short key _ _ m c.args.bytes.now (subst P (sym c.self.view_is) stands) (omega (arith, held, c.if-bytes-room.true, c.self.invariant)) refl refl
-    (held_more c.self.inside.held c.args.bytes.now _ c.self.inside.held_len _ c.self.told.1 c.self.invariant c.copy_from_slice.ensures.after)
-
 pub returns : goal.returns
-returns g c = λ key m stands.
-    let P : MacState → Type 0 = λ s. Stands key s m in
-    let last : ℕ = 16 - c.self.inside.held_len + (length c.args.bytes.now - (16 - c.self.inside.held_len) - 1) / 16 * 16 in
-    Stands_fed key (g.K.BlockKey.key_bytes c.self.inside.key.now) c.self.inside.chain c.self.inside.held m c.args.bytes.now c.self.inside.held_len last
-    c.self.told.1 c.self.invariant c.if-bytes-room.false refl
-    c.copy_from_slice-2.new.self c.copy_from_slice-3.new.self c.absorb.new.chain c.absorb_blocks.new.chain _ _ (subst P (sym c.self.view_is) stands)
-    c.copy_from_slice-2.ensures.after c.absorb.ensures c.absorb_blocks.ensures
-    (c.copy_from_slice-3.ensures.after ∙ take_rest c.args.bytes.now last) (ap length (take_rest c.args.bytes.now last))
+unfolding mac_of
+returns g c = λ key m e.
+    let parts = mac_parts key m _ _ (c.self.view_is ∙ e) in
+    let held : c.self.inside.state ≡ state_of (g.K.BlockKey.key_bytes c.self.inside.key.now) m = parts.1 ∙ ap (λ (k : List ℕ). state_of k m) (sym parts.0) in
+    (λ i. record { key = parts.0 i; state = (c.feed.ensures m held ∙ ap (λ (k : List ℕ). state_of k (m ++ c.args.bytes.now)) parts.0) i })

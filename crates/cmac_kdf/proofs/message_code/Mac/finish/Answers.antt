@@ -1,11 +1,11 @@
-use Rattle.std.proofs.Common.{◌∙◌, ap, sym, subst, List, ℕ}
-use Rattle.aes_block.specs.Cipher.{cipher, xor_bytes}
-use Rattle.cmac_kdf.specs.Feeding.{MacState, Stands}
-use Rattle.cmac_kdf.proofs.CmacLemmas.{cmac_from}
+use Rattle.std.proofs.Common.{◌≡◌, ◌∙◌, ap, sym, ℕ, List}
+use Rattle.cmac_kdf.specs.Cmac.{cmac}
+use Rattle.cmac_kdf.specs.Feeding.{state_of}
+use Rattle.cmac_kdf.proofs.CmacLemmas.{mac_parts}
 use Rattle.cmac_kdf.proofs.message_code.Mac.finish.Goals as goal
 
 pub returns : goal.returns
-returns g c = λ key m stands.
-    let P : MacState → Type 0 = λ s. Stands key s m in
-    cmac_from key _ m _ (subst P (sym c.self.view_is) stands)
-    (c.absorb.ensures ∙ ap (λ (b : List ℕ). cipher (g.K.BlockKey.key_bytes c.self.inside.key.now) (xor_bytes c.self.inside.chain b)) c.masked-block.ensures)
+returns g c = λ key m e.
+    let parts = mac_parts key m _ _ (c.self.view_is ∙ e) in
+    let held : c.self.inside.state ≡ state_of (g.K.BlockKey.key_bytes c.self.inside.key.now) m = parts.1 ∙ ap (λ (k : List ℕ). state_of k m) (sym parts.0) in
+    c.finish.ensures m held ∙ ap (λ (k : List ℕ). cmac k m) parts.0

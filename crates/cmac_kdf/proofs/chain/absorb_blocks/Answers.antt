@@ -2,7 +2,7 @@ use Rattle.std.proofs.Common.{◌∙◌, ap}
 use Rattle.std.proofs.lemmas.List.{take_all}
 use Rattle.cmac_kdf.specs.Cmac.{chained}
 use Rattle.cmac_kdf.proofs.CmacLemmas.{chained_none, chained_more}
-use Rattle.cmac_kdf.proofs.message_code.absorb_blocks.Goals as goal
+use Rattle.cmac_kdf.proofs.chain.absorb_blocks.Goals as goal
 
 pub loop-block-init : goal.loop-block-init
 loop-block-init g c = chained_none (g.K.BlockKey.key_bytes c.args.key.now) c.args.chain.now c.as_chunks.result.0.now

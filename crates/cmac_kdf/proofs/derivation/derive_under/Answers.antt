@@ -1,6 +1,6 @@
 use Rattle.std.proofs.Common.{◌∙◌, refl}
 use Rattle.cmac_kdf.proofs.DerivationLemmas.{kdf_one, kdf_two}
-use Rattle.cmac_kdf.proofs.derivation.derive.Goals as goal
+use Rattle.cmac_kdf.proofs.derivation.derive_under.Goals as goal
 
 pub returns-then-len-le16 : goal.returns-then-len-le16
 returns-then-len-le16 g c =
