@@ -2,7 +2,7 @@ use Rattle.std.proofs.Common.{ap, ◌∙◌, ℕ, List, arith}
 use Rattle.aes_block.specs.Words.{word_bytes}
 use Rattle.aes_block.specs.Cipher.{xor_bytes}
 use Rattle.aes_block.proofs.WordRules.{word_bytes-from, word_bytes-xor}
-use Rattle.aes_block.proofs.columns.last_sealed_column.Goals as goal
+use Rattle.aes_block.proofs.column.last_sealed_column.Goals as goal
 
 pub returns : goal.returns
 returns c =
