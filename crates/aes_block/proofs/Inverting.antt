@@ -1,7 +1,7 @@
 -- The equivalent inverse cipher gives a block that the cipher turns into the old one.
 use Rattle.std.proofs.Common.{◌≡◌, ℕ, zero, suc, ◌+◌, ◌-◌, ◌*◌, ◌/◌, ◌<◌, List, [], ◌∷◌, ◌++◌, length, bit_xor, slice_index, refl, sym, ap, ◌∙◌, arith}
 use Rattle.aes_block.specs.Cipher.{IsBlock, xor_bytes, sub_bytes, shift_rows, mix_columns, four_words, add_round_key, state_after, cipher_rounds, cipher}
-use Rattle.aes_block.specs.KeyLaw.{first_bytes_are_key}
+use Rattle.aes_block.proofs.KeyLaw.{first_bytes_are_key}
 use Rattle.aes_block.specs.Words.{key_words, first_bytes, rounds}
 use Rattle.aes_block.specs.Inverse.{inv_sub_bytes, inv_shift_rows, inv_mix_column, inv_mix_column_at, inv_mix_columns, inv_state_after, inv_cipher_rounds, IsInverseSchedule}
 use Rattle.aes_block.proofs.CipherLemmas.{same_block}

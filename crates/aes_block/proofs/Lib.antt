@@ -1,3 +1,4 @@
+pub mod KeyLaw
 pub mod Xor
 pub mod Products
 pub mod Bytes

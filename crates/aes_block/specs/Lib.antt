@@ -4,4 +4,3 @@ pub mod Words
 pub mod Cipher
 pub mod Inverse
 pub mod State
-pub mod KeyLaw

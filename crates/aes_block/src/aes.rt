@@ -1,51 +1,123 @@
-ghost use Rattle.std.proofs.Common.{inl, refl};
-ghost use Rattle.std.specs.Prelude.{◌≡◌};
+// Keys of any of the three lengths.
+
+ghost use Rattle.std.specs.Prelude.{◌≡◌, ◌+◌, ◌/◌};
+ghost use Rattle.aes_block.specs.Cipher.{IsKey};
 ghost use Rattle.aes_block.specs.Inverse.{IsInverseSchedule};
-ghost use Rattle.aes_block.specs.Words.{first_bytes, key_words};
-ghost use Rattle.aes_block.specs.KeyLaw.{first_bytes_are_key};
+ghost use Rattle.aes_block.specs.Words.{first_bytes, key_words, schedule_of};
 
 use crate::block_key::BlockKey;
+use crate::key_size::{Bits128, Bits192, Bits256, KeySize, rounds};
 use crate::rounds::{seal_rounds, unseal_rounds};
 use crate::schedule::{expand, invert};
+use std::marker::PhantomData;
 
-const ROUNDS: usize = 10;
+// The words of a key schedule of fourteen rounds; shorter ones leave the last of them unused.
+const MOST_WORDS: usize = 60;
 
-/// A key of sixteen bytes, with the words of its key schedule and of the inverse one.
+/// A key for blocks that are sealed. It has no inverse key schedule: `unseal` makes it at each call.
 #[derive(Drop)]
-pub struct Aes128 {
-    seal_words: [u32; 44],
-    unseal_words: [u32; 44],
-    ghost schedule: { seal_words ≡ key_words (first_bytes seal_words 4) },
-    ghost inverse: { IsInverseSchedule seal_words unseal_words 10 },
+pub struct SealingAes<S: KeySize> {
+    words: [u32; MOST_WORDS],
+    size: PhantomData<S>,
+    ghost whole: { IsKey S.BYTES (first_bytes (schedule_of S.BYTES words) (S.BYTES / 4)) },
+    ghost schedule: { schedule_of S.BYTES words ≡ key_words (first_bytes (schedule_of S.BYTES words) (S.BYTES / 4)) },
 }
 
-impl BlockKey for Aes128 {
-    const LEN: usize = 16;
+/// A key for both directions, with both key schedules made.
+#[derive(Drop)]
+pub struct Aes<S: KeySize> {
+    sealing: SealingAes<S>,
+    inverse_words: [u32; MOST_WORDS],
+    ghost inverse: { IsInverseSchedule (schedule_of S.BYTES sealing.words) (schedule_of S.BYTES inverse_words) (S.BYTES / 4 + 6) },
+}
 
-    ghost LEN = { 16 };
+/// Keys of sixteen, twenty-four and thirty-two bytes.
+pub type Aes128 = Aes<Bits128>;
 
-    ghost key_bytes = { λ k. first_bytes k.seal_words 4 };
+pub type Aes192 = Aes<Bits192>;
 
-    fn from_key(key: &[u8]) -> Aes128 {
-        let mut seal_words = [0; 44];
-        expand(key, &mut seal_words);
-        let mut unseal_words = [0; 44];
-        invert(&seal_words, ROUNDS, &mut unseal_words);
-        Aes128 {
-            seal_words,
-            unseal_words,
+pub type Aes256 = Aes<Bits256>;
+
+/// The same, for blocks that are sealed.
+pub type SealingAes128 = SealingAes<Bits128>;
+
+pub type SealingAes192 = SealingAes<Bits192>;
+
+pub type SealingAes256 = SealingAes<Bits256>;
+
+impl<S: KeySize> SealingAes<S> {
+    #[inline(always)]
+    fn inverse_words(&self) -> [u32; MOST_WORDS]
+        ensures { IsInverseSchedule (schedule_of S.BYTES self.now.words) (schedule_of S.BYTES result) (S.BYTES / 4 + 6) }
+    {
+        let rounds = rounds::<S>();
+        let mut words = [0; MOST_WORDS];
+        invert(
+            &self.words[..4 * rounds + 4],
+            rounds,
+            &mut words[..4 * rounds + 4],
+        );
+        words
+    }
+}
+
+impl<S: KeySize> BlockKey for SealingAes<S> {
+    const LEN: usize = S::BYTES;
+
+    ghost LEN = { S.BYTES };
+
+    ghost key_bytes = { λ k. first_bytes (schedule_of S.BYTES k.words) (S.BYTES / 4) };
+
+    fn from_key(key: &[u8]) -> SealingAes<S> {
+        let mut words = [0; MOST_WORDS];
+        expand(key, &mut words[..4 * rounds::<S>() + 4]);
+        SealingAes {
+            words,
+            size: PhantomData,
         }
     }
 
     fn seal(&self, block: &mut [u8; 16]) {
-        seal_rounds(&self.seal_words, ROUNDS, block);
+        let rounds = rounds::<S>();
+        seal_rounds(&self.words[..4 * rounds + 4], rounds, block);
     }
 
     fn unseal(&self, block: &mut [u8; 16]) {
-        unseal_rounds(&self.unseal_words, ROUNDS, block);
+        let rounds = rounds::<S>();
+        unseal_rounds(&self.inverse_words()[..4 * rounds + 4], rounds, block);
     }
 
-    ghost standard_length = { inl refl };
+    ghost standard_length = { S.standard };
 
-    ghost whole_key = { λ k. first_bytes_are_key k.seal_words 4 };
+    ghost whole_key = { λ k. k.whole };
+}
+
+impl<S: KeySize> BlockKey for Aes<S> {
+    const LEN: usize = S::BYTES;
+
+    ghost LEN = { S.BYTES };
+
+    ghost key_bytes = { λ k. first_bytes (schedule_of S.BYTES k.sealing.words) (S.BYTES / 4) };
+
+    fn from_key(key: &[u8]) -> Aes<S> {
+        let sealing = SealingAes::from_key(key);
+        let inverse_words = sealing.inverse_words();
+        Aes {
+            sealing,
+            inverse_words,
+        }
+    }
+
+    fn seal(&self, block: &mut [u8; 16]) {
+        self.sealing.seal(block);
+    }
+
+    fn unseal(&self, block: &mut [u8; 16]) {
+        let rounds = rounds::<S>();
+        unseal_rounds(&self.inverse_words[..4 * rounds + 4], rounds, block);
+    }
+
+    ghost standard_length = { S.standard };
+
+    ghost whole_key = { λ k. k.sealing.whole };
 }

@@ -16,15 +16,22 @@
 //! from the S-box. How long a call takes may depend on the key and on the block.
 #![tactic(auto)]
 
-mod aes128;
+mod aes;
 mod block_key;
+mod column;
 mod columns;
+mod key_size;
 mod rounds;
 mod schedule;
+mod seal_tables;
 mod tables;
+mod unseal_tables;
 
-pub use aes128::Aes128;
+pub use aes::{
+    Aes, Aes128, Aes192, Aes256, SealingAes, SealingAes128, SealingAes192, SealingAes256,
+};
 pub use block_key::BlockKey;
+pub use key_size::{Bits128, Bits192, Bits256, KeySize};
 
 #[cfg(test)]
 mod plain;

@@ -5,7 +5,7 @@ ghost use Rattle.aes_block.specs.Cipher.{IsKeyLength};
 ghost use Rattle.aes_block.specs.Inverse.{IsInverseSchedule, IsInverseWord, inv_mix_word};
 ghost use Rattle.aes_block.specs.Words.{key_word, key_words, schedule_core, sub_word, word_bytes};
 
-use crate::columns::{first, fourth, second, third, unsealed_column};
+use crate::column::{first, fourth, second, third, unsealed_column};
 use crate::tables::{ROUND_CONSTANTS, substitute};
 
 fn word_at(key: &[u8], i: usize) -> u32
