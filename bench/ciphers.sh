@@ -1,53 +1,92 @@
 #!/usr/bin/env bash
-# Times the ciphers beside OpenSSL with its AES instructions off, and prints the ratios.
-# It is no test: it ends 0 where it ran. TRIES says how often each call is timed (3 times else), the best counts.
+# Times the ciphers beside nettle and OpenSSL, both without the AES instructions and OpenSSL
+# without vector permutation, and prints a table. It is no test, but ends 1 where a checksum of
+# another library differs.
+#
+#   bench/ciphers.sh         every row
+#   bench/ciphers.sh CALL    the rows of one call, as cmac
+#
+# The three take turns on one core, CORE if set, and the best of TRIES times counts, 5 if unset.
+# It wants a C compiler and the headers of nettle and OpenSSL (nettle-dev, libssl-dev).
 set -euo pipefail
 
-here=$(cd "$(dirname "$0")/.." && pwd)
-program=$here/crates/cipher_bench/out/cipher_bench
-tries=${TRIES:-3}
-blocks=10000000
-messages=2000000
+here=$(dirname "$(readlink -f "${BASH_SOURCE[0]}")")
+crate=$here/../crates/cipher_bench
+tries=${TRIES:-5}
+core=${CORE:-$(($(nproc) - 1))}
+only=${1:-}
 
-if [ ! -x "$program" ]; then
+# nettle: another vendor's processor, so no AES instructions.
+export NETTLE_FAT_OVERRIDE=vendor:other
+# OpenSSL: neither the AES instructions (bit 57) nor SSSE3 (bit 41).
+export OPENSSL_ia32cap="~0x200020000000000"
+
+tmp=$(mktemp -d "${TMPDIR:-/tmp}/ciphers.XXXXXX")
+trap 'rm -rf "$tmp"' EXIT
+
+if [[ ! -x $crate/out/cipher_bench ]]; then
     echo "building cipher_bench (some minutes the first time)" >&2
-    (cd "$here/crates/cipher_bench" && rt run -- seal 1 </dev/null >&2)
+    (cd "$crate" && rt run -- seal 16 1 </dev/null >&2)
 fi
+cc -O2 -o "$tmp/ciphers" "$here/ciphers.c" -lnettle -lcrypto
 
-# the processor time of the fastest of a few runs of a call, in seconds
-seconds() {
-    local best="" now
-    for _ in $(seq "$tries"); do
-        now=$( { TIMEFORMAT=%U; time "$program" "$1" "$2" >/dev/null; } 2>&1 )
-        if [ -z "$best" ] || awk "BEGIN { exit !($now < $best) }"; then
-            best=$now
-        fi
-    done
-    echo "$best"
-}
-
-# OpenSSL's thousands of bytes a second at this size of message
-openssl_rate() {
-    local size=$1
+# Runs one library's call and leaves the checksum in `sum` and the processor time in `took`, in milliseconds.
+measure() {
+    local library=$1
     shift
-    OPENSSL_ia32cap="~0x200000200000000" openssl speed -seconds 2 -bytes "$size" "$@" 2>/dev/null |
-        awk 'END { sub("k$", "", $NF); print $NF }'
+    local program=("$tmp/ciphers" "$library")
+    if [[ $library == ours ]]; then
+        program=("$crate/out/cipher_bench")
+    fi
+    { TIMEFORMAT=%3U; time taskset -c "$core" "${program[@]}" "$@" >"$tmp/sum"; } 2>"$tmp/took"
+    sum=$(<"$tmp/sum")
+    took=$((10#$(tr -d . <"$tmp/took")))
 }
 
-line() {
-    awk -v name="$1" -v ours="$2" -v theirs="$3" -v unit="$4" -v goal="$5" \
-        'BEGIN { printf "%-28s %8.1f  openssl %8.1f %-12s ratio %.2f  (goal %s)\n", name, ours, theirs, unit, ours / theirs, goal }'
+# One row: the name, the call and size of ours and of the others, and how often it is made.
+row() {
+    local name=$1 call=$2 size=$3 count=$4 theirs=${5:-$2} library try expected
+    if [[ -n $only && $only != "$call" ]]; then
+        return
+    fi
+    local -A best=()
+    for ((try = 0; try < tries; try++)); do
+        for library in ours nettle openssl; do
+            if [[ $library == ours ]]; then
+                measure ours "$call" "$size" "$count"
+                expected=$sum
+            else
+                measure "$library" "$theirs" "$size" "$count"
+                [[ $sum == "$expected" ]] || { echo "$name: $library gives $sum, ours $expected" >&2; exit 1; }
+            fi
+            if [[ -z ${best[$library]-} ]] || ((took < best[$library])); then
+                best[$library]=$took
+            fi
+        done
+    done
+    awk -v name="$name" -v ours="${best[ours]}" -v nettle="${best[nettle]}" -v openssl="${best[openssl]}" -v count="$count" 'BEGIN {
+        printf "| %-34s | %9.1f | %9.1f | %9.1f | %6.2f | %7.2f |\n",
+            name, ours * 1e6 / count, nettle * 1e6 / count, openssl * 1e6 / count, nettle / ours, openssl / ours
+    }'
 }
 
-megabytes() { awk "BEGIN { print $1 * 16 / 1e6 / $2 }"; }
-
-seal=$(megabytes "$blocks" "$(seconds seal "$blocks")")
-unseal=$(megabytes "$blocks" "$(seconds unseal "$blocks")")
-long_cmac=$(megabytes "$blocks" "$(seconds cmac "$blocks")")
-long_cbc=$(megabytes "$blocks" "$(seconds cbc "$blocks")")
-short=$(awk "BEGIN { print $messages / 1e3 / $(seconds macs "$messages") }")
-
-line "CMAC, long input" "$long_cmac" "$(awk "BEGIN { print $(openssl_rate 16384 -cmac aes-128-cbc) / 1e3 }")" "MB/s" "0.60"
-line "CBC, long input" "$long_cbc" "$(awk "BEGIN { print $(openssl_rate 16384 -evp aes-128-cbc) / 1e3 }")" "MB/s" "0.60"
-line "CMACs of 32 bytes" "$short" "$(awk "BEGIN { print $(openssl_rate 32 -cmac aes-128-cbc) / 32 }")" "thousand/s" "1.00"
-awk -v s="$seal" -v u="$unseal" 'BEGIN { printf "%-28s %8.1f  seal    %8.1f %-12s ratio %.2f  (goal %s)\n", "unseal, block by block", u, s, "MB/s", u / s, "0.80" }'
+echo "| AES-128, nanoseconds a call        |      ours |    nettle |   OpenSSL | nettle | OpenSSL |"
+echo "|------------------------------------|----------:|----------:|----------:|-------:|--------:|"
+row "one block sealed" seal 16 5000000
+row "one block unsealed" unseal 16 5000000
+row "new sealing key, one block sealed" key 16 2000000
+row "new key, one block sealed" both 16 2000000 key
+for size in 16 32 64 280; do
+    row "CMAC of $size bytes" cmac "$size" $((60000000 / (size + 8)))
+done
+row "CMAC of 16384 bytes" cmac 16384 4000
+row "CMAC of 32 bytes, new key" new-cmac 32 1000000
+row "derivation of 16 bytes" derive 16 2000000
+for size in 32 256; do
+    row "CBC of $size bytes, sealed" cbc-seal "$size" $((60000000 / size))
+    row "CBC of $size bytes, unsealed" cbc-unseal "$size" $((60000000 / size))
+done
+row "CBC of 16384 bytes, sealed" cbc-seal 16384 4000
+row "CBC of 16384 bytes, unsealed" cbc-unseal 16384 4000
+row "session, sealing keys" session 16 200000
+row "session" both-session 16 200000 session

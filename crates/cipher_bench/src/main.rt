@@ -1,32 +1,34 @@
-//! Runs one call of the ciphers many times and prints a checksum: the words are a call and a count.
-//!
-//! `seal` and `unseal` count blocks, each made of the last. `cmac` and `cbc` count blocks of one long message.
-//! `macs` counts messages of 32 bytes, each under the same key.
+//! Makes one call of the ciphers many times, each on what the last one gave, and prints a checksum.
+//! The words are a call, the bytes of a message, and a count. `bench/ciphers.c` makes the same
+//! calls of other libraries and prints the same checksums.
 #![tactic(auto)]
 
-mod rounds;
+mod calls;
+mod session;
 
-use aes_block::{Aes128, BlockKey};
 use std::env;
 use std::process::ExitCode;
-
-const KEY: [u8; 16] = [
-    0x2b, 0x7e, 0x15, 0x16, 0x28, 0xae, 0xd2, 0xa6, 0xab, 0xf7, 0x15, 0x88, 0x09, 0xcf, 0x4f, 0x3c,
-];
 
 fn main(rt: HostRuntime) -> ExitCode {
     let Ok(mut words) = env::args(&rt) else {
         return ExitCode::from(1);
     };
     let _program = words.next();
-    let (Some(call), Some(count), None) = (words.next(), words.next(), words.next()) else {
+    let (Some(call), Some(size), Some(count), None) = (
+        words.next(),
+        words.next(),
+        words.next(),
+        words.next(),
+    ) else {
         return ExitCode::from(1);
     };
-    let Ok(count) = count.as_str().parse::<u32>() else {
+    let (Ok(size), Ok(count)) = (
+        size.as_str().parse::<usize>(),
+        count.as_str().parse::<u32>(),
+    ) else {
         return ExitCode::from(1);
     };
-    let key = Aes128::from_key(&KEY);
-    let Some(sum) = rounds::checksum(&key, call.as_str(), count) else {
+    let Some(sum) = calls::checksum(call.as_str(), size, count) else {
         return ExitCode::from(1);
     };
     match println!(rt; "{sum:032x}") {
