@@ -5,7 +5,7 @@ ghost use Rattle.aes_block.specs.Cipher.{four_words, mix_columns, shift_rows, su
 ghost use Rattle.aes_block.specs.Inverse.{inv_mix_columns, inv_shift_rows, inv_sub_bytes};
 ghost use Rattle.aes_block.specs.State.{state_bytes};
 
-use crate::column::{last_sealed_column, last_unsealed_column, sealed_column, unsealed_column};
+use crate::column::{last_sealed_column, last_unsealed_column, sealing_shares, summed, unsealing_shares};
 
 /// The four columns of the state, each as the word whose highest byte is the first row's.
 #[derive(Clone, Copy)]
@@ -76,11 +76,16 @@ impl Columns {
     pub fn sealed(self, key: Columns) -> Columns
         ensures { state_bytes result ≡ xor_bytes (mix_columns (shift_rows (sub_bytes (state_bytes self)))) (state_bytes key) }
     {
+        // All look-ups of one column before those of the next: so the fewest words are held at once.
+        let a = sealing_shares(self.a);
+        let b = sealing_shares(self.b);
+        let c = sealing_shares(self.c);
+        let d = sealing_shares(self.d);
         Columns {
-            a: sealed_column(self.a, self.b, self.c, self.d, key.a),
-            b: sealed_column(self.b, self.c, self.d, self.a, key.b),
-            c: sealed_column(self.c, self.d, self.a, self.b, key.c),
-            d: sealed_column(self.d, self.a, self.b, self.c, key.d),
+            a: summed(key.a, a.first, b.second, c.third, d.fourth),
+            b: summed(key.b, b.first, c.second, d.third, a.fourth),
+            c: summed(key.c, c.first, d.second, a.third, b.fourth),
+            d: summed(key.d, d.first, a.second, b.third, c.fourth),
         }
     }
 
@@ -102,11 +107,16 @@ impl Columns {
     pub fn unsealed(self, key: Columns) -> Columns
         ensures { state_bytes result ≡ xor_bytes (inv_mix_columns (inv_sub_bytes (inv_shift_rows (state_bytes self)))) (state_bytes key) }
     {
+        // As in `sealed`.
+        let a = unsealing_shares(self.a);
+        let b = unsealing_shares(self.b);
+        let c = unsealing_shares(self.c);
+        let d = unsealing_shares(self.d);
         Columns {
-            a: unsealed_column(self.a, self.d, self.c, self.b, key.a),
-            b: unsealed_column(self.b, self.a, self.d, self.c, key.b),
-            c: unsealed_column(self.c, self.b, self.a, self.d, key.c),
-            d: unsealed_column(self.d, self.c, self.b, self.a, key.d),
+            a: summed(key.a, a.first, d.second, c.third, b.fourth),
+            b: summed(key.b, b.first, a.second, d.third, c.fourth),
+            c: summed(key.c, c.first, b.second, a.third, d.fourth),
+            d: summed(key.d, d.first, c.second, b.third, a.fourth),
         }
     }
 

@@ -5,7 +5,7 @@ ghost use Rattle.aes_block.specs.Cipher.{IsKeyLength};
 ghost use Rattle.aes_block.specs.Inverse.{IsInverseSchedule, IsInverseWord, inv_mix_word};
 ghost use Rattle.aes_block.specs.Words.{key_word, key_words, schedule_core, sub_word, word_bytes};
 
-use crate::column::{first, fourth, second, third, unsealed_column};
+use crate::column::{first, fourth, second, summed, third, unsealing_shares};
 use crate::tables::{ROUND_CONSTANTS, substitute};
 
 fn word_at(key: &[u8], i: usize) -> u32
@@ -60,8 +60,8 @@ pub fn expand(key: &[u8], words: &mut [u32])
 fn unmixed(word: u32) -> u32
     ensures { word_bytes result ≡ inv_mix_word word }
 {
-    let bytes = substituted(word);
-    unsealed_column(bytes, bytes, bytes, bytes, 0)
+    let shares = unsealing_shares(substituted(word));
+    summed(0, shares.first, shares.second, shares.third, shares.fourth)
 }
 
 fn inverse_word(words: &[u32], rounds: usize, i: usize) -> u32
