@@ -1,12 +1,12 @@
 -- How the chaining value and the held bytes follow a message as it grows.
 use Rattle.std.proofs.Common.{◌≡◌, ℕ, ◌+◌, ◌-◌, ◌*◌, ◌/◌, ◌%◌, ◌<◌, ◌≤◌, List, [], ◌∷◌, ◌++◌, length, take, drop, get_or, ◌≢◌, subst, refl, sym, ap, ◌∙◌, arith, eq-eqb}
 use Rattle.std.proofs.lemmas.Bool.{ne_eqb}
-use Rattle.std.proofs.lemmas.List.{length-append, length-drop, length-take-le, take-append-drop, append_assoc, append-nil, drop_at, take_more, take_all, take_at, drop_all, drop-drop}
+use Rattle.std.proofs.lemmas.List.{length-append, length-drop, length-take-le, take-append-drop, append_assoc, append-nil, drop_at, take_more, take_at, drop_all, drop-drop}
 use Rattle.std.proofs.lemmas.Slice.{take-put_mid}
 use borrow.Rule.Slice.PartMut.{put_mid}
 use Rattle.aes_block.specs.Cipher.{IsBlock, cipher, xor_bytes}
 use Rattle.aes_block.proofs.CipherLemmas.{cipher_is_block}
-use Rattle.cmac_kdf.specs.Blocks.{zero_block, first_blocks, blocks, padded, padded_length}
+use Rattle.cmac_kdf.specs.Blocks.{zero_block, first_blocks, blocks, padded}
 use Rattle.cmac_kdf.specs.Cmac.{chained, first_subkey, second_subkey, blocks_before_last, last_bytes, last_block, cmac}
 use Rattle.cmac_kdf.specs.Feeding.{MessageState, MacState, state_of, mac_of}
 use Rattle.cmac_kdf.proofs.BlockLemmas.{first_blocks-append, blocks-append, blocks_of_one}
@@ -160,17 +160,11 @@ cmac_from key c b x m ec eb e =
     ∙ sym (chained-append key zero_block (first_blocks (blocks_before_last m) m) (last_block key (last_bytes m) ∷ []))
 
 -- a whole last block added to the first subkey, and a cut one, padded, to the second
-pub masked_whole : (key s k : List ℕ) (n : ℕ) → length s ≡ 16 → n ≡ 16 → k ≡ first_subkey key → xor_bytes k s ≡ last_block key (take n s)
-masked_whole key s k n ls en ek =
-    let same : take n s ≡ s = take_all n s (omega arith) in
-    ap (λ (t : List ℕ). xor_bytes t s) ek ∙ last_block_whole key s ls ∙ ap (last_block key) (sym same)
+pub masked_whole : (key b k : List ℕ) → length b ≡ 16 → k ≡ first_subkey key → xor_bytes k b ≡ last_block key b
+masked_whole key b k lb ek = ap (λ (t : List ℕ). xor_bytes t b) ek ∙ last_block_whole key b lb
 
-pub masked_cut : (key s k b : List ℕ) (n j : ℕ) → length s ≡ 16 → n ≤ 16 → n ≢ 16 → length b ≡ 16 → k ≡ second_subkey key
-    → j ≡ padded_length n → take j b ≡ padded (take n s) → xor_bytes k b ≡ last_block key (take n s)
-masked_cut key s k b n j ls le ne lb ek ej eb =
-    let cut : length (take n s) < 16 = omega (arith, length-take-le n s) in
-    let filled : b ≡ padded (take n s) = sym (take_all j b (omega arith)) ∙ eb in
-    (λ i. xor_bytes (ek i) (filled i)) ∙ last_block_cut key (take n s) cut
+pub masked_cut : (key b k p : List ℕ) → length b ≤ 16 → length b ≢ 16 → k ≡ second_subkey key → p ≡ padded b → xor_bytes k p ≡ last_block key b
+masked_cut key b k p le ne ek ep = (λ i. xor_bytes (ek i) (ep i)) ∙ last_block_cut key b (omega arith)
 
 -- ---- what feed writes
 
@@ -229,11 +223,10 @@ blocks_before m n last en el =
     ∙ sym (first_blocks-append (length (take last m) / 16) 0 (blocks_before_last m) (take last m) (drop last m) (omega arith) (omega arith))
     ∙ ap (first_blocks (blocks_before_last m)) (take-append-drop last m)
 
-module _ (key m held : List ℕ) (n last j : ℕ) (en : n ≡ length m - 1) (el : last ≡ n / 16 * 16) where
-  pub last_held : (z : List ℕ) → held ≡ drop last m → j ≡ length (drop last m) → take j (held ++ z) ≡ last_bytes m
-  last_held z eh ej =
-      let same : last ≡ 16 * blocks_before_last m = omega arith in
-      take_at held z j (ap length eh ∙ sym ej) ∙ eh ∙ ap (λ (k : ℕ). drop k m) same
+pub last_behind : (m : List ℕ) (n last : ℕ) → n ≡ length m - 1 → last ≡ n / 16 * 16 → drop last m ≡ last_bytes m
+last_behind m n last en el =
+    let same : last ≡ 16 * blocks_before_last m = omega arith in
+    ap (λ (k : ℕ). drop k m) same
 
 pub mac_parts : (key m k : List ℕ) (s : MessageState) → record { key = k; state = s } ≡ mac_of key m → (k ≡ key) × (s ≡ state_of key m)
 unfolding mac_of

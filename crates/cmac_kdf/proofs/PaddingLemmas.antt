@@ -1,7 +1,7 @@
 -- Padded bytes: their length, how a buffer comes to hold them, and that no others are padded to the same.
-use Rattle.std.proofs.Common.{◌≡◌, ℕ, suc, ◌+◌, ◌-◌, ◌%◌, ◌<◌, ◌≤◌, List, [], ◌∷◌, ◌++◌, length, take, drop, get_or, replicate, set, refl, sym, ap, ◌∙◌, arith, inl, inr}
+use Rattle.std.proofs.Common.{◌≡◌, ℕ, suc, ◌+◌, ◌-◌, ◌%◌, ◌<◌, ◌≤◌, List, [], ◌∷◌, ◌++◌, length, take, drop, get_or, replicate, set, ◌≢◌, refl, sym, ap, ◌∙◌, arith, inl, inr}
 use Rattle.std.proofs.lemmas.Bool.{cases_lt}
-use Rattle.std.proofs.lemmas.List.{length-append, length-drop, length-take-le, length-replicate, get_or-replicate, get_or_past, get_or_append_left, get_or-append_right, take_more_set, append_assoc, ext_get_or, get_or-take, take_at, length-set, drop-set-lt}
+use Rattle.std.proofs.lemmas.List.{length-append, length-drop, length-take-le, length-replicate, get_or-replicate, get_or_past, get_or_append_left, get_or-append_right, take_more_set, append_assoc, ext_get_or, get_or-take, get_or-drop, get_or-set_same, get_or-set_other, take_at, take-set, length-set, drop-set-lt}
 use Rattle.std.proofs.lemmas.Slice.{take-put_mid, drop-put_mid}
 use borrow.Rule.Slice.PartMut.{put_mid}
 use Rattle.cmac_kdf.specs.Blocks.{IsBytes, padded, padded_length}
@@ -137,3 +137,20 @@ not_padded_zeros s p zeros e = absurd (omega (arith, zeros (length p) (mark_near
 pub stripped_length : (s : List ℕ) (n : ℕ) → n < length s → padded (take n s) ≡ s → padded_length n ≡ length s
 stripped_length s n lt e =
     omega (arith, length-padded (take n s), ap length e, length-take-le n s)
+
+-- fewer than sixteen bytes over a block of zeros, and 80 behind them
+pub block_padded : (x p : List ℕ) → x ≡ p → length p < 16 → set (x ++ drop (length p) (replicate 16 0)) (length p) 0x80 ≡ padded p
+block_padded x p ex few =
+    let n : ℕ = length p in
+    let t : List ℕ = drop n (replicate 16 0) in
+    let lt : length t ≡ 16 - n = length-drop n (replicate {A = ℕ} 16 0) in
+    let lx : length x ≡ n = ap length ex in
+    let ls : length (set (x ++ t) n 0x80) ≡ 16 = length-set (x ++ t) n 0x80 ∙ omega (arith, length-append x t) in
+    let front : take n (set (x ++ t) n 0x80) ≡ p = take-set (x ++ t) n 0x80 ∙ take_at x t n lx ∙ ex in
+    sym (stripped (set (x ++ t) n 0x80) n (omega arith) (omega arith) (omega arith)
+    (get_or-set_same (x ++ t) n 0x80 0 (omega (arith, length-append x t)))
+    (λ k h.
+    let ne : k ≢ n = omega arith in
+    get_or-set_other (x ++ t) n k 0x80 0 ne ∙ get_or-append_right x t n k 0 lx (omega arith)
+    ∙ get_or-drop n (replicate 16 0) (k - n) 0 ∙ get_or-zeros 16 (n + (k - n))))
+    ∙ ap padded front

@@ -74,7 +74,7 @@ impl CmacState {
             → result ≡ standard.cmac (K.key_bytes key.now) m }
     {
         let mut chain = self.chain;
-        absorb(key, &mut chain, &subkeys.mask(&self.held, self.held_len));
+        absorb(key, &mut chain, &subkeys.mask(&self.held[..self.held_len]));
         chain
     }
 }

@@ -26,6 +26,18 @@ pub fn pad(bytes: &mut [u8], len: usize) -> usize
     end
 }
 
+/// Less than a block, padded to one.
+#[inline(always)]
+pub fn padded_block(bytes: &[u8]) -> [u8; 16]
+    requires { length bytes.now < 16 }
+    ensures { result ≡ padded bytes.now }
+{
+    let mut block = [0; 16];
+    block[..bytes.len()].copy_from_slice(bytes);
+    block[bytes.len()] = 0x80;
+    block
+}
+
 /// How many bytes, padded, give these whole blocks.
 #[inline]
 pub fn unpadded_len(bytes: &[u8]) -> Option<usize>

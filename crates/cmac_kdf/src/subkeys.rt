@@ -1,10 +1,10 @@
 // The subkeys of CMAC (NIST SP 800-38B, 6.1), and the last block under them.
 
-ghost use Rattle.std.specs.Prelude.{◌≡◌, ℕ, ◌≤◌, List, take};
+ghost use Rattle.std.specs.Prelude.{◌≡◌, ℕ, ◌≤◌, List, length};
 ghost use Rattle.cmac_kdf.specs.Cmac.{first_subkey, second_subkey, last_block};
 
-use crate::block::{doubled, xor_block};
-use crate::padding::pad;
+use crate::block::{block_at, doubled, xor_block};
+use crate::padding::padded_block;
 use aes_block::BlockKey;
 
 #[derive(Clone, Copy)]
@@ -27,22 +27,20 @@ impl Subkeys {
         }
     }
 
-    /// The message's last block, which has the first `len` bytes of `held`, under its subkey.
+    /// The message's last block, of at most sixteen bytes, under its subkey.
     #[inline(always)]
-    pub fn mask(&self, held: &[u8; 16], len: usize) -> [u8; 16]
-        requires { len ≤ 16 }
+    pub fn mask(&self, last: &[u8]) -> [u8; 16]
+        requires { length last.now ≤ 16 }
         ensures { (key : List ℕ) → self.now.first ≡ first_subkey key → self.now.second ≡ second_subkey key
-            → result ≡ last_block key (take len held.now) }
+            → result ≡ last_block key last.now }
     {
-        if len == 16 {
+        if last.len() == 16 {
             let mut block = self.first;
-            xor_block(&mut block, held);
+            xor_block(&mut block, &block_at(last, 0));
             block
         } else {
-            let mut padded = *held;
-            pad(&mut padded, len);
             let mut block = self.second;
-            xor_block(&mut block, &padded);
+            xor_block(&mut block, &padded_block(last));
             block
         }
     }

@@ -17,9 +17,6 @@ pub fn code_of<K: BlockKey>(key: &K, subkeys: &Subkeys, message: &[u8]) -> [u8; 
     let last = message.len().saturating_sub(1) / 16 * 16;
     let mut chain = [0; 16];
     absorb_blocks(key, &mut chain, &message[..last]);
-    let tail = &message[last..];
-    let mut held = [0; 16];
-    held[..tail.len()].copy_from_slice(tail);
-    absorb(key, &mut chain, &subkeys.mask(&held, tail.len()));
+    absorb(key, &mut chain, &subkeys.mask(&message[last..]));
     chain
 }

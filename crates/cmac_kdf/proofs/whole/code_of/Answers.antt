@@ -1,18 +1,17 @@
-use Rattle.std.proofs.Common.{◌∙◌, ◌*◌, ◌/◌, ℕ, length, refl, ap}
+use Rattle.std.proofs.Common.{◌∙◌, ◌*◌, ◌/◌, ℕ, refl, ap}
 use Rattle.std.proofs.lemmas.List.{take_rest}
 use Rattle.cmac_kdf.specs.Blocks.{zero_block}
 use Rattle.cmac_kdf.specs.Cmac.{chained, last_block}
-use Rattle.cmac_kdf.proofs.CmacLemmas.{cmac_from, blocks_before, last_held}
+use Rattle.cmac_kdf.proofs.CmacLemmas.{cmac_from, blocks_before, last_behind}
 use Rattle.cmac_kdf.proofs.whole.code_of.Goals as goal
 
 pub returns : goal.returns
 returns g c =
     let key = g.K.BlockKey.key_bytes c.args.key.now in
     let m = c.args.message.now in
-    let last : ℕ = c.saturating_sub.result / 16 * 16 in
+    let n = c.saturating_sub.result in
+    let last : ℕ = n / 16 * 16 in
     cmac_from key c.absorb_blocks.new.chain c.mask.result c.absorb.new.chain m
-    (c.absorb_blocks.ensures ∙ ap (chained key zero_block) (blocks_before m c.saturating_sub.result _ c.saturating_sub.ensures refl))
-    (c.mask.ensures key c.requires.first c.requires.second ∙ ap (last_block key)
-    (last_held key m c.copy_from_slice.new.self c.saturating_sub.result last _ c.saturating_sub.ensures refl _
-    (c.copy_from_slice.ensures.after ∙ take_rest m last) (ap length (take_rest m last))))
+    (c.absorb_blocks.ensures ∙ ap (chained key zero_block) (blocks_before m n _ c.saturating_sub.ensures refl))
+    (c.mask.ensures key c.requires.first c.requires.second ∙ ap (last_block key) (take_rest m last ∙ last_behind m n _ c.saturating_sub.ensures refl))
     c.absorb.ensures
