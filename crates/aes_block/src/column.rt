@@ -8,9 +8,9 @@ ghost use Rattle.aes_block.specs.Inverse.{inv_sbox};
 ghost use Rattle.aes_block.specs.Sbox.{sbox};
 ghost use Rattle.aes_block.specs.Words.{word_bytes};
 
-use crate::seal_tables::{sealing_first, sealing_fourth, sealing_second, sealing_third};
+use crate::seal_table::{sealing_first, sealing_fourth, sealing_second, sealing_third};
 use crate::tables::{substitute, substitute_back};
-use crate::unseal_tables::{unsealing_first, unsealing_fourth, unsealing_second, unsealing_third};
+use crate::unseal_table::{unsealing_first, unsealing_fourth, unsealing_second, unsealing_third};
 
 #[inline(always)]
 pub fn first(word: u32) -> usize

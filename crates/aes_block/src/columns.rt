@@ -5,7 +5,9 @@ ghost use Rattle.aes_block.specs.Cipher.{four_words, mix_columns, shift_rows, su
 ghost use Rattle.aes_block.specs.Inverse.{inv_mix_columns, inv_shift_rows, inv_sub_bytes};
 ghost use Rattle.aes_block.specs.State.{state_bytes};
 
-use crate::column::{last_sealed_column, last_unsealed_column, sealing_shares, summed, unsealing_shares};
+use crate::column::{
+    last_sealed_column, last_unsealed_column, sealing_shares, summed, unsealing_shares,
+};
 
 /// The four columns of the state, each as the word whose highest byte is the first row's.
 #[derive(Clone, Copy)]

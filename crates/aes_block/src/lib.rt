@@ -23,9 +23,9 @@ mod columns;
 mod key_size;
 mod rounds;
 mod schedule;
-mod seal_tables;
+mod seal_table;
 mod tables;
-mod unseal_tables;
+mod unseal_table;
 
 pub use aes::{
     Aes, Aes128, Aes192, Aes256, SealingAes, SealingAes128, SealingAes192, SealingAes256,

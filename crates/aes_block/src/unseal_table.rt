@@ -1,4 +1,4 @@
-// The tables that `unseal` looks columns up in: what a byte of the state adds to its column in a round.
+// The table that `unseal` looks columns up in: what a byte of the state adds to a column in a round.
 
 ghost use Rattle.std.specs.Prelude.{◌≡◌, ◌<◌, [], ◌∷◌};
 ghost use Rattle.aes_block.specs.Field.{times};
@@ -11,7 +11,7 @@ pub fn unsealing_first(x: usize) -> u32
     requires { x < 256 }
     ensures { word_bytes result ≡ times 0x0e (inv_sbox x) ∷ times 0x09 (inv_sbox x) ∷ times 0x0d (inv_sbox x) ∷ times 0x0b (inv_sbox x) ∷ [] }
 {
-    UNSEAL_FIRST[x]
+    UNSEAL_TABLE[x]
 }
 
 // What a byte of the second row adds.
@@ -20,7 +20,7 @@ pub fn unsealing_second(x: usize) -> u32
     requires { x < 256 }
     ensures { word_bytes result ≡ times 0x0b (inv_sbox x) ∷ times 0x0e (inv_sbox x) ∷ times 0x09 (inv_sbox x) ∷ times 0x0d (inv_sbox x) ∷ [] }
 {
-    UNSEAL_SECOND[x]
+    UNSEAL_TABLE[256 + x]
 }
 
 // What a byte of the third row adds.
@@ -29,7 +29,7 @@ pub fn unsealing_third(x: usize) -> u32
     requires { x < 256 }
     ensures { word_bytes result ≡ times 0x0d (inv_sbox x) ∷ times 0x0b (inv_sbox x) ∷ times 0x0e (inv_sbox x) ∷ times 0x09 (inv_sbox x) ∷ [] }
 {
-    UNSEAL_THIRD[x]
+    UNSEAL_TABLE[512 + x]
 }
 
 // What a byte of the fourth row adds.
@@ -38,11 +38,13 @@ pub fn unsealing_fourth(x: usize) -> u32
     requires { x < 256 }
     ensures { word_bytes result ≡ times 0x09 (inv_sbox x) ∷ times 0x0d (inv_sbox x) ∷ times 0x0b (inv_sbox x) ∷ times 0x0e (inv_sbox x) ∷ [] }
 {
-    UNSEAL_FOURTH[x]
+    UNSEAL_TABLE[768 + x]
 }
 
-// The column that InvMixColumns makes of the inverse S-box's value in the first row, as a word.
-pub const UNSEAL_FIRST: [u32; 256] = [
+// The columns that InvMixColumns makes of the inverse S-box's values in one row, as words: 256 of each row. One table
+// takes one register where four would take four.
+pub const UNSEAL_TABLE: [u32; 1024] = [
+    // The first row.
     0x51f4a750, 0x7e416553, 0x1a17a4c3, 0x3a275e96, 0x3bab6bcb, 0x1f9d45f1, 0xacfa58ab, 0x4be30393,
     0x2030fa55, 0xad766df6, 0x88cc7691, 0xf5024c25, 0x4fe5d7fc, 0xc52acbd7, 0x26354480, 0xb562a38f,
     0xdeb15a49, 0x25ba1b67, 0x45ea0e98, 0x5dfec0e1, 0xc32f7502, 0x814cf012, 0x8d4697a3, 0x6bd3f9c6,
@@ -75,10 +77,7 @@ pub const UNSEAL_FIRST: [u32; 256] = [
     0x9cd2df59, 0x55f2733f, 0x1814ce79, 0x73c737bf, 0x53f7cdea, 0x5ffdaa5b, 0xdf3d6f14, 0x7844db86,
     0xcaaff381, 0xb968c43e, 0x3824342c, 0xc2a3405f, 0x161dc372, 0xbce2250c, 0x283c498b, 0xff0d9541,
     0x39a80171, 0x080cb3de, 0xd8b4e49c, 0x6456c190, 0x7bcb8461, 0xd532b670, 0x486c5c74, 0xd0b85742,
-];
-
-// The column that InvMixColumns makes of the inverse S-box's value in the second row, as a word.
-pub const UNSEAL_SECOND: [u32; 256] = [
+    // The second row.
     0x5051f4a7, 0x537e4165, 0xc31a17a4, 0x963a275e, 0xcb3bab6b, 0xf11f9d45, 0xabacfa58, 0x934be303,
     0x552030fa, 0xf6ad766d, 0x9188cc76, 0x25f5024c, 0xfc4fe5d7, 0xd7c52acb, 0x80263544, 0x8fb562a3,
     0x49deb15a, 0x6725ba1b, 0x9845ea0e, 0xe15dfec0, 0x02c32f75, 0x12814cf0, 0xa38d4697, 0xc66bd3f9,
@@ -111,10 +110,7 @@ pub const UNSEAL_SECOND: [u32; 256] = [
     0x599cd2df, 0x3f55f273, 0x791814ce, 0xbf73c737, 0xea53f7cd, 0x5b5ffdaa, 0x14df3d6f, 0x867844db,
     0x81caaff3, 0x3eb968c4, 0x2c382434, 0x5fc2a340, 0x72161dc3, 0x0cbce225, 0x8b283c49, 0x41ff0d95,
     0x7139a801, 0xde080cb3, 0x9cd8b4e4, 0x906456c1, 0x617bcb84, 0x70d532b6, 0x74486c5c, 0x42d0b857,
-];
-
-// The column that InvMixColumns makes of the inverse S-box's value in the third row, as a word.
-pub const UNSEAL_THIRD: [u32; 256] = [
+    // The third row.
     0xa75051f4, 0x65537e41, 0xa4c31a17, 0x5e963a27, 0x6bcb3bab, 0x45f11f9d, 0x58abacfa, 0x03934be3,
     0xfa552030, 0x6df6ad76, 0x769188cc, 0x4c25f502, 0xd7fc4fe5, 0xcbd7c52a, 0x44802635, 0xa38fb562,
     0x5a49deb1, 0x1b6725ba, 0x0e9845ea, 0xc0e15dfe, 0x7502c32f, 0xf012814c, 0x97a38d46, 0xf9c66bd3,
@@ -147,10 +143,7 @@ pub const UNSEAL_THIRD: [u32; 256] = [
     0xdf599cd2, 0x733f55f2, 0xce791814, 0x37bf73c7, 0xcdea53f7, 0xaa5b5ffd, 0x6f14df3d, 0xdb867844,
     0xf381caaf, 0xc43eb968, 0x342c3824, 0x405fc2a3, 0xc372161d, 0x250cbce2, 0x498b283c, 0x9541ff0d,
     0x017139a8, 0xb3de080c, 0xe49cd8b4, 0xc1906456, 0x84617bcb, 0xb670d532, 0x5c74486c, 0x5742d0b8,
-];
-
-// The column that InvMixColumns makes of the inverse S-box's value in the fourth row, as a word.
-pub const UNSEAL_FOURTH: [u32; 256] = [
+    // The fourth row.
     0xf4a75051, 0x4165537e, 0x17a4c31a, 0x275e963a, 0xab6bcb3b, 0x9d45f11f, 0xfa58abac, 0xe303934b,
     0x30fa5520, 0x766df6ad, 0xcc769188, 0x024c25f5, 0xe5d7fc4f, 0x2acbd7c5, 0x35448026, 0x62a38fb5,
     0xb15a49de, 0xba1b6725, 0xea0e9845, 0xfec0e15d, 0x2f7502c3, 0x4cf01281, 0x4697a38d, 0xd3f9c66b,

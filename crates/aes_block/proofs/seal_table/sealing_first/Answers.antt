@@ -1,5 +1,5 @@
 use Rattle.aes_block.proofs.TableRules.{seal_first_entry}
-use Rattle.aes_block.proofs.seal_tables.sealing_first.Goals as goal
+use Rattle.aes_block.proofs.seal_table.sealing_first.Goals as goal
 
 pub returns : goal.returns
 returns c = seal_first_entry c.args.x c.requires

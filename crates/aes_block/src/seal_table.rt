@@ -1,4 +1,4 @@
-// The tables that `seal` looks columns up in: what a byte of the state adds to its column in a round.
+// The table that `seal` looks columns up in: what a byte of the state adds to a column in a round.
 
 ghost use Rattle.std.specs.Prelude.{◌≡◌, ◌<◌, [], ◌∷◌};
 ghost use Rattle.aes_block.specs.Field.{times};
@@ -11,7 +11,7 @@ pub fn sealing_first(x: usize) -> u32
     requires { x < 256 }
     ensures { word_bytes result ≡ times 2 (sbox x) ∷ times 1 (sbox x) ∷ times 1 (sbox x) ∷ times 3 (sbox x) ∷ [] }
 {
-    SEAL_FIRST[x]
+    SEAL_TABLE[x]
 }
 
 // What a byte of the second row adds.
@@ -20,7 +20,7 @@ pub fn sealing_second(x: usize) -> u32
     requires { x < 256 }
     ensures { word_bytes result ≡ times 3 (sbox x) ∷ times 2 (sbox x) ∷ times 1 (sbox x) ∷ times 1 (sbox x) ∷ [] }
 {
-    SEAL_SECOND[x]
+    SEAL_TABLE[256 + x]
 }
 
 // What a byte of the third row adds.
@@ -29,7 +29,7 @@ pub fn sealing_third(x: usize) -> u32
     requires { x < 256 }
     ensures { word_bytes result ≡ times 1 (sbox x) ∷ times 3 (sbox x) ∷ times 2 (sbox x) ∷ times 1 (sbox x) ∷ [] }
 {
-    SEAL_THIRD[x]
+    SEAL_TABLE[512 + x]
 }
 
 // What a byte of the fourth row adds.
@@ -38,11 +38,13 @@ pub fn sealing_fourth(x: usize) -> u32
     requires { x < 256 }
     ensures { word_bytes result ≡ times 1 (sbox x) ∷ times 1 (sbox x) ∷ times 3 (sbox x) ∷ times 2 (sbox x) ∷ [] }
 {
-    SEAL_FOURTH[x]
+    SEAL_TABLE[768 + x]
 }
 
-// The column that MixColumns makes of the S-box's value in the first row, as a word.
-pub const SEAL_FIRST: [u32; 256] = [
+// The columns that MixColumns makes of the S-box's values in one row, as words: 256 of each row. One table
+// takes one register where four would take four.
+pub const SEAL_TABLE: [u32; 1024] = [
+    // The first row.
     0xc66363a5, 0xf87c7c84, 0xee777799, 0xf67b7b8d, 0xfff2f20d, 0xd66b6bbd, 0xde6f6fb1, 0x91c5c554,
     0x60303050, 0x02010103, 0xce6767a9, 0x562b2b7d, 0xe7fefe19, 0xb5d7d762, 0x4dababe6, 0xec76769a,
     0x8fcaca45, 0x1f82829d, 0x89c9c940, 0xfa7d7d87, 0xeffafa15, 0xb25959eb, 0x8e4747c9, 0xfbf0f00b,
@@ -75,10 +77,7 @@ pub const SEAL_FIRST: [u32; 256] = [
     0x2d9b9bb6, 0x3c1e1e22, 0x15878792, 0xc9e9e920, 0x87cece49, 0xaa5555ff, 0x50282878, 0xa5dfdf7a,
     0x038c8c8f, 0x59a1a1f8, 0x09898980, 0x1a0d0d17, 0x65bfbfda, 0xd7e6e631, 0x844242c6, 0xd06868b8,
     0x824141c3, 0x299999b0, 0x5a2d2d77, 0x1e0f0f11, 0x7bb0b0cb, 0xa85454fc, 0x6dbbbbd6, 0x2c16163a,
-];
-
-// The column that MixColumns makes of the S-box's value in the second row, as a word.
-pub const SEAL_SECOND: [u32; 256] = [
+    // The second row.
     0xa5c66363, 0x84f87c7c, 0x99ee7777, 0x8df67b7b, 0x0dfff2f2, 0xbdd66b6b, 0xb1de6f6f, 0x5491c5c5,
     0x50603030, 0x03020101, 0xa9ce6767, 0x7d562b2b, 0x19e7fefe, 0x62b5d7d7, 0xe64dabab, 0x9aec7676,
     0x458fcaca, 0x9d1f8282, 0x4089c9c9, 0x87fa7d7d, 0x15effafa, 0xebb25959, 0xc98e4747, 0x0bfbf0f0,
@@ -111,10 +110,7 @@ pub const SEAL_SECOND: [u32; 256] = [
     0xb62d9b9b, 0x223c1e1e, 0x92158787, 0x20c9e9e9, 0x4987cece, 0xffaa5555, 0x78502828, 0x7aa5dfdf,
     0x8f038c8c, 0xf859a1a1, 0x80098989, 0x171a0d0d, 0xda65bfbf, 0x31d7e6e6, 0xc6844242, 0xb8d06868,
     0xc3824141, 0xb0299999, 0x775a2d2d, 0x111e0f0f, 0xcb7bb0b0, 0xfca85454, 0xd66dbbbb, 0x3a2c1616,
-];
-
-// The column that MixColumns makes of the S-box's value in the third row, as a word.
-pub const SEAL_THIRD: [u32; 256] = [
+    // The third row.
     0x63a5c663, 0x7c84f87c, 0x7799ee77, 0x7b8df67b, 0xf20dfff2, 0x6bbdd66b, 0x6fb1de6f, 0xc55491c5,
     0x30506030, 0x01030201, 0x67a9ce67, 0x2b7d562b, 0xfe19e7fe, 0xd762b5d7, 0xabe64dab, 0x769aec76,
     0xca458fca, 0x829d1f82, 0xc94089c9, 0x7d87fa7d, 0xfa15effa, 0x59ebb259, 0x47c98e47, 0xf00bfbf0,
@@ -147,10 +143,7 @@ pub const SEAL_THIRD: [u32; 256] = [
     0x9bb62d9b, 0x1e223c1e, 0x87921587, 0xe920c9e9, 0xce4987ce, 0x55ffaa55, 0x28785028, 0xdf7aa5df,
     0x8c8f038c, 0xa1f859a1, 0x89800989, 0x0d171a0d, 0xbfda65bf, 0xe631d7e6, 0x42c68442, 0x68b8d068,
     0x41c38241, 0x99b02999, 0x2d775a2d, 0x0f111e0f, 0xb0cb7bb0, 0x54fca854, 0xbbd66dbb, 0x163a2c16,
-];
-
-// The column that MixColumns makes of the S-box's value in the fourth row, as a word.
-pub const SEAL_FOURTH: [u32; 256] = [
+    // The fourth row.
     0x6363a5c6, 0x7c7c84f8, 0x777799ee, 0x7b7b8df6, 0xf2f20dff, 0x6b6bbdd6, 0x6f6fb1de, 0xc5c55491,
     0x30305060, 0x01010302, 0x6767a9ce, 0x2b2b7d56, 0xfefe19e7, 0xd7d762b5, 0xababe64d, 0x76769aec,
     0xcaca458f, 0x82829d1f, 0xc9c94089, 0x7d7d87fa, 0xfafa15ef, 0x5959ebb2, 0x4747c98e, 0xf0f00bfb,
