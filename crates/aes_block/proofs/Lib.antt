@@ -10,5 +10,6 @@ pub mod CipherLemmas
 pub mod WordRules
 pub mod RoundRules
 pub mod ScheduleRules
+pub mod InverseRules
 mod PlainRules
 mod Vectors

@@ -1,9 +1,8 @@
 -- The steps of the equivalent inverse cipher (FIPS 197, 5.3), which the code of `unseal` takes.
 -- What `unseal` gives is not said by these: it is the block that the cipher turns into the old one.
-use Rattle.std.specs.Prelude.{◌≡◌, ℕ, zero, suc, ◌+◌, ◌-◌, ◌*◌, ◌/◌, ◌%◌, ◌<◌, ◌≤◌, List, [], ◌∷◌, ◌++◌, map, slice_index}
+use Rattle.std.specs.Prelude.{◌≡◌, ℕ, zero, suc, ◌+◌, ◌-◌, ◌*◌, ◌/◌, ◌%◌, ◌<◌, List, [], ◌∷◌, ◌++◌, map, slice_index}
 use Rattle.std.specs.Int.{byte_at}
 use Rattle.std.specs.List.{range_with_len}
-use Rattle.aes_block.specs.Words.{word_bytes}
 use Rattle.aes_block.specs.Cipher.{row_times, add_round_key, four_words}
 use Rattle.aes_block.specs.declared.tables.TheConstants.{INVERSE_SBOX}
 
@@ -48,12 +47,6 @@ inv_cipher_rounds v n b = add_round_key v 0 (inv_sub_bytes (inv_shift_rows (inv_
 -- the bytes of a word under InvMixColumns
 unfoldable pub inv_mix_word : ℕ → List ℕ
 inv_mix_word w = inv_mix_column (byte_at 3 w) (byte_at 2 w) (byte_at 1 w) (byte_at 0 w)
-
--- x is word i of the inverse key schedule of w, for n rounds (5.3.5, algorithm 5)
-pub record IsInverseWord (w : List ℕ) (n i x : ℕ) : Type 0 where
-  pub first : i < 4 → x ≡ slice_index w i
-  pub last : 4 * n ≤ i → x ≡ slice_index w i
-  pub middle : 4 ≤ i → i < 4 * n → word_bytes x ≡ inv_mix_word (slice_index w i)
 
 -- v is the inverse key schedule of w, for n rounds: InvMixColumns of the middle round keys (5.3.5, algorithm 5)
 pub record IsInverseSchedule (w v : List ℕ) (n : ℕ) : Type 0 where

@@ -6,9 +6,10 @@ ghost use Rattle.aes_block.specs.Inverse.{IsInverseSchedule};
 ghost use Rattle.aes_block.specs.Words.{first_bytes, key_words, schedule_of};
 
 use crate::block_key::BlockKey;
+use crate::inverse_schedule::invert;
 use crate::key_size::{Bits128, Bits192, Bits256, KeySize, rounds};
 use crate::rounds::{seal_rounds, unseal_rounds};
-use crate::schedule::{expand, invert};
+use crate::schedule::expand;
 use std::marker::PhantomData;
 
 // The words of a key schedule of fourteen rounds; shorter ones leave the last of them unused.

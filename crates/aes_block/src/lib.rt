@@ -20,6 +20,7 @@ mod aes;
 mod block_key;
 mod column;
 mod columns;
+mod inverse_schedule;
 mod key_size;
 mod rounds;
 mod schedule;

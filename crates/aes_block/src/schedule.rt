@@ -1,11 +1,10 @@
-// The key schedule and its inverse.
+// The key schedule.
 
 ghost use Rattle.std.specs.Prelude.{◌≡◌, ℕ, ◌+◌, ◌-◌, ◌*◌, ◌/◌, ◌<◌, ◌≤◌, length};
 ghost use Rattle.aes_block.specs.Cipher.{IsKeyLength};
-ghost use Rattle.aes_block.specs.Inverse.{IsInverseSchedule, IsInverseWord, inv_mix_word};
-ghost use Rattle.aes_block.specs.Words.{key_word, key_words, schedule_core, sub_word, word_bytes};
+ghost use Rattle.aes_block.specs.Words.{key_word, key_words, schedule_core, sub_word};
 
-use crate::column::{first, fourth, second, summed, third, unsealing_shares};
+use crate::column::{first, fourth, second, third};
 use crate::tables::{ROUND_CONSTANTS, substitute};
 
 fn word_at(key: &[u8], i: usize) -> u32
@@ -54,35 +53,5 @@ pub fn expand(key: &[u8], words: &mut [u32])
     }
     'next: for i in 0..words.len() - key_len {
         words[key_len + i] = words[i] ^ carried(key_len, key_len + i, words[key_len + i - 1]);
-    }
-}
-
-fn unmixed(word: u32) -> u32
-    ensures { word_bytes result ≡ inv_mix_word word }
-{
-    let shares = unsealing_shares(substituted(word));
-    summed(0, shares.first, shares.second, shares.third, shares.fourth)
-}
-
-fn inverse_word(words: &[u32], rounds: usize, i: usize) -> u32
-    requires whole { length words.now ≡ 4 * rounds + 4 }
-    requires within { i < length words.now }
-    ensures { IsInverseWord words.now rounds i result }
-{
-    if i < 4 || 4 * rounds <= i {
-        words[i]
-    } else {
-        unmixed(words[i])
-    }
-}
-
-/// KEYEXPANSIONEIC (FIPS 197, 5.3.5): the inverse key schedule of the words.
-pub fn invert(words: &[u32], rounds: usize, inverse: &mut [u32])
-    requires whole { length words.now ≡ 4 * rounds + 4 }
-    requires same { length inverse.old ≡ length words.now }
-    ensures { IsInverseSchedule words.now inverse.new rounds }
-{
-    'word: for i in 0..words.len() {
-        inverse[i] = inverse_word(words, rounds, i);
     }
 }
