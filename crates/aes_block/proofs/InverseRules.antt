@@ -1,11 +1,11 @@
 -- The words of the inverse key schedule, as the code makes them.
-use Rattle.std.proofs.Common.{◌≡◌, ℕ, ◌+◌, ◌*◌, ◌/◌, ◌%◌, ◌^◌, ◌<◌, ◌≤◌, List, [], ◌∷◌, ◌++◌, length, map, set, bit_and, bit_or, bit_xor, slice_index, refl, ap, subst, ◌∙◌, arith, inl, inr, ◌≢◌}
+use Rattle.std.proofs.Common.{◌≡◌, ℕ, ◌+◌, ◌*◌, ◌/◌, ◌%◌, ◌^◌, ◌<◌, ◌≤◌, List, [], ◌∷◌, ◌++◌, length, take, map, set, bit_and, bit_or, bit_xor, slice_index, refl, sym, ap, subst, ◌∙◌, arith, inl, inr, ◌≢◌}
 use Rattle.std.specs.Int.{w32, rotate_right}
 use Rattle.std.proofs.lemmas.Bool.{cases_lt}
 use Rattle.std.proofs.lemmas.Nat.{xor_comm, xor_lt, or_comm, or_shifted, shr_below, and_shr, and_mod, and_mask, and_le_r}
-use Rattle.std.proofs.lemmas.List.{get_or-set_other, get_or-set_same}
+use Rattle.std.proofs.lemmas.List.{get_or-set_other, get_or-set_same, take_at}
 use Rattle.aes_block.specs.Field.{xtime, times, times_terms}
-use Rattle.aes_block.specs.Words.{word_bytes}
+use Rattle.aes_block.specs.Words.{word_bytes, schedule_of}
 use Rattle.aes_block.specs.Cipher.{xor_bytes, row_times, four_words}
 use Rattle.aes_block.specs.Inverse.{inv_mix_column, inv_mix_column_at, inv_mix_columns, inv_mix_word, IsInverseSchedule}
 use Rattle.aes_block.proofs.Bytes.{same_at}
@@ -230,3 +230,11 @@ inverted_all w v n i ei s =
       middle = λ r low high.
           (λ t. s.done (4 * r) (omega arith) (omega arith) t ++ at r 1 high low (omega arith) t ++ at r 2 high low (omega arith) t ++ at r 3 high low (omega arith) t);
     }
+
+-- the same of schedules that are the fronts of longer arrays
+pub schedule_inverted : (n r : ℕ) (w v z : List ℕ) → r ≡ n / 4 + 6 → length v ≡ 4 * r + 4 → IsInverseSchedule (take (4 * r + 4) w) v r
+    → IsInverseSchedule (schedule_of n w) (schedule_of n (v ++ z)) (n / 4 + 6)
+schedule_inverted n r w v z er len h =
+    let front : schedule_of n (v ++ z) ≡ v = take_at v z (4 * (n / 4 + 6) + 4) (omega arith) in
+    subst (λ (s : List ℕ). IsInverseSchedule (schedule_of n w) s (n / 4 + 6)) (sym front)
+    (subst (λ (k : ℕ). IsInverseSchedule (take (4 * k + 4) w) v k) er h)

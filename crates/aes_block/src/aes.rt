@@ -27,9 +27,12 @@ pub struct SealingAes<S: KeySize> {
 /// A key for both directions, with both key schedules made.
 #[derive(Drop)]
 pub struct Aes<S: KeySize> {
-    sealing: SealingAes<S>,
+    words: [u32; MOST_WORDS],
     inverse_words: [u32; MOST_WORDS],
-    ghost inverse: { IsInverseSchedule (schedule_of S.BYTES sealing.words) (schedule_of S.BYTES inverse_words) (S.BYTES / 4 + 6) },
+    size: PhantomData<S>,
+    ghost whole: { IsKey S.BYTES (first_bytes (schedule_of S.BYTES words) (S.BYTES / 4)) },
+    ghost schedule: { schedule_of S.BYTES words ≡ key_words (first_bytes (schedule_of S.BYTES words) (S.BYTES / 4)) },
+    ghost inverse: { IsInverseSchedule (schedule_of S.BYTES words) (schedule_of S.BYTES inverse_words) (S.BYTES / 4 + 6) },
 }
 
 /// Keys of sixteen, twenty-four and thirty-two bytes.
@@ -45,22 +48,6 @@ pub type SealingAes128 = SealingAes<Bits128>;
 pub type SealingAes192 = SealingAes<Bits192>;
 
 pub type SealingAes256 = SealingAes<Bits256>;
-
-impl<S: KeySize> SealingAes<S> {
-    #[inline(always)]
-    fn inverse_words(&self) -> [u32; MOST_WORDS]
-        ensures { IsInverseSchedule (schedule_of S.BYTES self.now.words) (schedule_of S.BYTES result) (S.BYTES / 4 + 6) }
-    {
-        let rounds = rounds::<S>();
-        let mut words = [0; MOST_WORDS];
-        invert(
-            &self.words[..4 * rounds + 4],
-            rounds,
-            &mut words[..4 * rounds + 4],
-        );
-        words
-    }
-}
 
 impl<S: KeySize> BlockKey for SealingAes<S> {
     const LEN: usize = S::BYTES;
@@ -85,7 +72,13 @@ impl<S: KeySize> BlockKey for SealingAes<S> {
 
     fn unseal(&self, block: &mut [u8; 16]) {
         let rounds = rounds::<S>();
-        unseal_rounds(&self.inverse_words()[..4 * rounds + 4], rounds, block);
+        let mut inverse_words = [0; MOST_WORDS];
+        invert(
+            &self.words[..4 * rounds + 4],
+            rounds,
+            &mut inverse_words[..4 * rounds + 4],
+        );
+        unseal_rounds(&inverse_words[..4 * rounds + 4], rounds, block);
     }
 
     ghost standard_length = { S.standard };
@@ -98,19 +91,28 @@ impl<S: KeySize> BlockKey for Aes<S> {
 
     ghost LEN = { S.BYTES };
 
-    ghost key_bytes = { λ k. first_bytes (schedule_of S.BYTES k.sealing.words) (S.BYTES / 4) };
+    ghost key_bytes = { λ k. first_bytes (schedule_of S.BYTES k.words) (S.BYTES / 4) };
 
     fn from_key(key: &[u8]) -> Aes<S> {
-        let sealing = SealingAes::from_key(key);
-        let inverse_words = sealing.inverse_words();
+        let rounds = rounds::<S>();
+        let mut words = [0; MOST_WORDS];
+        expand(key, &mut words[..4 * rounds + 4]);
+        let mut inverse_words = [0; MOST_WORDS];
+        invert(
+            &words[..4 * rounds + 4],
+            rounds,
+            &mut inverse_words[..4 * rounds + 4],
+        );
         Aes {
-            sealing,
+            words,
             inverse_words,
+            size: PhantomData,
         }
     }
 
     fn seal(&self, block: &mut [u8; 16]) {
-        self.sealing.seal(block);
+        let rounds = rounds::<S>();
+        seal_rounds(&self.words[..4 * rounds + 4], rounds, block);
     }
 
     fn unseal(&self, block: &mut [u8; 16]) {
@@ -120,5 +122,5 @@ impl<S: KeySize> BlockKey for Aes<S> {
 
     ghost standard_length = { S.standard };
 
-    ghost whole_key = { λ k. k.sealing.whole };
+    ghost whole_key = { λ k. k.whole };
 }

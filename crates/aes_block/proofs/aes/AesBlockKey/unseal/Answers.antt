@@ -9,7 +9,7 @@ returns-clause-gives_back g c =
     let key = c.args.self.now in
     let count = c.rounds-rounds.ensures.value in
     let block : IsBlock c.args.block.now = record { sixteen = c.told-block; bytes = c.fits-block } in
-    given_back _ _ (g.S.KeySize.BYTES / 4) key.sealing.schedule key.inverse c.args.block.now c.unseal_rounds.new.block block
+    given_back _ _ (g.S.KeySize.BYTES / 4) key.schedule key.inverse c.args.block.now c.unseal_rounds.new.block block
     (c.unseal_rounds.ensures ∙ (λ i. inv_cipher_rounds (take (4 * count i + 4) key.inverse_words) (count i) c.args.block.now))
 
 pub returns-clause-alone : goal.returns-clause-alone
@@ -17,5 +17,5 @@ returns-clause-alone g c =
     let key = c.args.self.now in
     let count = c.rounds-rounds.ensures.value in
     let block : IsBlock c.args.block.now = record { sixteen = c.told-block; bytes = c.fits-block } in
-    only_one _ _ (g.S.KeySize.BYTES / 4) key.sealing.schedule key.inverse c.args.block.now c.unseal_rounds.new.block block
+    only_one _ _ (g.S.KeySize.BYTES / 4) key.schedule key.inverse c.args.block.now c.unseal_rounds.new.block block
     (c.unseal_rounds.ensures ∙ (λ i. inv_cipher_rounds (take (4 * count i + 4) key.inverse_words) (count i) c.args.block.now))

@@ -1,0 +1,26 @@
+use Rattle.std.proofs.Common.{◌≡◌, ◌∙◌, ◌/◌, ◌*◌, length, sym, arith}
+use Rattle.std.proofs.lemmas.List.{length-take-le}
+use Rattle.aes_block.proofs.InverseRules.{schedule_inverted}
+use Rattle.aes_block.proofs.KeyLaw.{words_of_size, key_of_size}
+use Rattle.aes_block.proofs.ScheduleRules.{key_of_schedule, schedule_of_key, words_made}
+use Rattle.aes_block.proofs.aes.AesBlockKey.from_key.Goals as goal
+
+pub returns : goal.returns
+returns g c =
+    let n = g.S.KeySize.BYTES in
+    let standard = g.S.KeySize.standard in
+    let len : length c.args.key.now ≡ 4 * (n / 4) = c.requires ∙ sym (words_of_size n standard) in
+    key_of_schedule c.args.key.now (λ i. (c.type_inv.key i).fits) _ (n / 4) len
+    (rw c.rounds-rounds.ensures.value (words_made n c.args.key.now c.expand.new.words _ standard c.requires c.expand.ensures))
+
+pub invariant_of-result : goal.invariant_of-result
+invariant_of-result g c =
+    let n = g.S.KeySize.BYTES in
+    let standard = g.S.KeySize.standard in
+    let len : length c.args.key.now ≡ 4 * (n / 4) = c.requires ∙ sym (words_of_size n standard) in
+    record {
+      whole = key_of_size _ n standard;
+      schedule = schedule_of_key c.args.key.now (λ i. (c.type_inv.key i).fits) _ (n / 4) len
+          (rw c.rounds-rounds.ensures.value (words_made n c.args.key.now c.expand.new.words _ standard c.requires c.expand.ensures));
+      inverse = schedule_inverted n c.rounds-rounds.result _ c.invert.new.inverse _ c.rounds-rounds.ensures.value (c.invert.auto.inverse ∙ length-take-le _ _ (omega (arith, c.rounds-rounds.ensures.most))) c.invert.ensures;
+    }
