@@ -5,7 +5,8 @@ use Rattle.std.proofs.lemmas.Bool.{cases_lt}
 use Rattle.std.proofs.lemmas.Nat.{xor_comm, xor_lt, or_comm, or_shifted, shr_below, and_shr, and_mod, and_mask, and_le_r}
 use Rattle.std.proofs.lemmas.List.{get_or-set_other, get_or-set_same, take_at}
 use Rattle.aes_block.specs.Field.{xtime, times, times_terms}
-use Rattle.aes_block.specs.Words.{word_bytes, schedule_of}
+use Rattle.aes_block.specs.Words.{word_bytes}
+use Rattle.aes_block.specs.State.{schedule_of}
 use Rattle.aes_block.specs.Cipher.{xor_bytes, row_times, four_words}
 use Rattle.aes_block.specs.Inverse.{inv_mix_column, inv_mix_column_at, inv_mix_columns, inv_mix_word, IsInverseSchedule}
 use Rattle.aes_block.proofs.Bytes.{same_at}

@@ -19,7 +19,7 @@ pub record IsKey (n : ℕ) (key : List ℕ) : Type 0 where
 abbrev pub IsKeyLength : ℕ → Type 0
 IsKeyLength n = (n ≡ 16) ⊎ (n ≡ 24) ⊎ (n ≡ 32)
 
--- the sum of two lists of bytes, byte by byte (4.1)
+-- the sum of two lists of bytes, byte by byte (4.1); of lists of two lengths it is as long as the shorter
 unfoldable pub xor_bytes : List ℕ → List ℕ → List ℕ
 xor_bytes [] bs = []
 xor_bytes (a ∷ as_) [] = []

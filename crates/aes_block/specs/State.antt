@@ -1,8 +1,12 @@
--- The state as the code keeps it: four words, one a column.
-use Rattle.std.specs.Prelude.{ℕ, List, ◌++◌}
+-- What the code keeps: the state as four words, one a column, and the key schedule in an array for the longest.
+use Rattle.std.specs.Prelude.{ℕ, ◌+◌, ◌*◌, ◌/◌, List, ◌++◌, take}
 use Rattle.aes_block.specs.Words.{word_bytes}
 use Rattle.aes_block.specs.declared.columns.Columns.{Columns}
 
 -- the sixteen bytes of four columns
 unfoldable pub state_bytes : Columns → List ℕ
 state_bytes s = word_bytes s.a ++ word_bytes s.b ++ word_bytes s.c ++ word_bytes s.d
+
+-- the words of the schedule of a key of n bytes, which stand in front of unused ones
+abbrev pub schedule_of : ℕ → List ℕ → List ℕ
+schedule_of n words = take (4 * (n / 4 + 6) + 4) words

@@ -1,5 +1,5 @@
 -- The key schedule (FIPS 197, 5.2). A word is the number below 2 ^ 32 that its four bytes write, the first byte highest.
-use Rattle.std.specs.Prelude.{ℕ, zero, suc, ◌+◌, ◌-◌, ◌*◌, ◌/◌, ◌%◌, ◌^◌, cond, ◌&&◌, ◌==◌, List, [], ◌∷◌, ◌++◌, map, length, take, bit_xor, slice_index}
+use Rattle.std.specs.Prelude.{ℕ, zero, suc, ◌+◌, ◌-◌, ◌*◌, ◌/◌, ◌%◌, ◌^◌, cond, ◌&&◌, ◌==◌, List, [], ◌∷◌, ◌++◌, map, length, bit_xor, slice_index}
 use Rattle.std.specs.Int.{w32, rotate_left, from_be_bytes, to_be_bytes}
 use Rattle.aes_block.specs.Field.{power}
 use Rattle.aes_block.specs.Sbox.{sbox}
@@ -57,7 +57,3 @@ key_words key = words_after (length key / 4) key (3 * (length key / 4) + 28)
 unfoldable pub first_bytes : List ℕ → ℕ → List ℕ
 first_bytes w zero = []
 first_bytes w (suc n) = first_bytes w n ++ word_bytes (slice_index w n)
-
--- the words of a schedule for a key of n bytes, which stand in front of others
-abbrev pub schedule_of : ℕ → List ℕ → List ℕ
-schedule_of n words = take (4 * (n / 4 + 6) + 4) words

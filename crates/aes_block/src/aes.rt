@@ -3,7 +3,8 @@
 ghost use Rattle.std.specs.Prelude.{◌≡◌, ◌+◌, ◌/◌};
 ghost use Rattle.aes_block.specs.Cipher.{IsKey};
 ghost use Rattle.aes_block.specs.Inverse.{IsInverseSchedule};
-ghost use Rattle.aes_block.specs.Words.{first_bytes, key_words, schedule_of};
+ghost use Rattle.aes_block.specs.State.{schedule_of};
+ghost use Rattle.aes_block.specs.Words.{first_bytes, key_words};
 
 use crate::block_key::BlockKey;
 use crate::inverse_schedule::invert;
