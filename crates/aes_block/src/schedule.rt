@@ -7,6 +7,10 @@ ghost use Rattle.aes_block.specs.Words.{key_word, key_words, schedule_core, sub_
 use crate::column::{first, fourth, second, third};
 use crate::tables::{ROUND_CONSTANTS, substitute};
 
+/// The words of the longest key schedule, of fourteen rounds. A shorter one stands in front of
+/// unused words.
+pub const MOST_WORDS: usize = 60;
+
 fn word_at(key: &[u8], i: usize) -> u32
     requires { i + 4 ≤ length key.now }
     ensures { result ≡ key_word key.now i }

@@ -1,7 +1,7 @@
 use Rattle.std.proofs.Common.{◌∙◌, ◌/◌, ◌*◌, ◌+◌, [], take, sym}
 use Rattle.aes_block.specs.Cipher.{cipher_rounds}
 use Rattle.aes_block.proofs.Inverting.{cipher_of}
-use Rattle.aes_block.proofs.aes.SealingAesBlockKey.seal.Goals as goal
+use Rattle.aes_block.proofs.sealing_aes.SealingAesBlockKey.seal.Goals as goal
 
 pub returns : goal.returns
 returns g c =

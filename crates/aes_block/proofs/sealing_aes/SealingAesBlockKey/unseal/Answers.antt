@@ -4,7 +4,7 @@ use Rattle.aes_block.specs.Cipher.{IsBlock}
 use Rattle.aes_block.specs.Inverse.{inv_cipher_rounds}
 use Rattle.aes_block.proofs.InverseRules.{schedule_inverted}
 use Rattle.aes_block.proofs.Inverting.{given_back, only_one}
-use Rattle.aes_block.proofs.aes.SealingAesBlockKey.unseal.Goals as goal
+use Rattle.aes_block.proofs.sealing_aes.SealingAesBlockKey.unseal.Goals as goal
 
 pub returns-clause-gives_back : goal.returns-clause-gives_back
 returns-clause-gives_back g c =

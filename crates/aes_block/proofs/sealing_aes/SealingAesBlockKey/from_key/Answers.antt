@@ -1,7 +1,7 @@
 use Rattle.std.proofs.Common.{◌≡◌, ◌∙◌, ◌/◌, ◌*◌, length, sym}
 use Rattle.aes_block.proofs.KeyLaw.{words_of_size, key_of_size}
 use Rattle.aes_block.proofs.ScheduleRules.{key_of_schedule, schedule_of_key, words_made}
-use Rattle.aes_block.proofs.aes.SealingAesBlockKey.from_key.Goals as goal
+use Rattle.aes_block.proofs.sealing_aes.SealingAesBlockKey.from_key.Goals as goal
 
 pub returns : goal.returns
 returns g c =
