@@ -67,7 +67,7 @@ impl<K: BlockKey> CmacKey<K> {
         state.finish(&self.key, &self.subkeys)
     }
 
-    /// What `derive` gives with this key.
+    /// What `derive` gives with this key: fills `out`, of 1 to 32 bytes, for a context of at most 32.
     pub fn derive(&self, constant: u8, context: &[u8], out: &mut [u8])
         requires some { 0 < length out.old }
         requires most { length out.old ≤ 32 }
