@@ -122,17 +122,20 @@ static void derive(const struct library *of, void *key, uint8_t constant, const 
     of->code(key, input, sizeof input, out, len);
 }
 
-/* As crates/cipher_bench/src/session.rt. */
-static void session(const struct library *of, uint8_t *challenges)
+/* As crates/cipher_bench/src/session.rt. Where `opens` is set, the key ENC of the session has
+   its inverse key schedule too: of the five it alone is to open blocks. */
+static void session(const struct library *of, int opens, uint8_t *challenges)
 {
     static union code_key enc, mac, session_mac, session_rmac;
-    union block_key session_enc;
+    static union block_key session_enc, session_enc_inverse;
     block bytes, sum;
 
     of->set_code(&enc, fixed_key);
     of->set_code(&mac, fixed_key);
     derive(of, &enc, 4, challenges, bytes, 16);
     of->set_seal(&session_enc, bytes);
+    if (opens)
+        of->set_unseal(&session_enc_inverse, bytes);
     derive(of, &mac, 6, challenges, bytes, 16);
     of->set_code(&session_mac, bytes);
     derive(of, &mac, 7, challenges, bytes, 16);
@@ -146,7 +149,7 @@ static void session(const struct library *of, uint8_t *challenges)
 static int run(const struct library *of, const char *call, size_t size, unsigned long count, uint8_t *sum)
 {
     static uint8_t message[MOST];
-    static union block_key key;
+    static union block_key key, inverse;
     static union code_key code;
     block chain;
 
@@ -161,6 +164,12 @@ static int run(const struct library *of, const char *call, size_t size, unsigned
             of->unseal(&key, sum);
     } else if (IS("key")) {
         for (; count > 0; count--) {
+            of->set_seal(&key, sum);
+            of->seal(&key, sum);
+        }
+    } else if (IS("both")) {
+        for (; count > 0; count--) {
+            of->set_unseal(&inverse, sum);
             of->set_seal(&key, sum);
             of->seal(&key, sum);
         }
@@ -189,9 +198,9 @@ static int run(const struct library *of, const char *call, size_t size, unsigned
             of->cbc_unseal(&key, chain, message, size);
             memcpy(sum, message, 16);
         }
-    } else if (IS("session")) {
+    } else if (IS("session") || IS("both-session")) {
         for (; count > 0; count--)
-            session(of, sum);
+            session(of, IS("both-session"), sum);
     } else {
         return 0;
     }
