@@ -1,0 +1,3 @@
+pub mod PageLists
+mod Counts
+mod Steps

@@ -1,0 +1,6 @@
+pub mod Device
+pub mod Faults
+pub mod Memory
+pub mod MemoryLaws
+pub mod Replay
+pub mod Wrapped
