@@ -1,0 +1,8 @@
+mod Runs
+mod Causes
+mod Copies
+mod Descriptors
+mod Lists
+mod Commits
+mod Settles
+mod Stages

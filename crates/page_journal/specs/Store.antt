@@ -1,0 +1,50 @@
+-- What contracts see of a store, and what it keeps.
+use Rattle.std.specs.Prelude.{◌≡◌, ◌⊎◌, ℕ, ◌<◌, ◌≤◌, Bool, true, List, Option, Some, is_some, IfSome, slice_get}
+use Rattle.flash_core.specs.declared.page.Page.{Page}
+use Rattle.flash_core.specs.Faults.{Rose}
+use Rattle.page_journal.specs.declared.cause.MountCause.{MountCause}
+use Rattle.page_journal.specs.declared.cause.MountCause.TheVariants.{Memory, FlashFailed, BadJournal}
+use Rattle.page_journal.specs.Journal.{is_open, descriptor, IsValid, stored}
+use Rattle.page_journal.specs.Moments.{Always}
+
+-- the device, the staged pages, whether the gate that was open at `mount` is closed, and whether no call has failed
+pub record Store (F : Type 0) : Type 0 where
+  pub flash : F
+  pub staged : List (ℕ × Page)
+  pub settled : Bool
+  pub live : Bool
+
+-- the pages below 96 are the same
+abbrev pub SameBelow : List Page → List Page → Type 0
+SameBelow old new = (page : ℕ) → page < 96 → slice_get new page ≡ slice_get old page
+
+-- Between two calls nothing below the load pages is pending, and the journal is as it was read.
+pub record Stands (pages : List Page) (may_leave : List Page → Type 0) (journal : Option Page) : Type 0 where
+  pub calm : Always may_leave (SameBelow pages)
+  pub gate : is_open pages ≡ is_some journal
+  pub named : IfSome journal (λ page. slice_get pages 46 ≡ Some page)
+
+-- only store pages are staged
+abbrev pub AreStorePages : List (ℕ × Page) → Type 0
+AreStorePages pages = (i : ℕ) (entry : ℕ × Page) → slice_get pages i ≡ Some entry → entry.0 < 45
+
+-- the pages of a device stand for this list
+abbrev pub IsListed : (ℕ → Option Page) → List Page → Type 0
+IsListed list pages = (page : ℕ) → (page < 45) ⊎ (96 ≤ page) → stored pages page ≡ list page
+
+-- what was read of the journal is what stands there
+pub record HasJournal (pages : List Page) (journal : Option Page) : Type 0 where
+  pub gate : is_open pages ≡ is_some journal
+  pub named : IfSome journal (λ page. slice_get pages 46 ≡ Some page)
+
+-- Why a device is not mounted: it failed, or the gate is open before a descriptor that has no valid form.
+abbrev pub CauseHolds : Type 0 → ℕ → ℕ → List Page → MountCause → Type 0
+CauseHolds tells before now pages (Memory refused) = ⊥
+CauseHolds tells before now pages FlashFailed = Rose before now
+CauseHolds tells before now pages BadJournal = tells → (is_open pages ≡ true) × (IsValid (descriptor pages) → ⊥)
+
+-- the same, or memory was wanted before any call on the device
+abbrev pub MountFails : {F : Type 0} → Type 0 → (F → ℕ) → (F → List Page) → F → MountCause → F → Type 0
+MountFails tells faults pages old (Memory refused) new = new ≡ old
+MountFails tells faults pages old FlashFailed new = Rose (faults old) (faults new)
+MountFails tells faults pages old BadJournal new = tells → (is_open (pages old) ≡ true) × (IsValid (descriptor (pages old)) → ⊥)

@@ -1,0 +1,18 @@
+-- What a run of device calls may change.
+use Rattle.std.specs.Prelude.{◌≡◌, ℕ, List, slice_get}
+use Rattle.flash_core.specs.declared.page.Page.{Page}
+use Rattle.page_journal.specs.Moments.{LeavesOnly}
+
+-- all pages outside are the same
+abbrev pub SameOutside : (ℕ → Type 0) → List Page → List Page → Type 0
+SameOutside inside old new = (page : ℕ) → (inside page → ⊥) → slice_get new page ≡ slice_get old page
+
+-- one that was possible before, with any bytes inside
+abbrev pub IsTorn : (ℕ → Type 0) → (List Page → Type 0) → List Page → Type 0
+IsTorn inside old outcome = (before : List Page) × old before × SameOutside inside before outcome
+
+-- A run that touches these pages alone.
+pub record Touches {F : Type 0} (pages : F → List Page) (moment : F → ℕ) (may_leave : F → List Page → Type 0) (left_since : F → ℕ → List Page → Type 0) (inside : ℕ → Type 0) (old new : F) : Type 0 where
+  pub seen : SameOutside inside (pages old) (pages new)
+  pub now : (outcome : List Page) → may_leave new outcome → IsTorn inside (may_leave old) outcome
+  pub moments : LeavesOnly moment left_since old new (IsTorn inside (may_leave old))
