@@ -1,8 +1,9 @@
 -- An element has one spelling, and no spelling is the front of another.
 use Rattle.std.proofs.Common.{◌≡◌, ℕ, List, [], ◌∷◌, ◌++◌, arith, refl, ap, sym, ◌∙◌, subst, length, append_assoc}
+use Rattle.std.proofs.lemmas.List.{append-nil}
 use Rattle.bertlv.specs.Tag.{TagBytes}
 use Rattle.bertlv.specs.Length.{LengthBytes}
-use Rattle.bertlv.specs.Spelling.{Spelling}
+use Rattle.bertlv.specs.Spelling.{AreElements, Element, Spelling}
 use Rattle.bertlv.proofs.TagLemmas.{tag_front, one_tag_field}
 use Rattle.bertlv.proofs.LengthLemmas.{length_front, one_length_field}
 
@@ -56,3 +57,24 @@ one_spelling t v r s h k =
     let tags = one_tag_field t h.tag_field k.tag_field h.is_tag k.is_tag in
     let lengths = one_length_field (length v) h.length_field k.length_field h.is_length k.is_length in
     h.joined ∙ ap (λ z. z ++ h.length_field ++ v) tags ∙ ap (λ z. k.tag_field ++ z ++ v) lengths ∙ sym k.joined
+
+-- and so have several, one after the other
+pub one_spelling_each : (elements : List Element) (r s : List ℕ) → AreElements elements r → AreElements elements s → r ≡ s
+one_spelling_each [] r s h k = h ∙ sym k
+one_spelling_each (element ∷ elements) r s (first, rest, spelled, more, joined) (other, others, again, further, split) =
+    let firsts = one_spelling element.tag element.value first other spelled again in
+    let rests = one_spelling_each elements rest others more further in
+    joined ∙ ap (λ z. z ++ rest) firsts ∙ ap (λ z. other ++ z) rests ∙ sym split
+
+-- one more element behind others
+pub elements_more : (elements : List Element) (element : Element) (bytes more : List ℕ) → AreElements elements bytes
+    → Spelling element.tag element.value more → AreElements (elements ++ element ∷ []) (bytes ++ more)
+elements_more [] element bytes more none spelled =
+    (more, [], spelled, refl, ap (λ front. front ++ more) none ∙ sym (append-nil more))
+elements_more (first ∷ elements) element bytes more (front, rest, is, others, joined) spelled = (
+  front,
+  rest ++ more,
+  is,
+  elements_more elements element rest more others spelled,
+  ap (λ all. all ++ more) joined ∙ append_assoc front rest more,
+)

@@ -1,4 +1,4 @@
--- Length fields of BER-TLV data objects (ISO/IEC 7816-4:2005, 5.2.2.2).
+-- Length fields of BER-TLV data objects (ISO/IEC 7816-4:2013, chapter 6).
 use Rattle.std.specs.Prelude.{◌≡◌, ℕ, ◌+◌, ◌*◌, ◌<◌, ◌≤◌, List, [], ◌∷◌}
 
 -- the field spells the number: the shortest of the forms of one, two and three bytes

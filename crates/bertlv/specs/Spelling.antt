@@ -1,5 +1,5 @@
--- BER-TLV data objects (ISO/IEC 7816-4:2005, 5.2.2).
-use Rattle.std.specs.Prelude.{◌≡◌, ℕ, List, ◌++◌, length}
+-- BER-TLV data objects (ISO/IEC 7816-4:2013, chapter 6).
+use Rattle.std.specs.Prelude.{◌≡◌, ℕ, List, [], ◌∷◌, ◌++◌, length}
 use Rattle.bertlv.specs.Tag.{TagBytes}
 use Rattle.bertlv.specs.Length.{LengthBytes}
 
@@ -18,3 +18,14 @@ BeginsWith tag value rest bytes = (front : List ℕ) × Spelling tag value front
 -- new is old with the element's spelling behind it
 abbrev pub Appends : (tag : ℕ) (value old new : List ℕ) → Type 0
 Appends tag value old new = (bytes : List ℕ) × Spelling tag value bytes × (new ≡ old ++ bytes)
+
+-- a tag and a value
+pub record Element : Type 0 where
+  pub tag : ℕ
+  pub value : List ℕ
+
+-- the bytes are these elements, one after the other
+abbrev pub AreElements : List Element → (bytes : List ℕ) → Type 0
+AreElements [] bytes = bytes ≡ []
+AreElements (element ∷ elements) bytes =
+    (first : List ℕ) × (rest : List ℕ) × Spelling element.tag element.value first × AreElements elements rest × (bytes ≡ first ++ rest)

@@ -1,4 +1,4 @@
--- Tag fields of BER-TLV data objects (ISO/IEC 7816-4:2005, 5.2.2.1).
+-- Tag fields of BER-TLV data objects (ISO/IEC 7816-4:2013, chapter 6).
 use Rattle.std.specs.Prelude.{◌≡◌, ◌≢◌, ℕ, ◌+◌, ◌*◌, ◌/◌, ◌%◌, ◌<◌, ◌≤◌, List, [], ◌∷◌, bit_and, ◌⊎◌}
 
 -- bits 5 to 1 of a first byte are all set: the field goes on

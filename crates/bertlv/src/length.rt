@@ -1,5 +1,6 @@
-//! Length fields (ISO/IEC 7816-4:2005, 5.2.2.2).
-ghost use Rattle.std.specs.Prelude.{ℕ, List, IfOk, IsErrOf};
+//! Length fields (ISO/IEC 7816-4:2013, chapter 6).
+ghost use Rattle.std.specs.Prelude.{◌≡◌, ◌≤◌, ◌+◌, ◌++◌, ℕ, List, IfOk, IsErrOf, length as length_of};
+ghost use Rattle.arrayvec.specs.ArrayVec.{array_vec_len};
 ghost use Rattle.bertlv.specs.Length.{LengthBytes};
 ghost use Rattle.bertlv.specs.Refusal.{AfterLength, EndsInLength, BadLength};
 
@@ -40,21 +41,31 @@ pub(crate) fn split_length(bytes: &[u8]) -> Result<(usize, &[u8]), LengthError>
     }
 }
 
+/// Appends the field that spells the length.
+#[inline]
+pub(crate) fn push_length<const CAP: usize>(length: u16, out: &mut ArrayVec<u8, CAP>)
+    requires room { array_vec_len out.old + 3 ≤ CAP }
+    ensures field { (field : List ℕ) × LengthBytes length field × (out.new.items ≡ out.old.items ++ field) }
+    ensures size { length_of out.new.items ≤ length_of out.old.items + 3 }
+{
+    let [high, low] = length.to_be_bytes();
+    if length < 0x80 {
+        out.push(low);
+    } else if length < 0x100 {
+        out.push(0x81);
+        out.push(low);
+    } else {
+        out.push(0x82);
+        out.push(high);
+        out.push(low);
+    }
+}
+
 /// The field that spells the length.
 pub(crate) fn length_field(length: u16) -> ArrayVec<u8, 3>
     ensures { LengthBytes length result.items }
 {
-    let [high, low] = length.to_be_bytes();
     let mut field = ArrayVec::new();
-    if length < 0x80 {
-        field.push(low);
-    } else if length < 0x100 {
-        field.push(0x81);
-        field.push(low);
-    } else {
-        field.push(0x82);
-        field.push(high);
-        field.push(low);
-    }
+    push_length(length, &mut field);
     field
 }

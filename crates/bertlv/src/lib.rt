@@ -1,4 +1,4 @@
-//! BER-TLV elements (ISO/IEC 7816-4:2005, 5.2.2): a tag of one or two bytes, a length below 65,536 in
+//! BER-TLV elements (ISO/IEC 7816-4:2013, chapter 6): a tag of one or two bytes, a length below 65,536 in
 //! its shortest form, and a value.
 //!
 //! Each element has one spelling, and bytes begin with at most one element. `read` takes the element
@@ -17,4 +17,4 @@ mod writer;
 pub use element::{NoRoom, Tlv, TlvError};
 pub use reader::read;
 pub use tag::is_tag;
-pub use writer::write;
+pub use writer::{append, write};

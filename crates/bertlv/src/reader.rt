@@ -8,7 +8,7 @@ use crate::length::{LengthError, split_length};
 use crate::tag::split_tag;
 use crate::{Tlv, TlvError};
 
-/// The element at the front, and the bytes after it (ISO/IEC 7816-4:2005, 5.2.2).
+/// The element at the front, and the bytes after it (ISO/IEC 7816-4:2013, chapter 6).
 ///
 /// Of several causes of a refusal the first in reading order is given. A length field is judged by
 /// its first byte where that is 80 or from 83 up, and otherwise once all its bytes are there.

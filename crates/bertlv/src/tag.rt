@@ -1,5 +1,6 @@
-//! Tag fields (ISO/IEC 7816-4:2005, 5.2.2.1).
-ghost use Rattle.std.specs.Prelude.{◌≡◌, ◌↔◌, ℕ, List, IsTrue, IfOk, IfErr};
+//! Tag fields (ISO/IEC 7816-4:2013, chapter 6).
+ghost use Rattle.std.specs.Prelude.{◌≡◌, ◌↔◌, ◌≤◌, ◌+◌, ◌++◌, ℕ, List, IsTrue, IfOk, IfErr, length};
+ghost use Rattle.arrayvec.specs.ArrayVec.{array_vec_len};
 ghost use Rattle.bertlv.specs.Tag.{GoesOn, EndsTag, TagBytes, IsTag};
 ghost use Rattle.bertlv.specs.Refusal.{AfterTag, Refused};
 
@@ -36,17 +37,28 @@ pub(crate) fn split_tag(bytes: &[u8]) -> Result<(u16, &[u8]), TlvError>
     }
 }
 
+/// Appends the field that spells the tag.
+#[inline]
+pub(crate) fn push_tag<const CAP: usize>(tag: u16, out: &mut ArrayVec<u8, CAP>)
+    requires tag { IsTag tag }
+    requires room { array_vec_len out.old + 2 ≤ CAP }
+    ensures field { (field : List ℕ) × TagBytes tag field × (out.new.items ≡ out.old.items ++ field) }
+    ensures size { length out.new.items ≤ length out.old.items + 2 }
+{
+    let [first, second] = tag.to_be_bytes();
+    if first != 0 {
+        out.push(first);
+    }
+    out.push(second);
+}
+
 /// The field that spells the tag.
 pub(crate) fn tag_field(tag: u16) -> ArrayVec<u8, 2>
     requires { IsTag tag }
     ensures { TagBytes tag result.items }
 {
-    let [first, second] = tag.to_be_bytes();
     let mut field = ArrayVec::new();
-    if first != 0 {
-        field.push(first);
-    }
-    field.push(second);
+    push_tag(tag, &mut field);
     field
 }
 

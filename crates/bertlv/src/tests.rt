@@ -24,7 +24,7 @@ fn writes_and_reads_each_form(rt: HostRuntime) {
             tag,
             value: &filler[..size],
         };
-        let mut out = ArrayVec::new();
+        let mut out = ArrayVec::<u8, 261>::new();
         assert_eq!(rt; write(&element, &mut out), Ok(()), "{tag} {size}");
         assert_eq!(rt; out.len(), header.len() + size, "{tag} {size}");
         assert!(rt; out.as_slice().starts_with(header), "{tag} {size}");
@@ -38,7 +38,7 @@ fn writes_and_reads_each_form(rt: HostRuntime) {
 #[test]
 fn keeps_what_has_no_room(rt: HostRuntime) {
     let filler = [0xAA; 258];
-    let mut out = ArrayVec::new();
+    let mut out = ArrayVec::<u8, 261>::new();
     let long = Tlv {
         tag: 0x42,
         value: &filler,
@@ -61,7 +61,7 @@ fn reads_nested_elements(rt: HostRuntime) -> Result<(), Fail> {
         0x65, 0x01, 0xFF, 0x90, 0x00,
     ];
     let (template, status) = read(&reply)?;
-    let mut copy = ArrayVec::new();
+    let mut copy = ArrayVec::<u8, 261>::new();
     assert_eq!(rt; write(&template, &mut copy), Ok(()));
     assert!(rt; reply.starts_with(copy.as_slice()));
     assert_eq!(rt; template.tag, 0x6F);
