@@ -1,6 +1,4 @@
-pub mod Closing
-pub mod Judging
+pub mod Admitting
 pub mod Listing
-pub mod Managing
-pub mod Selected
-pub mod Telling
+pub mod Serving
+pub mod Standing

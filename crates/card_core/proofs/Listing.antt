@@ -1,70 +1,106 @@
--- The listing of the factory's keys, key by key.
-use Rattle.std.proofs.Common.{◌≡◌, ℕ, zero, suc, ◌+◌, ◌≤◌, List, [], ◌∷◌, ◌++◌, length, Option, None, Some, refl, sym, ap, ◌∙◌, add-one, arith}
-use Rattle.std.specs.List.{flat_map}
-use Rattle.std.proofs.lemmas.List.{append-nil, append_assoc, length-append}
-use Rattle.card_types.specs.Factory.{IsFactory, factory_perm}
+-- The key information template, key by key.
+use Rattle.std.proofs.Common.{◌≡◌, ◌≢◌, ℕ, ◌+◌, ◌<◌, ◌≤◌, Bool, true, ◌&&◌, List, [], ◌∷◌, ◌++◌, Option, None, Some, refl, sym, ap, subst, ◌∙◌, inl, inr, length, length-append, append_assoc, arith}
+use Rattle.std.specs.Prelude.{filter, map, ◌==◌}
+use Rattle.std.proofs.lemmas.Bool.Decides.{eqb_tells}
+use Rattle.std.proofs.lemmas.List.{map-append}
+use Rattle.bertlv.proofs.SpellingLemmas.{elements_more}
+use Rattle.bertlv.specs.Spelling.{AreElements, Spelling}
+use Rattle.card_types.specs.Least.{IsLeast, NoneFits}
+use Rattle.card_types.specs.Registry as registry
+use Rattle.card_types.specs.Says.{Says, domain_aid, key_of}
 use Rattle.card_types.specs.Slots.{held}
-use Rattle.card_types.specs.declared.factory.TheConstants.{FACTORY_VERSION, ISSUER}
+use Rattle.card_types.specs.Well.{Well}
+use Rattle.card_types.specs.declared.limits.TheConstants.{DOMAIN_KEYS}
+use Rattle.card_types.specs.declared.tables.Entry.{Entry}
 use Rattle.card_types.specs.declared.tables.KeyRec.{KeyRec}
 use Rattle.card_types.specs.declared.tables.Tables.{Tables}
-use Rattle.card_types.specs.declared.tables.TheConstants.{KEYS}
-use Rattle.policy_rules.specs.Bodies.{element, key_information}
-use Rattle.policy_rules.specs.Data.{keys_of}
-use Rattle.policy_rules.specs.Keys.{Name, NextKey, name_of}
-use Rattle.policy_rules.proofs.FactoryKeys.{IsKeyAt, name_up_to, next_is, only_keys}
+use Rattle.policy_rules.proofs.OwnKeys.{IsAfter, keys_are, keys_from_next, keys_from_none, next_named, none_named, own_past}
+use Rattle.policy_rules.specs.GetData.{IsKeyInformation, key_information}
+use Rattle.policy_rules.specs.KeyOrder.{follows, is_past, name_order}
+use Rattle.policy_rules.specs.declared.key_order.KeyName.{KeyName}
 
--- what the listing says of a key
-abbrev pub listed_key : KeyRec → List ℕ
-listed_key key = element 0xC0 (key.identifier ∷ key.version ∷ 0x88 ∷ length key.bytes.items ∷ [])
+-- So many keys of the domain are written; then comes this one, and those past it.
+pub record IsListing (tables : Tables) (said : registry.Registry) (owner : ℕ) (key : KeyRec) (count : ℕ) (value : List ℕ) : Type 0 where
+  pub listed : List registry.Key
+  pub counted : length listed ≡ count
+  pub spelled : AreElements (map key_information listed) value
+  pub own : key.owner ≡ owner
+  pub left : registry.keys_of said (domain_aid tables.entries.items owner)
+      ≡ listed ++ key_of tables.entries.items key ∷ filter (own_past (domain_aid tables.entries.items owner) (Some (key_of tables.entries.items key))) said.keys
 
--- which takes six bytes
-pub key_takes_six : (reply more : List ℕ) (key : KeyRec) → more ≡ reply ++ listed_key key
-    → length more ≡ length reply + 6
-key_takes_six reply more key is = ap length is ∙ length-append reply (listed_key key)
+owner_is : (n owner : ℕ) (rest : Bool) → ((n == owner) && rest) ≡ true → n ≡ owner
+owner_is n owner rest is = elim (eqb_tells n owner) [
+  | inl same ↦ same.1
+  | inr other ↦ (let clash = ap (λ (b : Bool). b && rest) (sym other.0) ∙ is in cc)
+]
 
--- the listing of the first keys
-abbrev pub listed_up_to : ℕ → List ℕ
-listed_up_to zero = []
-listed_up_to (suc count) = listed_up_to count ++ element 0xC0 (suc count ∷ FACTORY_VERSION ∷ 0x88 ∷ 16 ∷ [])
+cons_not_nil : {A : Type 0} (xs : List A) (x : A) (ys : List A) → xs ++ x ∷ ys ≢ []
+cons_not_nil [] x ys same = cc
+cons_not_nil (y ∷ xs) x ys same = cc
 
--- how far the listing has come
-pub record IsListed (count : ℕ) (after : Option Name) (before reply : List ℕ) : Type 0 where
-  pub low : count ≤ 3
-  pub name : after ≡ name_up_to count
-  pub listed : reply ≡ before ++ listed_up_to count
+module _ (page : ℕ → List ℕ) (tables : Tables) (said : registry.Registry) (says : Says page tables said) (well : Well said)
+    (owner : ℕ) (entry : Entry) (at : held tables.entries.items owner ≡ Some entry) where
+  abbrev aid : List ℕ
+  aid = domain_aid tables.entries.items owner
 
-pub none_listed : (reply : List ℕ) → IsListed 0 None reply reply
-none_listed reply = record { low = omega arith; name = refl; listed = sym (append-nil reply) }
+  abbrev named : KeyRec → registry.Key
+  named key = key_of tables.entries.items key
 
-factory_key_listed : (tables : Tables) (count : ℕ) (key : KeyRec) → IsKeyAt tables count key
-    → listed_key key ≡ element 0xC0 (suc count ∷ FACTORY_VERSION ∷ 0x88 ∷ 16 ∷ [])
-factory_key_listed tables count key at = rw (at.is.same, at.is.version, at.is.bytes, add-one) refl
+  pub first_listing : (slot : ℕ) (first : KeyRec) → first.owner ≡ owner → IsLeast (follows owner None) name_order tables.keys.items slot first
+      → IsListing tables said owner first 0 []
+  first_listing slot first own least =
+      let found = next_named page tables said says well owner entry at None None slot first tt least in
+      record {
+        listed = [];
+        counted = refl;
+        spelled = refl;
+        own = own;
+        left = keys_are page tables said says well owner entry at ∙ keys_from_next page tables said says well owner entry at None (named first) found;
+      }
 
--- the key that follows
-pub next_listed : (tables : Tables) (count slot : ℕ) (after : Option Name) (before reply : List ℕ) (key : KeyRec)
-    → IsFactory tables → IsListed count after before reply → NextKey tables.keys.items 0 after KEYS (Some slot)
-    → held tables.keys.items slot ≡ Some key → IsListed (count + 1) (Some (name_of key)) before (reply ++ listed_key key)
-next_listed tables count slot after before reply key is so_far next at =
-    let next_after = rw so_far.name at next in
-    let here = next_is tables is count so_far.low (Some slot) next_after in
-    let there = only_keys tables is count key (rw here.0 at at) in
-    let low = there.low in
-    rw add-one (record {
-      low = omega arith;
-      name = rw (there.is.version, there.is.same, add-one) refl;
-      listed = rw (so_far.listed, factory_key_listed tables count key there) (append_assoc before (listed_up_to count) _);
-    })
+  written_more : (key : KeyRec) (count : ℕ) (value bytes : List ℕ) (listing : IsListing tables said owner key count value)
+      → Spelling 0xC0 (key.identifier ∷ key.version ∷ 0x88 ∷ length key.bytes.items ∷ []) bytes
+      → AreElements (map key_information (listing.listed ++ named key ∷ [])) (value ++ bytes)
+  written_more key count value bytes listing spelled =
+      rw (map-append key_information listing.listed (named key ∷ []))
+      (elements_more (map key_information listing.listed) (key_information (named key)) value bytes listing.spelled spelled)
 
--- the slot of a key that follows is not empty
-pub next_is_held : (tables : Tables) (count slot : ℕ) (after : Option Name) (before reply : List ℕ)
-    → IsFactory tables → IsListed count after before reply → NextKey tables.keys.items 0 after KEYS (Some slot)
-    → held tables.keys.items slot ≡ None → ⊥
-next_is_held tables count slot after before reply is so_far next none = let clash = sym none ∙ next.follows.at in cc
+  pub next_listing : (key : KeyRec) (count : ℕ) (value bytes : List ℕ) (name : KeyName) (slot : ℕ) (next : KeyRec) → IsListing tables said owner key count value
+      → Spelling 0xC0 (key.identifier ∷ key.version ∷ 0x88 ∷ length key.bytes.items ∷ []) bytes
+      → name.version ≡ key.version → name.identifier ≡ key.identifier
+      → IsLeast (follows owner (Some name)) name_order tables.keys.items slot next
+      → IsListing tables said owner next (count + 1) (value ++ bytes)
+  next_listing key count value bytes name slot next listing spelled version identifier least =
+      let after : IsAfter aid (Some name) (Some (named key)) = (ap (domain_aid tables.entries.items) listing.own, sym version, sym identifier) in
+      let found = next_named page tables said says well owner entry at (Some name) (Some (named key)) slot next after least in
+      let more = keys_from_next page tables said says well owner entry at (Some (named key)) (named next) found in
+      record {
+        listed = listing.listed ++ named key ∷ [];
+        counted = length-append listing.listed (named key ∷ []) ∙ ap (λ n. n + 1) listing.counted;
+        spelled = written_more key count value bytes listing spelled;
+        own = owner_is next.owner owner (is_past (Some name) next) least.fitting;
+        left = listing.left ∙ ap (λ rest. listing.listed ++ named key ∷ rest) more
+            ∙ sym (append_assoc listing.listed (named key ∷ []) (named next ∷ filter (own_past aid (Some (named next))) said.keys));
+      }
 
--- where none follows, all are listed
-pub all_listed : (tables : Tables) (count : ℕ) (after : Option Name) (before reply : List ℕ) → IsFactory tables
-    → IsListed count after before reply → NextKey tables.keys.items 0 after KEYS None
-    → reply ≡ before ++ flat_map key_information (keys_of factory_perm ISSUER)
-all_listed tables count after before reply is so_far next =
-    let all = next_is tables is count so_far.low None (rw so_far.name at next) in
-    so_far.listed ∙ ap (λ n. before ++ listed_up_to n) all
+  pub all_listed : (key : KeyRec) (count : ℕ) (value bytes : List ℕ) (name : KeyName) → IsListing tables said owner key count value
+      → Spelling 0xC0 (key.identifier ∷ key.version ∷ 0x88 ∷ length key.bytes.items ∷ []) bytes
+      → name.version ≡ key.version → name.identifier ≡ key.identifier
+      → NoneFits (follows owner (Some name)) tables.keys.items → IsKeyInformation said aid (value ++ bytes)
+  all_listed key count value bytes name listing spelled version identifier none =
+      let after : IsAfter aid (Some name) (Some (named key)) = (ap (domain_aid tables.entries.items) listing.own, sym version, sym identifier) in
+      let found = none_named page tables said says well owner entry at (Some name) (Some (named key)) after none in
+      let end = keys_from_none page tables said says well owner entry at (Some (named key)) found in
+      let all : registry.keys_of said aid ≡ listing.listed ++ named key ∷ [] = listing.left ∙ ap (λ rest. listing.listed ++ named key ∷ rest) end in (
+        (λ empty. cons_not_nil listing.listed (named key) [] (sym all ∙ empty)),
+        rw all (written_more key count value bytes listing spelled),
+      )
+
+  -- a domain has no more keys than it has room for
+  pub too_many : {P : Type 0} (key : KeyRec) (count : ℕ) (value : List ℕ) → IsListing tables said owner key count value → DOMAIN_KEYS ≤ count → P
+  too_many key count value listing past =
+      let size = ap (λ (keys : List registry.Key). length keys) listing.left
+      ∙ length-append listing.listed (named key ∷ filter (own_past aid (Some (named key))) said.keys) in
+      let few = well.few_keys_each aid in
+      let counted = listing.counted in
+      absurd (omega arith)

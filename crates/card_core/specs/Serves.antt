@@ -1,23 +1,26 @@
--- What comes of a command before its reply is closed by a status.
-use Rattle.std.specs.Prelude.{◌≡◌, ℕ, List, [], Result, Ok, Err, Some, None}
-use Rattle.apdu_core.specs.Apdu.{Apdu, Short}
+-- What comes of a command before its reply is closed by a status word.
+use Rattle.std.specs.Prelude.{◌≡◌, ℕ, List, [], ◌++◌, Result, Ok, Err, Some, None}
+use Rattle.apdu_core.specs.Reply.{status_bytes}
 use Rattle.apdu_core.specs.declared.reply.Status.{Status}
-use Rattle.card_types.specs.declared.tables.Tables.{Tables}
-use Rattle.policy_rules.specs.Effect.{Effect, effect}
-use Rattle.policy_rules.specs.Means.{Says}
-use Rattle.policy_rules.specs.Rules.{First, Judges}
-use Rattle.policy_rules.specs.State.{State}
-use Rattle.policy_rules.specs.declared.live.Live.{Live}
+use Rattle.policy_rules.specs.Admission.{Admitted}
+use Rattle.policy_rules.specs.Commands.{Does, Judges}
+use Rattle.policy_rules.specs.Rules.{status_of}
+use Rattle.policy_rules.specs.State.{Effect, State}
+use Rattle.policy_rules.specs.Step.{Outcome, Step}
 use Rattle.policy_rules.specs.declared.rule.Rule.{Rule}
+use Rattle.card_core.specs.Kept.{Kept, Stands}
 
--- what is kept says the state of an effect, and body and status are its own
-pub record Does (tables : Tables) (live : Live) (reply : List ℕ) (word : ℕ) (done : Effect) : Type 0 where
-  pub says : Says tables live done.state
-  pub body : reply ≡ done.body
-  pub status : word ≡ done.status
+-- the outcome, once the body is closed by the status word, or by that of the rule
+abbrev pub outcome_of : State → List ℕ → Result Status Rule → Outcome
+outcome_of next body (Ok status) = record { state = next; reply = body ++ status_bytes status.0; rule = None }
+outcome_of next body (Err rule) = record { state = next; reply = body ++ status_bytes (status_of rule); rule = Some rule }
 
--- The command is accepted and done, or a rule refuses it and nothing changes.
-abbrev pub Serves : State → List ℕ → Tables → Live → List ℕ → Result Status Rule → Type 0
-Serves state bytes tables live body (Ok status) =
-    (command : Apdu) × Short command bytes × Judges state command None × Does tables live body status.0 (effect state command)
-Serves state bytes tables live body (Err rule) = First state bytes (Some rule) × Says tables live state × (body ≡ [])
+-- one step of the policy machine was made
+abbrev pub Serves : State → List ℕ → Kept → List ℕ → Result Status Rule → Type 0
+Serves state bytes card body result = (next : State) × Stands card next × Step state bytes (outcome_of next body result)
+
+-- an admitted command was carried out, or a rule of its own refused it and nothing changed
+abbrev pub CarriesOut : Admitted → Kept → List ℕ → Result Status Rule → Type 0
+CarriesOut admitted card body (Ok status) =
+    (done : Effect) × Stands card done.state × Judges admitted None × Does admitted done × (body ≡ done.body) × (status.0 ≡ done.status)
+CarriesOut admitted card body (Err rule) = Stands card admitted.at × Judges admitted (Some rule) × (body ≡ [])

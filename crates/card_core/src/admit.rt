@@ -1,28 +1,89 @@
-//! What each command passes first.
+//! What every command passes before the rules of its own are judged.
 
-ghost use Rattle.std.specs.Prelude.{IfOk, IfErr, None, Some};
+ghost use Rattle.std.specs.Prelude.{◌≡◌, ◌≢◌, ◌↔◌, IsTrue, false, IfOk, IfErr, None, Some, slice_index_or};
 ghost use Rattle.apdu_core.specs.Apdu.{Short, apdu_of};
-ghost use Rattle.policy_rules.specs.Classes.{IsKnown};
+ghost use Rattle.card_core.specs.Domains.{is_domain_in};
+ghost use Rattle.policy_rules.specs.Admission.{Bars, general_rules};
+ghost use Rattle.policy_rules.specs.Classes.{IsKnown, channel_of as channel_of_byte, is_secure};
+ghost use Rattle.policy_rules.specs.FirstFailing.{IsFirst};
 ghost use Rattle.policy_rules.specs.Means.{Says};
-ghost use Rattle.policy_rules.specs.Rules.{Fails, First, IsFirst, class_rules};
 ghost use Rattle.policy_rules.specs.State.{State};
 
 use apdu_core::Command;
-use card_types::Tables;
-use policy_rules::{Live, Rule, RuleG, judge_class};
+use bitflags::Flags;
+use card_types::{CardLife, Privileges, Tables, in_slot};
+use policy_rules::{Class, GET_DATA, Live, MANAGE_CHANNEL, RuleG, SELECT, channel_of};
+
+// Whether the entry in a slot is a security domain.
+fn is_domain(tables: &Tables, slot: u8) -> bool
+    ensures { result ≡ is_domain_in tables.now.entries.items slot }
+{
+    match in_slot(&tables.entries, slot) {
+        Some(entry) => entry.privileges.contains(Privileges::SECURITY_DOMAIN),
+        None => false,
+    }
+}
+
+// Whether the entry in a slot is an application, which takes SELECT and MANAGE CHANNEL alone.
+fn is_not_for(tables: &Tables, slot: u8, ins: u8) -> bool
+    ensures { IsTrue result ↔ ((is_domain_in tables.now.entries.items slot ≡ false) × (ins ≢ SELECT) × (ins ≢ MANAGE_CHANNEL)) }
+{
+    !is_domain(tables, slot) && ins != SELECT && ins != MANAGE_CHANNEL
+}
+
+// Whether the card is terminated, which answers GET DATA in plain alone.
+fn is_over(card_life: CardLife, class: Class, ins: u8) -> bool
+    ensures { IsTrue result ↔ ((card_life ≡ CardLife.Terminated) × ((ins ≡ GET_DATA) × (is_secure class ≡ false) → ⊥)) }
+{
+    card_life == CardLife::Terminated && (ins != GET_DATA || class == Class::Secure)
+}
+
+/// A command that has passed the general rules.
+#[derive(Clone, Copy)]
+pub struct Admitted<'a> {
+    pub command: Command<'a>,
+
+    /// The logical channel that it comes on.
+    pub channel: u8,
+
+    /// The slot of the entry that is selected there.
+    pub selected: u8,
+}
 
 /// The command that the bytes are, or the first of the general rules that fails.
-pub fn admit<'a>(tables: &Tables, live: &Live, bytes: &'a [u8]) -> Result<Command<'a>, Rule>
-    ensures known { IfOk result (λ command. IsKnown command.class command.ins) }
-    ensures spelled { IfOk result (λ command. Short (apdu_of command) bytes.now) }
-    ensures passed { (state : State) → Says tables.now live.now state → IfOk result (λ command. IsFirst (Fails state (apdu_of command)) class_rules None) }
-    ensures refused { (state : State) → Says tables.now live.now state → IfErr result (λ rule. First state bytes.now (Some rule)) }
+pub fn admit<'a>(tables: &Tables, live: &Live, bytes: &'a [u8]) -> Result<Admitted<'a>, RuleG>
+    ensures known { IfOk result (λ admitted. IsKnown admitted.command.class admitted.command.ins) }
+    ensures spelled { IfOk result (λ admitted. Short (apdu_of admitted.command) bytes.now) }
+    ensures channel { IfOk result (λ admitted. admitted.channel ≡ channel_of_byte admitted.command.class) }
+    ensures selected { IfOk result (λ admitted. slice_index_or live.now.selected admitted.channel None ≡ Some admitted.selected) }
+    ensures passed { (state : State) → Says tables.now live.now state
+        → IfOk result (λ admitted. IsFirst (Bars state bytes.now) general_rules None) }
+    ensures refused { (state : State) → Says tables.now live.now state
+        → IfErr result (λ rule. IsFirst (Bars state bytes.now) general_rules (Some rule)) }
 {
     let Ok(command) = Command::read(bytes) else {
-        return Err(Rule::G(RuleG::G1));
+        return Err(RuleG::G1);
     };
-    match judge_class(tables, live, &command) {
-        Some(rule) => Err(rule),
-        None => Ok(command),
+    let Some(class) = Class::of(command.class) else {
+        return Err(RuleG::G2);
+    };
+    let channel = channel_of(command.class);
+    let Some(selected) = live.selected[usize::from(channel)] else {
+        return Err(RuleG::G3);
+    };
+    let ins = command.ins;
+    if !class.has(ins) {
+        return Err(RuleG::G4);
     }
+    if is_not_for(tables, selected, ins) {
+        return Err(RuleG::G4);
+    }
+    if is_over(tables.life, class, ins) {
+        return Err(RuleG::G5);
+    }
+    Ok(Admitted {
+        command,
+        channel,
+        selected,
+    })
 }

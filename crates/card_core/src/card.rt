@@ -1,9 +1,12 @@
 //! A card.
 
-ghost use Rattle.std.specs.Prelude.{ℕ, List, IfOk};
+ghost use Rattle.std.specs.Prelude.{◌≡◌, ℕ, List, IfOk};
 ghost use Rattle.card_core.specs.Kept.{Kept, Stands};
-ghost use Rattle.card_types.specs.Factory.{factory_perm};
+ghost use Rattle.card_types.specs.Factory.{factory_registry};
+ghost use Rattle.card_types.specs.InOrder.{IsInOrder};
+ghost use Rattle.card_types.specs.Registry.{Registry};
 ghost use Rattle.card_types.specs.Says.{Says};
+ghost use Rattle.card_types.specs.Well.{Well};
 ghost use Rattle.policy_rules.specs.State.{State, powered_on};
 ghost use Rattle.policy_rules.specs.Step.{Step};
 
@@ -23,20 +26,34 @@ pub struct Card {
 }
 
 impl Model for Card {
+    ghost use Rattle.card_core.specs.Kept.{Kept};
+    ghost use Rattle.card_types.specs.InOrder.{IsInOrder};
+
     ghost Value = { Kept };
 
     ghost view = { λ card. record { tables = card.tables; live = card.live } };
+
+    ghost invariant = { λ card. IsInOrder card.tables };
 }
 
 impl Card {
+    /// A card with this registry, just powered on.
+    pub fn powered_on(tables: Tables) -> Card
+        requires in_order { IsInOrder tables }
+        ensures stands { (page : ℕ → List ℕ) (said : Registry) → Says page tables said → Well said → Stands result (powered_on said) }
+        ensures tables { result.tables ≡ tables }
+    {
+        Card {
+            tables,
+            live: Live::powered_on(),
+        }
+    }
+
     /// The card as it leaves the factory, just powered on. An error is want of memory.
     pub fn factory(alloc: Global) -> Result<Card, AllocError>
-        ensures stands { IfOk result (λ card. Stands card (powered_on factory_perm)) }
+        ensures stands { IfOk result (λ card. Stands card (powered_on factory_registry)) }
     {
-        Ok(Card {
-            tables: Tables::factory(alloc)?,
-            live: Live::powered_on(),
-        })
+        Ok(Card::powered_on(Tables::factory(alloc)?))
     }
 
     /// Answers a command: `reply` becomes the whole reply. It says which rule refused the command, if one did, and takes
@@ -58,16 +75,17 @@ impl Card {
         }
     }
 
-    /// Takes the power away and gives it back: channel 0 alone is open then, with the issuer domain selected.
+    /// Takes the power away and gives it back: channel 0 alone is open then, with the Issuer Security Domain selected.
     pub fn reset(&mut self)
-        ensures stands { (state : State) → Stands self.old state → Stands self.new (powered_on state.perm) }
+        ensures stands { (state : State) → Stands self.old state → Stands self.new (powered_on state.registry) }
     {
         self.live = Live::powered_on();
     }
 
     /// The registry.
     pub fn tables(&self) -> &Tables
-        ensures says { (state : State) → Stands self.now state → (page : ℕ → List ℕ) → Says page result.now state.perm }
+        ensures tables { result.now ≡ self.now.tables }
+        ensures in_order { IsInOrder result.now }
     {
         &self.tables
     }

@@ -5,13 +5,14 @@
 
 mod admit;
 mod card;
-mod data;
-mod element;
+mod get_data;
+mod manage_channel;
 mod reply;
-mod selection;
+mod select;
 mod serve;
-#[cfg(test)]
-mod tests;
 
 pub use card::Card;
 pub use reply::REPLY_LIMIT;
+
+#[cfg(test)]
+mod tests;

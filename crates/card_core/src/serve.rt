@@ -1,45 +1,20 @@
 //! What is done with a command.
 
-ghost use Rattle.std.specs.Prelude.{◌≡◌, ◌≤◌, ◌<◌, [], length};
-ghost use Rattle.apdu_core.specs.Apdu.{Apdu};
-ghost use Rattle.card_core.specs.Serves.{Does, Serves};
-ghost use Rattle.policy_rules.specs.Classes.{channel_of as channel_of_byte};
-ghost use Rattle.policy_rules.specs.Effect.{effect};
-ghost use Rattle.policy_rules.specs.Action.{IsFor, IsInRange};
-ghost use Rattle.policy_rules.specs.Means.{Says};
+ghost use Rattle.std.specs.Prelude.{◌≡◌, ◌≤◌, [], length};
+ghost use Rattle.card_core.specs.Kept.{Kept, Stands};
+ghost use Rattle.card_core.specs.Serves.{Serves};
+ghost use Rattle.card_types.specs.InOrder.{IsInOrder};
 ghost use Rattle.policy_rules.specs.State.{State};
 
 use crate::admit::admit;
-use crate::data::give;
+use crate::get_data::get_data;
+use crate::manage_channel::{close_channel, open_channel};
 use crate::reply::REPLY_LIMIT;
-use crate::selection::{close_channel, open_channel, select};
+use crate::select::select;
 use apdu_core::Status;
 use arrayvec::ArrayVec;
 use card_types::Tables;
-use policy_rules::{Action, CHANNELS, Live, Rule, channel_of, decide, parse};
-
-// Does what was found to be done.
-fn act(
-    tables: &Tables,
-    live: &mut Live,
-    channel: u8,
-    action: Action,
-    reply: &mut ArrayVec<u8, REPLY_LIMIT>,
-) -> Status
-    requires channel { channel < CHANNELS }
-    requires range { IsInRange action }
-    requires empty { reply.old.items ≡ [] }
-    ensures done { (state : State) (command : Apdu) → Says tables.now live.old state → channel ≡ channel_of_byte command.class
-        → IsFor tables.now state command action → Does tables.now live.new reply.new.items result.0 (effect state command) }
-    ensures room { length reply.new.items ≤ 256 }
-{
-    match action {
-        Action::Select { slot } => select(tables, live, channel, slot, reply),
-        Action::Open { number } => open_channel(live, number, reply),
-        Action::Close { number } => close_channel(live, number),
-        Action::Give { datum } => give(tables, datum, reply),
-    }
-}
+use policy_rules::{Live, Request, Rule, parse};
 
 /// Does what a command asks for, and appends the reply's data. It answers the status, or the rule that refused the command.
 pub fn serve(
@@ -48,13 +23,30 @@ pub fn serve(
     bytes: &[u8],
     reply: &mut ArrayVec<u8, REPLY_LIMIT>,
 ) -> Result<Status, Rule>
+    requires in_order { IsInOrder tables.now }
     requires empty { reply.old.items ≡ [] }
-    ensures served { (state : State) → Says tables.now live.old state → Serves state bytes.now tables.now live.new reply.new.items result }
+    ensures served { (state : State) → Stands (record { tables = tables.now; live = live.old }) state
+        → Serves state bytes.now (record { tables = tables.now; live = live.new }) reply.new.items result }
     ensures room { length reply.new.items ≤ 256 }
 {
-    let command = admit(tables, live, bytes)?;
-    let request = parse(command.ins, command.p1, command.p2, command.body)?;
-    let channel = channel_of(command.class);
-    let action = decide(tables, live, channel, &request)?;
-    Ok(act(tables, live, channel, action, reply))
+    let admitted = match admit(tables, live, bytes) {
+        Ok(admitted) => admitted,
+        Err(rule) => return Err(Rule::G(rule)),
+    };
+    let command = admitted.command;
+    match parse(command.ins, command.p1, command.p2, command.body)? {
+        Request::Select { partial } => select(tables, live, admitted.channel, partial, reply),
+        Request::MoreChannel => open_channel(live, reply),
+        Request::LessChannel { number } => close_channel(live, number),
+        Request::Get { tag } => {
+            get_data(
+                tables,
+                live,
+                admitted.channel,
+                admitted.selected,
+                tag,
+                reply,
+            )
+        }
+    }
 }

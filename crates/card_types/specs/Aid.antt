@@ -1,4 +1,4 @@
--- Application identifiers (ISO/IEC 7816-4, 8.2.1.2), as the list of their bytes.
+-- Application identifiers (ISO/IEC 7816-4:2013, chapter 12), as the list of their bytes.
 use Rattle.std.specs.Prelude.{ℕ, ◌≤◌, List, length}
 
 -- the bytes can be an identifier: there are 5 to 16

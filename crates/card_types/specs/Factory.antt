@@ -1,6 +1,6 @@
 -- The card as it leaves the factory, in slots and by names.
 use Rattle.std.specs.Prelude.{◌≡◌, ℕ, [], ◌∷◌, None, Some, replicate, false}
-use Rattle.card_types.specs.Perm as perm
+use Rattle.card_types.specs.Registry as registry
 use Rattle.card_types.specs.declared.card_life.CardLife.TheVariants.{OpReady}
 use Rattle.card_types.specs.declared.factory.TheConstants.{ISSUER, FACTORY_FILE, FACTORY_MODULE, FACTORY_PRIVILEGES, FACTORY_VERSION, FACTORY_KEY}
 use Rattle.card_types.specs.declared.life.Life.TheVariants.{Personalized}
@@ -9,7 +9,7 @@ use Rattle.card_types.specs.declared.tables.LoadFile.{LoadFile}
 use Rattle.card_types.specs.declared.tables.KeyRec.{KeyRec}
 use Rattle.card_types.specs.declared.tables.Tables.{Tables}
 
--- the issuer domain, and the load file that security domains come from
+-- the Issuer Security Domain, and the Executable Load File that security domains come from
 abbrev pub factory_entry : Entry
 factory_entry = record {
   aid = ISSUER;
@@ -47,11 +47,11 @@ pub record IsFactory (tables : Tables) : Type 0 where
   pub objects : tables.objects.items ≡ replicate 16 None
 
 -- a key of the factory's key set, by names
-abbrev pub key_of : ℕ → perm.Key
+abbrev pub key_of : ℕ → registry.Key
 key_of identifier = record { owner = ISSUER; version = FACTORY_VERSION; identifier = identifier; bytes = FACTORY_KEY }
 
--- the issuer domain, by names
-abbrev pub issuer_of_factory : perm.Entry
+-- the Issuer Security Domain, by names
+abbrev pub issuer_of_factory : registry.Entry
 issuer_of_factory = record {
   aid = ISSUER;
   domain = ISSUER;
@@ -63,8 +63,8 @@ issuer_of_factory = record {
 }
 
 -- the factory card, by names
-abbrev pub factory_perm : perm.Perm
-factory_perm = record {
+abbrev pub factory_registry : registry.Registry
+factory_registry = record {
   life = OpReady;
   entries = issuer_of_factory ∷ [];
   files = record { aid = FACTORY_FILE; domain = ISSUER; bytes = [] } ∷ [];

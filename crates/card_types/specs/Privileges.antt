@@ -1,5 +1,5 @@
 -- Privileges (GlobalPlatform Card Specification 2.3.1, 11.1.2).
-use Rattle.std.specs.Prelude.{◌≡◌, ℕ, ◌/◌, ◌%◌, ◌⊎◌, List, [], ◌∷◌, ◌++◌, codes}
+use Rattle.std.specs.Prelude.{◌≡◌, ℕ, Bool, ◌/◌, ◌%◌, ◌⊎◌, List, [], ◌∷◌, ◌++◌, codes, ◌==◌}
 use Rattle.std.specs.Int.RustNames.{bit_and}
 use Rattle.card_types.specs.declared.privileges.Privileges.{Privileges}
 
@@ -35,6 +35,26 @@ named_bits = 0xFFFFF0
 -- the number that the three bytes are, the first byte highest
 abbrev pub bits_of : Privileges → ℕ
 bits_of privileges = privileges.0
+
+-- the privilege of a bit stands
+abbrev pub has : ℕ → Privileges → Bool
+has bit privileges = bit_and (bits_of privileges) bit == bit
+
+-- the privileges that a security domain alone may hold, after the one that makes it a domain
+abbrev pub security_domain : ℕ
+security_domain = 0x800000
+
+abbrev pub delegated_management : ℕ
+delegated_management = 0x200000
+
+abbrev pub authorized_management : ℕ
+authorized_management = 0x004000
+
+abbrev pub token_verification : ℕ
+token_verification = 0x002000
+
+abbrev pub receipt_generation : ℕ
+receipt_generation = 0x000080
 
 -- the three bytes
 abbrev pub bytes_of : Privileges → List ℕ

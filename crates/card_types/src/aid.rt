@@ -1,4 +1,4 @@
-//! Application identifiers (ISO/IEC 7816-4, 8.2.1.2).
+//! Application identifiers (ISO/IEC 7816-4:2013, chapter 12).
 ghost use Rattle.std.specs.Prelude.{◌≡◌, ◌↔◌, IsTrue, IfSome, IfNone, OnSome, nat_eq};
 ghost use Rattle.std.specs.Ordering.{nat_cmp};
 ghost use Rattle.std.specs.Cmp;
@@ -8,7 +8,7 @@ ghost use Rattle.card_types.specs.Aid.{IsAid};
 use std::cmp::Ordering;
 use std::marker::Model;
 
-/// The identifier of an application, a module or a load file: 5 to 16 bytes. The bytes past its
+/// The identifier of an application, a Module or an Executable Load File: 5 to 16 bytes. The bytes past its
 /// length are 0.
 #[derive(Clone, Copy, Debug)]
 pub struct Aid {

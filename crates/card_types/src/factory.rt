@@ -1,31 +1,34 @@
 //! The card as it leaves the factory.
 
 ghost use Rattle.std.specs.Prelude.{◌≡◌, ℕ, List, ◌++◌, None, replicate, IfOk};
-ghost use Rattle.card_types.specs.Factory.{IsFactory, IsFactoryKey, factory_entry, factory_file, factory_perm};
+ghost use Rattle.card_types.specs.Factory.{IsFactory, IsFactoryKey, factory_entry, factory_file, factory_registry};
+ghost use Rattle.card_types.specs.InOrder.{IsInOrder};
 ghost use Rattle.card_types.specs.Says.{Says};
+ghost use Rattle.card_types.specs.Well.{Well};
 
 use crate::aid::Aid;
 use crate::card_life::CardLife;
 use crate::life::{Life, LifeMark};
+use crate::limits::{ENTRIES, FILES, KEYS, OBJECTS};
 use crate::privileges::Privileges;
-use crate::tables::{ENTRIES, Entry, FILES, KEYS, KeyRec, LoadFile, OBJECTS, Tables};
+use crate::tables::{Entry, KeyRec, LoadFile, Tables};
 use arrayvec::ArrayVec;
 use bitflags::Flags;
 use std::alloc::{AllocError, Global};
 
-/// The AID of the issuer domain.
+/// The AID of the Issuer Security Domain.
 pub const ISSUER: [u8; 8] = [0xA0, 0x00, 0x00, 0x01, 0x51, 0x00, 0x00, 0x00];
 
-/// The AID of the load file that security domains come from.
+/// The AID of the Executable Load File that security domains come from.
 pub const FACTORY_FILE: [u8; 7] = [0xA0, 0x00, 0x00, 0x01, 0x51, 0x53, 0x50];
 
-/// The AID of the module in it.
+/// The AID of the Module in it.
 pub const FACTORY_MODULE: [u8; 8] = [0xA0, 0x00, 0x00, 0x01, 0x51, 0x53, 0x50, 0x41];
 
-/// The privileges of the issuer domain.
+/// The privileges of the Issuer Security Domain.
 pub const FACTORY_PRIVILEGES: u32 = 0x9E_FE_80;
 
-/// The version of the issuer domain's first key set.
+/// The key version number of its first key set.
 pub const FACTORY_VERSION: u8 = 0x30;
 
 /// Each key of that set.
@@ -89,7 +92,9 @@ impl Tables {
     /// The registry of the factory card. An error is want of memory.
     pub fn factory(alloc: Global) -> Result<Tables, AllocError>
         ensures slots { IfOk result IsFactory }
-        ensures names { IfOk result (λ tables. (page : ℕ → List ℕ) → Says page tables factory_perm) }
+        ensures in_order { IfOk result IsInOrder }
+        ensures names { IfOk result (λ tables. (page : ℕ → List ℕ) → Says page tables factory_registry) }
+        ensures well { IfOk result (λ _. Well factory_registry) }
     {
         let mut entries = Vec::new(alloc);
         entries.push(Some(issuer()))?;

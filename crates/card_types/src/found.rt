@@ -1,11 +1,15 @@
-//! Entries and load files by their AIDs.
+//! Entries and Executable Load Files by their AIDs.
 
 ghost use Rattle.std.specs.Prelude.{◌≡◌, ◌≢◌, ◌↔◌, IsTrue, IfSome, IfNone, vec_len, option_copied};
 ghost use Rattle.card_types.specs.Found.{IsNext, NoneFollows, aid_of};
-ghost use Rattle.card_types.specs.Search.{IsNearer, bounds, place};
+ghost use Rattle.card_types.specs.AidOrder.{aid_order};
+ghost use Rattle.card_types.specs.Following.{is_above};
+ghost use Rattle.std.proofs.lemmas.Cmp.{nat_list_cmp_total, on_total};
 
 use crate::aid::Aid;
-use crate::tables::{ENTRIES, FILES, Tables, in_slot};
+use crate::limits::{ENTRIES, FILES};
+use crate::search::{Search, least};
+use crate::tables::{Entry, LoadFile, Tables, in_slot};
 
 /// A thing of the registry, by its slot.
 #[derive(Clone, Copy, Debug, PartialEq, Eq)]
@@ -13,7 +17,7 @@ pub enum Found {
     /// An application or a security domain.
     Entry(u8),
 
-    /// A load file.
+    /// An Executable Load File.
     File(u8),
 }
 
@@ -26,7 +30,7 @@ pub enum Kind {
     /// The entries in all other slots.
     Entries,
 
-    /// The load files.
+    /// The Executable Load Files.
     Files,
 }
 
@@ -74,43 +78,53 @@ pub fn find(tables: &Tables, aid: &Aid) -> Option<Found>
     None
 }
 
-// Whether `found` is there, with an AID above `after` and below that of the best thing so far.
-fn is_nearer(tables: &Tables, after: Option<&Aid>, best: Option<Found>, found: Found) -> bool
-    ensures { IsTrue result ↔ IsNearer tables.now (option_copied after.entry) best found }
-{
-    let Some(aid) = aid_at(tables, found) else {
-        return false;
-    };
-    if let Some(after) = after {
-        if !after.is_below(aid) {
-            return false;
+// Things with an AID above the given one, if one is given, by their AIDs.
+#[derive(Drop)]
+struct Following<'a> {
+    after: Option<&'a Aid>,
+}
+
+impl Following<'_> {
+    fn has(&self, aid: &Aid) -> bool
+        ensures { result ≡ is_above (option_copied self.now.after) aid.now }
+    {
+        match self.after {
+            Some(after) => after.is_below(aid),
+            None => true,
         }
-    }
-    match best.and_then(|best| aid_at(tables, best)) {
-        Some(best) => aid.is_below(best),
-        None => true,
     }
 }
 
-impl Kind {
-    fn bounds(self) -> (u8, u8)
-        ensures { result ≡ bounds self }
-    {
-        match self {
-            Kind::Issuer => (0, 1),
-            Kind::Entries => (1, ENTRIES as u8),
-            Kind::Files => (0, FILES as u8),
-        }
+impl Search<Entry> for Following<'_> {
+    ghost fits = { λ following entry. is_above (option_copied following.after) entry.aid };
+
+    ghost order = { λ _ a b. aid_order a.aid b.aid };
+
+    fn fits(&self, thing: &Entry) -> bool {
+        self.has(&thing.aid)
     }
 
-    fn place(self, slot: u8) -> Found
-        ensures { result ≡ place self slot }
-    {
-        match self {
-            Kind::Issuer | Kind::Entries => Found::Entry(slot),
-            Kind::Files => Found::File(slot),
-        }
+    fn is_below(&self, a: &Entry, b: &Entry) -> bool {
+        a.aid.is_below(&b.aid)
     }
+
+    ghost total = { λ _. on_total (λ entry. entry.aid) nat_list_cmp_total };
+}
+
+impl Search<LoadFile> for Following<'_> {
+    ghost fits = { λ following file. is_above (option_copied following.after) file.aid };
+
+    ghost order = { λ _ a b. aid_order a.aid b.aid };
+
+    fn fits(&self, thing: &LoadFile) -> bool {
+        self.has(&thing.aid)
+    }
+
+    fn is_below(&self, a: &LoadFile, b: &LoadFile) -> bool {
+        a.aid.is_below(&b.aid)
+    }
+
+    ghost total = { λ _. on_total (λ file. file.aid) nat_list_cmp_total };
 }
 
 /// The thing of this kind with the least AID above `after`, or with the least of all. AIDs are in
@@ -121,13 +135,19 @@ pub fn next_after(tables: &Tables, kind: Kind, after: Option<&Aid>) -> Option<Fo
     ensures some { IfSome result (IsNext tables.now kind (option_copied after.entry)) }
     ensures none { IfNone result (NoneFollows tables.now kind (option_copied after.entry)) }
 {
-    let mut next = None;
-    let (first, end) = kind.bounds();
-    for slot in first..end {
-        let found = kind.place(slot);
-        if is_nearer(tables, after, next, found) {
-            next = Some(found);
-        }
+    let following = Following { after };
+    match kind {
+        Kind::Issuer => match least(&tables.entries[..1], &following) {
+            Some(found) => Some(Found::Entry(found.slot)),
+            None => None,
+        },
+        Kind::Entries => match least(&tables.entries[1..], &following) {
+            Some(found) => Some(Found::Entry(found.slot + 1)),
+            None => None,
+        },
+        Kind::Files => match least(&tables.files, &following) {
+            Some(found) => Some(Found::File(found.slot)),
+            None => None,
+        },
     }
-    next
 }

@@ -3,7 +3,8 @@
 ghost use Rattle.std.specs.Prelude.{◌≡◌, ◌↔◌, ◌⊎◌, ℕ, List, IsTrue, IfSome, IfNone, length};
 ghost use Rattle.card_types.specs.KeySets.{HasKey, HasKeys, IsSetOf, NoSetOf};
 
-use crate::tables::{KEYS, KeyRec, in_slot};
+use crate::limits::KEYS;
+use crate::tables::{KeyRec, in_slot};
 
 /// The highest version of a key set. Keys of higher versions stand alone.
 const LAST_VERSION: u8 = 0x6F;

@@ -8,7 +8,9 @@ mod found;
 mod key_set;
 mod level;
 mod life;
+mod limits;
 mod privileges;
+mod search;
 mod tables;
 
 pub use aid::Aid;
@@ -18,8 +20,13 @@ pub use found::{Found, Kind, find, next_after};
 pub use key_set::set_of;
 pub use level::Level;
 pub use life::{Life, LifeMark};
+pub use limits::{
+    COUNTER_LIMIT, DOMAIN_KEYS, ENTRIES, FILE_LIMIT, FILES, KEYS, LOAD_PAGES, OBJECTS,
+    RECEIPT_LIMIT,
+};
 pub use privileges::Privileges;
-pub use tables::{ENTRIES, Entry, FILES, KEYS, KeyRec, LoadFile, OBJECTS, Object, Tables, in_slot};
+pub use search::{InSlot, Search, least};
+pub use tables::{Entry, ISSUER_SLOT, KeyRec, LoadFile, Object, Tables, in_slot};
 
 #[cfg(test)]
 mod tests;

@@ -9,27 +9,18 @@ use crate::life::LifeMark;
 use crate::privileges::Privileges;
 use arrayvec::ArrayVec;
 
-/// How many entries a card has room for, the issuer domain among them.
-pub const ENTRIES: usize = 32;
-
-/// How many load files it has room for, the factory file among them.
-pub const FILES: usize = 16;
-
-/// How many keys a card has room for.
-pub const KEYS: usize = 48;
-
-/// How many data objects.
-pub const OBJECTS: usize = 16;
+/// The slot of the Issuer Security Domain among the entries.
+pub const ISSUER_SLOT: u8 = 0;
 
 /// An application or a security domain.
 #[derive(Clone, Copy, Debug)]
 pub struct Entry {
     pub aid: Aid,
 
-    /// The slot of its security domain. The issuer domain is its own.
+    /// The slot of its security domain. The Issuer Security Domain is its own.
     pub domain: u8,
 
-    /// The slot of the load file that it comes from.
+    /// The slot of the Executable Load File that it comes from.
     pub file: u8,
 
     /// The AID of its module in that file.
@@ -41,7 +32,7 @@ pub struct Entry {
     pub receipts: u16,
 }
 
-/// A load file of `len` bytes.
+/// An Executable Load File of `len` bytes.
 #[derive(Clone, Copy, Debug)]
 pub struct LoadFile {
     pub aid: Aid,
@@ -75,8 +66,8 @@ pub struct Object {
 }
 
 /// The registry: the life of the card, and a slot for each thing that it has room for. There are
-/// `ENTRIES`, `FILES`, `KEYS` and `OBJECTS` slots, in any order, and the issuer domain is in slot 0
-/// of the entries.
+/// `ENTRIES`, `FILES`, `KEYS` and `OBJECTS` slots, in any order, and the Issuer Security
+/// Domain is in `ISSUER_SLOT` of the entries.
 #[derive(Drop)]
 pub struct Tables {
     pub life: CardLife,

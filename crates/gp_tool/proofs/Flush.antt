@@ -3,8 +3,9 @@ use Rattle.std.proofs.Common.{◌≡◌, ◌≢◌, ℕ, ◌+◌, List, [], ◌+
 use Rattle.std.proofs.lemmas.List.{append-nil}
 use Rattle.std.proofs.Math.Seq.{take-length}
 use Rattle.std.specs.Str.Lines.{lines}
+use Rattle.policy_rules.specs.State.{State}
 use Rattle.gp_tool.specs.Ends.{Outside, Ends, IsAtWriteFault}
-use Rattle.gp_tool.specs.Plays.{bad_line}
+use Rattle.gp_tool.specs.Plays.{bad_line, text_of}
 use Rattle.gp_tool.specs.declared.ending.Ending.{Ending}
 use Rattle.gp_tool.specs.declared.ending.Ending.TheVariants.{Finished, BadLine, ReadFault, WriteFault, InputTooLong}
 
@@ -12,13 +13,13 @@ use Rattle.gp_tool.specs.declared.ending.Ending.TheVariants.{Finished, BadLine, 
 whole : (old text now : List ℕ) → now ≡ old ++ text → now ≡ old ++ take (length text) text
 whole old text now written = written ∙ ap (λ t. old ++ t) (sym (take-length text))
 
-pub flush_refused : (ending : Ending) (before later : Outside) → ending ≢ ReadFault → Ends ending before later → IsAtWriteFault before later
-flush_refused Finished before later other ends = record {
+pub flush_refused : (first : State) (ending : Ending) (before later : Outside) → ending ≢ ReadFault → Ends first ending before later → IsAtWriteFault first before later
+flush_refused first Finished before later other ends = record {
   given = lines before.left;
-  text = ends.text;
+  outcomes = ends.outcomes;
   ahead = [];
-  whole = ends.text;
-  count = length ends.text;
+  whole = text_of ends.outcomes;
+  count = length (text_of ends.outcomes);
   state = ends.state;
   reached = record {
     passed = before.left;
@@ -29,13 +30,13 @@ flush_refused Finished before later other ends = record {
     plays = ends.plays;
   };
   is_whole = inl refl;
-  written = whole before.written ends.text later.written ends.written;
+  written = whole before.written (text_of ends.outcomes) later.written ends.written;
 }
-flush_refused BadLine before later other ends =
-    let text : List ℕ = ends.text ++ bad_line (length ends.given + 1) in
+flush_refused first BadLine before later other ends =
+    let text : List ℕ = text_of ends.outcomes ++ bad_line (length ends.given + 1) in
     record {
       given = ends.given;
-      text = ends.text;
+      outcomes = ends.outcomes;
       ahead = ends.ahead;
       whole = text;
       count = length text;
@@ -44,16 +45,16 @@ flush_refused BadLine before later other ends =
       is_whole = inr (ends.bad, refl);
       written = whole before.written text later.written ends.written;
     }
-flush_refused ReadFault before later other ends = absurd (other refl)
-flush_refused WriteFault before later other ends = ends
-flush_refused InputTooLong before later other ends = record {
+flush_refused first ReadFault before later other ends = absurd (other refl)
+flush_refused first WriteFault before later other ends = ends
+flush_refused first InputTooLong before later other ends = record {
   given = ends.given;
-  text = ends.text;
+  outcomes = ends.outcomes;
   ahead = ends.ahead;
-  whole = ends.text;
-  count = length ends.text;
+  whole = text_of ends.outcomes;
+  count = length (text_of ends.outcomes);
   state = ends.state;
   reached = ends.reached;
   is_whole = inl refl;
-  written = whole before.written ends.text later.written ends.written;
+  written = whole before.written (text_of ends.outcomes) later.written ends.written;
 }

@@ -1,5 +1,5 @@
 -- Lines after lines.
-use Rattle.std.proofs.Common.{ℕ, List, [], ◌∷◌, ◌++◌, refl, sym, ap, ◌∙◌, append_assoc}
+use Rattle.std.proofs.Common.{◌≡◌, ℕ, List, [], ◌∷◌, ◌++◌, refl, sym, ap, ◌∙◌, append_assoc}
 use Rattle.std.proofs.lemmas.Grind.{flat_map-append}
 use Rattle.policy_rules.specs.Run.{Input, Run, Command, Reset}
 use Rattle.policy_rules.specs.State.{State, powered_on}
@@ -22,18 +22,18 @@ run_more : (a b : List Input) (state mid last : State) (xs ys : List Outcome)
 run_more [] b state mid last xs ys done more = rw (done.0, ← done.1) more
 run_more (Command bytes ∷ a) b state mid last [] ys done more = absurd done
 run_more (Command bytes ∷ a) b state mid last (x ∷ xs) ys done more = (done.0, run_more a b x.state mid last xs ys done.1 more)
-run_more (Reset ∷ a) b state mid last xs ys done more = run_more a b (powered_on state.perm) mid last xs ys done more
+run_more (Reset ∷ a) b state mid last xs ys done more = run_more a b (powered_on state.registry) mid last xs ys done more
 
-pub plays_more : (xs ys : List (List ℕ)) (text more : List ℕ) (state mid last : State)
-    → Plays state xs text mid → Plays mid ys more last → Plays state (xs ++ ys) (text ++ more) last
-plays_more xs ys text more state mid last first second = record {
+pub plays_more : (xs ys : List (List ℕ)) (some more : List Outcome) (state mid last : State)
+    → Plays state xs some mid → Plays mid ys more last → Plays state (xs ++ ys) (some ++ more) last
+plays_more xs ys some more state mid last first second = record {
   inputs = first.inputs ++ second.inputs;
-  outcomes = first.outcomes ++ second.outcomes;
   spelled = spelled_more xs ys first.inputs second.inputs first.spelled second.spelled;
-  run = run_more first.inputs second.inputs state mid last first.outcomes second.outcomes first.run second.run;
-  written = ap (λ t. t ++ more) first.written ∙ ap (λ t. text_of first.outcomes ++ t) second.written
-      ∙ sym (flat_map-append reply_line first.outcomes second.outcomes);
+  run = run_more first.inputs second.inputs state mid last some more first.run second.run;
 }
 
 pub plays_none : (state : State) → Plays state [] [] state
-plays_none state = record { inputs = []; outcomes = []; spelled = refl; run = (refl, refl); written = refl }
+plays_none state = record { inputs = []; spelled = refl; run = (refl, refl) }
+
+pub text_more : (some more : List Outcome) → text_of (some ++ more) ≡ text_of some ++ text_of more
+text_more some more = flat_map-append reply_line some more

@@ -6,6 +6,7 @@ use Rattle.io_edge.specs.declared.line.Line.{Line}
 use Rattle.io_edge.specs.declared.line.TheConstants.{LINE_LIMIT}
 use Rattle.card_core.specs.Kept.{Kept}
 use Rattle.policy_rules.specs.State.{State}
+use Rattle.policy_rules.specs.Step.{Outcome}
 use Rattle.gp_tool.specs.Form.{HasNoForm}
 use Rattle.gp_tool.specs.Plays.{Plays}
 use Rattle.gp_tool.specs.Ends.{Outside, IsBad}
@@ -23,10 +24,10 @@ refusal_ends card old before now ReadFault bad refuses = absurd refuses
 refusal_ends card old before now InputTooLong bad refuses = absurd refuses
 
 -- the line that was given is the next one ahead
-pub given_line : (tells : Type 0) (old new : Reading) (left left' : List ℕ) (line : Line) (text : List ℕ) (state last : State)
+pub given_line : (tells : Type 0) (old new : Reading) (left left' : List ℕ) (line : Line) (outcomes : List Outcome) (state last : State)
     → GivesLine tells old new left left' line → tells → length line.text.now ≤ LINE_LIMIT
-    → Plays state (line.text.now ∷ []) text last → NextLine state last (room old) (ahead old left) (ahead new left') text
-given_line tells old new left left' line text state last gives told fits plays =
+    → Plays state (line.text.now ∷ []) outcomes last → NextLine state last (room old) (ahead old left) (ahead new left') outcomes
+given_line tells old new left left' line outcomes state last gives told fits plays =
     let suffix = line_suffix (room old) (ahead old left) line.text.now (ahead new left') (gives.line told) in
     record { line = line.text.now; front = suffix.0; split = suffix.1; within = suffix.2; lines = gives.lines told; fits = fits; plays = plays }
 

@@ -5,10 +5,10 @@ use Rattle.std.specs.Str.Lines.{lines}
 use Rattle.io_edge.specs.Faults.{Rose}
 use Rattle.io_edge.specs.Lines.{NoNewline, IsLine, IsCut, IsNextText}
 use Rattle.io_edge.specs.declared.line.TheConstants.{INPUT_LIMIT, LINE_LIMIT}
-use Rattle.card_types.specs.Factory.{factory_perm}
-use Rattle.policy_rules.specs.State.{State, powered_on}
+use Rattle.policy_rules.specs.State.{State}
+use Rattle.policy_rules.specs.Step.{Outcome}
 use Rattle.gp_tool.specs.Form.{HasNoForm}
-use Rattle.gp_tool.specs.Plays.{Plays, bad_line}
+use Rattle.gp_tool.specs.Plays.{Plays, bad_line, text_of}
 use Rattle.gp_tool.specs.declared.ending.Ending.{Ending}
 use Rattle.gp_tool.specs.declared.ending.Ending.TheVariants.{Finished, BadLine, ReadFault, WriteFault, InputTooLong}
 
@@ -21,15 +21,15 @@ pub record Outside : Type 0 where
 abbrev pub AreShort : List (List ℕ) → Type 0
 AreShort lines = AllByRecursion (λ line. length line ≤ LINE_LIMIT) lines
 
--- How far a run has come in an input: the bytes passed, the lines that were given, their text, the bytes ahead, and
--- the state of the card.
-pub record Reached (input : List ℕ) (given : List (List ℕ)) (text ahead : List ℕ) (state : State) : Type 0 where
+-- How far a run from a first state has come in an input: the bytes passed, the lines that were given, the outcomes of
+-- their commands, the bytes ahead, and the state of the card.
+pub record Reached (first : State) (input : List ℕ) (given : List (List ℕ)) (outcomes : List Outcome) (ahead : List ℕ) (state : State) : Type 0 where
   pub passed : List ℕ
   pub split : input ≡ passed ++ ahead
   pub within : length passed ≤ INPUT_LIMIT
   pub lines : lines input ≡ given ++ lines ahead
   pub fits : AreShort given
-  pub plays : Plays (powered_on factory_perm) given text state
+  pub plays : Plays first given outcomes state
 
 -- how many bytes may be taken of what stands ahead
 abbrev pub room_for : List ℕ → List ℕ → ℕ
@@ -41,67 +41,67 @@ IsBad room ahead =
     (text : List ℕ) × (((after : List ℕ) × IsLine room ahead text after × HasNoForm text) ⊎ (IsNextText room ahead text × (LINE_LIMIT < length text)))
 
 -- The input was read to its end, each line has a form and is not too long, and the text of all lines was written.
-pub record IsFinished (old new : Outside) : Type 0 where
-  pub text : List ℕ
+pub record IsFinished (first : State) (old new : Outside) : Type 0 where
+  pub outcomes : List Outcome
   pub state : State
-  pub plays : Plays (powered_on factory_perm) (lines old.left) text state
+  pub plays : Plays first (lines old.left) outcomes state
   pub fits : AreShort (lines old.left)
   pub short : length old.left < INPUT_LIMIT
   pub read : new.left ≡ []
-  pub written : new.written ≡ old.written ++ text
+  pub written : new.written ≡ old.written ++ text_of outcomes
 
 -- The next line is bad: the text of the lines before it was written, and then the line's number.
-pub record IsAtBadLine (old new : Outside) : Type 0 where
+pub record IsAtBadLine (first : State) (old new : Outside) : Type 0 where
   pub given : List (List ℕ)
-  pub text : List ℕ
+  pub outcomes : List Outcome
   pub ahead : List ℕ
   pub state : State
-  pub reached : Reached old.left given text ahead state
+  pub reached : Reached first old.left given outcomes ahead state
   pub bad : IsBad (room_for old.left ahead) ahead
-  pub written : new.written ≡ old.written ++ (text ++ bad_line (length given + 1))
+  pub written : new.written ≡ old.written ++ (text_of outcomes ++ bad_line (length given + 1))
 
 -- A read was refused: the text of the whole lines of the bytes taken was written.
-pub record IsAtReadFault (old new : Outside) : Type 0 where
+pub record IsAtReadFault (first : State) (old new : Outside) : Type 0 where
   pub given : List (List ℕ)
-  pub text : List ℕ
+  pub outcomes : List Outcome
   pub held : List ℕ
   pub state : State
-  pub reached : Reached old.left given text (held ++ new.left) state
+  pub reached : Reached first old.left given outcomes (held ++ new.left) state
   pub no_line : NoNewline held
   pub within : length held ≤ room_for old.left (held ++ new.left)
-  pub written : new.written ≡ old.written ++ text
+  pub written : new.written ≡ old.written ++ text_of outcomes
 
 -- The limit of the input comes before the next line's end.
-pub record IsAtLimit (old new : Outside) : Type 0 where
+pub record IsAtLimit (first : State) (old new : Outside) : Type 0 where
   pub given : List (List ℕ)
-  pub text : List ℕ
+  pub outcomes : List Outcome
   pub ahead : List ℕ
   pub cut : List ℕ
   pub state : State
-  pub reached : Reached old.left given text ahead state
+  pub reached : Reached first old.left given outcomes ahead state
   pub is_cut : IsCut (room_for old.left ahead) ahead cut
   pub short : length cut ≤ LINE_LIMIT
-  pub written : new.written ≡ old.written ++ text
+  pub written : new.written ≡ old.written ++ text_of outcomes
 
--- A write was refused: a front of the text was written, to which the number of a bad line belongs.
-pub record IsAtWriteFault (old new : Outside) : Type 0 where
+-- A write was refused: a prefix of the text was written, to which the number of a bad line belongs.
+pub record IsAtWriteFault (first : State) (old new : Outside) : Type 0 where
   pub given : List (List ℕ)
-  pub text : List ℕ
+  pub outcomes : List Outcome
   pub ahead : List ℕ
   pub whole : List ℕ
   pub count : ℕ
   pub state : State
-  pub reached : Reached old.left given text ahead state
-  pub is_whole : (whole ≡ text) ⊎ (IsBad (room_for old.left ahead) ahead × (whole ≡ text ++ bad_line (length given + 1)))
+  pub reached : Reached first old.left given outcomes ahead state
+  pub is_whole : (whole ≡ text_of outcomes) ⊎ (IsBad (room_for old.left ahead) ahead × (whole ≡ text_of outcomes ++ bad_line (length given + 1)))
   pub written : new.written ≡ old.written ++ take count whole
 
--- what holds at each ending, where the source and the sink tell their bytes
-abbrev pub Ends : Ending → Outside → Outside → Type 0
-Ends Finished old new = IsFinished old new
-Ends BadLine old new = IsAtBadLine old new
-Ends ReadFault old new = IsAtReadFault old new
-Ends WriteFault old new = IsAtWriteFault old new
-Ends InputTooLong old new = IsAtLimit old new
+-- what holds at each ending of a run from a first state, where the content of source and sink is known
+abbrev pub Ends : State → Ending → Outside → Outside → Type 0
+Ends first Finished old new = IsFinished first old new
+Ends first BadLine old new = IsAtBadLine first old new
+Ends first ReadFault old new = IsAtReadFault first old new
+Ends first WriteFault old new = IsAtWriteFault first old new
+Ends first InputTooLong old new = IsAtLimit first old new
 
 -- Whose count of faults has risen at an ending: the source's, from one number to another, or the sink's.
 abbrev pub EndCause : Ending → ℕ → ℕ → ℕ → ℕ → Type 0

@@ -14,13 +14,11 @@ reply_line outcome = encode_lower outcome.reply ++ 10 ∷ []
 abbrev pub text_of : List Outcome → List ℕ
 text_of outcomes = flat_map reply_line outcomes
 
--- From one state of the card the lines, each of a form, lead to another, and write this text.
-pub record Plays (state : State) (lines : List (List ℕ)) (text : List ℕ) (last : State) : Type 0 where
+-- From one state of the card the lines, each of a form, lead to another, with an outcome for each command.
+pub record Plays (state : State) (lines : List (List ℕ)) (outcomes : List Outcome) (last : State) : Type 0 where
   pub inputs : List Input
-  pub outcomes : List Outcome
   pub spelled : AreSpelled lines inputs
   pub run : Run state inputs outcomes last
-  pub written : text ≡ text_of outcomes
 
 -- what is written of a line that has no form or is too long
 abbrev pub bad_line : ℕ → List ℕ

@@ -2,8 +2,7 @@
 
 ghost use Rattle.std.specs.Prelude.{◌≡◌, ◌≢◌, ◌⊎◌, ℕ, None, IfNone, IfSome};
 ghost use Rattle.card_core.specs.Kept.{Stands};
-ghost use Rattle.card_types.specs.Factory.{factory_perm};
-ghost use Rattle.policy_rules.specs.State.{powered_on};
+ghost use Rattle.policy_rules.specs.State.{State};
 ghost use Rattle.gp_tool.specs.Ends.{Ends, EndCause};
 ghost use Rattle.gp_tool.specs.Turn.{GoesOn, EndsWith, Refuses};
 
@@ -57,7 +56,7 @@ fn take_turn<S: Source, K: Sink>(
 
 // Takes lines until the run ends.
 fn take_lines<S: Source, K: Sink>(card: &mut Card, source: &mut S, sink: &mut K) -> Ending
-    ensures ends { Stands card.old (powered_on factory_perm) → S.tells × K.tells → Ends result
+    ensures ends { (first : State) → Stands card.old first → S.tells × K.tells → Ends first result
         (record { left = S.left source.old; written = K.written sink.old }) (record { left = S.left source.new; written = K.written sink.new }) }
     ensures cause { EndCause result (S.faults source.old) (S.faults source.new) (K.faults sink.old) (K.faults sink.new) }
 {
@@ -95,7 +94,7 @@ fn flush_at_end<K: Sink>(ending: Ending, sink: &mut K) -> Ending
 
 /// Gives the lines of a source to a card, and writes each reply before the next line is taken.
 pub fn run<S: Source, K: Sink>(card: &mut Card, source: &mut S, sink: &mut K) -> Ending
-    ensures ends { Stands card.old (powered_on factory_perm) → S.tells × K.tells → Ends result
+    ensures ends { (first : State) → Stands card.old first → S.tells × K.tells → Ends first result
         (record { left = S.left source.old; written = K.written sink.old }) (record { left = S.left source.new; written = K.written sink.new }) }
     ensures cause { EndCause result (S.faults source.old) (S.faults source.new) (K.faults sink.old) (K.faults sink.new) }
 {

@@ -7,7 +7,7 @@ const SELECT: &[u8] = b"00A4040008A000000151000000\n";
 
 const SELECTED: &[u8] = b"6f108408a000000151000000a5049f6501ff9000\n";
 
-/// The reply to SELECT of the issuer domain.
+/// The reply to SELECT of the Issuer Security Domain.
 const ISSUER: &[u8] = b"6f108408a000000151000000a5049f6501ff9000";
 
 /// How a sink is made: its room, and the numbers of the calls that it refuses.
@@ -127,7 +127,7 @@ const RUNS: [&[(&[u8], &[u8])]; 10] = [
         (b"848201001000000000000000000000000000000000", b"6d00"),
         (b"00A4040005D200000001", b"6a82"),
     ],
-    // SELECT by a front of the AID.
+    // SELECT by a partial AID.
     &[
         (b"00A4040000", ISSUER),
         (b"00A40400", ISSUER),
@@ -232,7 +232,7 @@ fn one_card_answers_the_commands_of_a_run(rt: HostRuntime) -> Result<(), Fail> {
     Ok(())
 }
 
-/// A line of so many digits 0, then one of no form.
+/// A line of so many digits 0, then one that has no form.
 #[test]
 fn answers_lines_up_to_the_limit(rt: HostRuntime) -> Result<(), Fail> {
     let cases: [(usize, &[u8]); 4] = [

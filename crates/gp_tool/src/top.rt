@@ -2,6 +2,8 @@
 
 ghost use Rattle.std.specs.Prelude.{◌≡◌, ◌≢◌, ◌⊎◌, ◌<◌, ◌++◌, ℕ, List, length, take, codes, string_bytes, IsTrue, OnOk, OnErr, ◌↔◌};
 ghost use Rattle.std.specs.Str.Lines.{lines};
+ghost use Rattle.card_types.specs.Factory.{factory_registry};
+ghost use Rattle.policy_rules.specs.State.{powered_on};
 ghost use Rattle.io_edge.specs.Faults.{HasCause, Rose};
 ghost use Rattle.io_edge.specs.declared.line.TheConstants.{INPUT_LIMIT};
 ghost use Rattle.gp_tool.specs.Ends.{Ends, EndCause, status_of};
@@ -58,11 +60,11 @@ fn refuse_words<K: Sink>(sink: &mut K) -> u8
 
 /// Does what the words say, and answers the status of the program.
 ///
-/// 0: the input was read to its end. 1: words of no form. 2: a line of no form or too long. 5: the source
+/// 0: the input was read to its end. 1: words that have no form. 2: a line that has no form or is too long. 5: the source
 /// refused a read. 6: the sink refused a write or its flush. 7: want of memory for the card. 9: the input is too
 /// long.
 pub fn gp<S: Source, K: Sink>(alloc: Global, words: &[String], source: &mut S, sink: &mut K) -> u8
-    // Words of no form: the usage line is written, and nothing is read.
+    // The words have no form: the usage line is written, and nothing is read.
     ensures usage { (AreRun words.now → ⊥) → ((result ≡ 1) ⊎ (result ≡ 6)) × (source.new ≡ source.old) }
     ensures usage_written { (AreRun words.now → ⊥) → K.tells → result ≡ 1 → K.written sink.new ≡ K.written sink.old ++ usage_line }
     ensures usage_part { (AreRun words.now → ⊥) → K.tells → result ≡ 6 → (n : ℕ) × (K.written sink.new ≡ K.written sink.old ++ take n usage_line) }
@@ -75,7 +77,7 @@ pub fn gp<S: Source, K: Sink>(alloc: Global, words: &[String], source: &mut S, s
     // `run`: the status is that of an ending, which says what was read and written.
     ensures run { AreRun words.now → result ≢ 7 → (ending : Ending) × (result ≡ status_of ending)
         × EndCause ending (S.faults source.old) (S.faults source.new) (K.faults sink.old) (K.faults sink.new)
-        × (S.tells × K.tells → Ends ending
+        × (S.tells × K.tells → Ends (powered_on factory_registry) ending
         (record { left = S.left source.old; written = K.written sink.old })
         (record { left = S.left source.new; written = K.written sink.new })) }
 

@@ -1,29 +1,32 @@
--- Channels by the slots of what they have selected.
-use Rattle.std.proofs.Common.{◌≡◌, ℕ, List, None, Some, ap, ◌∙◌, refl}
-use Rattle.std.specs.Prelude.{Option, slice_index_or, position, is_none, cond, nat_lt, ◌+◌, [], ◌∷◌}
+-- The lowest closed channel, by the slots of what is selected.
+use Rattle.std.proofs.Common.{◌≡◌, ◌≢◌, ℕ, zero, suc, ◌+◌, ◌<◌, List, [], ◌∷◌, Bool, true, false, Option, None, Some, refl, sym, ap, subst, ◌∙◌, length, arith}
+use Rattle.std.specs.Prelude.{cond, nat_lt, not, position, is_none, slice_index_or}
 use Rattle.std.specs.List.{position_or_len}
-use Rattle.std.proofs.lemmas.List.{length-map}
-use Rattle.std.proofs.Math.ListN.{get_or-map}
-use Rattle.std.specs.Option.{option_map}
-use Rattle.card_types.specs.declared.factory.TheConstants.{ISSUER}
-use Rattle.policy_rules.specs.Means.{channels_of}
-use Rattle.policy_rules.specs.Rules.{is_closed}
-use Rattle.policy_rules.specs.Vol.{Channel, Vol, channel_at, fresh}
+use Rattle.card_types.specs.declared.tables.Entry.{Entry}
+use Rattle.policy_rules.specs.ManageChannel.{is_closed, lowest_closed}
+use Rattle.policy_rules.specs.Means.{IsSelectedIn}
+use Rattle.policy_rules.specs.Volatile.{Channel}
 
-channel_of_slot : (selected : List (Option ℕ)) (number : ℕ) → slice_index_or (channels_of selected) number None ≡ option_map (λ slot. fresh ISSUER) (slice_index_or selected number None)
-channel_of_slot selected number = get_or-map (option_map (λ slot. fresh ISSUER)) selected number None
+closed_alike : (entries : List (Option Entry)) (slot : Option ℕ) (channel : Option Channel) → IsSelectedIn entries slot channel → is_closed channel ≡ is_none slot
+closed_alike entries None None selected = refl
+closed_alike entries None (Some channel) selected = absurd selected
+closed_alike entries (Some slot) None selected = absurd selected
+closed_alike entries (Some slot) (Some channel) selected = refl
 
-pub open_channel : (vol : Vol) (selected : List (Option ℕ)) (number slot : ℕ) → vol.channels ≡ channels_of selected
-    → slice_index_or selected number None ≡ Some slot → channel_at vol number ≡ Some (fresh ISSUER)
-open_channel vol selected number slot channels is =
-    ap (λ (list : List (Option Channel)). slice_index_or list number None) channels ∙ channel_of_slot selected number ∙ ap (option_map (λ slot. fresh ISSUER)) is
+same_place : (entries : List (Option Entry)) (slots : List (Option ℕ)) (channels : List (Option Channel)) → length slots ≡ length channels
+    → ((number : ℕ) → number < length channels → IsSelectedIn entries (slice_index_or slots number None) (slice_index_or channels number None))
+    → position_or_len is_closed channels ≡ position_or_len is_none slots
+same_place entries [] [] long selected = refl
+same_place entries [] (channel ∷ channels) long selected = absurd (omega arith)
+same_place entries (slot ∷ slots) [] long selected = absurd (omega arith)
+same_place entries (slot ∷ slots) (channel ∷ channels) long selected =
+    let first = closed_alike entries slot channel (selected 0 (omega arith)) in
+    let rest = same_place entries slots channels (omega arith) (λ number low. selected (suc number) (omega arith)) in
+    (λ i. cond (not (first i)) (1 + rest i) 0)
 
-same_front : (selected : List (Option ℕ)) → position_or_len is_closed (channels_of selected) ≡ position_or_len is_none selected
-same_front [] = refl
-same_front (None ∷ selected) = refl
-same_front (Some slot ∷ selected) = ap (λ n. 1 + n) (same_front selected)
-
--- the lowest closed channel is the first that has selected nothing
-pub lowest_closed : (selected : List (Option ℕ)) → position is_closed (channels_of selected) ≡ position is_none selected
-lowest_closed selected =
-    (λ i. cond (nat_lt (same_front selected i) (length-map selected (option_map (λ slot. fresh ISSUER)) i)) (Some (same_front selected i)) None)
+pub lowest_is : (entries : List (Option Entry)) (slots : List (Option ℕ)) (channels : List (Option Channel)) → length slots ≡ length channels
+    → ((number : ℕ) → number < length channels → IsSelectedIn entries (slice_index_or slots number None) (slice_index_or channels number None))
+    → lowest_closed channels ≡ position is_none slots
+lowest_is entries slots channels long selected =
+    let place = same_place entries slots channels long selected in
+    (λ i. cond (nat_lt (place i) (sym long i)) (Some (place i)) None)

@@ -1,4 +1,4 @@
--- Class bytes and instructions (ISO/IEC 7816-4, 5.1.1; GlobalPlatform Card Specification 2.3.1, 11.1.4).
+-- Class bytes and instructions (ISO/IEC 7816-4:2013, 5.4 and 5.5; GlobalPlatform Card Specification 2.3.1, 11.1.4).
 use Rattle.std.specs.Prelude.{◌≡◌, ℕ, Bool, true, false, ◌/◌, ◌%◌, List, [], ◌∷◌, Option, None, Some, if◌then◌else◌, ◌==◌, Contains, MatchOption}
 use Rattle.apdu_core.specs.Apdu.{Apdu}
 use Rattle.policy_rules.specs.declared.class.Class.{Class}
@@ -26,6 +26,7 @@ instructions_of Secure = []
 abbrev pub IsKnown : ℕ → ℕ → Type 0
 IsKnown byte ins = MatchOption (class_of byte) ⊥ (λ class. Contains (instructions_of class) ins)
 
+-- with secure messaging
 abbrev pub is_secure : Class → Bool
 is_secure Interindustry = false
 is_secure Plain = false

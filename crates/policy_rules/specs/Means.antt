@@ -1,55 +1,62 @@
 -- What a request of the code stands for, and how what the code keeps says the state of the card.
-use Rattle.std.specs.Prelude.{◌≡◌, ◌⊎◌, ℕ, ◌+◌, ◌*◌, ◌≤◌, List, map, Option, None, Some, Result, Ok, Err, All}
-use Rattle.std.specs.Option.{option_map}
-use Rattle.card_types.specs.Factory.{IsFactory, factory_perm}
-use Rattle.card_types.specs.declared.factory.TheConstants.{ISSUER}
+use Rattle.std.specs.Prelude.{◌≡◌, ◌⊎◌, ℕ, ◌<◌, ◌≤◌, List, Option, None, Some, Result, Ok, Err, slice_index_or}
+use Rattle.apdu_core.specs.Apdu.{Apdu}
+use Rattle.card_types.specs.Says.{Says as SaysRegistry}
+use Rattle.card_types.specs.Slots.{held}
+use Rattle.card_types.specs.declared.tables.Entry.{Entry}
 use Rattle.card_types.specs.declared.tables.Tables.{Tables}
-use Rattle.policy_rules.specs.Forms.{HasParameters, HasDataField}
-use Rattle.policy_rules.specs.State.{State, Fits}
-use Rattle.policy_rules.specs.Vol.{Channel, fresh}
+use Rattle.policy_rules.specs.Commands.{HasParameters, HasDataField}
+use Rattle.policy_rules.specs.GetData.{tag_of}
+use Rattle.policy_rules.specs.State.{State}
+use Rattle.policy_rules.specs.Volatile.{Channel, channel_at}
 use Rattle.policy_rules.specs.declared.instruction.TheConstants.{SELECT, MANAGE_CHANNEL, GET_DATA}
 use Rattle.policy_rules.specs.declared.live.Live.{Live}
+use Rattle.policy_rules.specs.declared.live.TheConstants.{CHANNELS}
 use Rattle.policy_rules.specs.declared.request.Request.{Request}
-use Rattle.policy_rules.specs.declared.rule.Rule.{Rule}
-use Rattle.policy_rules.specs.declared.rule.Rule.TheVariants as rule
-use Rattle.policy_rules.specs.declared.rule.RulePS.TheVariants.{P, S}
 use Rattle.policy_rules.specs.declared.request.Request.TheVariants.{Select, MoreChannel, LessChannel, Get}
+use Rattle.policy_rules.specs.declared.rule.Rule.{Rule}
+use Rattle.policy_rules.specs.declared.rule.Rule.TheVariants.{PS}
+use Rattle.policy_rules.specs.declared.rule.RulePS.TheVariants.{P, S}
 
 -- the request is that of a command with this instruction, P1, P2 and data field
 abbrev pub Means : Request → ℕ → ℕ → ℕ → List ℕ → Type 0
-Means (Select prefix) ins p1 p2 body = (ins ≡ SELECT) × (prefix.now ≡ body)
+Means (Select partial) ins p1 p2 body = (ins ≡ SELECT) × (partial.now ≡ body)
 Means MoreChannel ins p1 p2 body = (ins ≡ MANAGE_CHANNEL) × (p1 ≡ 0x00)
 Means (LessChannel number) ins p1 p2 body = (ins ≡ MANAGE_CHANNEL) × (p1 ≡ 0x80) × (p2 ≡ number) × (1 ≤ number) × (number ≤ 3)
-Means (Get tag) ins p1 p2 body = (ins ≡ GET_DATA) × (tag ≡ p1 * 256 + p2)
+Means (Get tag) ins p1 p2 body = (ins ≡ GET_DATA) × (tag ≡ tag_of p1 p2)
 
 -- the rule on its form that a command breaks: P1 and P2 are judged before the data field
-abbrev pub IsOutOfOrder : ℕ → ℕ → ℕ → List ℕ → Rule → Type 0
-IsOutOfOrder ins p1 p2 body found =
-    ((found ≡ rule.PS P) × (HasParameters ins p1 p2 → ⊥))
-    ⊎ ((found ≡ rule.PS S) × HasParameters ins p1 p2 × (HasDataField ins body → ⊥))
+abbrev pub IsMalformed : ℕ → ℕ → ℕ → List ℕ → Rule → Type 0
+IsMalformed ins p1 p2 body found =
+    ((found ≡ PS P) × (HasParameters ins p1 p2 → ⊥))
+    ⊎ ((found ≡ PS S) × HasParameters ins p1 p2 × (HasDataField ins body → ⊥))
 
--- the request of a command in order, or the rule that it breaks
+-- the request of a well-formed command, or the rule that a malformed one breaks
 abbrev pub Parses : ℕ → ℕ → ℕ → List ℕ → Result Request Rule → Type 0
 Parses ins p1 p2 body (Ok request) = HasParameters ins p1 p2 × HasDataField ins body × Means request ins p1 p2 body
-Parses ins p1 p2 body (Err found) = IsOutOfOrder ins p1 p2 body found
+Parses ins p1 p2 body (Err found) = IsMalformed ins p1 p2 body found
+
+-- the request is that of this command, which is well-formed
+pub record IsRequestOf (request : Request) (command : Apdu) : Type 0 where
+  pub parameters : HasParameters command.ins command.p1 command.p2
+  pub data_field : HasDataField command.ins command.body
+  pub means : Means request command.ins command.p1 command.p2 command.body
 
 -- the request is that of some command
 abbrev pub IsMeant : Request → Type 0
 IsMeant request = (ins p1 p2 : ℕ) × (body : List ℕ) × Means request ins p1 p2 body
 
--- the channels, by the slots of the entries that they have selected: the only entry is the issuer domain's, in slot 0
-abbrev pub channels_of : List (Option ℕ) → List (Option Channel)
-channels_of selected = map (option_map (λ slot. fresh ISSUER)) selected
+-- the slot is that of the entry that the channel has selected; where the channel is closed there is none
+abbrev pub IsSelectedIn : List (Option Entry) → Option ℕ → Option Channel → Type 0
+IsSelectedIn entries None None = Unit {0}
+IsSelectedIn entries None (Some channel) = ⊥
+IsSelectedIn entries (Some slot) None = ⊥
+IsSelectedIn entries (Some slot) (Some channel) = (entry : Entry) × (held entries slot ≡ Some entry) × (entry.aid ≡ channel.selected)
 
-abbrev pub IsIssuer : Option ℕ → Type 0
-IsIssuer None = Unit {0}
-IsIssuer (Some slot) = slot ≡ 0
-
--- what the code keeps says this state
+-- What the code keeps says this state, as far as the rules look: the tables say the registry, and for each channel its slot
+-- is that of the AID selected. What else a channel holds is said elsewhere.
 pub record Says (tables : Tables) (live : Live) (state : State) : Type 0 where
-  pub registry : IsFactory tables
-  pub slots : All IsIssuer live.selected
-  pub perm : state.perm ≡ factory_perm
-  pub channels : state.vol.channels ≡ channels_of live.selected
-  pub load : state.vol.load ≡ None
-  pub fits : Fits state.perm state.vol
+  pub page : ℕ → List ℕ
+  pub registry : SaysRegistry page tables state.registry
+  pub selected : (number : ℕ) → number < CHANNELS
+      → IsSelectedIn tables.entries.items (slice_index_or live.selected number None) (channel_at state.volatile number)

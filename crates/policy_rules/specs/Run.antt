@@ -13,4 +13,4 @@ abbrev pub Run : State → List Input → List Outcome → State → Type 0
 Run state [] outcomes last = (outcomes ≡ []) × (last ≡ state)
 Run state (Command bytes ∷ inputs) [] last = ⊥
 Run state (Command bytes ∷ inputs) (outcome ∷ outcomes) last = Step state bytes outcome × Run outcome.state inputs outcomes last
-Run state (Reset ∷ inputs) outcomes last = Run (powered_on state.perm) inputs outcomes last
+Run state (Reset ∷ inputs) outcomes last = Run (powered_on state.registry) inputs outcomes last

@@ -1,7 +1,13 @@
-//! Instruction bytes (ISO/IEC 7816-4, 5.1.2).
+//! Instruction bytes (ISO/IEC 7816-4:2013, 5.5; GlobalPlatform Card Specification 2.3.1, 11.1.5).
 
 pub const SELECT: u8 = 0xA4;
 
 pub const MANAGE_CHANNEL: u8 = 0x70;
 
 pub const GET_DATA: u8 = 0xCA;
+
+/// No class has it yet.
+pub const EXTERNAL_AUTHENTICATE: u8 = 0x82;
+
+/// No class has it yet.
+pub const LOAD: u8 = 0xE8;

@@ -1,71 +1,124 @@
-//! The keys of a domain, in ascending order of their versions and identifiers.
+//! The keys of a domain, in ascending order of key version number and key identifier.
 
-ghost use Rattle.std.specs.Prelude.{◌≡◌, ℕ, ◌+◌, ◌↔◌, IsTrue, MatchOption, Some, None, length, if◌then◌else◌};
-ghost use Rattle.card_types.specs.Slots.{held};
-ghost use Rattle.policy_rules.specs.Keys.{Follows, IsBelow, IsPast, NextKey, name_of};
+ghost use Rattle.std.specs.Prelude.{◌≡◌, ◌≤◌, ℕ, IfSome, IfNone, length};
+ghost use Rattle.std.specs.Ordering.{nat_cmp, ordering_then};
+ghost use Rattle.std.proofs.lemmas.Cmp.{nat_cmp_total, on_total, then_total};
+ghost use Rattle.card_types.specs.Least.{IsLeast, NoneFits};
+ghost use Rattle.policy_rules.specs.KeyOrder.{follows, is_past as is_past_name, keeps_counter_of, name_order, version_order};
 
-use card_types::{KEYS, KeyRec, in_slot};
+use card_types::{KEYS, KeyRec, Search, least};
 
-/// A version and an identifier.
-pub type Name = (u8, u8);
-
-fn is_below(a: Name, b: Name) -> bool
-    ensures { IsTrue result ↔ IsBelow a b }
-{
-    a.0 < b.0 || a.0 == b.0 && a.1 < b.1
+/// A key version number and a key identifier.
+#[derive(Clone, Copy, Debug, PartialEq, Eq)]
+pub struct KeyName {
+    pub version: u8,
+    pub identifier: u8,
 }
 
-fn is_past(after: Option<Name>, name: Name) -> bool
-    ensures { IsTrue result ↔ IsPast after name }
-{
-    match after {
-        Some(after) => is_below(after, name),
-        None => true,
-    }
-}
-
-/// The name of a key.
-pub fn name(key: &KeyRec) -> Name
-    ensures { result ≡ name_of key.now }
-{
-    (key.version, key.identifier)
-}
-
-// Whether the key in `slot` follows, with a name below that of the best one so far, if there is one.
-fn is_next(
-    keys: &[Option<KeyRec>],
-    owner: u8,
-    after: Option<Name>,
-    best: Option<u8>,
-    slot: u8,
-) -> bool
-    ensures { (n : ℕ) → n ≡ slot → NextKey keys.now owner after n best
-        → NextKey keys.now owner after (n + 1) (if result then Some slot else best) }
-{
-    let Some(key) = in_slot(keys, slot) else {
-        return false;
-    };
-    if key.owner != owner || !is_past(after, name(key)) {
-        return false;
-    }
-    let Some(best) = best else {
-        return true;
-    };
-    match in_slot(keys, best) {
-        Some(other) => is_below(name(key), name(other)),
-        None => true,
-    }
-}
-
-/// The slot of the key of this domain with the least name past `after`, or with the least of all.
-pub fn next_key(keys: &[Option<KeyRec>], owner: u8, after: Option<Name>) -> Option<u8>
-    ensures { NextKey keys.now owner after KEYS result }
-{
-    let mut best = None;
-    for slot in 0..KEYS as u8 {
-        if is_next(keys, owner, after, best, slot) {
-            best = Some(slot);
+impl KeyName {
+    /// The name of a key.
+    pub fn of(key: &KeyRec) -> KeyName
+        ensures version { result.version ≡ key.now.version }
+        ensures identifier { result.identifier ≡ key.now.identifier }
+    {
+        KeyName {
+            version: key.version,
+            identifier: key.identifier,
         }
     }
-    best
+}
+
+/// The lowest version of a key that belongs to no set.
+const LONE_VERSION: u8 = 0x70;
+
+// The keys of the domain in a slot, past a name.
+#[derive(Drop)]
+struct Following {
+    owner: u8,
+    after: Option<KeyName>,
+}
+
+fn is_past(after: Option<KeyName>, key: &KeyRec) -> bool
+    ensures { result ≡ is_past_name after key.now }
+{
+    match after {
+        Some(name) => {
+            name.version < key.version
+                || name.version == key.version && name.identifier < key.identifier
+        }
+        None => true,
+    }
+}
+
+impl Search<KeyRec> for Following {
+    ghost fits = { λ following key. follows following.owner following.after key };
+
+    ghost order = { λ _ a b. name_order a b };
+
+    fn fits(&self, thing: &KeyRec) -> bool {
+        thing.owner == self.owner && is_past(self.after, thing)
+    }
+
+    fn is_below(&self, a: &KeyRec, b: &KeyRec) -> bool {
+        a.version < b.version || a.version == b.version && a.identifier < b.identifier
+    }
+
+    ghost total = { λ _. then_total (on_total (λ key. key.version) nat_cmp_total) (on_total (λ key. key.identifier) nat_cmp_total) };
+}
+
+/// The key of the domain in the slot `owner` with the least name past `after`, or with the least of all.
+pub fn next_key<'a>(
+    keys: &'a [Option<KeyRec>],
+    owner: u8,
+    after: Option<KeyName>,
+) -> Option<&'a KeyRec>
+    requires { length keys.now ≤ KEYS }
+    ensures some { IfSome result (λ key. (slot : ℕ) × IsLeast (follows owner after) name_order keys.now slot key.now) }
+    ensures none { IfNone result (NoneFits (follows owner after) keys.now) }
+{
+    match least(keys, &Following { owner, after }) {
+        Some(found) => Some(found.thing),
+        None => None,
+    }
+}
+
+/// Whether the key keeps the counter of a key set of the domain in a slot.
+pub(crate) fn keeps_counter(key: &KeyRec, owner: u8) -> bool
+    ensures { result ≡ keeps_counter_of owner key.now }
+{
+    key.identifier == 1 && key.version < LONE_VERSION && key.owner == owner
+}
+
+// The keys that keep the counters of the key sets of the domain in a slot.
+#[derive(Drop)]
+struct Counting {
+    owner: u8,
+}
+
+impl Search<KeyRec> for Counting {
+    ghost fits = { λ counting key. keeps_counter_of counting.owner key };
+
+    ghost order = { λ _ a b. version_order a b };
+
+    fn fits(&self, thing: &KeyRec) -> bool {
+        keeps_counter(thing, self.owner)
+    }
+
+    fn is_below(&self, a: &KeyRec, b: &KeyRec) -> bool {
+        a.version < b.version
+    }
+
+    ghost total = { λ _. on_total (λ key. key.version) nat_cmp_total };
+}
+
+/// The key that keeps the counter of the lowest version of the key sets of the domain in the slot `owner`.
+pub fn lowest_set<'a>(keys: &'a [Option<KeyRec>], owner: u8) -> Option<&'a KeyRec>
+    requires { length keys.now ≤ KEYS }
+    ensures some { IfSome result (λ key. (slot : ℕ) × IsLeast (keeps_counter_of owner) version_order keys.now slot key.now) }
+    ensures none { IfNone result (NoneFits (keeps_counter_of owner) keys.now) }
+{
+    match least(keys, &Counting { owner }) {
+        Some(found) => Some(found.thing),
+        None => None,
+    }
 }

@@ -1,8 +1,15 @@
-//! The laws of the policy machine, as a function that does nothing when it runs.
-ghost use Rattle.policy_rules.specs.Steps.{StepsKeep, StartsWell};
+//! The laws of the policy machine, as functions that do nothing when they run.
 
-/// A card that is powered on keeps its rules, and each step keeps them.
-pub fn steps_keep()
-    ensures start { StartsWell }
-    ensures step { StepsKeep }
+ghost use Rattle.policy_rules.specs.Laws.{OneOutcome, OneRun, StartsSound, StepsKeepSound};
+
+/// A card that is powered on is sound, and each step keeps it so.
+pub fn steps_keep_sound()
+    ensures start { StartsSound }
+    ensures step { StepsKeepSound }
+{}
+
+/// From one state the same bytes have at most one outcome, and the same inputs at most one run.
+pub fn one_outcome()
+    ensures step { OneOutcome }
+    ensures run { OneRun }
 {}

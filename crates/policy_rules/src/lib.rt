@@ -1,28 +1,31 @@
 //! The policy of a card: which rule refuses a command, and what an accepted one does.
 #![tactic(auto)]
 
-mod action;
 mod class;
-mod datum;
+mod get_data;
 mod instruction;
 mod key_order;
+mod key_sets;
 mod laws;
 mod live;
-mod order;
+mod manage_channel;
+mod own_rules;
 mod request;
 mod rule;
 mod select;
+
+pub use class::{Class, channel_of};
+pub use get_data::{Datum, RuleGD, judge_get_data};
+pub use instruction::{EXTERNAL_AUTHENTICATE, GET_DATA, LOAD, MANAGE_CHANNEL, SELECT};
+pub use key_order::{KeyName, lowest_set, next_key};
+pub use key_sets::session_set;
+pub use laws::{one_outcome, steps_keep_sound};
+pub use live::{CHANNELS, Live};
+pub use manage_channel::{RuleMC, judge_more_channel};
+pub use own_rules::judge;
+pub use request::{Request, parse};
+pub use rule::{Rule, RuleG, RulePS};
+pub use select::{RuleSE, judge_select};
+
 #[cfg(test)]
 mod tests;
-
-pub use action::Action;
-pub use class::{Class, channel_of};
-pub use datum::{Datum, datum_on};
-pub use instruction::{GET_DATA, MANAGE_CHANNEL, SELECT};
-pub use key_order::{Name, name, next_key};
-pub use laws::steps_keep;
-pub use live::{CHANNELS, ISSUER_SLOT, Live};
-pub use order::{decide, judge, judge_class};
-pub use request::{Request, parse};
-pub use rule::{Rule, RuleG, RuleGD, RuleMC, RulePS, RuleSE};
-pub use select::fitting;

@@ -1,12 +1,11 @@
 //! What a card keeps while it has power, as the rules see it.
 
-ghost use Rattle.std.specs.Prelude.{◌≡◌, ◌<◌, [], ◌∷◌, None, Some, IfSome, position, is_none};
+ghost use Rattle.std.specs.Prelude.{◌≡◌, ◌<◌, [], ◌∷◌, None, Some, IfSome, position, is_none, length};
+
+use card_types::ISSUER_SLOT;
 
 /// How many logical channels a card has.
 pub const CHANNELS: usize = 4;
-
-/// The slot of the issuer domain.
-pub const ISSUER_SLOT: u8 = 0;
 
 /// The logical channels: for each open one the slot of the entry that is selected.
 #[derive(Clone, Copy, Debug)]
@@ -15,9 +14,9 @@ pub struct Live {
 }
 
 impl Live {
-    /// After power on or reset: channel 0 alone is open, with the issuer domain selected.
+    /// After power on or reset: channel 0 alone is open, with the Issuer Security Domain selected.
     pub fn powered_on() -> Live
-        ensures { result.selected ≡ Some 0 ∷ None ∷ None ∷ None ∷ [] }
+        ensures { result.selected ≡ Some ISSUER_SLOT ∷ None ∷ None ∷ None ∷ [] }
     {
         Live {
             selected: [Some(ISSUER_SLOT), None, None, None],
@@ -28,6 +27,7 @@ impl Live {
     pub fn first_closed(&self) -> Option<usize>
         ensures lowest { result ≡ position is_none self.now.selected }
         ensures below { IfSome result (λ number. number < CHANNELS) }
+        ensures four { length self.now.selected ≡ CHANNELS }
     {
         self.selected.iter().position(Option::is_none)
     }

@@ -1,17 +1,20 @@
 //! What a command asks for.
 
 ghost use Rattle.std.specs.Prelude.{◌≡◌, ◌⊎◌, IfOk, IfErr};
-ghost use Rattle.policy_rules.specs.Forms.{HasParameters, HasDataField};
-ghost use Rattle.policy_rules.specs.Means.{IsOutOfOrder, Means, Parses};
+ghost use Rattle.policy_rules.specs.Commands.{HasParameters, HasDataField};
+ghost use Rattle.policy_rules.specs.Means.{IsMalformed, Means};
 
+use crate::get_data::parse_get_data;
 use crate::instruction::{GET_DATA, MANAGE_CHANNEL, SELECT};
-use crate::rule::{Rule, RulePS};
+use crate::manage_channel::parse_manage_channel;
+use crate::rule::Rule;
+use crate::select::parse_select;
 
-/// The fields of a command whose P1, P2 and data field are in order.
+/// The fields of a well-formed command.
 #[derive(Clone, Copy, Debug)]
 pub enum Request<'a> {
     /// SELECT of the entry whose AID begins so.
-    Select { prefix: &'a [u8] },
+    Select { partial: &'a [u8] },
     /// MANAGE CHANNEL that opens a channel.
     MoreChannel,
     /// MANAGE CHANNEL that closes a channel.
@@ -26,48 +29,11 @@ pub fn parse(ins: u8, p1: u8, p2: u8, body: &[u8]) -> Result<Request<'_>, Rule>
     ensures parameters { IfOk result (λ request. HasParameters ins p1 p2) }
     ensures data_field { IfOk result (λ request. HasDataField ins body.now) }
     ensures means { IfOk result (λ request. Means request ins p1 p2 body.now) }
-    ensures refused { IfErr result (IsOutOfOrder ins p1 p2 body.now) }
+    ensures refused { IfErr result (IsMalformed ins p1 p2 body.now) }
 {
     match ins {
         SELECT => parse_select(p1, p2, body),
         MANAGE_CHANNEL => parse_manage_channel(p1, p2, body),
         _ => parse_get_data(p1, p2, body),
     }
-}
-
-fn parse_select(p1: u8, p2: u8, body: &[u8]) -> Result<Request<'_>, Rule>
-    ensures { Parses SELECT p1 p2 body.now result }
-{
-    if p1 != 0x04 || p2 != 0x00 {
-        return Err(Rule::PS(RulePS::P));
-    }
-    if body.len() > 16 {
-        return Err(Rule::PS(RulePS::S));
-    }
-    Ok(Request::Select { prefix: body })
-}
-
-fn parse_manage_channel(p1: u8, p2: u8, body: &[u8]) -> Result<Request<'_>, Rule>
-    ensures { Parses MANAGE_CHANNEL p1 p2 body.now result }
-{
-    let request = match (p1, p2) {
-        (0x00, 0x00) => Request::MoreChannel,
-        (0x80, 1..=3) => Request::LessChannel { number: p2 },
-        _ => return Err(Rule::PS(RulePS::P)),
-    };
-    if !body.is_empty() {
-        return Err(Rule::PS(RulePS::S));
-    }
-    Ok(request)
-}
-
-fn parse_get_data(p1: u8, p2: u8, body: &[u8]) -> Result<Request<'_>, Rule>
-    ensures { Parses GET_DATA p1 p2 body.now result }
-{
-    if !body.is_empty() {
-        return Err(Rule::PS(RulePS::S));
-    }
-    Ok(Request::Get {
-        tag: u16::from_be_bytes([p1, p2]),
-    })
 }

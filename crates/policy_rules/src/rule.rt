@@ -3,9 +3,12 @@
 ghost use Rattle.std.specs.Prelude.{◌≡◌};
 ghost use Rattle.policy_rules.specs.Rules.{name_of, status_of};
 
+use crate::get_data::RuleGD;
+use crate::manage_channel::RuleMC;
+use crate::select::RuleSE;
 use apdu_core::Status;
 
-/// A rule of the policy, by its group.
+/// A rule of the policy, by its group. The rules of a command stand with the command.
 #[derive(Clone, Copy, Debug, PartialEq, Eq)]
 pub enum Rule {
     G(RuleG),
@@ -15,7 +18,7 @@ pub enum Rule {
     GD(RuleGD),
 }
 
-/// The rules for each command.
+/// The rules that every command passes first.
 #[derive(Clone, Copy, Debug, PartialEq, Eq)]
 pub enum RuleG {
     /// The bytes are no short command.
@@ -39,44 +42,23 @@ pub enum RulePS {
     S,
 }
 
-/// The rules of SELECT.
-#[derive(Clone, Copy, Debug, PartialEq, Eq)]
-pub enum RuleSE {
-    /// No entry fits.
-    SE1,
-}
-
-/// The rules of MANAGE CHANNEL.
-#[derive(Clone, Copy, Debug, PartialEq, Eq)]
-pub enum RuleMC {
-    /// No channel is closed.
-    MC1,
-}
-
-/// The rules of GET DATA.
-#[derive(Clone, Copy, Debug, PartialEq, Eq)]
-pub enum RuleGD {
-    /// There is no such data.
-    GD1,
-}
-
 impl Rule {
     /// The status word of a command that the rule refuses.
     pub fn status(&self) -> Status
         ensures { result.0 ≡ status_of self.now }
     {
-        Status(match self {
-            Rule::G(RuleG::G1) => 0x6700,
-            Rule::G(RuleG::G2) => 0x6E00,
-            Rule::G(RuleG::G3) => 0x6881,
-            Rule::G(RuleG::G4) => 0x6D00,
-            Rule::G(RuleG::G5) => 0x6985,
-            Rule::PS(RulePS::P) => 0x6A86,
-            Rule::PS(RulePS::S) => 0x6A80,
-            Rule::SE(RuleSE::SE1) => 0x6A82,
-            Rule::MC(RuleMC::MC1) => 0x6A81,
-            Rule::GD(RuleGD::GD1) => 0x6A88,
-        })
+        match self {
+            Rule::G(RuleG::G1) => Status(0x6700),
+            Rule::G(RuleG::G2) => Status(0x6E00),
+            Rule::G(RuleG::G3) => Status(0x6881),
+            Rule::G(RuleG::G4) => Status(0x6D00),
+            Rule::G(RuleG::G5) => Status(0x6985),
+            Rule::PS(RulePS::P) => Status(0x6A86),
+            Rule::PS(RulePS::S) => Status(0x6A80),
+            Rule::SE(rule) => rule.status(),
+            Rule::MC(rule) => rule.status(),
+            Rule::GD(rule) => rule.status(),
+        }
     }
 
     /// The rule's name.
@@ -91,9 +73,9 @@ impl Rule {
             Rule::G(RuleG::G5) => "G5",
             Rule::PS(RulePS::P) => "P",
             Rule::PS(RulePS::S) => "S",
-            Rule::SE(RuleSE::SE1) => "SE1",
-            Rule::MC(RuleMC::MC1) => "MC1",
-            Rule::GD(RuleGD::GD1) => "GD1",
+            Rule::SE(rule) => rule.name(),
+            Rule::MC(rule) => rule.name(),
+            Rule::GD(rule) => rule.name(),
         }
     }
 }

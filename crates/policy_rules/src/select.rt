@@ -1,65 +1,111 @@
-//! Which entry SELECT takes.
+//! SELECT by partial AID (ISO/IEC 7816-4:2013, 11.1.1; GlobalPlatform Card Specification 2.3.1, 11.9).
 
-ghost use Rattle.std.specs.Prelude.{◌≡◌, ℕ, ◌+◌, ◌<◌, ◌≤◌, ◌↔◌, IsTrue, MatchOption, Some, None, if◌then◌else◌};
-ghost use Rattle.std.specs.Ordering.{nat_cmp};
-ghost use Rattle.std.specs.Cmp.Lexicographic.{slice_cmp};
+ghost use Rattle.std.specs.Prelude.{◌≡◌, ℕ, List, None, Some, IfOk, IfErr};
+ghost use Rattle.std.proofs.lemmas.Cmp.{nat_list_cmp_total, on_total};
+ghost use Rattle.card_types.specs.AidOrder.{aid_order, same_aid};
+ghost use Rattle.card_types.specs.InOrder.{IsInOrder};
+ghost use Rattle.card_types.specs.Registry.{Registry};
+ghost use Rattle.card_types.specs.Says.{Says, entry_of};
 ghost use Rattle.card_types.specs.Slots.{held};
 ghost use Rattle.card_types.specs.declared.factory.TheConstants.{ISSUER};
-ghost use Rattle.policy_rules.specs.Registry.{same};
-ghost use Rattle.policy_rules.specs.Slots.{Fitting, entry_fits};
+ghost use Rattle.policy_rules.specs.Means.{Parses};
+ghost use Rattle.policy_rules.specs.Select.{fits_as, least_fitting, select_rule_name, select_rule_status};
+ghost use Rattle.policy_rules.specs.declared.instruction.TheConstants.{SELECT};
 
-use card_types::{Aid, CardLife, ENTRIES, Entry, ISSUER, Life, Tables, in_slot};
+use crate::request::Request;
+use crate::rule::{Rule, RulePS};
+use apdu_core::Status;
+use card_types::{Aid, CardLife, Entry, ISSUER, InSlot, Life, Search, Tables, least};
+
+/// The rules of SELECT.
+#[derive(Clone, Copy, Debug, PartialEq, Eq)]
+pub enum RuleSE {
+    /// No entry fits.
+    SE1,
+}
+
+impl RuleSE {
+    /// The status word of a SELECT that the rule refuses.
+    pub fn status(&self) -> Status
+        ensures { result.0 ≡ select_rule_status self.now }
+    {
+        match self {
+            RuleSE::SE1 => Status(0x6A82),
+        }
+    }
+
+    /// The rule's name.
+    pub fn name(&self) -> &'static str
+        ensures { result.now ≡ select_rule_name self.now }
+    {
+        match self {
+            RuleSE::SE1 => "SE1",
+        }
+    }
+}
+
+/// Reads P1, P2 and the data field.
+pub(crate) fn parse_select(p1: u8, p2: u8, body: &[u8]) -> Result<Request<'_>, Rule>
+    ensures { Parses SELECT p1 p2 body.now result }
+{
+    if p1 != 0x04 || p2 != 0x00 {
+        return Err(Rule::PS(RulePS::P));
+    }
+    if body.len() > 16 {
+        return Err(Rule::PS(RulePS::S));
+    }
+    Ok(Request::Select { partial: body })
+}
 
 fn is_issuer(aid: &Aid) -> bool
-    ensures { result ≡ same aid.now ISSUER }
+    ensures { result ≡ same_aid aid.now ISSUER }
 {
     aid.as_bytes() == ISSUER.as_slice()
 }
 
-/// Whether an entry fits the data field of SELECT.
-fn fits(card_life: CardLife, prefix: &[u8], entry: &Entry) -> bool
-    ensures { result ≡ entry_fits card_life prefix.now entry.now }
-{
-    if prefix.is_empty() {
-        return is_issuer(&entry.aid);
-    }
-    entry.aid.as_bytes().starts_with(prefix)
-        && !entry.life.locked
-        && entry.life.life != Life::Installed
-        && (card_life != CardLife::Locked || is_issuer(&entry.aid))
+// What SELECT looks for: entries that fit a partial AID.
+#[derive(Drop)]
+struct Fitting<'a> {
+    card_life: CardLife,
+    partial: &'a [u8],
 }
 
-// Whether an entry fits and its AID is below that of the least one so far, if there is one. It is no part of the loop
-// over the slots, most of which are free, so that this loop stays short.
-#[inline(never)]
-fn is_less(tables: &Tables, prefix: &[u8], least: Option<u8>, entry: &Entry) -> bool
-    ensures { (slot : ℕ) → held tables.now.entries.items slot ≡ Some entry.now
-        → Fitting tables.now.life prefix.now tables.now.entries.items slot least
-        → Fitting tables.now.life prefix.now tables.now.entries.items (slot + 1) (if result then Some slot else least) }
-{
-    if !fits(tables.life, prefix, entry) {
-        return false;
-    }
-    let Some(least) = least else {
-        return true;
-    };
-    match in_slot(&tables.entries, least) {
-        Some(other) => entry.aid.is_below(&other.aid),
-        None => true,
-    }
-}
+impl Search<Entry> for Fitting<'_> {
+    ghost fits = { λ fitting entry. fits_as fitting.card_life fitting.partial.now entry.aid entry.life };
 
-/// The slot of the entry that SELECT takes: the least AID of those that fit.
-pub fn fitting(tables: &Tables, prefix: &[u8]) -> Option<u8>
-    ensures { Fitting tables.now.life prefix.now tables.now.entries.items ENTRIES result }
-{
-    let mut least = None;
-    for slot in 0..ENTRIES as u8 {
-        if let Some(entry) = in_slot(&tables.entries, slot) {
-            if is_less(tables, prefix, least, entry) {
-                least = Some(slot);
-            }
+    ghost order = { λ _ a b. aid_order a.aid b.aid };
+
+    fn fits(&self, thing: &Entry) -> bool {
+        if self.partial.is_empty() {
+            return is_issuer(&thing.aid);
         }
+        thing.aid.as_bytes().starts_with(self.partial)
+            && !thing.life.locked
+            && thing.life.life != Life::Installed
+            && (self.card_life != CardLife::Locked || is_issuer(&thing.aid))
     }
-    least
+
+    fn is_below(&self, a: &Entry, b: &Entry) -> bool {
+        a.aid.is_below(&b.aid)
+    }
+
+    ghost total = { λ _. on_total (λ entry. entry.aid) nat_list_cmp_total };
+}
+
+/// The entry that SELECT takes: the least AID of those that fit.
+pub fn judge_select<'a>(tables: &'a Tables, partial: &[u8]) -> Result<InSlot<'a, Entry>, RuleSE>
+    requires in_order { IsInOrder tables.now }
+    ensures at { IfOk result (λ found. held tables.now.entries.items found.slot ≡ Some found.thing.now) }
+    ensures found { (page : ℕ → List ℕ) (said : Registry) → Says page tables.now said → IfOk result (λ found.
+        least_fitting said partial.now ≡ Some (entry_of tables.now.entries.items tables.now.files.items found.thing.now)) }
+    ensures none { (page : ℕ → List ℕ) (said : Registry) → Says page tables.now said → IfErr result (λ rule. least_fitting said partial.now ≡ None) }
+{
+    let fitting = Fitting {
+        card_life: tables.life,
+        partial,
+    };
+    match least(&tables.entries, &fitting) {
+        Some(found) => Ok(found),
+        None => Err(RuleSE::SE1),
+    }
 }

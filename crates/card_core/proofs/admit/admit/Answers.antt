@@ -1,14 +1,53 @@
-use Rattle.std.proofs.Common.{◌++◌, inr}
+use Rattle.std.proofs.Common.{◌≡◌, ◌≢◌, ℕ, Bool, true, false, None, Some, refl, sym, ap, subst, ◌∙◌}
+use Rattle.std.specs.Prelude.{slice_index_or}
 use Rattle.apdu_core.specs.Apdu.{apdu_of}
-use Rattle.policy_rules.specs.Rules.{Fails, class_rules, form_rules, own_rules}
-use Rattle.policy_rules.proofs.FirstOf.{in_front}
+use Rattle.policy_rules.specs.Classes.{IsKnown, channel_of, class_of}
+use Rattle.card_core.proofs.Admitting.{all_passed, for_no_application, no_channel, no_class, over, unknown}
 use Rattle.card_core.proofs.admit.admit.Goals as goal
 
-pub returns-in-Some-clause-refused : goal.returns-in-Some-clause-refused
-returns-in-Some-clause-refused c state says =
-    let command = apdu_of c.in-Ok.command in
-    inr (
-      command,
-      c.in-Ok.ensures.ok,
-      in_front (Fails state command) class_rules (form_rules ++ own_rules command.ins) c.in-Some.rule (c.in-Some.ensures.first state says),
-    )
+pub returns-in_default-of-clause-refused : goal.returns-in_default-of-clause-refused
+returns-in_default-of-clause-refused c state says =
+    no_class c.args.tables.now c.args.live.now state c.args.bytes.now (apdu_of c.in-Ok.command) says c.in-Ok.ensures.ok (sym c.of.ensures ∙ c.in_default-of.is)
+
+pub returns-in_default-selected-clause-refused : goal.returns-in_default-selected-clause-refused
+returns-in_default-selected-clause-refused c state says =
+    no_channel c.args.tables.now c.args.live.now state c.args.bytes.now (apdu_of c.in-Ok.command) says c.in-Ok.ensures.ok
+    c.in-Some.class (sym c.of.ensures ∙ c.in-Some.is)
+    (rw (c.from.ensures, c.channel_of-channel.ensures) at c.in_default-selected.is)
+
+pub returns-then-not-has-clause-refused : goal.returns-then-not-has-clause-refused
+returns-then-not-has-clause-refused c state says =
+    let is = sym c.of.ensures ∙ c.in-Some.is in
+    unknown c.args.tables.now c.args.live.now state c.args.bytes.now (apdu_of c.in-Ok.command) says c.in-Ok.ensures.ok
+    c.in-Some.class is
+    c.in-Some-selected.selected (rw (c.from.ensures, c.channel_of-channel.ensures) at c.in-Some-selected.is)
+    (λ known. (let has = c.has.ensures.1 (rw is at known) in let none = c.if-not-has.true in cc))
+
+pub returns-then-is_not_for-clause-refused : goal.returns-then-is_not_for-clause-refused
+returns-then-is_not_for-clause-refused c state says =
+    let is = sym c.of.ensures ∙ c.in-Some.is in
+    for_no_application c.args.tables.now c.args.live.now state c.args.bytes.now (apdu_of c.in-Ok.command) says c.in-Ok.ensures.ok
+    c.in-Some.class is
+    c.in-Some-selected.selected (rw (c.from.ensures, c.channel_of-channel.ensures) at c.in-Some-selected.is)
+    (c.is_not_for.ensures.0 c.if-is_not_for.true)
+
+pub returns-then-is_over-clause-refused : goal.returns-then-is_over-clause-refused
+returns-then-is_over-clause-refused c state says =
+    let is = sym c.of.ensures ∙ c.in-Some.is in
+    let ended = c.is_over.ensures.0 c.if-is_over.true in
+    over c.args.tables.now c.args.live.now state c.args.bytes.now (apdu_of c.in-Ok.command) says c.in-Ok.ensures.ok
+    c.in-Some.class is
+    c.in-Some-selected.selected (rw (c.from.ensures, c.channel_of-channel.ensures) at c.in-Some-selected.is)
+    (rw is (c.has.ensures.0 c.if-not-has.false))
+    (λ fails. (let for = c.is_not_for.ensures.1 fails in let none = c.if-is_not_for.false in cc))
+    (sym says.registry.life ∙ ended.0) ended.1
+
+pub returns-clause-passed : goal.returns-clause-passed
+returns-clause-passed c state says =
+    let is = sym c.of.ensures ∙ c.in-Some.is in
+    all_passed c.args.tables.now c.args.live.now state c.args.bytes.now (apdu_of c.in-Ok.command) says c.in-Ok.ensures.ok
+    c.in-Some.class is
+    c.in-Some-selected.selected (rw (c.from.ensures, c.channel_of-channel.ensures) at c.in-Some-selected.is)
+    (rw is (c.has.ensures.0 c.if-not-has.false))
+    (λ fails. (let for = c.is_not_for.ensures.1 fails in let none = c.if-is_not_for.false in cc))
+    (λ ended. (let over = c.is_over.ensures.1 (says.registry.life ∙ ended.0, ended.1) in let none = c.if-is_over.false in cc))

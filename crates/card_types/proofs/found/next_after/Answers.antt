@@ -1,29 +1,26 @@
-use Rattle.std.proofs.Common.{◌≡◌, ◌≤◌, ◌<◌, length, rules}
-use Rattle.card_types.proofs.Next.{next_some, next_none, next_takes, next_stays}
+use Rattle.card_types.proofs.Next.{holds_issuer, holds_entries, holds_files, next_from_least, none_follows}
 use Rattle.card_types.proofs.found.next_after.Goals as goal
-use Rattle.card_types.proofs.found.next_after.Goals.{then-is_nearer, else-is_nearer}
-use Rattle.card_types.specs.Search.{bounds}
-use Rattle.card_types.specs.declared.tables.TheConstants.{ENTRIES, FILES}
 
-pub loop-slot-preserved : goal.loop-slot-preserved
-loop-slot-preserved c =
-    let from : (bounds c.args.kind).0 ≤ c.loop-slot.slot = rw c.bounds-first.ensures at c.loop-slot.auto.slot in
-    let until : c.loop-slot.slot < (bounds c.args.kind).1 = rw c.bounds-first.ensures at c.loop-slot-test.true in
-    elim c.if-is_nearer.branch [
-      | then-is_nearer w ↦
-          rw w.next-is (next_takes _ _ _ c.loop-slot.slot c.loop-slot.next c.place-found.result from until c.place-found.ensures (c.is_nearer.ensures.0 w.if-is_nearer.true) c.loop-slot.invariant)
-      | else-is_nearer w ↦
-          rw w.next-is (next_stays _ _ _ c.loop-slot.slot c.loop-slot.next c.place-found.result c.place-found.ensures (λ nearer. cc (c.is_nearer.ensures.1 nearer, w.if-is_nearer.false)) c.loop-slot.invariant)
-    ]
+pub returns-in-Some-clause-some : goal.returns-in-Some-clause-some
+returns-in-Some-clause-some c =
+    rw c.in-Issuer.is (next_from_least _ _ _ _ _ _ (holds_issuer c.args.tables.now) c.in-Some.found.slot c.in-Some.found.thing.now (rw c.deref.ensures.value at c.in-Some.ensures.some))
 
-pub returns-clause-some : goal.returns-clause-some
-returns-clause-some c =
-    let entries : length c.args.tables.now.entries.items ≡ ENTRIES = search (rules, c.requires.entries) in
-    let files : length c.args.tables.now.files.items ≡ FILES = search (rules, c.requires.files) in
-    next_some _ _ _ c.loop-slot.slot c.loop-slot.next entries files (rw c.bounds-first.ensures at c.loop-slot-test.false) c.loop-slot.invariant
+pub returns-in-None-clause-none : goal.returns-in-None-clause-none
+returns-in-None-clause-none c =
+    rw c.in-Issuer.is (none_follows _ _ _ _ _ _ (holds_issuer c.args.tables.now) (rw c.deref.ensures.value at c.in-None.ensures.none))
 
-pub returns-clause-none : goal.returns-clause-none
-returns-clause-none c =
-    let entries : length c.args.tables.now.entries.items ≡ ENTRIES = search (rules, c.requires.entries) in
-    let files : length c.args.tables.now.files.items ≡ FILES = search (rules, c.requires.files) in
-    next_none _ _ _ c.loop-slot.slot c.loop-slot.next entries files (rw c.bounds-first.ensures at c.loop-slot-test.false) c.loop-slot.invariant
+pub returns-in-Some-least-clause-some : goal.returns-in-Some-least-clause-some
+returns-in-Some-least-clause-some c =
+    rw c.in-Entries.is (next_from_least _ _ _ _ _ _ (holds_entries c.args.tables.now) c.in-Some-least.found.slot c.in-Some-least.found.thing.now (rw c.deref-in-Entries.ensures.value at c.in-Some-least.ensures.some))
+
+pub returns-in-None-least-clause-none : goal.returns-in-None-least-clause-none
+returns-in-None-least-clause-none c =
+    rw c.in-Entries.is (none_follows _ _ _ _ _ _ (holds_entries c.args.tables.now) (rw c.deref-in-Entries.ensures.value at c.in-None-least.ensures.none))
+
+pub returns-in-Some-least-2-clause-some : goal.returns-in-Some-least-2-clause-some
+returns-in-Some-least-2-clause-some c =
+    rw c.in-Files.is (next_from_least _ _ _ _ _ _ (holds_files c.args.tables.now) c.in-Some-least-2.found.slot c.in-Some-least-2.found.thing.now (rw c.deref-in-Files.ensures.value at c.in-Some-least-2.ensures.some))
+
+pub returns-in-None-least-2-clause-none : goal.returns-in-None-least-2-clause-none
+returns-in-None-least-2-clause-none c =
+    rw c.in-Files.is (none_follows _ _ _ _ _ _ (holds_files c.args.tables.now) (rw c.deref-in-Files.ensures.value at c.in-None-least-2.ensures.none))

@@ -9,12 +9,12 @@ loop-ending-init g c =
       within = omega arith;
       reads = refl;
       writes = refl;
-      going = λ stands told. going_first _ _ stands;
+      going = λ first stands told. going_first first _ _ stands;
     })
 
 pub returns-in-Some-clause-ends : goal.returns-in-Some-clause-ends
-returns-in-Some-clause-ends g c stands told =
-    going_ends _ _ _ _ c.loop-ending.lines c.in-Some.ending (c.loop-ending.invariant.going stands told) (c.in-Some.ensures.ends told)
+returns-in-Some-clause-ends g c first stands told =
+    going_ends first _ _ _ _ c.loop-ending.lines c.in-Some.ending (c.loop-ending.invariant.going first stands told) (c.in-Some.ensures.ends told)
 
 pub loop-ending-preserved : goal.loop-ending-preserved
 loop-ending-preserved g c =
@@ -26,5 +26,5 @@ loop-ending-preserved g c =
       within = on.within;
       reads = quiet.0 ∙ kept.reads;
       writes = quiet.1 ∙ kept.writes;
-      going = λ stands told. going_further (g.S.Source.tells × g.K.Sink.tells) _ _ _ _ _ c.loop-ending.lines _ (kept.going stands told) on told;
+      going = λ first stands told. going_further first (g.S.Source.tells × g.K.Sink.tells) _ _ _ _ _ c.loop-ending.lines _ (kept.going first stands told) on told;
     }

@@ -1,9 +1,8 @@
-use Rattle.std.proofs.Common.{[], sym}
+use Rattle.std.proofs.Common.{[], ◌∷◌, sym}
 use Rattle.std.proofs.lemmas.List.{append-nil}
 use Rattle.policy_rules.specs.State.{powered_on}
 use Rattle.policy_rules.specs.Step.{Outcome}
-use Rattle.gp_tool.specs.Plays.{reply_line}
-use Rattle.gp_tool.proofs.One.{plays_nothing, plays_reset, plays_command}
+use Rattle.gp_tool.proofs.One.{line_written, part_of_line, plays_nothing, plays_reset, plays_command}
 use Rattle.gp_tool.proofs.serve.serve_line.Goals as goal
 
 pub returns-in-Some-Nothing-clause-served : goal.returns-in-Some-Nothing-clause-served
@@ -14,7 +13,7 @@ returns-in-Some-Nothing-clause-served g c told state stands =
 pub returns-in-Some-Reset-clause-served : goal.returns-in-Some-Reset-clause-served
 returns-in-Some-Reset-clause-served g c told state stands =
     let spells = rw c.in-Some-Reset.field-0-is at c.in-Some-Reset.ensures.spelled in
-    ([], powered_on state.perm, plays_reset state c.args.line.now spells, c.reset.ensures.stands state stands, sym (append-nil _))
+    ([], powered_on state.registry, plays_reset state c.args.line.now spells, c.reset.ensures.stands state stands, sym (append-nil _))
 
 pub returns-in-Ok-clause-served : goal.returns-in-Ok-clause-served
 returns-in-Ok-clause-served g c told state stands =
@@ -22,7 +21,7 @@ returns-in-Ok-clause-served g c told state stands =
     let outcome : Outcome = record { state = step.0; reply = c.process.new.reply.items; rule = c.process.result } in
     let spells = rw c.in-Some-Command.field-0-is at c.in-Some-Command.ensures.spelled in
     let written = rw c.deref.ensures.0 at (c.in-Ok.ensures.ok told) in
-    (reply_line outcome, step.0, plays_command state c.args.line.now _ outcome spells step.2, step.1, written)
+    (outcome ∷ [], step.0, plays_command state c.args.line.now _ outcome spells step.2, step.1, line_written _ _ outcome written)
 
 pub returns-in-Err-clause-served : goal.returns-in-Err-clause-served
 returns-in-Err-clause-served g c told state stands =
@@ -31,4 +30,4 @@ returns-in-Err-clause-served g c told state stands =
     let spells = rw c.in-Some-Command.field-0-is at c.in-Some-Command.ensures.spelled in
     let part = c.in-Err.ensures.err told in
     let written = rw c.deref.ensures.0 at part.1 in
-    (reply_line outcome, part.0, step.0, plays_command state c.args.line.now _ outcome spells step.2, step.1, written)
+    (outcome ∷ [], part.0, step.0, plays_command state c.args.line.now _ outcome spells step.2, step.1, part_of_line _ _ part.0 outcome written)

@@ -1,9 +1,11 @@
 use Rattle.std.proofs.Common.{ap, ◌∙◌, inl}
+use Rattle.card_types.specs.Factory.{factory_registry}
+use Rattle.policy_rules.specs.State.{powered_on}
 use Rattle.gp_tool.specs.Ends.{status_of}
 use Rattle.gp_tool.proofs.Complete.{finishes}
 use Rattle.gp_tool.proofs.top.gp.Goals as goal
 
 pub returns-in-Ok-clause-complete : goal.returns-in-Ok-clause-complete
 returns-in-Ok-clause-complete g c words told good short no_read no_write =
-    let ends = c.run.ensures.ends c.in-Ok.ensures.stands told in
-    inl (c.status.ensures ∙ ap status_of (finishes c.run.result _ _ _ _ _ _ c.run.ensures.cause ends good short no_read no_write))
+    let ends = c.run.ensures.ends (powered_on factory_registry) c.in-Ok.ensures.stands told in
+    inl (c.status.ensures ∙ ap status_of (finishes (powered_on factory_registry) c.run.result _ _ _ _ _ _ c.run.ensures.cause ends good short no_read no_write))

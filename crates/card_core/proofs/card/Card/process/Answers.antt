@@ -1,21 +1,27 @@
-use Rattle.std.proofs.Common.{ℕ, List, ◌++◌, ap, ◌∙◌}
+use Rattle.std.proofs.Common.{◌≡◌, ℕ, List, ◌++◌, None, Some, sym, ap, subst, ◌∙◌}
 use Rattle.apdu_core.specs.Reply.{status_bytes}
-use Rattle.card_core.proofs.Closing.{accepted_step, refused_step}
+use Rattle.policy_rules.specs.Step.{Outcome, Step}
 use Rattle.card_core.proofs.card.Card.process.Goals.{in-Ok, in-Err}
 use Rattle.card_core.proofs.card.Card.process.Goals as goal
 
 pub returns : goal.returns
 returns c = record {
-  step = λ state says.
-      (let told = rw (← c.self.view_is) at says in
+  step = λ state stands.
+      (let told = rw (← c.self.view_is) at stands in
       elim c.match-serve.branch [
         | in-Ok w ↦
-            (let served = w.in-Ok.ensures.served state told in
-            rw (w.result-is, w.reply-is) (accepted_step state c.args.command.now _ _ _ _ _ says.fits served w.write_status.ensures.written))
+            (let served = w.in-Ok.ensures.served state told in (
+              served.0,
+              served.1,
+              rw (w.result-is, w.reply-is, w.write_status.ensures.written) served.2,
+            ))
         | in-Err w ↦
             (let served = w.in-Err.ensures.served state told in
             let closed = w.write_status-in-Err.ensures.written
-            ∙ ap (λ (body : List ℕ). body ++ status_bytes w.status.result.0) served.2 ∙ ap status_bytes w.status.ensures in
-            (state, served.1, rw (w.result-is, w.reply-is, closed) (refused_step state c.args.command.now w.in-Err.rule says.fits served.0)))
+            ∙ ap (λ (word : ℕ). c.serve.new.reply.items ++ status_bytes word) w.status.ensures in (
+              served.0,
+              served.1,
+              rw (w.result-is, w.reply-is, closed) served.2,
+            ))
       ]);
 }

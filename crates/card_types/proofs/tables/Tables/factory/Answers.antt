@@ -1,5 +1,7 @@
-use Rattle.std.proofs.Common.{refl}
-use Rattle.card_types.proofs.FactoryPerm.{factory_says}
+use Rattle.std.proofs.Common.{[], refl}
+use Rattle.card_types.specs.Factory.{factory_registry}
+use Rattle.card_types.proofs.FactoryRegistry.{factory_layout, factory_says}
+use Rattle.card_types.proofs.FactoryWell.{factory_well}
 use Rattle.card_types.proofs.tables.Tables.factory.Goals as goal
 
 pub returns-clause-slots : goal.returns-clause-slots
@@ -19,3 +21,17 @@ returns-clause-slots c = record {
 
 pub returns-clause-names : goal.returns-clause-names
 returns-clause-names c page = factory_says page _ (returns-clause-slots c)
+
+pub returns-clause-well : goal.returns-clause-well
+returns-clause-well c = factory_well
+
+pub returns-clause-in_order : goal.returns-clause-in_order
+returns-clause-in_order c =
+    let slots = returns-clause-slots c in
+    record {
+      layout = factory_layout _ slots;
+      page = λ number. [];
+      said = factory_registry;
+      says = factory_says (λ number. []) _ slots;
+      well = factory_well;
+    }

@@ -1,0 +1,134 @@
+-- The first of the general rules that fails, by what was found.
+use Rattle.std.proofs.Common.{◌≡◌, ◌≢◌, ◌⊎◌, ℕ, ◌<◌, List, Bool, true, false, Option, None, Some, refl, sym, ap, subst, ◌∙◌, inl, inr}
+use Rattle.std.specs.Prelude.{MatchOption, is_none, slice_index_or}
+use Rattle.apdu_core.specs.Apdu.{Apdu, Short}
+use Rattle.card_types.proofs.EntryNames.{entry_in_slot}
+use Rattle.card_types.proofs.Domains.{domain_aid_is}
+use Rattle.card_types.specs.Privileges.{has, security_domain}
+use Rattle.card_types.specs.Registry.{Entry as NamedEntry, entry_named, is_domain}
+use Rattle.card_types.specs.Says.{entry_of}
+use Rattle.card_types.specs.declared.card_life.CardLife.TheVariants.{Terminated}
+use Rattle.card_types.specs.declared.tables.Tables.{Tables}
+use Rattle.policy_rules.proofs.KeepsSound.{channel_is_low}
+use Rattle.policy_rules.proofs.OneOutcome.{of_one}
+use Rattle.policy_rules.proofs.Selected.{selected_entry}
+use Rattle.policy_rules.specs.Admission.{Bars, IsToApplication, Of, general_rules}
+use Rattle.policy_rules.specs.Classes.{IsKnown, IsPlainGetData, channel_of, class_of, is_secure}
+use Rattle.policy_rules.specs.FirstFailing.{IsFirst}
+use Rattle.policy_rules.specs.Means.{Says}
+use Rattle.policy_rules.specs.State.{State}
+use Rattle.policy_rules.specs.Volatile.{channel_at, selected_on}
+use Rattle.policy_rules.specs.declared.class.Class.{Class}
+use Rattle.policy_rules.specs.declared.instruction.TheConstants.{SELECT, MANAGE_CHANNEL, GET_DATA}
+use Rattle.policy_rules.specs.declared.live.Live.{Live}
+use Rattle.policy_rules.specs.declared.rule.RuleG.TheVariants.{G1, G2, G3, G4, G5}
+use Rattle.card_core.specs.Domains.{is_domain_in}
+use Rattle.card_core.proofs.Standing.{none_selected, some_selected}
+
+module _ (tables : Tables) (live : Live) (state : State) (bytes : List ℕ) (command : Apdu) (says : Says tables live state) (short : Short command bytes) where
+  abbrev number : ℕ
+  number = channel_of command.class
+
+  abbrev IsUntaken : Type 0
+  IsUntaken = (IsKnown command.class command.ins → ⊥) ⊎ (IsToApplication state command × (command.ins ≢ SELECT) × (command.ins ≢ MANAGE_CHANNEL))
+
+  not_of : (holds : Apdu → Type 0) → (holds command → ⊥) → Of bytes holds → ⊥
+  not_of holds never of = never (of_one bytes holds command short of)
+
+  is_command : Bars state bytes G1 → ⊥
+  is_command none = none command short
+
+  has_class : (class : Class) → class_of command.class ≡ Some class → Bars state bytes G2 → ⊥
+  has_class class is = not_of (λ c. class_of c.class ≡ None) (λ none. (let clash = sym none ∙ is in cc))
+
+  closed : slice_index_or live.selected number None ≡ None → channel_at state.volatile number ≡ None
+  closed is = none_selected tables.entries.items _ _ (says.selected number (channel_is_low command.class)) (ap is_none is)
+
+  is_open : (slot : ℕ) → slice_index_or live.selected number None ≡ Some slot → Bars state bytes G3 → ⊥
+  is_open slot is =
+      let some = some_selected tables.entries.items _ _ (says.selected number (channel_is_low command.class)) (ap is_none is) in
+      not_of (λ c. channel_at state.volatile (channel_of c.class) ≡ None) (λ none. (let clash = sym none ∙ some.1 in cc))
+
+  -- an application is selected exactly where the slot holds one
+  to_application : (slot : ℕ) → slice_index_or live.selected number None ≡ Some slot
+      → (entry : NamedEntry) × (entry_named state.registry (selected_on state.volatile number) ≡ Some entry) × (is_domain entry ≡ is_domain_in tables.entries.items slot)
+  to_application slot is =
+      let on = selected_entry tables live state number slot says (channel_is_low command.class) is in
+      let named = entry_in_slot says.page tables state.registry says.registry slot on.0 on.1 in
+      let aid = on.2 ∙ domain_aid_is tables.entries.items slot on.0 on.1 in (
+        entry_of tables.entries.items tables.files.items on.0,
+        ap (entry_named state.registry) aid ∙ named,
+        rw on.1 refl,
+      )
+
+  domain_takes : (slot : ℕ) → slice_index_or live.selected number None ≡ Some slot → is_domain_in tables.entries.items slot ≡ false → IsToApplication state command
+  domain_takes slot is none = (let found = to_application slot is in rw found.1 (found.2 ∙ none))
+
+  not_application : (slot : ℕ) → slice_index_or live.selected number None ≡ Some slot → IsToApplication state command → is_domain_in tables.entries.items slot ≡ false
+  not_application slot is application =
+      (let found = to_application slot is in
+      let none = rw found.1 at application in sym found.2 ∙ none)
+
+  pub no_class : class_of command.class ≡ None → IsFirst (Bars state bytes) general_rules (Some G2)
+  no_class none = inr (is_command, inl ((command, short, none), refl))
+
+  module _ (class : Class) (is_class : class_of command.class ≡ Some class) where
+    pub no_channel : slice_index_or live.selected number None ≡ None → IsFirst (Bars state bytes) general_rules (Some G3)
+    no_channel none = inr (is_command, inr (has_class class is_class, inl ((command, short, closed none), refl)))
+
+    module _ (slot : ℕ) (opened : slice_index_or live.selected number None ≡ Some slot) where
+      untaken : IsUntaken → IsFirst (Bars state bytes) general_rules (Some G4)
+      untaken fails = inr (is_command, inr (has_class class is_class, inr (is_open slot opened, inl ((command, short, fails), refl))))
+
+      pub unknown : (IsKnown command.class command.ins → ⊥) → IsFirst (Bars state bytes) general_rules (Some G4)
+      unknown none = untaken (inl none)
+
+      pub for_no_application : (is_domain_in tables.entries.items slot ≡ false) × (command.ins ≢ SELECT) × (command.ins ≢ MANAGE_CHANNEL)
+          → IsFirst (Bars state bytes) general_rules (Some G4)
+      for_no_application fails = untaken (inr (domain_takes slot opened fails.0, fails.1, fails.2))
+
+      module _ (known : IsKnown command.class command.ins)
+          (taken : ((is_domain_in tables.entries.items slot ≡ false) × (command.ins ≢ SELECT) × (command.ins ≢ MANAGE_CHANNEL)) → ⊥) where
+        is_taken : IsUntaken → ⊥
+        is_taken (inl none) = none known
+        is_taken (inr application) = taken (not_application slot opened application.0, application.1, application.2)
+
+        takes : Bars state bytes G4 → ⊥
+        takes = not_of (λ c. (IsKnown c.class c.ins → ⊥) ⊎ (IsToApplication state c × (c.ins ≢ SELECT) × (c.ins ≢ MANAGE_CHANNEL))) is_taken
+
+        pub over : state.registry.life ≡ Terminated → ((command.ins ≡ GET_DATA) × (is_secure class ≡ false) → ⊥) → IsFirst (Bars state bytes) general_rules (Some G5)
+        over ended other =
+            inr (
+              is_command,
+              inr (
+                has_class class is_class,
+                inr (
+                  is_open slot opened,
+                  inr (
+                    takes,
+                    inl ((command, short, (ended, λ plain. other (plain.0, rw is_class at plain.1))), refl),
+                  ),
+                ),
+              ),
+            )
+
+        pub all_passed : ((state.registry.life ≡ Terminated) × ((command.ins ≡ GET_DATA) × (is_secure class ≡ false) → ⊥) → ⊥)
+            → IsFirst (Bars state bytes) general_rules None
+        all_passed goes_on =
+            inr (
+              is_command,
+              inr (
+                has_class class is_class,
+                inr (
+                  is_open slot opened,
+                  inr (
+                    takes,
+                    inr (
+                      not_of (λ c. (state.registry.life ≡ Terminated) × (IsPlainGetData c → ⊥))
+                          (λ ended. goes_on (ended.0, λ plain. ended.1 (plain.0, rw is_class plain.1))),
+                      refl,
+                    ),
+                  ),
+                ),
+              ),
+            )

@@ -1,0 +1,142 @@
+//! GET DATA: data of the selected domain are answered.
+
+ghost use Rattle.std.specs.Prelude.{◌≡◌, ◌≤◌, ◌<◌, ◌+◌, ◌++◌, ℕ, List, [], ◌∷◌, length};
+ghost use Rattle.arrayvec.specs.ArrayVec.{array_vec_len};
+ghost use Rattle.bertlv.specs.Spelling.{Spelling};
+ghost use Rattle.bertlv.specs.Tag.{IsTag};
+ghost use Rattle.card_core.specs.Kept.{Kept, Stands};
+ghost use Rattle.card_core.specs.Serves.{CarriesOut};
+ghost use Rattle.card_types.specs.InOrder.{IsInOrder};
+ghost use Rattle.card_types.specs.Registry.{Registry};
+ghost use Rattle.card_types.specs.Says.{Says, domain_aid};
+ghost use Rattle.card_types.specs.Slots.{held};
+ghost use Rattle.card_types.specs.Well.{Well};
+ghost use Rattle.card_types.specs.declared.tables.Entry.{Entry};
+ghost use Rattle.policy_rules.specs.Admission.{Admitted};
+ghost use Rattle.policy_rules.specs.Found.{IsFor};
+ghost use Rattle.policy_rules.specs.GetData.{HasData, IsKeyInformation, counter_bytes};
+ghost use Rattle.policy_rules.specs.KeyOrder.{follows, name_order};
+ghost use Rattle.policy_rules.specs.Means.{IsRequestOf};
+ghost use Rattle.policy_rules.specs.declared.request.Request.TheVariants.{Get};
+ghost use Rattle.std.specs.Prelude.{None, Some, slice_index_or};
+ghost use Rattle.card_types.specs.Least.{IsLeast};
+
+use crate::reply::REPLY_LIMIT;
+use apdu_core::Status;
+use arrayvec::ArrayVec;
+use bertlv::{Tlv, append};
+use card_types::{DOMAIN_KEYS, KEYS, KeyRec, Tables};
+use policy_rules::{CHANNELS, Datum, KeyName, Live, Rule, judge_get_data, next_key};
+
+/// The tag of what the key information template says of a key.
+const KEY: u16 = 0xC0;
+
+/// The code of AES.
+const AES: u8 = 0x88;
+
+/// How many bytes the key information template of a domain may take.
+const KEY_INFORMATION_ROOM: usize = 128;
+
+// What the key information template says of a key.
+fn write_key(key: &KeyRec, value: &mut ArrayVec<u8, KEY_INFORMATION_ROOM>)
+    requires room { array_vec_len value.old + 9 ≤ KEY_INFORMATION_ROOM }
+    ensures written { (bytes : List ℕ) × Spelling 0xC0 (key.now.identifier ∷ key.now.version ∷ 0x88 ∷ length key.now.bytes.items ∷ []) bytes
+        × (value.new.items ≡ value.old.items ++ bytes) }
+    ensures size { length value.new.items ≤ length value.old.items + 9 }
+{
+    let fields = [key.identifier, key.version, AES, key.bytes.len() as u8];
+    append(
+        &Tlv {
+            tag: KEY,
+            value: &fields,
+        },
+        value,
+    );
+}
+
+// The value of the key information template: the keys of a domain from the first on, in their order.
+fn write_keys(
+    keys: &[Option<KeyRec>],
+    first: &KeyRec,
+    value: &mut ArrayVec<u8, KEY_INFORMATION_ROOM>,
+)
+    requires few { length keys.now ≤ KEYS }
+    requires empty { value.old.items ≡ [] }
+    ensures listed { (page : ℕ → List ℕ) (tables : Tables) (said : Registry) (entry : Entry) → Says page tables said → Well said
+        → keys.now ≡ tables.keys.items → held tables.entries.items first.now.owner ≡ Some entry
+        → ((slot : ℕ) × IsLeast (follows first.now.owner None) name_order keys.now slot first.now)
+        → IsKeyInformation said (domain_aid tables.entries.items first.now.owner) value.new.items }
+    ensures size { length value.new.items ≤ 108 }
+{
+    let mut key = first;
+    for _ in 0..DOMAIN_KEYS {
+        write_key(key, value);
+        match next_key(keys, first.owner, Some(KeyName::of(key))) {
+            Some(next) => key = next,
+            None => return,
+        }
+    }
+}
+
+// Appends the element of a tag with what was found for it.
+fn write_datum(tables: &Tables, tag: u16, datum: Datum<'_>, reply: &mut ArrayVec<u8, REPLY_LIMIT>)
+    requires in_order { IsInOrder tables.now }
+    requires tag { IsTag tag }
+    requires empty { reply.old.items ≡ [] }
+    ensures written { (domain : ℕ) (page : ℕ → List ℕ) (said : Registry) (entry : Entry) → Says page tables.now said → Well said
+        → held tables.now.entries.items domain ≡ Some entry → IsFor tables.now said domain tag datum.entry
+        → (value : List ℕ) × HasData said (domain_aid tables.now.entries.items domain) tag value × Spelling tag value reply.new.items }
+    ensures room { length reply.new.items ≤ 256 }
+{
+    match datum {
+        Datum::Keys { first } => {
+            let mut value = ArrayVec::new();
+            write_keys(&tables.keys, first, &mut value);
+            append(&Tlv { tag, value: &value }, reply);
+        }
+        Datum::Counter { number } => {
+            let [_, high, middle, low] = number.to_be_bytes();
+            append(
+                &Tlv {
+                    tag,
+                    value: &[high, middle, low],
+                },
+                reply,
+            );
+        }
+        Datum::Object { object } => append(
+            &Tlv {
+                tag,
+                value: &object.value,
+            },
+            reply,
+        ),
+    }
+}
+
+/// Answers the data of a tag, for the domain in the slot that is selected on the channel.
+pub fn get_data(
+    tables: &Tables,
+    live: &Live,
+    channel: u8,
+    domain: u8,
+    tag: u16,
+    reply: &mut ArrayVec<u8, REPLY_LIMIT>,
+) -> Result<Status, Rule>
+    requires in_order { IsInOrder tables.now }
+    requires channel { channel < CHANNELS }
+    requires selected { slice_index_or live.now.selected channel None ≡ Some domain }
+    requires empty { reply.old.items ≡ [] }
+    ensures done { (admitted : Admitted) → Stands (record { tables = tables.now; live = live.now }) admitted.at → channel ≡ admitted.channel
+        → IsRequestOf (Get tag) admitted.command
+        → CarriesOut admitted (record { tables = tables.now; live = live.now }) reply.new.items result }
+    ensures room { length reply.new.items ≤ 256 }
+{
+    match judge_get_data(tables, domain, tag) {
+        Ok(datum) => {
+            write_datum(tables, tag, datum, reply);
+            Ok(Status(0x9000))
+        }
+        Err(rule) => Err(Rule::GD(rule)),
+    }
+}

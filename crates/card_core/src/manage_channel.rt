@@ -1,0 +1,50 @@
+//! MANAGE CHANNEL: a channel is opened or closed.
+
+ghost use Rattle.std.specs.Prelude.{◌≡◌, ◌≤◌, ◌<◌, ℕ, List, [], length};
+ghost use Rattle.card_core.specs.Kept.{Kept, Stands};
+ghost use Rattle.card_core.specs.Serves.{CarriesOut};
+ghost use Rattle.card_types.specs.Layout.{HasLayout};
+ghost use Rattle.card_types.specs.declared.tables.Tables.{Tables};
+ghost use Rattle.policy_rules.specs.Admission.{Admitted};
+ghost use Rattle.policy_rules.specs.Means.{IsRequestOf};
+ghost use Rattle.policy_rules.specs.declared.request.Request.TheVariants.{MoreChannel, LessChannel};
+
+use crate::reply::REPLY_LIMIT;
+use apdu_core::Status;
+use arrayvec::ArrayVec;
+use card_types::ISSUER_SLOT;
+use policy_rules::{CHANNELS, Live, Rule, judge_more_channel};
+
+/// Opens the lowest closed channel, with the Issuer Security Domain selected, and answers its number.
+pub fn open_channel(live: &mut Live, reply: &mut ArrayVec<u8, REPLY_LIMIT>) -> Result<Status, Rule>
+    requires empty { reply.old.items ≡ [] }
+    ensures done { (tables : Tables) (admitted : Admitted) → HasLayout tables
+        → Stands (record { tables = tables; live = live.old }) admitted.at → IsRequestOf MoreChannel admitted.command
+        → CarriesOut admitted (record { tables = tables; live = live.new }) reply.new.items result }
+    ensures room { length reply.new.items ≤ 256 }
+{
+    match judge_more_channel(live) {
+        Ok(number) => {
+            live.selected[usize::from(number)] = Some(ISSUER_SLOT);
+            reply.push(number);
+            Ok(Status(0x9000))
+        }
+        Err(rule) => Err(Rule::MC(rule)),
+    }
+}
+
+/// Closes a channel. A warning says that it was closed already.
+pub fn close_channel(live: &mut Live, number: u8) -> Result<Status, Rule>
+    requires low { 1 ≤ number }
+    requires high { number < CHANNELS }
+    ensures done { (tables : Tables) (admitted : Admitted) → Stands (record { tables = tables; live = live.old }) admitted.at
+        → IsRequestOf (LessChannel number) admitted.command
+        → CarriesOut admitted (record { tables = tables; live = live.new }) [] result }
+{
+    let place = usize::from(number);
+    if live.selected[place].is_none() {
+        return Ok(Status(0x6200));
+    }
+    live.selected[place] = None;
+    Ok(Status(0x9000))
+}

@@ -1,0 +1,105 @@
+//! SELECT: an entry is selected on a channel.
+
+ghost use Rattle.std.specs.Prelude.{◌≡◌, ◌≤◌, ◌<◌, ℕ, List, [], length};
+ghost use Rattle.arrayvec.specs.ArrayVec.{array_vec_len};
+ghost use Rattle.card_types.specs.InOrder.{IsInOrder};
+ghost use Rattle.card_core.specs.Kept.{Kept, Stands};
+ghost use Rattle.card_core.specs.Serves.{CarriesOut};
+ghost use Rattle.policy_rules.specs.Admission.{Admitted};
+ghost use Rattle.policy_rules.specs.Means.{IsRequestOf};
+ghost use Rattle.policy_rules.specs.Select.{IsControlInformation, selected_status as status_by};
+ghost use Rattle.policy_rules.specs.declared.request.Request.TheVariants.{Select};
+
+use crate::reply::REPLY_LIMIT;
+use apdu_core::Status;
+use arrayvec::ArrayVec;
+use bertlv::{Tlv, append};
+use card_types::{CardLife, Tables};
+use policy_rules::{CHANNELS, Live, Rule, judge_select};
+
+/// The tag of a template of file control information.
+const CONTROL_INFORMATION: u16 = 0x6F;
+
+/// The tag of the AID in it.
+const NAME: u16 = 0x84;
+
+/// The tag of proprietary data in it.
+const PROPRIETARY: u16 = 0xA5;
+
+/// The tag of the longest data field of a command, in the proprietary data.
+const LONGEST_FIELD: u16 = 0x9F65;
+
+// The file control information of an entry.
+fn write_control_information(aid: &[u8], reply: &mut ArrayVec<u8, REPLY_LIMIT>)
+    requires aid { length aid.now ≤ 16 }
+    requires empty { reply.old.items ≡ [] }
+    ensures written { IsControlInformation aid.now reply.new.items }
+    ensures short { length reply.new.items ≤ 60 }
+{
+    let mut proprietary = ArrayVec::<u8, 8>::new();
+    append(
+        &Tlv {
+            tag: LONGEST_FIELD,
+            value: &[0xFF],
+        },
+        &mut proprietary,
+    );
+    let mut template = ArrayVec::<u8, 64>::new();
+    append(
+        &Tlv {
+            tag: NAME,
+            value: aid,
+        },
+        &mut template,
+    );
+    append(
+        &Tlv {
+            tag: PROPRIETARY,
+            value: &proprietary,
+        },
+        &mut template,
+    );
+    append(
+        &Tlv {
+            tag: CONTROL_INFORMATION,
+            value: &template,
+        },
+        reply,
+    );
+}
+
+fn selected_status(card_life: CardLife) -> Status
+    ensures { result.0 ≡ status_by card_life }
+{
+    if card_life == CardLife::Locked {
+        Status(0x6283)
+    } else {
+        Status(0x9000)
+    }
+}
+
+/// Selects the entry that fits a partial AID, and answers its file control information.
+pub fn select(
+    tables: &Tables,
+    live: &mut Live,
+    channel: u8,
+    partial: &[u8],
+    reply: &mut ArrayVec<u8, REPLY_LIMIT>,
+) -> Result<Status, Rule>
+    requires in_order { IsInOrder tables.now }
+    requires channel { channel < CHANNELS }
+    requires empty { reply.old.items ≡ [] }
+    ensures done { (admitted : Admitted) → Stands (record { tables = tables.now; live = live.old }) admitted.at → channel ≡ admitted.channel
+        → IsRequestOf (Select partial.entry) admitted.command
+        → CarriesOut admitted (record { tables = tables.now; live = live.new }) reply.new.items result }
+    ensures room { length reply.new.items ≤ 256 }
+{
+    match judge_select(tables, partial) {
+        Ok(found) => {
+            live.selected[usize::from(channel)] = Some(found.slot);
+            write_control_information(found.thing.aid.as_bytes(), reply);
+            Ok(selected_status(tables.life))
+        }
+        Err(rule) => Err(Rule::SE(rule)),
+    }
+}

@@ -1,0 +1,79 @@
+-- The persistent state of a card, by names: the GlobalPlatform Registry (GlobalPlatform Card Specification 2.3.1, 6.5),
+-- with the keys and data objects of its security domains. A name is an AID, or an owner's AID and a number.
+use Rattle.std.specs.Prelude.{ℕ, List, Bool, Option, find, filter, ◌==◌, ◌&&◌}
+use Rattle.std.specs.Option.{option_map}
+use Rattle.card_types.specs.AidOrder.{same_aid}
+use Rattle.card_types.specs.Privileges.{has, security_domain}
+use Rattle.card_types.specs.declared.card_life.CardLife.{CardLife}
+use Rattle.card_types.specs.declared.life.LifeMark.{LifeMark}
+use Rattle.card_types.specs.declared.privileges.Privileges.{Privileges}
+
+-- an application or a security domain, with its domain, the Executable Load File and Module that it comes from, and its
+-- last receipt number
+pub record Entry : Type 0 where
+  pub aid : List ℕ
+  pub domain : List ℕ
+  pub file : List ℕ
+  pub module_ : List ℕ
+  pub life : LifeMark
+  pub privileges : Privileges
+  pub receipts : ℕ
+
+-- an Executable Load File, with its domain and its bytes
+pub record LoadFile : Type 0 where
+  pub aid : List ℕ
+  pub domain : List ℕ
+  pub bytes : List ℕ
+
+-- a key of a domain, by key version number and key identifier
+pub record Key : Type 0 where
+  pub owner : List ℕ
+  pub version : ℕ
+  pub identifier : ℕ
+  pub bytes : List ℕ
+
+-- the sequence counter of a key set
+pub record Counter : Type 0 where
+  pub owner : List ℕ
+  pub version : ℕ
+  pub number : ℕ
+
+-- a data object of a domain
+pub record Object : Type 0 where
+  pub owner : List ℕ
+  pub tag : ℕ
+  pub value : List ℕ
+
+pub record Registry : Type 0 where
+  pub life : CardLife
+  pub entries : List Entry
+  pub files : List LoadFile
+  pub keys : List Key
+  pub counters : List Counter
+  pub objects : List Object
+
+-- the entry with this AID, and the load file with it
+abbrev pub entry_named : Registry → List ℕ → Option Entry
+entry_named registry aid = find (λ entry. same_aid entry.aid aid) registry.entries
+
+abbrev pub file_named : Registry → List ℕ → Option LoadFile
+file_named registry aid = find (λ file. same_aid file.aid aid) registry.files
+
+abbrev pub is_domain : Entry → Bool
+is_domain entry = has security_domain entry.privileges
+
+-- the AID of an entry's domain
+abbrev pub domain_of : Registry → List ℕ → Option (List ℕ)
+domain_of registry aid = option_map (λ entry. entry.domain) (entry_named registry aid)
+
+-- the keys of a domain, by ascending version and identifier
+abbrev pub keys_of : Registry → List ℕ → List Key
+keys_of registry owner = filter (λ key. same_aid key.owner owner) registry.keys
+
+-- the counters of a domain's key sets, by ascending version
+abbrev pub counters_of : Registry → List ℕ → List Counter
+counters_of registry owner = filter (λ counter. same_aid counter.owner owner) registry.counters
+
+-- the data object of a domain with this tag
+abbrev pub object_named : Registry → List ℕ → ℕ → Option Object
+object_named registry owner tag = find (λ object. same_aid object.owner owner && object.tag == tag) registry.objects

@@ -1,0 +1,148 @@
+-- The registries that a card may have: what of them is always so (GlobalPlatform Card Specification 2.3.1, chapters 5 to
+-- 7). The numbers of the limits are this profile's own.
+use Rattle.std.specs.Prelude.{◌≡◌, ◌⊎◌, ℕ, ◌+◌, ◌/◌, ◌<◌, ◌≤◌, List, [], Bool, true, false, None, MatchOption, IsSome, All, Contains, length, ◌||◌, ◌&&◌}
+use Rattle.std.specs.List.{sum_by}
+use Rattle.card_types.specs.Aid.{IsAid}
+use Rattle.card_types.specs.AidOrder.{same_aid}
+use Rattle.card_types.specs.Hierarchy.{EndsAt, IsLine}
+use Rattle.card_types.specs.Privileges.{IsNamed, authorized_management, delegated_management, has, receipt_generation, token_verification}
+use Rattle.card_types.specs.Registry.{Registry, Entry, LoadFile, Key, Counter, Object, domain_of, entry_named, file_named, is_domain, keys_of}
+use Rattle.card_types.specs.declared.factory.TheConstants.{ISSUER, FACTORY_FILE, FACTORY_MODULE}
+use Rattle.card_types.specs.declared.life.Life.{Life}
+use Rattle.card_types.specs.declared.life.Life.TheVariants.{Installed, Selectable, Personalized}
+use Rattle.card_types.specs.declared.limits.TheConstants.{COUNTER_LIMIT, DOMAIN_KEYS, ENTRIES, FILES, FILE_LIMIT, KEYS, LOAD_PAGES, OBJECTS, RECEIPT_LIMIT}
+
+-- the AID is that of a security domain
+abbrev pub IsDomainNamed : Registry → List ℕ → Type 0
+IsDomainNamed registry aid = MatchOption (entry_named registry aid) ⊥ (λ entry. is_domain entry ≡ true)
+
+-- The roots of the domains: the Issuer Security Domain alone.
+abbrev pub IsRoot : List ℕ → Type 0
+IsRoot aid = aid ≡ ISSUER
+
+-- steps to the domain lead from this AID to a root
+abbrev pub LeadsToRoot : Registry → List ℕ → Type 0
+LeadsToRoot registry aid = (root : List ℕ) × (line : List (List ℕ)) × IsRoot root × IsLine (domain_of registry) aid line × EndsAt root line
+
+-- the Issuer Security Domain: its own domain, personalized, not locked, from the factory's load file
+pub record IsIssuerDomain (entry : Entry) : Type 0 where
+  pub domain : entry.domain ≡ ISSUER
+  pub file : entry.file ≡ FACTORY_FILE
+  pub module_ : entry.module_ ≡ FACTORY_MODULE
+  pub life : entry.life.life ≡ Personalized
+  pub unlocked : entry.life.locked ≡ false
+
+-- the factory's load file: without bytes, in the Issuer Security Domain
+pub record IsFactoryFile (file : LoadFile) : Type 0 where
+  pub domain : file.domain ≡ ISSUER
+  pub bytes : file.bytes ≡ []
+
+-- a domain alone is personalized
+abbrev pub has_life : Bool → Life → Bool
+has_life domain Installed = true
+has_life domain Selectable = true
+has_life domain Personalized = domain
+
+abbrev pub has_domain_privilege : Entry → Bool
+has_domain_privilege entry =
+    has authorized_management entry.privileges || has delegated_management entry.privileges
+    || has token_verification entry.privileges || has receipt_generation entry.privileges
+
+-- how many pages of 256 bytes a load file takes
+abbrev pub pages_of : ℕ → ℕ
+pages_of size = (size + 255) / 256
+
+-- The lengths of keys: those of AES-128.
+abbrev pub IsKeyLength : ℕ → Type 0
+IsKeyLength n = n ≡ 16
+
+-- A key of a set has a key version number of 01 to 6F and a key identifier of 01 to 03. A token key has version 70, a
+-- receipt key 71, and identifier 01.
+abbrev pub IsKeyName : ℕ → ℕ → Type 0
+IsKeyName version identifier =
+    ((0x01 ≤ version) × (version ≤ 0x6F) × (0x01 ≤ identifier) × (identifier ≤ 0x03))
+    ⊎ (((version ≡ 0x70) ⊎ (version ≡ 0x71)) × (identifier ≡ 0x01))
+
+-- the domain has a key of this version and identifier, and a counter of this version
+pub record HasKeyNamed (registry : Registry) (owner : List ℕ) (version identifier : ℕ) : Type 0 where
+  pub key : Key
+  pub is_there : Contains registry.keys key
+  pub owner_is : key.owner ≡ owner
+  pub version_is : key.version ≡ version
+  pub identifier_is : key.identifier ≡ identifier
+
+pub record HasCounterOf (registry : Registry) (owner : List ℕ) (version : ℕ) : Type 0 where
+  pub counter : Counter
+  pub is_there : Contains registry.counters counter
+  pub owner_is : counter.owner ≡ owner
+  pub version_is : counter.version ≡ version
+
+-- the key set of this version is whole: its three keys and its counter
+pub record IsWholeSet (registry : Registry) (owner : List ℕ) (version : ℕ) : Type 0 where
+  pub first : HasKeyNamed registry owner version 1
+  pub second : HasKeyNamed registry owner version 2
+  pub third : HasKeyNamed registry owner version 3
+  pub counter : HasCounterOf registry owner version
+
+-- The data objects that a domain may have: Issuer Identification Number and Card Image Number (42, 45), key
+-- diversification data (CF), card data and card-specific data (66, 5F50).
+abbrev pub IsObject : ℕ → ℕ → Type 0
+IsObject tag size =
+    (((tag ≡ 0x42) ⊎ (tag ≡ 0x45)) × (1 ≤ size) × (size ≤ 10))
+    ⊎ ((tag ≡ 0xCF) × (size ≡ 10))
+    ⊎ (((tag ≡ 0x66) ⊎ (tag ≡ 0x5F50)) × (1 ≤ size) × (size ≤ 120))
+
+-- what is so of each entry
+pub record IsWellEntry (registry : Registry) (entry : Entry) : Type 0 where
+  pub aid : IsAid entry.aid
+  pub module_ : IsAid entry.module_
+  pub domain : IsDomainNamed registry entry.domain
+  pub line : LeadsToRoot registry entry.aid
+  pub loaded : IsSome (file_named registry entry.file)
+  pub kind : is_domain entry ≡ same_aid entry.file FACTORY_FILE
+  pub domain_module : is_domain entry ≡ true → entry.module_ ≡ FACTORY_MODULE
+  pub life : has_life (is_domain entry) entry.life.life ≡ true
+  pub named_privileges : IsNamed entry.privileges
+  pub domain_privileges : has_domain_privilege entry ≡ true → is_domain entry ≡ true
+  pub one_management : (has authorized_management entry.privileges && has delegated_management entry.privileges) ≡ false
+  pub receipts : entry.receipts ≤ RECEIPT_LIMIT
+
+-- of each load file
+pub record IsWellFile (registry : Registry) (file : LoadFile) : Type 0 where
+  pub aid : IsAid file.aid
+  pub apart : entry_named registry file.aid ≡ None
+  pub domain : IsDomainNamed registry file.domain
+  pub size : (file.aid ≡ FACTORY_FILE) ⊎ ((1 ≤ length file.bytes) × (length file.bytes ≤ FILE_LIMIT))
+
+-- of each key
+pub record IsWellKey (registry : Registry) (key : Key) : Type 0 where
+  pub owner : IsDomainNamed registry key.owner
+  pub size : IsKeyLength (length key.bytes)
+  pub name : IsKeyName key.version key.identifier
+  pub whole : key.version < 0x70 → IsWholeSet registry key.owner key.version
+
+-- of each counter
+pub record IsWellCounter (registry : Registry) (counter : Counter) : Type 0 where
+  pub set : IsWholeSet registry counter.owner counter.version
+  pub version : counter.version < 0x70
+  pub number : counter.number ≤ COUNTER_LIMIT
+
+-- of each data object
+pub record IsWellObject (registry : Registry) (object : Object) : Type 0 where
+  pub owner : IsDomainNamed registry object.owner
+  pub form : IsObject object.tag (length object.value)
+
+pub record Well (registry : Registry) : Type 0 where
+  pub few_entries : length registry.entries ≤ ENTRIES
+  pub few_files : length registry.files ≤ FILES
+  pub few_keys : length registry.keys ≤ KEYS
+  pub few_objects : length registry.objects ≤ OBJECTS
+  pub few_pages : sum_by (λ file. pages_of (length file.bytes)) registry.files ≤ LOAD_PAGES
+  pub few_keys_each : (owner : List ℕ) → length (keys_of registry owner) ≤ DOMAIN_KEYS
+  pub issuer : MatchOption (entry_named registry ISSUER) ⊥ IsIssuerDomain
+  pub factory_file : MatchOption (file_named registry FACTORY_FILE) ⊥ IsFactoryFile
+  pub entries : All (IsWellEntry registry) registry.entries
+  pub files : All (IsWellFile registry) registry.files
+  pub keys : All (IsWellKey registry) registry.keys
+  pub counters : All (IsWellCounter registry) registry.counters
+  pub objects : All (IsWellObject registry) registry.objects

@@ -1,0 +1,5 @@
+pub mod AboveNamed
+pub mod Climb
+pub mod LineLength
+pub mod OnLine
+pub mod Paths

@@ -1,0 +1,66 @@
+-- Paths and lines, over any steps.
+use Rattle.std.proofs.Common.{◌≡◌, ◌⊎◌, inl, inr, ◌<◌, ◌≤◌, List, [], ◌∷◌, ◌++◌, length, Option, Some, refl, ap, sym, subst, ◌∙◌, arith}
+use Rattle.std.specs.Prelude.{Contains}
+use Rattle.card_types.specs.Hierarchy.{IsLine, IsPath}
+use Rattle.card_types.proofs.LeastOfList.{contains_cases}
+use Rattle.card_types.proofs.Lines.{one_line}
+
+module _ {A : Type 0} (step : A → Option A) where
+  pub path_more : (from at next : A) (path : List A) → IsPath step from path at → step at ≡ Some next → IsPath step from (path ++ next ∷ []) next
+  path_more from at next [] leads steps = (ap step leads ∙ steps, refl)
+  path_more from at next (first ∷ path) leads steps = (leads.0, path_more first at next path leads.1 steps)
+
+  -- all that a root leads to is the root
+  pub root_alone : (root to : A) (path : List A) → step root ≡ Some root → IsPath step root path to → root ≡ to
+  root_alone root to [] itself leads = leads
+  root_alone root to (next ∷ path) itself leads =
+      let same : next ≡ root = (let steps = leads.0 in cc) in
+      root_alone root to path itself (subst (λ (a : A). IsPath step a path to) same leads.1)
+
+  -- what a line leads to has a line that is shorter, if it is another
+  pub line_along : (from to : A) (line path : List A) → IsLine step from line → IsPath step from path to
+      → (rest : List A) × IsLine step to rest × (length rest ≤ length line) × ((from ≡ to) ⊎ (length rest < length line))
+  line_along from to line [] is leads = (line, subst (λ (a : A). IsLine step a line) leads is, omega arith, inl leads)
+  line_along from to [] (next ∷ path) is leads = absurd is
+  line_along from to (x ∷ []) (next ∷ path) is leads =
+      let same : next ≡ from = (let steps = leads.0 in let itself = is.1 in cc) in
+      let rest = line_along next to (x ∷ []) path (subst (λ (a : A). IsLine step a (x ∷ [])) (sym same) is) leads.1 in
+      (rest.0, rest.1, rest.2, inl (sym same ∙ root_alone next to path (ap step same ∙ is.1 ∙ ap Some (sym same)) leads.1))
+  line_along from to (x ∷ y ∷ line) (next ∷ path) is leads =
+      let same : y ≡ next = (let steps = leads.0 in let on = is.2 in cc) in
+      let rest = line_along next to (y ∷ line) path (subst (λ (a : A). IsLine step a (y ∷ line)) same is.3) leads.1 in
+      let shorter : length rest.0 < length (x ∷ y ∷ line) = omega (arith, rest.2) in
+      (rest.0, rest.1, omega arith, inr shorter)
+
+  -- two that lead to each other are one
+  pub lead_to_each_other : (a b : A) (line up down : List A) → IsLine step a line → IsPath step a up b → IsPath step b down a → a ≡ b
+  lead_to_each_other a b line up down is to back =
+      let there = line_along a b line up is to in
+      let again = line_along b a there.0 down there.1 back in
+      let same = ap length (one_line step a again.0 line again.1 is) in
+      elim there.3 [
+        | inl alike ↦ alike
+        | inr shorter ↦ absurd (omega (arith, again.2))
+      ]
+
+  -- each one of a line has a line that is no longer
+  pub line_of_member : (from : A) (line : List A) (member : A) → IsLine step from line → Contains line member
+      → (rest : List A) × IsLine step member rest × (length rest ≤ length line)
+  line_of_member from [] member is there = absurd is
+  line_of_member from (x ∷ []) member is there = elim (contains_cases x [] member there) [
+    | inl same ↦ (x ∷ [], subst (λ (a : A). IsLine step a (x ∷ [])) (sym is.0 ∙ same) is, omega arith)
+    | inr later ↦ absurd (omega (arith, later.1))
+  ]
+  line_of_member from (x ∷ y ∷ line) member is there = elim (contains_cases x (y ∷ line) member there) [
+    | inl same ↦ (x ∷ y ∷ line, subst (λ (a : A). IsLine step a (x ∷ y ∷ line)) (sym is.0 ∙ same) is, omega arith)
+    | inr later ↦ (let rest = line_of_member y (y ∷ line) member is.3 later in (rest.0, rest.1, omega (arith, rest.2)))
+  ]
+
+  -- what a line begins with does not come again
+  pub first_alone : (from x : A) (line : List A) → IsLine step from (x ∷ line) → Contains line x → ⊥
+  first_alone from x [] is there = omega (arith, there.1)
+  first_alone from x (y ∷ line) is there =
+      let here : IsLine step x (x ∷ y ∷ line) = subst (λ (a : A). IsLine step a (x ∷ y ∷ line)) (sym is.0) is in
+      let rest = line_of_member y (y ∷ line) x is.3 there in
+      let same = ap length (one_line step x rest.0 (x ∷ y ∷ line) rest.1 here) in
+      omega (arith, rest.2)

@@ -1,0 +1,12 @@
+//! Which security domains are above which. Steps from an entry to its domain lead to a root, which
+//! is its own domain.
+#![tactic(auto)]
+
+mod holders;
+mod walk;
+
+pub use holders::nearest;
+pub use walk::{Wanted, above, first_above, would_loop};
+
+#[cfg(test)]
+mod tests;

@@ -1,0 +1,187 @@
+-- Which key sets a session uses, by slots and by names.
+use Rattle.std.proofs.Common.{◌≡◌, ◌≢◌, ℕ, zero, suc, ◌<◌, Bool, true, false, cond, ◌&&◌, ◌||◌, List, [], ◌∷◌, Option, None, Some, refl, sym, ap, subst, ◌∙◌, inl, inr}
+use Rattle.std.specs.Prelude.{find, map, is_some, ◌==◌}
+use Rattle.std.specs.List.{list_any}
+use Rattle.std.specs.Option.{option_map}
+use Rattle.std.proofs.lemmas.Bool.{cases_Bool}
+use Rattle.std.proofs.lemmas.Bool.Decides.{eqb_tells}
+use Rattle.card_types.proofs.DomainLines.{line_in_slots, line_named}
+use Rattle.card_types.proofs.Domains.{key_owner_is_used, used_from_step}
+use Rattle.card_types.proofs.KeyNames.{counters_shown}
+use Rattle.card_types.proofs.LeastOfList.{none_fits}
+use Rattle.card_types.proofs.Lines.{line_steps, one_line}
+use Rattle.card_types.proofs.SameAid.{aid_same_itself}
+use Rattle.card_types.specs.AidOrder.{same_aid}
+use Rattle.card_types.specs.Hierarchy.{IsLine}
+use Rattle.card_types.specs.Least.{IsLeast, NoneFits}
+use Rattle.card_types.specs.Registry as registry
+use Rattle.card_types.specs.Says.{Says, counter_of, domain_aid, domain_slot, keeps_counter}
+use Rattle.card_types.specs.Slots.{held}
+use Rattle.card_types.specs.Well.{Well}
+use Rattle.card_types.specs.declared.tables.Entry.{Entry}
+use Rattle.card_types.specs.declared.tables.KeyRec.{KeyRec}
+use Rattle.card_types.specs.declared.tables.Tables.{Tables}
+use Rattle.domain_tree.proofs.OnLine.{first_on_line, none_on_line}
+use Rattle.domain_tree.specs.Above.{IsFirstAbove, NoneAbove}
+use Rattle.policy_rules.specs.KeyOrder.{has_set_in, holds_counter_of, keeps_counter_of, version_order}
+use Rattle.policy_rules.specs.KeySets.{OwnsSets, UsesCounter, has_set, lowest_counter}
+use Rattle.policy_rules.proofs.OwnKeys.{lowest_named, lowest_unnamed}
+
+or_true : (a b : Bool) → (a || b) ≡ true → (a ≡ true → ⊥) → b ≡ true
+or_true true b is none = absurd (none refl)
+or_true false b is none = is
+
+or_false : (a b : Bool) → (a || b) ≡ false → (a ≡ false) × (b ≡ false)
+or_false true b is = cc
+or_false false b is = (refl, is)
+
+or_first : (a b : Bool) → a ≡ true → (a || b) ≡ true
+or_first true b is = refl
+or_first false b is = cc
+
+or_second : (a b : Bool) → b ≡ true → (a || b) ≡ true
+or_second true b is = refl
+or_second false b is = is
+
+module _ (owner : ℕ) where
+  pub any_held : (keys : List (Option KeyRec)) (slot : ℕ) (key : KeyRec) → held keys slot ≡ Some key → keeps_counter_of owner key ≡ true
+      → has_set_in keys owner ≡ true
+  any_held [] slot key at keeps = cc
+  any_held (first ∷ keys) zero key at keeps =
+      or_first (holds_counter_of owner first) (has_set_in keys owner) (ap (holds_counter_of owner) at ∙ keeps)
+  any_held (first ∷ keys) (suc slot) key at keeps =
+      or_second (holds_counter_of owner first) (has_set_in keys owner) (any_held keys slot key at keeps)
+
+  pub none_held : (keys : List (Option KeyRec)) → has_set_in keys owner ≡ false → NoneFits (keeps_counter_of owner) keys
+  none_held keys none slot key at keeps = (let some = any_held keys slot key at keeps in cc)
+
+  pub no_set : (keys : List (Option KeyRec)) → NoneFits (keeps_counter_of owner) keys → has_set_in keys owner ≡ false
+  no_set [] none = refl
+  no_set (first ∷ keys) none = by (holds_counter_of owner first) refl (no_set keys (λ slot key at. none (suc slot) key at))
+    where
+      holds : (o : Option KeyRec) → holds_counter_of owner o ≡ true → (key : KeyRec) × (o ≡ Some key) × (keeps_counter_of owner key ≡ true)
+      holds None is = cc
+      holds (Some key) is = (key, refl, is)
+
+      by : (b : Bool) → holds_counter_of owner first ≡ b → has_set_in keys owner ≡ false → (b || has_set_in keys owner) ≡ false
+      by true is rest = (let found = holds first is in absurd (none zero found.0 found.1 found.2))
+      by false is rest = rest
+
+-- a domain with a key set has a key that keeps a counter
+pub not_none : {P : Type 0} (owner : ℕ) (keys : List (Option KeyRec)) → has_set_in keys owner ≡ true → NoneFits (keeps_counter_of owner) keys → P
+not_none owner keys some none = (let clash = sym some ∙ no_set owner keys none in cc)
+
+some_of : {A : Type 0} (a b : A) → Some a ≡ Some b → a ≡ b
+some_of a b same = cc
+
+owner_is : (n owner : ℕ) → (n == owner) ≡ true → n ≡ owner
+owner_is n owner is = elim (eqb_tells n owner) [
+  | inl same ↦ same.1
+  | inr other ↦ (let clash = sym other.0 ∙ is in cc)
+]
+
+second_true : (a b : Bool) → (a && b) ≡ true → b ≡ true
+second_true true b is = is
+second_true false b is = cc
+
+first_true : (a b : Bool) → (a && b) ≡ true → a ≡ true
+first_true true b is = refl
+first_true false b is = cc
+
+module _ (page : ℕ → List ℕ) (tables : Tables) (said : registry.Registry) (says : Says page tables said) (well : Well said) where
+  abbrev aid : ℕ → List ℕ
+  aid slot = domain_aid tables.entries.items slot
+
+  has_by : (slot : ℕ) (entry : Entry) → held tables.entries.items slot ≡ Some entry → (b : Bool) → has_set_in tables.keys.items slot ≡ b
+      → has_set said (aid slot) ≡ b
+  has_by slot entry at false none = ap is_some (lowest_unnamed page tables said says well slot entry at (none_held slot tables.keys.items none))
+  has_by slot entry at true some = by (lowest_counter said (aid slot)) refl
+    where
+      by : (o : Option registry.Counter) → lowest_counter said (aid slot) ≡ o → has_set said (aid slot) ≡ true
+      by (Some counter) is = ap is_some is
+      by None is =
+          (let none : NoneFits (keeps_counter_of slot) tables.keys.items = λ other key here keeps.
+          (let kept = first_true (keeps_counter key) (key.owner == slot) keeps in
+          let own = owner_is key.owner slot (second_true (keeps_counter key) (key.owner == slot) keeps) in
+          let among = (counters_shown page tables said says).there other key here kept in
+          none_fits (λ counter. same_aid counter.owner (aid slot)) said.counters is (counter_of tables.entries.items key) among
+          (ap (λ (n : ℕ). same_aid (aid n) (aid slot)) own ∙ aid_same_itself (aid slot))) in
+          let clash = sym some ∙ no_set slot tables.keys.items none in cc)
+
+  -- a domain has a key set by its slot exactly where it has one by its AID
+  pub has_is : (slot : ℕ) (entry : Entry) → held tables.entries.items slot ≡ Some entry → has_set said (aid slot) ≡ has_set_in tables.keys.items slot
+  has_is slot entry at = has_by slot entry at (has_set_in tables.keys.items slot) refl
+
+  found_named : (x : ℕ) (rest : List ℕ) (a b : Bool) → a ≡ b
+      → find (has_set said) (map aid rest) ≡ option_map aid (find (has_set_in tables.keys.items) rest)
+      → cond a (Some (aid x)) (find (has_set said) (map aid rest)) ≡ option_map aid (cond b (Some x) (find (has_set_in tables.keys.items) rest))
+  found_named x rest true true same more = refl
+  found_named x rest false false same more = more
+  found_named x rest true false same more = cc
+  found_named x rest false true same more = cc
+
+  -- what is found on a line by slots is what is found by names
+  line_found : (from : ℕ) (line : List ℕ) → IsLine (domain_slot tables.entries.items) from line
+      → find (has_set said) (map aid line) ≡ option_map aid (find (has_set_in tables.keys.items) line)
+  line_found from [] is = absurd is
+  line_found from (x ∷ []) is =
+      let used = used_from_step tables.entries.items from from is.1 in
+      found_named x [] (has_set said (aid x)) (has_set_in tables.keys.items x)
+      (subst (λ (n : ℕ). has_set said (aid n) ≡ has_set_in tables.keys.items n) (sym is.0) (has_is from used.0 used.1)) refl
+  line_found from (x ∷ next ∷ rest) is =
+      let used = used_from_step tables.entries.items from next is.2 in
+      found_named x (next ∷ rest) (has_set said (aid x)) (has_set_in tables.keys.items x)
+      (subst (λ (n : ℕ). has_set said (aid n) ≡ has_set_in tables.keys.items n) (sym is.0) (has_is from used.0 used.1))
+      (line_found next (next ∷ rest) is.3)
+
+  own_first : (from : ℕ) (line : List ℕ) → IsLine (domain_slot tables.entries.items) from line → has_set_in tables.keys.items from ≡ true
+      → find (has_set_in tables.keys.items) line ≡ Some from
+  own_first from [] is has = absurd is
+  own_first from (x ∷ []) is has = ap (λ b. cond b (Some x) None) (ap (has_set_in tables.keys.items) is.0 ∙ has) ∙ ap Some is.0
+  own_first from (x ∷ next ∷ rest) is has =
+      ap (λ b. cond b (Some x) (find (has_set_in tables.keys.items) (next ∷ rest))) (ap (has_set_in tables.keys.items) is.0 ∙ has) ∙ ap Some is.0
+
+  module _ (domain : ℕ) (entry : Entry) (at : held tables.entries.items domain ≡ Some entry) where
+    found_on : (slots : List ℕ) (owner : ℕ) → IsLine (domain_slot tables.entries.items) domain slots
+        → find (has_set_in tables.keys.items) slots ≡ Some owner → OwnsSets said (aid domain) (aid owner)
+    found_on slots owner line found = record {
+      line = map aid slots;
+      is_line = line_named page tables said says domain slots line;
+      first = line_found domain slots line ∙ ap (option_map aid) found;
+    }
+
+    uses_lowest : (owner : ℕ) (slot : ℕ) (key : KeyRec) → OwnsSets said (aid domain) (aid owner)
+        → IsLeast (keeps_counter_of owner) version_order tables.keys.items slot key → UsesCounter said (aid domain) (counter_of tables.entries.items key)
+    uses_lowest owner slot key owns least =
+        let used = key_owner_is_used page tables said says well slot key least.at in
+        let own = owner_is key.owner owner (second_true (keeps_counter key) (key.owner == owner) least.fitting) in
+        (aid owner, owns, lowest_named page tables said says well owner used.0 (subst (λ (n : ℕ). held tables.entries.items n ≡ Some used.0) own used.1) slot key least)
+
+    -- the domain's own sets are used
+    pub uses_own : (slot : ℕ) (key : KeyRec) → IsLeast (keeps_counter_of domain) version_order tables.keys.items slot key
+        → UsesCounter said (aid domain) (counter_of tables.entries.items key)
+    uses_own slot key least =
+        let line = line_in_slots page tables said says well domain entry at in
+        let has = any_held domain tables.keys.items slot key least.at least.fitting in
+        uses_lowest domain slot key (found_on line.0 domain line.1 (own_first domain line.0 line.1 has)) least
+
+    -- or those of the nearest domain above
+    pub uses_above : (owner slot : ℕ) (key : KeyRec) → NoneFits (keeps_counter_of domain) tables.keys.items
+        → IsFirstAbove (domain_slot tables.entries.items) (has_set_in tables.keys.items) domain owner
+        → IsLeast (keeps_counter_of owner) version_order tables.keys.items slot key → UsesCounter said (aid domain) (counter_of tables.entries.items key)
+    uses_above owner slot key none above least =
+        let line = line_in_slots page tables said says well domain entry at in
+        let found = first_on_line (domain_slot tables.entries.items) (has_set_in tables.keys.items) domain line.0 owner line.1 (no_set domain tables.keys.items none) above in
+        uses_lowest owner slot key (found_on line.0 owner line.1 found) least
+
+    -- or there are none
+    pub uses_none : NoneFits (keeps_counter_of domain) tables.keys.items
+        → NoneAbove (domain_slot tables.entries.items) (has_set_in tables.keys.items) domain
+        → (counter : registry.Counter) → UsesCounter said (aid domain) counter → ⊥
+    uses_none none above counter uses =
+        let line = line_in_slots page tables said says well domain entry at in
+        let found = none_on_line (domain_slot tables.entries.items) (has_set_in tables.keys.items) domain line.0 line.1 (no_set domain tables.keys.items none) above in
+        let named = line_named page tables said says domain line.0 line.1 in
+        let owns = uses.1 in
+        let same = one_line (registry.domain_of said) (aid domain) (map aid line.0) owns.line named owns.is_line in
+        let clash = sym (line_found domain line.0 line.1 ∙ ap (option_map aid) found) ∙ ap (find (has_set said)) same ∙ owns.first in cc

@@ -1,0 +1,23 @@
+-- Which key sets a session uses: those of the domain itself, or where it has none, those of the nearest domain above it
+-- that has one. This is the profile's own choice (Amendment D, 7.1.1, leaves it open).
+use Rattle.std.specs.Prelude.{◌≡◌, ℕ, List, Bool, Option, Some, find, is_some}
+use Rattle.card_types.specs.AidOrder.{same_aid}
+use Rattle.card_types.specs.Hierarchy.{IsLine}
+use Rattle.card_types.specs.Registry.{Counter, Registry, domain_of}
+
+-- the counter of the lowest version of a domain's own key sets
+abbrev pub lowest_counter : Registry → List ℕ → Option Counter
+lowest_counter registry owner = find (λ counter. same_aid counter.owner owner) registry.counters
+
+abbrev pub has_set : Registry → List ℕ → Bool
+has_set registry owner = is_some (lowest_counter registry owner)
+
+-- the first domain with a key set on the line from the domain up
+pub record OwnsSets (registry : Registry) (domain owner : List ℕ) : Type 0 where
+  pub line : List (List ℕ)
+  pub is_line : IsLine (domain_of registry) domain line
+  pub first : find (has_set registry) line ≡ Some owner
+
+-- the counter of the lowest version of the key sets that a session of the domain would use
+abbrev pub UsesCounter : Registry → List ℕ → Counter → Type 0
+UsesCounter registry domain counter = (owner : List ℕ) × OwnsSets registry domain owner × (lowest_counter registry owner ≡ Some counter)

@@ -1,0 +1,69 @@
+//! MANAGE CHANNEL (ISO/IEC 7816-4:2013, 11.1.2; GlobalPlatform Card Specification 2.3.1, 11.7).
+
+ghost use Rattle.std.specs.Prelude.{◌≡◌, ◌<◌, None, Some, IfOk, IfErr, length};
+ghost use Rattle.card_types.specs.declared.tables.Tables.{Tables};
+ghost use Rattle.policy_rules.specs.ManageChannel.{lowest_closed, manage_channel_rule_name, manage_channel_rule_status};
+ghost use Rattle.policy_rules.specs.Means.{Parses, Says};
+ghost use Rattle.policy_rules.specs.State.{State};
+ghost use Rattle.policy_rules.specs.declared.instruction.TheConstants.{MANAGE_CHANNEL};
+
+use crate::live::{CHANNELS, Live};
+use crate::request::Request;
+use crate::rule::{Rule, RulePS};
+use apdu_core::Status;
+
+/// The rules of MANAGE CHANNEL.
+#[derive(Clone, Copy, Debug, PartialEq, Eq)]
+pub enum RuleMC {
+    /// No channel is closed.
+    MC1,
+}
+
+impl RuleMC {
+    /// The status word of a MANAGE CHANNEL that the rule refuses.
+    pub fn status(&self) -> Status
+        ensures { result.0 ≡ manage_channel_rule_status self.now }
+    {
+        match self {
+            RuleMC::MC1 => Status(0x6A81),
+        }
+    }
+
+    /// The rule's name.
+    pub fn name(&self) -> &'static str
+        ensures { result.now ≡ manage_channel_rule_name self.now }
+    {
+        match self {
+            RuleMC::MC1 => "MC1",
+        }
+    }
+}
+
+/// Reads P1, P2 and the data field.
+pub(crate) fn parse_manage_channel(p1: u8, p2: u8, body: &[u8]) -> Result<Request<'_>, Rule>
+    ensures { Parses MANAGE_CHANNEL p1 p2 body.now result }
+{
+    let request = match (p1, p2) {
+        (0x00, 0x00) => Request::MoreChannel,
+        (0x80, 1..=3) => Request::LessChannel { number: p2 },
+        _ => return Err(Rule::PS(RulePS::P)),
+    };
+    if !body.is_empty() {
+        return Err(Rule::PS(RulePS::S));
+    }
+    Ok(request)
+}
+
+/// The channel that MANAGE CHANNEL opens: the lowest closed one.
+pub fn judge_more_channel(live: &Live) -> Result<u8, RuleMC>
+    ensures below { IfOk result (λ number. number < CHANNELS) }
+    ensures found { (tables : Tables) (state : State) → Says tables live.now state → length state.volatile.channels ≡ CHANNELS
+        → IfOk result (λ number. lowest_closed state.volatile.channels ≡ Some number) }
+    ensures none { (tables : Tables) (state : State) → Says tables live.now state → length state.volatile.channels ≡ CHANNELS
+        → IfErr result (λ rule. lowest_closed state.volatile.channels ≡ None) }
+{
+    match live.first_closed() {
+        Some(number) => Ok(number as u8),
+        None => Err(RuleMC::MC1),
+    }
+}

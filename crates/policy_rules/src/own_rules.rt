@@ -1,0 +1,51 @@
+//! The first of a command's own rules that fails.
+
+ghost use Rattle.std.specs.Prelude.{◌≡◌, ◌<◌, None, IsSome, slice_index_or};
+ghost use Rattle.card_types.specs.InOrder.{IsInOrder};
+ghost use Rattle.policy_rules.specs.Admission.{Admitted};
+ghost use Rattle.policy_rules.specs.Commands.{Judges};
+ghost use Rattle.policy_rules.specs.Means.{IsMeant, IsRequestOf, Says};
+ghost use Rattle.policy_rules.specs.Sound.{IsSound};
+
+use crate::get_data::judge_get_data;
+use crate::live::{CHANNELS, Live};
+use crate::manage_channel::judge_more_channel;
+use crate::request::Request;
+use crate::rule::Rule;
+use crate::select::judge_select;
+use card_types::Tables;
+
+/// The first of a well-formed command's own rules that fails, or none. Whether check values of keys fit is not read yet.
+pub fn judge(
+    tables: &Tables,
+    live: &Live,
+    channel: u8,
+    request: &Request<'_>,
+    _checks_fit: bool,
+) -> Option<Rule>
+    requires in_order { IsInOrder tables.now }
+    requires channel { channel < CHANNELS }
+    requires opened { IsSome (slice_index_or live.now.selected channel None) }
+    requires meant { IsMeant request.now }
+    ensures { (admitted : Admitted) → Says tables.now live.now admitted.at → IsSound admitted.at → channel ≡ admitted.channel
+        → IsRequestOf request.now admitted.command → Judges admitted result }
+{
+    match request {
+        Request::Select { partial } => match judge_select(tables, partial) {
+            Ok(_) => None,
+            Err(rule) => Some(Rule::SE(rule)),
+        },
+        Request::MoreChannel => match judge_more_channel(live) {
+            Ok(_) => None,
+            Err(rule) => Some(Rule::MC(rule)),
+        },
+        Request::LessChannel { .. } => None,
+        Request::Get { tag } => {
+            let domain = live.selected[usize::from(channel)].unwrap();
+            match judge_get_data(tables, domain, *tag) {
+                Ok(_) => None,
+                Err(rule) => Some(Rule::GD(rule)),
+            }
+        }
+    }
+}
