@@ -1,4 +1,4 @@
--- Response APDUs with short length fields (ISO/IEC 7816-3:2006, 12.1; ISO/IEC 7816-4, 5.1).
+-- Response APDUs with short length fields (ISO/IEC 7816-3:2006, 12.1; ISO/IEC 7816-4:2013, chapter 5).
 use Rattle.std.specs.Prelude.{◌≡◌, ℕ, ◌<◌, ◌≤◌, ◌/◌, ◌%◌, List, [], ◌∷◌, ◌++◌, length, All}
 
 -- SW1 and SW2

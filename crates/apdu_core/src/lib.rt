@@ -1,4 +1,4 @@
-//! Command and response APDUs with short length fields (ISO/IEC 7816-4, 5.1).
+//! Command and response APDUs with short length fields (ISO/IEC 7816-4:2013, chapter 5).
 #![tactic(auto)]
 
 mod command;

@@ -5,7 +5,7 @@ use std::test::Fail;
 /// SELECT by the name 1PAY.SYS.DDF01, as EMV Book 1 (12.2.2) gives it, with Le 00.
 const SELECT: [u8; 20] = *b"\x00\xa4\x04\x00\x0e1PAY.SYS.DDF01\x00";
 
-/// GET CHALLENGE of eight bytes (ISO/IEC 7816-4, 7.5.3).
+/// GET CHALLENGE of eight bytes (ISO/IEC 7816-4:2013, chapter 11).
 const GET_CHALLENGE: [u8; 5] = [0x00, 0x84, 0x00, 0x00, 0x08];
 
 #[test]
