@@ -11,7 +11,7 @@ pub record Spelling (tag : ℕ) (value bytes : List ℕ) : Type 0 where
   pub is_length : LengthBytes (length value) length_field
   pub joined : bytes ≡ tag_field ++ length_field ++ value
 
--- a front of the bytes is the element, and rest follows it
+-- a prefix of the bytes is the element, and rest follows it
 abbrev pub BeginsWith : (tag : ℕ) (value rest bytes : List ℕ) → Type 0
 BeginsWith tag value rest bytes = (front : List ℕ) × Spelling tag value front × (bytes ≡ front ++ rest)
 

@@ -53,7 +53,7 @@ fn keeps_what_has_no_room(rt: HostRuntime) {
     assert_eq!(rt; out.as_slice(), [0x9F, 0x70, 0x00].as_slice());
 }
 
-/// The answer to SELECT of an issuer security domain (GlobalPlatform Card Specification, 11.9.3.1).
+/// The answer to SELECT of an Issuer Security Domain (GlobalPlatform Card Specification, 11.9.3.1).
 #[test]
 fn reads_nested_elements(rt: HostRuntime) -> Result<(), Fail> {
     let reply = [

@@ -18,7 +18,7 @@ use policy_rules::{Live, Rule};
 use std::alloc::{AllocError, Global};
 use std::marker::Model;
 
-/// A card: its registry, and what it keeps while it has power.
+/// A card: its registry, and its volatile state.
 #[derive(Drop)]
 pub struct Card {
     tables: Tables,

@@ -16,7 +16,7 @@ use arrayvec::ArrayVec;
 use card_types::Tables;
 use policy_rules::{Live, Request, Rule, parse};
 
-/// Does what a command asks for, and appends the reply's data. It answers the status, or the rule that refused the command.
+/// Does what a command asks for, and appends the reply's data. It answers the status word, or the rule that refused the command.
 pub fn serve(
     tables: &Tables,
     live: &mut Live,

@@ -52,7 +52,7 @@ pub record Registry : Type 0 where
   pub counters : List Counter
   pub objects : List Object
 
--- the entry with this AID, and the load file with it
+-- the entry with this AID, and the Executable Load File with it
 abbrev pub entry_named : Registry → List ℕ → Option Entry
 entry_named registry aid = find (λ entry. same_aid entry.aid aid) registry.entries
 
@@ -66,11 +66,11 @@ is_domain entry = has security_domain entry.privileges
 abbrev pub domain_of : Registry → List ℕ → Option (List ℕ)
 domain_of registry aid = option_map (λ entry. entry.domain) (entry_named registry aid)
 
--- the keys of a domain, by ascending version and identifier
+-- the keys of a domain, by ascending key version number and key identifier
 abbrev pub keys_of : Registry → List ℕ → List Key
 keys_of registry owner = filter (λ key. same_aid key.owner owner) registry.keys
 
--- the counters of a domain's key sets, by ascending version
+-- the counters of a domain's key sets, by ascending key version number
 abbrev pub counters_of : Registry → List ℕ → List Counter
 counters_of registry owner = filter (λ counter. same_aid counter.owner owner) registry.counters
 

@@ -16,7 +16,7 @@ use Rattle.card_types.specs.declared.tables.Tables.{Tables}
 abbrev pub used : {T : Type 0} → List (Option T) → List T
 used slots = filter_map (λ thing. thing) slots
 
--- the AID of the domain in a slot, and of the load file in one
+-- the AID of the domain in a slot, and of the Executable Load File in one
 abbrev pub domain_aid : List (Option Entry) → ℕ → List ℕ
 domain_aid entries slot = unwrap_or (option_map (λ entry. entry.aid) (held entries slot)) []
 
@@ -38,7 +38,7 @@ entry_of entries files entry = record {
   receipts = entry.receipts;
 }
 
--- the bytes of a load file are in its pages of 256 bytes, which stand outside the tables
+-- the bytes of an Executable Load File are in its pages of 256 bytes, which stand outside the tables
 abbrev pub file_of : (ℕ → List ℕ) → List (Option Entry) → LoadFile → registry.LoadFile
 file_of page entries file = record {
   aid = file.aid;
@@ -54,7 +54,7 @@ key_of entries key = record {
   bytes = key.bytes.items;
 }
 
--- the key with identifier 01 keeps the counter of its set
+-- the key with key identifier 01 keeps the counter of its set
 abbrev pub keeps_counter : KeyRec → Bool
 keeps_counter key = key.identifier == 1 && nat_lt key.version 0x70
 

@@ -24,7 +24,7 @@ IsRoot aid = aid ≡ ISSUER
 abbrev pub LeadsToRoot : Registry → List ℕ → Type 0
 LeadsToRoot registry aid = (root : List ℕ) × (line : List (List ℕ)) × IsRoot root × IsLine (domain_of registry) aid line × EndsAt root line
 
--- the Issuer Security Domain: its own domain, personalized, not locked, from the factory's load file
+-- the Issuer Security Domain: its own domain, personalized, not locked, from the factory's Executable Load File
 pub record IsIssuerDomain (entry : Entry) : Type 0 where
   pub domain : entry.domain ≡ ISSUER
   pub file : entry.file ≡ FACTORY_FILE
@@ -32,7 +32,7 @@ pub record IsIssuerDomain (entry : Entry) : Type 0 where
   pub life : entry.life.life ≡ Personalized
   pub unlocked : entry.life.locked ≡ false
 
--- the factory's load file: without bytes, in the Issuer Security Domain
+-- the factory's Executable Load File: without bytes, in the Issuer Security Domain
 pub record IsFactoryFile (file : LoadFile) : Type 0 where
   pub domain : file.domain ≡ ISSUER
   pub bytes : file.bytes ≡ []
@@ -48,7 +48,7 @@ has_domain_privilege entry =
     has authorized_management entry.privileges || has delegated_management entry.privileges
     || has token_verification entry.privileges || has receipt_generation entry.privileges
 
--- how many pages of 256 bytes a load file takes
+-- how many pages of 256 bytes an Executable Load File takes
 abbrev pub pages_of : ℕ → ℕ
 pages_of size = (size + 255) / 256
 
@@ -107,7 +107,7 @@ pub record IsWellEntry (registry : Registry) (entry : Entry) : Type 0 where
   pub one_management : (has authorized_management entry.privileges && has delegated_management entry.privileges) ≡ false
   pub receipts : entry.receipts ≤ RECEIPT_LIMIT
 
--- of each load file
+-- of each Executable Load File
 pub record IsWellFile (registry : Registry) (file : LoadFile) : Type 0 where
   pub aid : IsAid file.aid
   pub apart : entry_named registry file.aid ≡ None

@@ -8,7 +8,7 @@ ghost use Rattle.card_types.specs.Aid.{IsAid};
 use std::cmp::Ordering;
 use std::marker::Model;
 
-/// The identifier of an application, a Module or an Executable Load File: 5 to 16 bytes. The bytes past its
+/// The AID of an application, a Module or an Executable Load File: 5 to 16 bytes. The bytes past its
 /// length are 0.
 #[derive(Clone, Copy, Debug)]
 pub struct Aid {
@@ -35,7 +35,7 @@ impl Model for Aid {
 }
 
 impl Aid {
-    /// The identifier with these bytes.
+    /// The AID with these bytes.
     pub fn new(bytes: &[u8]) -> Option<Aid>
         ensures some { IfSome result (λ aid. aid ≡ bytes.now) }
         ensures none { IfNone result (IsAid bytes.now → ⊥) }

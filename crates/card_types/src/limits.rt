@@ -15,10 +15,10 @@ pub const DOMAIN_KEYS: usize = 12;
 /// Data objects.
 pub const OBJECTS: usize = 16;
 
-/// Pages of 256 bytes for load files.
+/// Pages of 256 bytes for Executable Load Files.
 pub const LOAD_PAGES: usize = 512;
 
-/// Bytes of a load file.
+/// Bytes of an Executable Load File.
 pub const FILE_LIMIT: usize = 32_768;
 
 /// The last sequence counter of a key set.

@@ -1,4 +1,4 @@
-//! What a card keeps without power, in slots.
+//! The persistent state of a card, in slots.
 
 ghost use Rattle.std.specs.Prelude.{◌≡◌, None, Some, MatchOption};
 ghost use Rattle.card_types.specs.Slots.{held};
@@ -23,7 +23,7 @@ pub struct Entry {
     /// The slot of the Executable Load File that it comes from.
     pub file: u8,
 
-    /// The AID of its module in that file.
+    /// The AID of its Module in that file.
     pub module: Aid,
     pub life: LifeMark,
     pub privileges: Privileges,
@@ -53,7 +53,7 @@ pub struct KeyRec {
     pub identifier: u8,
     pub bytes: ArrayVec<u8, 32>,
 
-    /// The sequence counter of the key set, where this is its key with identifier 01.
+    /// The sequence counter of the key set, where this is its key with key identifier 01.
     pub counter: u32,
 }
 
@@ -65,7 +65,7 @@ pub struct Object {
     pub value: ArrayVec<u8, 120>,
 }
 
-/// The registry: the life of the card, and a slot for each thing that it has room for. There are
+/// The registry: the life cycle state of the card, and a slot for each thing that it has room for. There are
 /// `ENTRIES`, `FILES`, `KEYS` and `OBJECTS` slots, in any order, and the Issuer Security
 /// Domain is in `ISSUER_SLOT` of the entries.
 #[derive(Drop)]

@@ -4,7 +4,7 @@ use crate::{
 use bitflags::Flags;
 use std::test::Fail;
 
-/// The identifier of the issuer security domain on most GlobalPlatform cards.
+/// The AID of the Issuer Security Domain on most GlobalPlatform cards.
 const ISSUER_DOMAIN: [u8; 8] = [0xA0, 0x00, 0x00, 0x01, 0x51, 0x00, 0x00, 0x00];
 
 #[test]
@@ -76,7 +76,7 @@ fn has_the_codes(rt: HostRuntime) {
 #[test]
 fn makes_the_factory_card(rt: HostRuntime) -> Result<(), Fail> {
     let tables = Tables::factory(rt.alloc())?;
-    let issuer = tables.entries[0].ok_or("the issuer domain")?;
+    let issuer = tables.entries[0].ok_or("the Issuer Security Domain")?;
     assert_eq!(rt; issuer.aid.as_bytes(), ISSUER_DOMAIN.as_slice());
     assert_eq!(rt; find(&tables, &issuer.aid), Some(Found::Entry(0)));
     let kinds = [

@@ -6,7 +6,7 @@ use std::test::Fail;
 #[test]
 fn walks_up_a_line_of_three(rt: HostRuntime) -> Result<(), Fail> {
     let tables = Tables::factory(rt.alloc())?;
-    let issuer = tables.entries[0].ok_or("the issuer domain")?;
+    let issuer = tables.entries[0].ok_or("the Issuer Security Domain")?;
     let mut entries = [None; 32];
     entries[0] = Some(Entry {
         domain: 0,

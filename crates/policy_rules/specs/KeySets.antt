@@ -5,7 +5,7 @@ use Rattle.card_types.specs.AidOrder.{same_aid}
 use Rattle.card_types.specs.Hierarchy.{IsLine}
 use Rattle.card_types.specs.Registry.{Counter, Registry, domain_of}
 
--- the counter of the lowest version of a domain's own key sets
+-- the counter of the key set with the lowest key version number, of a domain's own
 abbrev pub lowest_counter : Registry → List ℕ → Option Counter
 lowest_counter registry owner = find (λ counter. same_aid counter.owner owner) registry.counters
 
@@ -18,6 +18,6 @@ pub record OwnsSets (registry : Registry) (domain owner : List ℕ) : Type 0 whe
   pub is_line : IsLine (domain_of registry) domain line
   pub first : find (has_set registry) line ≡ Some owner
 
--- the counter of the lowest version of the key sets that a session of the domain would use
+-- the counter of the key set with the lowest key version number, of those that a session of the domain would use
 abbrev pub UsesCounter : Registry → List ℕ → Counter → Type 0
 UsesCounter registry domain counter = (owner : List ℕ) × OwnsSets registry domain owner × (lowest_counter registry owner ≡ Some counter)

@@ -28,7 +28,7 @@ impl KeyName {
     }
 }
 
-/// The lowest version of a key that belongs to no set.
+/// The lowest key version number of a key that belongs to no set.
 const LONE_VERSION: u8 = 0x70;
 
 // The keys of the domain in a slot, past a name.
@@ -111,7 +111,7 @@ impl Search<KeyRec> for Counting {
     ghost total = { λ _. on_total (λ key. key.version) nat_cmp_total };
 }
 
-/// The key that keeps the counter of the lowest version of the key sets of the domain in the slot `owner`.
+/// The key that keeps the counter of the key set with the lowest key version number, of the domain in the slot `owner`.
 pub fn lowest_set<'a>(keys: &'a [Option<KeyRec>], owner: u8) -> Option<&'a KeyRec>
     requires { length keys.now ≤ KEYS }
     ensures some { IfSome result (λ key. (slot : ℕ) × IsLeast (keeps_counter_of owner) version_order keys.now slot key.now) }

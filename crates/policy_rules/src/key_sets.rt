@@ -37,7 +37,7 @@ fn holds_counter(owner: u8, held: &Option<KeyRec>) -> bool
     }
 }
 
-/// The key that keeps the counter of the lowest version of the key sets that a session of the domain in a slot would use:
+/// The key that keeps the counter of the lowest of the key sets that a session of the domain in a slot would use:
 /// those of the domain itself, or where it has none, those of the nearest domain above it that has one.
 pub fn session_set(tables: &Tables, domain: u8) -> Option<&KeyRec>
     requires in_order { IsInOrder tables.now }

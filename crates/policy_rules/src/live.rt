@@ -1,4 +1,4 @@
-//! What a card keeps while it has power, as the rules see it.
+//! The volatile state of a card, as the rules see it.
 
 ghost use Rattle.std.specs.Prelude.{◌≡◌, ◌<◌, [], ◌∷◌, None, Some, IfSome, position, is_none, length};
 
