@@ -12,6 +12,7 @@ pub mod FactoryRegistry
 pub mod FactoryWell
 pub mod FileNames
 pub mod FilterByFinds
+pub mod FoundNames
 pub mod KeyNames
 pub mod LeastOfList
 pub mod LeastSoFar

@@ -21,7 +21,7 @@ pub record HoldsKind {T : Type 0} (name : T → List ℕ) (tables : Tables) (kin
   pub back : (found : Found) (aid : List ℕ) → IsOf kind found → aid_of tables found ≡ Some aid
       → (slot : ℕ) × (thing : T) × (held part slot ≡ Some thing) × (place slot ≡ found) × (name thing ≡ aid)
 
-above_from : (after : Option (List ℕ)) (aid : List ℕ) → is_above after aid ≡ true → IsAbove after aid
+pub above_from : (after : Option (List ℕ)) (aid : List ℕ) → is_above after aid ≡ true → IsAbove after aid
 above_from None aid is = tt
 above_from (Some after) aid is = less (aid_order after aid) is
   where
@@ -30,7 +30,7 @@ above_from (Some after) aid is = less (aid_order after aid) is
     less Equal is = cc
     less Greater is = cc
 
-to_above : (after : Option (List ℕ)) (aid : List ℕ) → IsAbove after aid → is_above after aid ≡ true
+pub to_above : (after : Option (List ℕ)) (aid : List ℕ) → IsAbove after aid → is_above after aid ≡ true
 to_above None aid above = refl
 to_above (Some after) aid above = ap is_lt above
 
@@ -54,7 +54,7 @@ module _ {T : Type 0} (name : T → List ℕ) (tables : Tables) (kind : Kind) (a
       let at = holds.back found aid follows.of follows.named in
       none at.0 at.1 at.2 (ap (is_above after) at.4 ∙ to_above after aid follows.above)
 
-held_from_name : {T : Type 0} (name : T → List ℕ) (slots : List (Option T)) (slot : ℕ) (aid : List ℕ) → option_map name (held slots slot) ≡ Some aid
+pub held_from_name : {T : Type 0} (name : T → List ℕ) (slots : List (Option T)) (slot : ℕ) (aid : List ℕ) → option_map name (held slots slot) ≡ Some aid
     → (thing : T) × (held slots slot ≡ Some thing) × (name thing ≡ aid)
 held_from_name {T} name slots slot aid named = by (held slots slot) refl named
   where
