@@ -22,5 +22,6 @@ pub mod Next
 pub mod NotAbove
 pub mod ObjectNames
 pub mod PrivilegeFacts
+pub mod Room
 pub mod SameAid
 pub mod Shows
