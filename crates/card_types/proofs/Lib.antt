@@ -16,6 +16,7 @@ pub mod FoundNames
 pub mod KeyNames
 pub mod LeastOfList
 pub mod LeastSoFar
+pub mod LineChanges
 pub mod Lines
 pub mod NamesByAid
 pub mod Next
