@@ -1,9 +1,10 @@
 -- Paths and lines, over any steps.
-use Rattle.std.proofs.Common.{◌≡◌, ◌⊎◌, inl, inr, ◌<◌, ◌≤◌, List, [], ◌∷◌, ◌++◌, length, Option, Some, refl, ap, sym, subst, ◌∙◌, arith}
+use Rattle.std.proofs.Common.{◌≡◌, ◌≢◌, ◌⊎◌, inl, inr, ◌<◌, ◌≤◌, List, [], ◌∷◌, ◌++◌, length, Option, Some, refl, ap, sym, subst, ◌∙◌, arith}
 use Rattle.std.specs.Prelude.{Contains}
 use Rattle.card_types.specs.Hierarchy.{IsLine, IsPath}
 use Rattle.card_types.proofs.LeastOfList.{contains_cases}
 use Rattle.card_types.proofs.Lines.{one_line}
+use Rattle.domain_tree.specs.Above.{Above}
 
 module _ {A : Type 0} (step : A → Option A) where
   pub path_more : (from at next : A) (path : List A) → IsPath step from path at → step at ≡ Some next → IsPath step from (path ++ next ∷ []) next
@@ -64,3 +65,21 @@ module _ {A : Type 0} (step : A → Option A) where
       let rest = line_of_member y (y ∷ line) x is.3 there in
       let same = ap length (one_line step x rest.0 (x ∷ y ∷ line) rest.1 here) in
       omega (arith, rest.2)
+
+  -- steps lead to each one of a line
+  pub path_to_member : (from : A) (line : List A) (member : A) → IsLine step from line → Contains line member → (path : List A) × IsPath step from path member
+  path_to_member from [] member is there = absurd is
+  path_to_member from (x ∷ []) member is there = elim (contains_cases x [] member there) [
+    | inl same ↦ ([], sym is.0 ∙ same)
+    | inr later ↦ absurd (omega (arith, later.1))
+  ]
+  path_to_member from (x ∷ y ∷ line) member is there = elim (contains_cases x (y ∷ line) member there) [
+    | inl same ↦ ([], sym is.0 ∙ same)
+    | inr later ↦ (let rest = path_to_member y (y ∷ line) member is.3 later in (y ∷ rest.0, (is.2, rest.1)))
+  ]
+
+  -- one that is neither this one nor above it is not on its line
+  pub off_line : (from other : A) (line : List A) → IsLine step from line → from ≢ other → (Above step other from → ⊥) → Contains line other → ⊥
+  off_line from other line is apart not_above there =
+      let path = path_to_member from line other is there in
+      not_above (record { other = λ same. apart (sym same); path = path.0; leads = path.1 })
