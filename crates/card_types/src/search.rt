@@ -4,8 +4,8 @@ ghost use Rattle.std.specs.Prelude.{◌≡◌, ℕ, ◌≤◌, Bool, true, List,
 ghost use Rattle.std.specs.Cmp.{IsTotalOrder};
 ghost use Rattle.std.specs.Ordering.{is_lt};
 ghost use Rattle.std.specs.declared.cmp.Ordering.{Ordering};
-ghost use Rattle.card_types.specs.Least.{IsLeast, NoneFits};
-ghost use Rattle.card_types.specs.Nearer.{is_nearer};
+ghost use Rattle.card_types.specs.Least.{NoneFits};
+ghost use Rattle.card_types.specs.Nearer.{IsLeastFound, is_nearer};
 
 /// What is looked for among things of one type, and in which order.
 pub trait Search<T> {
@@ -36,7 +36,7 @@ pub struct InSlot<'a, T> {
 /// The least of the things that are looked for.
 pub fn least<'a, T, S: Search<T>>(slots: &'a [Option<T>], search: &S) -> Option<InSlot<'a, T>>
     requires { length slots.now ≤ 256 }
-    ensures some { IfSome result (λ found. IsLeast (S.fits search.now) (S.order search.now) slots.now found.slot found.thing.now) }
+    ensures some { IfSome result (IsLeastFound (S.fits search.now) (S.order search.now) slots.now) }
     ensures none { IfNone result (NoneFits (S.fits search.now) slots.now) }
 {
     let mut least: Option<InSlot<'a, T>> = None;
