@@ -1,9 +1,8 @@
 //! The nearest domain above an entry that holds a right.
 
-ghost use Rattle.std.specs.Prelude.{◌≡◌, ◌↔◌, IfSome, IfNone, length};
-ghost use Rattle.card_types.specs.Says.{domain_slot};
-ghost use Rattle.domain_tree.specs.Above.{IsFirstAbove, NoneAbove};
-ghost use Rattle.domain_tree.specs.Slots.{IsFreeOfLoops, is_holder};
+ghost use Rattle.std.specs.Prelude.{◌≡◌, IfSome, IfNone, length};
+ghost use Rattle.domain_tree.specs.Holders.{IsNearest, NoHolderAbove, is_holder};
+ghost use Rattle.domain_tree.specs.Slots.{IsFreeOfLoops};
 
 use crate::walk::{Wanted, first_above};
 use bitflags::Flags;
@@ -32,8 +31,8 @@ impl Wanted for Holders<'_> {
 pub fn nearest(entries: &[Option<Entry>], from: u8, right: Privileges, holders: u32) -> Option<u8>
     requires whole { length entries.now ≡ ENTRIES }
     requires no_loops { IsFreeOfLoops entries.now }
-    ensures some { IfSome result (IsFirstAbove (domain_slot entries.now) (is_holder entries.now right holders) from) }
-    ensures none { IfNone result (NoneAbove (domain_slot entries.now) (is_holder entries.now right holders) from) }
+    ensures some { IfSome result (IsNearest entries.now right holders from) }
+    ensures none { IfNone result (NoHolderAbove entries.now right holders from) }
 {
     let search = Holders {
         entries,
