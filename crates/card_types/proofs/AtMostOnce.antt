@@ -11,7 +11,8 @@ use Rattle.std.proofs.lemmas.Bool.{cases_Bool}
 use Rattle.std.proofs.lemmas.Cmp.{tied_itself}
 use Rattle.std.proofs.lemmas.List.Sorted.{Contains-permutation, IsPermutation-cons, IsPermutation-refl, IsPermutation-remove, IsPermutation-sym, IsPermutation-trans, sum_by-IsPermutation}
 use Rattle.std.proofs.lemmas.List.Sums.{sum_by-cons}
-use Rattle.card_types.proofs.LeastOfList.{contains_cases, contains_first, contains_later, one_ties, tie}
+use Rattle.card_types.proofs.LeastOfList.{one_ties, tie}
+use Rattle.card_types.proofs.Members.{contains_cases, contains_first, contains_later}
 
 module _ {X : Type 0} (order : X → X → Ordering) (total : IsTotalOrder order) where
   -- at most one ties with any

@@ -13,7 +13,8 @@ use Rattle.std.proofs.lemmas.List.Sorted.{Contains-permutation, IsPermutation-co
 use Rattle.std.proofs.lemmas.List.Sums.{sum_by-cons}
 use Rattle.card_types.specs.Changed.{IsChanged, IsPut, IsRemoved, IsReplaced}
 use Rattle.card_types.proofs.AtMostOnce.{counted, once_from_sorted, tie_at, without_first}
-use Rattle.card_types.proofs.LeastOfList.{contains_cases, contains_first, contains_later, first_below, others_sorted, tie}
+use Rattle.card_types.proofs.LeastOfList.{first_below, others_sorted, tie}
+use Rattle.card_types.proofs.Members.{contains_cases, contains_first, contains_later}
 
 module _ {X : Type 0} (order : X → X → Ordering) (total : IsTotalOrder order) where
   first_of_sorted : (x : X) (xs : List X) → ((y : X) → Contains xs y → order x y ≡ Less) → IsStrictlySortedBy order xs → IsStrictlySortedBy order (x ∷ xs)

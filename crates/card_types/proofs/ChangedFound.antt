@@ -11,7 +11,8 @@ use Rattle.std.proofs.lemmas.List.Sums.{sum_by-cons}
 use Rattle.std.proofs.lemmas.Cmp.{tied_itself}
 use Rattle.card_types.specs.Changed.{IsChanged, IsPut, IsRemoved, IsReplaced}
 use Rattle.card_types.proofs.AtMostOnce.{counted, once_from_sorted, tie_at, without_first}
-use Rattle.card_types.proofs.LeastOfList.{contains_cases, contains_first, contains_later, found_fits, found_least, least_found, none_fits, none_found, tie}
+use Rattle.card_types.proofs.LeastOfList.{found_fits, found_least, least_found, none_fits, none_found, tie}
+use Rattle.card_types.proofs.Members.{contains_cases, contains_first, contains_later}
 
 module _ {X : Type 0} (order : X → X → Ordering) (total : IsTotalOrder order) where
   -- two lists in order whose members that fit are the same

@@ -9,8 +9,9 @@ use Rattle.std.proofs.lemmas.Bool.{cases_Bool}
 use Rattle.std.proofs.lemmas.Cmp.{tied_itself}
 use Rattle.card_types.specs.Ascending.{key_order}
 use Rattle.card_types.specs.Registry as registry
-use Rattle.card_types.proofs.LeastOfList.{contains_first, contains_later, find_first, find_later, first_below, others_sorted}
+use Rattle.card_types.proofs.LeastOfList.{find_first, find_later, first_below, others_sorted}
 use Rattle.card_types.proofs.KeyNames.{key_order_total}
+use Rattle.card_types.proofs.Members.{contains_first, contains_later}
 
 module _ {X : Type 0} where
   keeps_alike : (p q : X → Bool) (xs : List X) → ((x : X) → Contains xs x → p x ≡ q x) → filter p xs ≡ filter q xs

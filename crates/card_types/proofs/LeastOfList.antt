@@ -1,5 +1,5 @@
 -- In a list in strictly ascending order the first that fits is the least that fits, and no two are alike.
-use Rattle.std.proofs.Common.{◌≡◌, ◌≢◌, ◌⊎◌, inl, inr, ℕ, zero, suc, ◌≤◌, Bool, true, false, cond, List, [], ◌∷◌, None, Some, refl, ap, sym, subst, ◌∙◌, arith}
+use Rattle.std.proofs.Common.{◌≡◌, ◌≢◌, inl, inr, ℕ, ◌≤◌, Bool, true, false, cond, List, [], ◌∷◌, None, Some, refl, ap, sym, subst, ◌∙◌, arith}
 use Rattle.std.specs.Prelude.{Contains, map, find}
 use Rattle.std.specs.List.{AllByRecursion, sum_by}
 use Rattle.std.specs.List.Sorted.{IsStrictlySortedBy}
@@ -11,19 +11,9 @@ use Rattle.std.proofs.lemmas.Bool.{cases_Bool}
 use Rattle.std.proofs.lemmas.Cmp.{tied_back, tied_itself}
 use Rattle.std.proofs.lemmas.List.Elements.{All-from_recursion, All-contains}
 use Rattle.std.proofs.lemmas.List.Sums.{sum_by-cons}
+use Rattle.card_types.proofs.Members.{contains_cases, contains_first, contains_later}
 
 module _ {X : Type 0} where
-  pub contains_first : (y : X) (ys : List X) → Contains (y ∷ ys) y
-  contains_first y ys = (0, omega arith, refl)
-
-  pub contains_later : (y : X) (ys : List X) (x : X) → Contains ys x → Contains (y ∷ ys) x
-  contains_later y ys x (k, within, is) = (suc k, omega arith, is)
-
-  -- a member is the first or among the others
-  pub contains_cases : (y : X) (ys : List X) (x : X) → Contains (y ∷ ys) x → (y ≡ x) ⊎ Contains ys x
-  contains_cases y ys x (zero, within, is) = inl is
-  contains_cases y ys x (suc k, within, is) = inr (k, omega arith, is)
-
   pub find_first : (p : X → Bool) (y : X) (ys : List X) → p y ≡ true → find p (y ∷ ys) ≡ Some y
   find_first p y ys fits = rw fits
 

@@ -18,6 +18,7 @@ pub mod LeastOfList
 pub mod LeastSoFar
 pub mod LineChanges
 pub mod Lines
+pub mod Members
 pub mod NamesByAid
 pub mod Next
 pub mod NotAbove

@@ -2,8 +2,8 @@
 use Rattle.std.proofs.Common.{◌≡◌, ◌≢◌, ◌⊎◌, inl, inr, List, [], ◌∷◌, Option, None, Some, ap, sym, subst, ◌∙◌, arith}
 use Rattle.std.specs.Prelude.{Contains}
 use Rattle.card_types.specs.Hierarchy.{EndsAt, IsLine}
-use Rattle.card_types.proofs.LeastOfList.{contains_cases, contains_first, contains_later}
 use Rattle.card_types.proofs.Lines.{line_more}
+use Rattle.card_types.proofs.Members.{contains_cases, contains_first, contains_later}
 
 -- steps lead from this one to a root
 abbrev pub Leads : {A : Type 0} → (A → Option A) → (A → Type 0) → A → Type 0

@@ -6,14 +6,15 @@ use Rattle.std.specs.List.Sorted.{IsStrictlySortedBy, IsPermutation}
 use Rattle.std.specs.Cmp.{IsTotalOrder}
 use Rattle.std.specs.declared.cmp.Ordering.{Ordering}
 use Rattle.std.specs.declared.cmp.Ordering.TheVariants.{Equal}
-use Rattle.std.proofs.lemmas.Bool.{cases_Bool, cases_eq, and_from, and_parts}
+use Rattle.std.proofs.lemmas.Bool.{cases_eq, and_from, and_parts}
 use Rattle.std.proofs.lemmas.Cmp.{tied_itself}
 use Rattle.std.proofs.lemmas.List.Sorted.{Contains-permutation, IsPermutation-sym, sum_by-IsPermutation}
 use Rattle.std.proofs.lemmas.List.Sums.{sum_by-cons}
 use Rattle.card_types.specs.Least.{IsLeast, NoneFits}
 use Rattle.card_types.specs.Says.{used}
 use Rattle.card_types.specs.Slots.{held}
-use Rattle.card_types.proofs.LeastOfList.{contains_first, contains_later, contains_cases, found_fits, none_found, least_found, one_ties, tie}
+use Rattle.card_types.proofs.LeastOfList.{found_fits, none_found, least_found, one_ties, tie}
+use Rattle.card_types.proofs.Members.{contains_cases, contains_filter, contains_first, contains_later, contains_map, filtered, mapped}
 
 module _ {T : Type 0} where
   pub used_from_held : (slots : List (Option T)) (slot : ℕ) (thing : T) → held slots slot ≡ Some thing → Contains (used slots) thing
@@ -33,44 +34,6 @@ module _ {T : Type 0} where
   held_from_used (Some x ∷ slots) thing there = elim (contains_cases x (used slots) thing there) [
     | inl same ↦ (zero, ap Some same)
     | inr other ↦ (let later = held_from_used slots thing other in (suc later.0, later.1))
-  ]
-
-  pub contains_map : {X : Type 0} (f : T → X) (xs : List T) (x : T) → Contains xs x → Contains (map f xs) (f x)
-  contains_map f [] x (k, within, is) = absurd (omega arith)
-  contains_map f (y ∷ ys) x there = elim (contains_cases y ys x there) [
-    | inl same ↦ subst (Contains (f y ∷ map f ys)) (ap f same) (contains_first (f y) (map f ys))
-    | inr later ↦ contains_later (f y) (map f ys) (f x) (contains_map f ys x later)
-  ]
-
-  pub mapped : {X : Type 0} (f : T → X) (xs : List T) (y : X) → Contains (map f xs) y → (x : T) × Contains xs x × (f x ≡ y)
-  mapped f [] y (k, within, is) = absurd (omega arith)
-  mapped f (x ∷ xs) y there = elim (contains_cases (f x) (map f xs) y there) [
-    | inl same ↦ (x, contains_first x xs, same)
-    | inr other ↦ (let later = mapped f xs y other in (later.0, contains_later x xs later.0 later.1, later.2))
-  ]
-
-  pub contains_filter : (p : T → Bool) (xs : List T) (x : T) → Contains xs x → p x ≡ true → Contains (filter p xs) x
-  contains_filter p [] x (k, within, is) fits = absurd (omega arith)
-  contains_filter p (y ∷ ys) x there fits = elim (contains_cases y ys x there) [
-    | inl same ↦
-        (let first : p y ≡ true = ap p same ∙ fits in
-        rw first (subst (Contains (y ∷ filter p ys)) same (contains_first y (filter p ys))))
-    | inr later ↦
-        (let rest = contains_filter p ys x later fits in
-        elim (cases_Bool (p y)) [
-          | inl fit ↦ rw fit (contains_later y (filter p ys) x rest)
-          | inr misfit ↦ rw misfit rest
-        ])
-  ]
-
-  pub filtered : (p : T → Bool) (xs : List T) (x : T) → Contains (filter p xs) x → Contains xs x × (p x ≡ true)
-  filtered p [] x (k, within, is) = absurd (omega arith)
-  filtered p (y ∷ ys) x there = elim (cases_Bool (p y)) [
-    | inl fit ↦ elim (contains_cases y (filter p ys) x (rw fit at there)) [
-      | inl same ↦ (subst (Contains (y ∷ ys)) same (contains_first y ys), ap p (sym same) ∙ fit)
-      | inr other ↦ (let later = filtered p ys x other in (contains_later y ys x later.0, later.1))
-    ]
-    | inr misfit ↦ (let later = filtered p ys x (rw misfit at there) in (contains_later y ys x later.0, later.1))
   ]
 
 -- the list has a view of each thing that is kept, and no more

@@ -9,10 +9,10 @@ use Rattle.card_types.specs.Hierarchy.{IsLine}
 use Rattle.card_types.specs.Says.{domain_slot}
 use Rattle.card_types.specs.declared.tables.Entry.{Entry}
 use Rattle.card_types.proofs.Domains.{used_from_step}
-use Rattle.card_types.proofs.LeastOfList.{contains_first, contains_later}
 use Rattle.card_types.proofs.LeastSoFar.{within_slots}
 use Rattle.card_types.proofs.Lines.{line_steps}
 use Rattle.domain_tree.proofs.Paths.{first_alone, line_of_member}
+use Rattle.card_types.proofs.Members.{contains_first, contains_later}
 
 all_other : (step : ℕ → Option ℕ) (from x : ℕ) (line : List ℕ) → IsLine step from (x ∷ line) → All (λ y. eqb x y ≡ false) line
 all_other step from x line is =

@@ -2,9 +2,9 @@
 use Rattle.std.proofs.Common.{◌≡◌, ◌≢◌, ◌⊎◌, inl, inr, ◌<◌, ◌≤◌, List, [], ◌∷◌, ◌++◌, length, Option, Some, refl, ap, sym, subst, ◌∙◌, arith}
 use Rattle.std.specs.Prelude.{Contains}
 use Rattle.card_types.specs.Hierarchy.{IsLine, IsPath}
-use Rattle.card_types.proofs.LeastOfList.{contains_cases}
 use Rattle.card_types.proofs.Lines.{one_line}
 use Rattle.domain_tree.specs.Above.{Above}
+use Rattle.card_types.proofs.Members.{contains_cases}
 
 module _ {A : Type 0} (step : A → Option A) where
   pub path_more : (from at next : A) (path : List A) → IsPath step from path at → step at ≡ Some next → IsPath step from (path ++ next ∷ []) next
