@@ -1,10 +1,9 @@
 -- The first of the general rules that fails, by what was found.
-use Rattle.std.proofs.Common.{◌≡◌, ◌≢◌, ◌⊎◌, ℕ, ◌<◌, List, Bool, true, false, Option, None, Some, refl, sym, ap, subst, ◌∙◌, inl, inr}
-use Rattle.std.specs.Prelude.{MatchOption, is_none, slice_index_or}
+use Rattle.std.proofs.Common.{◌≡◌, ◌≢◌, ◌⊎◌, ℕ, List, false, None, Some, refl, sym, ap, ◌∙◌, inl, inr}
+use Rattle.std.specs.Prelude.{is_none, slice_index_or}
 use Rattle.apdu_core.specs.Apdu.{Apdu, Short}
 use Rattle.card_types.proofs.EntryNames.{entry_in_slot}
 use Rattle.card_types.proofs.Domains.{domain_aid_is}
-use Rattle.card_types.specs.Privileges.{has, security_domain}
 use Rattle.card_types.specs.Registry.{Entry as NamedEntry, entry_named, is_domain}
 use Rattle.card_types.specs.Says.{entry_of}
 use Rattle.card_types.specs.declared.card_life.CardLife.TheVariants.{Terminated}

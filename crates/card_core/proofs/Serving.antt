@@ -1,26 +1,24 @@
 -- What comes of a command is one step of the policy machine.
-use Rattle.std.proofs.Common.{◌≡◌, ◌≢◌, ◌⊎◌, ℕ, List, [], ◌∷◌, ◌++◌, Bool, true, false, Option, None, Some, Result, Ok, Err, refl, sym, ap, subst, ◌∙◌, inl, inr, arith}
+use Rattle.std.proofs.Common.{◌≡◌, ◌⊎◌, ℕ, List, [], ◌∷◌, ◌++◌, false, Option, None, Some, Result, Ok, Err, refl, sym, ap, subst, ◌∙◌, inl, inr, arith}
 use Rattle.std.specs.Prelude.{Contains, MatchOption}
 use Rattle.apdu_core.specs.Apdu.{Apdu, Short}
 use Rattle.apdu_core.specs.Reply.{status_bytes}
 use Rattle.apdu_core.specs.declared.reply.Status.{Status}
-use Rattle.card_types.proofs.LeastOfList.{contains_cases}
+use Rattle.card_types.proofs.Members.{contains_cases}
 use Rattle.policy_rules.specs.Admission.{Admits, Admitted, Bars, admitted_as, general_rules, placeless, protects}
 use Rattle.policy_rules.specs.Classes.{IsKnown, channel_of, class_of, instructions_of}
-use Rattle.policy_rules.specs.Commands.{HasDataField, HasParameters, Judges}
+use Rattle.policy_rules.specs.Commands.{Judges}
 use Rattle.policy_rules.specs.FirstFailing.{IsFirst}
 use Rattle.policy_rules.specs.Means.{IsMalformed}
 use Rattle.policy_rules.specs.Rules.{status_of}
 use Rattle.policy_rules.specs.State.{State}
-use Rattle.policy_rules.specs.Step.{Outcome}
 use Rattle.policy_rules.specs.declared.class.Class.{Class}
 use Rattle.policy_rules.specs.declared.class.Class.TheVariants.{Interindustry, Plain, Secure}
 use Rattle.policy_rules.specs.declared.instruction.TheConstants.{SELECT, MANAGE_CHANNEL, GET_DATA}
 use Rattle.policy_rules.specs.declared.rule.Rule.{Rule}
-use Rattle.policy_rules.specs.declared.rule.Rule.TheVariants.{G, PS}
+use Rattle.policy_rules.specs.declared.rule.Rule.TheVariants.{G}
 use Rattle.policy_rules.specs.declared.rule.RuleG.{RuleG}
 use Rattle.policy_rules.specs.declared.rule.RuleG.TheVariants.{G1, G2, G3, G4, G5}
-use Rattle.policy_rules.specs.declared.rule.RulePS.TheVariants.{P, S}
 use Rattle.card_core.specs.Kept.{Kept, Stands}
 use Rattle.card_core.specs.Serves.{CarriesOut, Serves, outcome_of}
 use Rattle.card_core.proofs.Standing.{placeless_stands}

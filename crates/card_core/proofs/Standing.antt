@@ -1,12 +1,12 @@
 -- What a card stands for, when a channel is set.
 use Rattle.std.proofs.Common.{◌≡◌, ◌≢◌, ℕ, zero, suc, ◌<◌, List, [], ◌∷◌, Bool, true, false, Option, None, Some, refl, sym, ap, subst, ◌∙◌, inl, inr, length, arith}
-use Rattle.std.specs.Prelude.{IsSome, MatchOption, is_none, is_some, slice_index_or, slice_set, if◌then◌else◌, ◌==◌}
+use Rattle.std.specs.Prelude.{MatchOption, is_none, is_some, slice_index_or, slice_set, if◌then◌else◌, ◌==◌}
 use Rattle.std.proofs.lemmas.Bool.Decides.{eqb_tells}
 use Rattle.std.proofs.lemmas.List.{get_or-set_other, get_or-set_same, set-get_or}
 use Rattle.apdu_core.specs.Apdu.{Apdu}
 use Rattle.card_types.proofs.EntryNames.{entry_in_slot}
 use Rattle.card_types.specs.Layout.{HasIssuer, HasLayout}
-use Rattle.card_types.specs.Registry.{Registry, entry_named}
+use Rattle.card_types.specs.Registry.{Registry}
 use Rattle.card_types.specs.Says.{Says as SaysRegistry}
 use Rattle.card_types.specs.Slots.{held}
 use Rattle.card_types.specs.Well.{Well}
@@ -14,13 +14,13 @@ use Rattle.card_types.specs.declared.factory.TheConstants.{ISSUER}
 use Rattle.card_types.specs.declared.tables.Entry.{Entry}
 use Rattle.card_types.specs.declared.tables.TheConstants.{ISSUER_SLOT}
 use Rattle.card_types.specs.declared.tables.Tables.{Tables}
-use Rattle.policy_rules.proofs.KeepsSound.{channel_is_low, class_fits, fresh_is_well, issuer_is_well, session_fits, starts_sound}
-use Rattle.policy_rules.proofs.SetChannel.{by_number, ended_fits, lowest_is_closed, set_fits, set_other, set_same}
+use Rattle.policy_rules.proofs.KeepsSound.{fresh_is_well, issuer_is_well, starts_sound}
+use Rattle.policy_rules.proofs.SetChannel.{by_number, ended_fits, lowest_is_closed, set_fits}
 use Rattle.policy_rules.specs.Admission.{admitted_as, channel_passed, offer_passed, placeless, session_passed}
 use Rattle.policy_rules.specs.Classes.{channel_of}
 use Rattle.policy_rules.specs.ManageChannel.{lowest_closed}
 use Rattle.policy_rules.specs.Means.{IsSelectedIn, Says}
-use Rattle.policy_rules.specs.Sound.{IsSecured, IsSound}
+use Rattle.policy_rules.specs.Sound.{IsSecured}
 use Rattle.policy_rules.specs.State.{State, powered_on}
 use Rattle.policy_rules.specs.Volatile.{Channel, LoadSession, Nothing, Standing, Volatile, channel_at, first_volatile, fresh, load_of_others, with_channel, with_selected, without_channel, without_load}
 use Rattle.policy_rules.specs.declared.instruction.TheConstants.{EXTERNAL_AUTHENTICATE, LOAD}

@@ -1,6 +1,6 @@
 -- How tables lay out a registry: a slot for each thing that there is room for, and the Issuer Security Domain in a slot of
 -- its own.
-use Rattle.std.specs.Prelude.{◌≡◌, ℕ, List, Option, MatchOption, length}
+use Rattle.std.specs.Prelude.{◌≡◌, List, Option, MatchOption, length}
 use Rattle.card_types.specs.Slots.{held}
 use Rattle.card_types.specs.declared.factory.TheConstants.{ISSUER}
 use Rattle.card_types.specs.declared.limits.TheConstants.{ENTRIES, FILES, KEYS, OBJECTS}

@@ -53,7 +53,9 @@ pub fn least<'a, T, S: Search<T>>(slots: &'a [Option<T>], search: &S) -> Option<
     least
 }
 
-// Whether the thing is looked for and comes before the least so far.
+// Whether the thing is looked for and comes before the least so far. It is no part of the loop over the slots, most of
+// which are free, so that the loop's state stays in registers.
+#[inline(never)]
 fn is_nearer<T, S: Search<T>>(search: &S, least: &Option<InSlot<T>>, thing: &T) -> bool
     requires { IfSome least.now (λ found. S.fits search.now found.thing.now ≡ true) }
     ensures { result ≡ is_nearer (S.fits search.now) (S.order search.now) least.now thing.now }

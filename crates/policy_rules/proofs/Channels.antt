@@ -1,5 +1,5 @@
 -- The lowest closed channel, by the slots of what is selected.
-use Rattle.std.proofs.Common.{◌≡◌, ◌≢◌, ℕ, zero, suc, ◌+◌, ◌<◌, List, [], ◌∷◌, Bool, true, false, Option, None, Some, refl, sym, ap, subst, ◌∙◌, length, arith}
+use Rattle.std.proofs.Common.{◌≡◌, ℕ, suc, ◌+◌, ◌<◌, List, [], ◌∷◌, Option, None, Some, refl, sym, length, arith}
 use Rattle.std.specs.Prelude.{cond, nat_lt, not, position, is_none, slice_index_or}
 use Rattle.std.specs.List.{position_or_len}
 use Rattle.card_types.specs.declared.tables.Entry.{Entry}

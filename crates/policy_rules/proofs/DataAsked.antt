@@ -1,8 +1,7 @@
 -- Where something was found for a tag, there is such data.
-use Rattle.std.proofs.Common.{◌≡◌, ◌≢◌, ℕ, List, [], ◌∷◌, ◌++◌, Option, None, Some, refl, sym, subst, ◌∙◌, inl, inr, length, arith}
+use Rattle.std.proofs.Common.{◌≡◌, ◌≢◌, ℕ, List, [], ◌∷◌, ◌++◌, None, Some, refl, sym, subst, ◌∙◌, inl, inr, length, arith}
 use Rattle.std.specs.Prelude.{map}
 use Rattle.bertlv.specs.Spelling.{AreElements, Spelling}
-use Rattle.card_types.proofs.Domains.{key_owner_is_used}
 use Rattle.card_types.specs.Registry as registry
 use Rattle.card_types.specs.Says.{Says, domain_aid, key_of}
 use Rattle.card_types.specs.Slots.{held}

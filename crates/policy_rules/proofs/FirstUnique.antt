@@ -1,5 +1,5 @@
 -- The first rule of a list that fails, by the parts of the list.
-use Rattle.std.proofs.Common.{◌≡◌, List, [], ◌∷◌, Option, None, Some, sym, ◌∙◌, inl, inr}
+use Rattle.std.proofs.Common.{◌≡◌, List, [], ◌∷◌, Option, None, sym, ◌∙◌, inl, inr}
 use Rattle.policy_rules.specs.FirstFailing.{IsFirst}
 
 module _ {R : Type 0} (fails : R → Type 0) where

@@ -1,22 +1,17 @@
 -- The rules of a command's own, by what was found.
-use Rattle.std.proofs.Common.{◌≡◌, ◌≢◌, ℕ, ◌≤◌, List, [], ◌∷◌, Option, None, Some, refl, sym, ap, subst, ◌∙◌, inl, inr, arith}
-use Rattle.apdu_core.specs.Apdu.{Apdu}
-use Rattle.card_types.specs.Registry.{Entry, Registry}
+use Rattle.std.proofs.Common.{◌≡◌, ℕ, List, [], ◌∷◌, Option, None, Some, refl, sym, subst, ◌∙◌, inl, inr, arith}
+use Rattle.card_types.specs.Registry.{Entry}
 use Rattle.policy_rules.specs.Admission.{Admitted}
 use Rattle.policy_rules.specs.Commands.{HasParameters, HasDataField, Judges}
 use Rattle.policy_rules.specs.FirstFailing.{IsFirst}
 use Rattle.policy_rules.specs.GetData.{AsksFor, GetDataFails, GetDataField}
 use Rattle.policy_rules.specs.ManageChannel.{ManageChannelFails, ManageChannelField, ManageChannelParameters, lowest_closed}
-use Rattle.policy_rules.specs.Means.{IsRequestOf, Means}
 use Rattle.policy_rules.specs.Select.{SelectFails, SelectField, SelectParameters, least_fitting}
 use Rattle.policy_rules.specs.declared.instruction.TheConstants.{SELECT, MANAGE_CHANNEL, GET_DATA}
 use Rattle.policy_rules.specs.declared.manage_channel.RuleMC.{RuleMC}
 use Rattle.policy_rules.specs.declared.manage_channel.RuleMC.TheVariants.{MC1}
-use Rattle.policy_rules.specs.declared.request.Request.{Request}
-use Rattle.policy_rules.specs.declared.request.Request.TheVariants.{Select, MoreChannel, LessChannel, Get}
 use Rattle.policy_rules.specs.declared.rule.Rule.{Rule}
-use Rattle.policy_rules.specs.declared.rule.Rule.TheVariants.{PS, SE, MC, GD}
-use Rattle.policy_rules.specs.declared.rule.RulePS.TheVariants.{P, S}
+use Rattle.policy_rules.specs.declared.rule.Rule.TheVariants.{SE, MC, GD}
 use Rattle.policy_rules.specs.declared.select.RuleSE.{RuleSE}
 use Rattle.policy_rules.specs.declared.select.RuleSE.TheVariants.{SE1}
 use Rattle.policy_rules.specs.declared.get_data.RuleGD.{RuleGD}

@@ -1,5 +1,5 @@
 -- A card that is powered on is sound, and each step keeps it so.
-use Rattle.std.proofs.Common.{◌≡◌, ◌≢◌, ℕ, zero, suc, ◌<◌, ◌≤◌, ◌%◌, List, [], ◌∷◌, Bool, true, false, Option, None, Some, refl, sym, ap, subst, ◌∙◌, inl, inr, length, arith}
+use Rattle.std.proofs.Common.{◌≡◌, ℕ, zero, suc, ◌<◌, ◌≤◌, List, [], ◌∷◌, Bool, true, false, Option, None, Some, refl, sym, ap, subst, ◌∙◌, inl, inr, length, arith}
 use Rattle.std.specs.Prelude.{IsSome, MatchOption, find, cond, if◌then◌else◌, ◌==◌}
 use Rattle.apdu_core.specs.Apdu.{Apdu}
 use Rattle.card_types.proofs.SameAid.{aid_same_itself}
@@ -7,27 +7,25 @@ use Rattle.card_types.specs.AidOrder.{same_aid}
 use Rattle.card_types.specs.Registry.{Entry, Registry, entry_named}
 use Rattle.card_types.specs.Well.{IsIssuerDomain, Well}
 use Rattle.card_types.specs.declared.factory.TheConstants.{ISSUER}
-use Rattle.policy_rules.specs.Admission.{Admitted, Leaves, Of, admitted_as, channel_passed, class_passed, offer_passed, placeless, session_passed}
+use Rattle.policy_rules.specs.Admission.{Admitted, Leaves, admitted_as, channel_passed, class_passed, offer_passed, placeless, session_passed}
 use Rattle.policy_rules.specs.Classes.{channel_of}
 use Rattle.policy_rules.specs.Commands.{Does, Judges}
 use Rattle.policy_rules.specs.FirstFailing.{IsFirst}
-use Rattle.policy_rules.specs.GetData.{get_data_rules}
 use Rattle.policy_rules.specs.Laws.{StartsSound, StepsKeepSound}
 use Rattle.policy_rules.specs.ManageChannel.{IsClosed, IsClosedAlready, IsOpened, ManageChannelDoes, ManageChannelFails, ManageChannelParameters, lowest_closed, manage_channel_rules}
 use Rattle.policy_rules.specs.Select.{IsSelected, fits_select, least_fitting}
 use Rattle.policy_rules.specs.Sound.{Fits, IsSecured, IsSound, IsWellChannel, StandsWell}
 use Rattle.policy_rules.specs.State.{Effect, State}
-use Rattle.policy_rules.specs.Step.{IsAccepted, IsBarred, IsRefused, Outcome, accepted, refused}
-use Rattle.policy_rules.specs.Volatile.{Channel, Nothing, Offered, Secured, Standing, Volatile, channel_at, first_volatile, fresh, with_channel, without_load}
+use Rattle.policy_rules.specs.Step.{Outcome}
+use Rattle.policy_rules.specs.Volatile.{Channel, Nothing, Offered, Secured, Standing, Volatile, channel_at, first_volatile, fresh, without_load}
 use Rattle.policy_rules.specs.declared.instruction.TheConstants.{SELECT, MANAGE_CHANNEL, GET_DATA, EXTERNAL_AUTHENTICATE, LOAD}
-use Rattle.policy_rules.specs.declared.rule.Rule.{Rule}
 use Rattle.policy_rules.specs.declared.rule.Rule.TheVariants.{PS, MC}
 use Rattle.policy_rules.specs.declared.rule.RuleG.{RuleG}
 use Rattle.policy_rules.specs.declared.rule.RuleG.TheVariants.{G1, G2, G3, G4, G5}
 use Rattle.policy_rules.specs.declared.rule.RulePS.TheVariants.{P, S}
 use Rattle.policy_rules.specs.declared.manage_channel.RuleMC.TheVariants.{MC1}
 use Rattle.policy_rules.proofs.FirstUnique.{passes}
-use Rattle.policy_rules.proofs.SetChannel.{HasSession, ended_fits, lowest_is_closed, set_fits, without_load_fits}
+use Rattle.policy_rules.proofs.SetChannel.{ended_fits, lowest_is_closed, set_fits, without_load_fits}
 
 issuer_is_named : (registry : Registry) → (found : Option Entry) → MatchOption found ⊥ IsIssuerDomain → IsSome found
 issuer_is_named registry None issuer = absurd issuer

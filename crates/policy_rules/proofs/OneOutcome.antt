@@ -1,23 +1,23 @@
 -- From one state the same bytes have at most one outcome.
-use Rattle.std.proofs.Common.{◌≡◌, ◌≢◌, ℕ, List, [], ◌∷◌, ◌++◌, Option, None, Some, false, refl, sym, ap, subst, ◌∙◌, inl, inr, ◌⊎◌, arith}
+use Rattle.std.proofs.Common.{◌≡◌, ℕ, List, [], ◌∷◌, Option, None, Some, false, sym, ap, subst, ◌∙◌, inl, inr, arith}
 use Rattle.std.specs.Prelude.{map, find, MatchOption}
 use Rattle.apdu_core.proofs.OneSpelling.{one_command}
 use Rattle.apdu_core.specs.Apdu.{Apdu, Short}
 use Rattle.bertlv.proofs.SpellingLemmas.{one_spelling, one_spelling_each}
-use Rattle.bertlv.specs.Spelling.{AreElements, Element, Spelling}
+use Rattle.bertlv.specs.Spelling.{AreElements, Spelling}
 use Rattle.card_types.proofs.Lines.{one_line}
 use Rattle.card_types.specs.Registry as registry
 use Rattle.policy_rules.specs.Admission.{Admits, Admitted, Bars, Leaves, Of, admitted_as, general_rules, placeless}
 use Rattle.policy_rules.specs.Classes.{channel_of}
 use Rattle.policy_rules.specs.Commands.{Does, Judges}
-use Rattle.policy_rules.specs.GetData.{GetDataDoes, GetDataFails, HasData, IsDataObject, IsKeyInformation, IsSequenceCounter, counter_bytes, get_data_rules, key_information, tag_of}
+use Rattle.policy_rules.specs.GetData.{GetDataDoes, GetDataFails, HasData, IsDataObject, IsSequenceCounter, counter_bytes, get_data_rules, key_information, tag_of}
 use Rattle.policy_rules.specs.KeySets.{OwnsSets, UsesCounter, has_set, lowest_counter}
 use Rattle.policy_rules.specs.Laws.{OneOutcome, OneRun}
 use Rattle.policy_rules.specs.ManageChannel.{IsClosed, IsClosedAlready, IsOpened, ManageChannelDoes, ManageChannelFails, manage_channel_rules}
-use Rattle.policy_rules.specs.Run.{Command, Input, Reset, Run}
-use Rattle.policy_rules.specs.Select.{IsControlInformation, IsSelected, SelectDoes, SelectFails, control_parts, select_rules}
+use Rattle.policy_rules.specs.Run.{Command, Reset, Run}
+use Rattle.policy_rules.specs.Select.{IsControlInformation, IsSelected, SelectFails, control_parts, select_rules}
 use Rattle.policy_rules.specs.State.{Effect, State, powered_on}
-use Rattle.policy_rules.specs.Step.{IsAccepted, IsBarred, IsRefused, Outcome, Step, accepted, refused}
+use Rattle.policy_rules.specs.Step.{IsAccepted, IsBarred, IsRefused, Outcome, accepted, refused}
 use Rattle.policy_rules.specs.Volatile.{Channel, Volatile}
 use Rattle.policy_rules.specs.declared.instruction.TheConstants.{SELECT, MANAGE_CHANNEL, GET_DATA}
 use Rattle.policy_rules.specs.declared.rule.Rule.{Rule}

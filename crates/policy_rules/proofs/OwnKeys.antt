@@ -1,7 +1,7 @@
 -- The keys of a domain in their slots, and those that the registry has by names.
-use Rattle.std.proofs.Common.{◌≡◌, ◌≢◌, ℕ, ◌+◌, ◌<◌, Bool, true, false, ◌&&◌, List, [], ◌∷◌, ◌++◌, Option, None, Some, refl, sym, ap, subst, ◌∙◌, inl, inr, arith}
-use Rattle.std.specs.Prelude.{cond, find, filter, MatchOption, ◌==◌, nat_lt}
-use Rattle.std.specs.Cmp.{IsTotalOrder, both_ways}
+use Rattle.std.proofs.Common.{◌≡◌, ℕ, Bool, true, false, ◌&&◌, List, [], ◌∷◌, Option, None, Some, refl, sym, ap, subst, ◌∙◌, inl, inr}
+use Rattle.std.specs.Prelude.{cond, find, filter, ◌==◌}
+use Rattle.std.specs.Cmp.{both_ways}
 use Rattle.std.specs.Ordering.{is_lt, nat_cmp, ordering_then}
 use Rattle.std.specs.declared.cmp.Ordering.{Ordering}
 use Rattle.std.specs.declared.cmp.Ordering.TheVariants.{Less, Equal, Greater}
@@ -11,7 +11,7 @@ use Rattle.card_types.proofs.FilterByFinds.{filter_by_finds}
 use Rattle.card_types.proofs.KeyNames.{key_order_total, least_counter, least_key, no_counter, no_key}
 use Rattle.card_types.proofs.SameAid.{aid_equal_itself, aid_same_itself, same_aid_decides}
 use Rattle.card_types.specs.AidOrder.{aid_order, same_aid}
-use Rattle.card_types.specs.Ascending.{counter_order, key_order}
+use Rattle.card_types.specs.Ascending.{key_order}
 use Rattle.card_types.specs.Least.{IsLeast, NoneFits}
 use Rattle.card_types.specs.Registry as registry
 use Rattle.card_types.specs.Says.{Says, counter_of, domain_aid, keeps_counter, key_of}

@@ -1,5 +1,5 @@
 -- What is selected on a channel, by its slot and by its AID.
-use Rattle.std.proofs.Common.{◌≡◌, ℕ, ◌<◌, List, Option, None, Some, sym, ap, subst, ◌∙◌}
+use Rattle.std.proofs.Common.{◌≡◌, ℕ, ◌<◌, List, Option, None, Some, sym, subst, ◌∙◌}
 use Rattle.std.specs.Prelude.{slice_index_or}
 use Rattle.card_types.proofs.Domains.{domain_aid_is}
 use Rattle.card_types.specs.Says.{domain_aid}

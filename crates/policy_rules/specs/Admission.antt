@@ -3,7 +3,7 @@
 -- at it leaves, and what passing it changes.
 use Rattle.std.specs.Prelude.{◌≡◌, ◌≢◌, ◌⊎◌, ℕ, List, [], ◌∷◌, Bool, true, false, ◌&&◌, not, Option, None, Some, MatchOption, if◌then◌else◌, ◌==◌}
 use Rattle.apdu_core.specs.Apdu.{Apdu, Short}
-use Rattle.card_types.specs.Registry.{Entry, entry_named, is_domain}
+use Rattle.card_types.specs.Registry.{entry_named, is_domain}
 use Rattle.card_types.specs.declared.card_life.CardLife.TheVariants.{Terminated}
 use Rattle.policy_rules.specs.Classes.{class_of, channel_of, is_secure, IsKnown, IsPlainGetData}
 use Rattle.policy_rules.specs.FirstFailing.{IsFirst}

@@ -1,5 +1,5 @@
 -- What GET DATA finds in the slots of a card.
-use Rattle.std.specs.Prelude.{◌≡◌, ◌≢◌, ℕ, ◌<◌, ◌≤◌, List, length, None}
+use Rattle.std.specs.Prelude.{◌≡◌, ◌≢◌, ℕ, ◌<◌, None}
 use Rattle.bertlv.specs.Tag.{IsTag}
 use Rattle.card_types.specs.Least.{IsLeast}
 use Rattle.card_types.specs.Registry.{Registry}

@@ -1,5 +1,5 @@
 -- One step of the policy machine.
-use Rattle.std.specs.Prelude.{◌≡◌, ◌⊎◌, ℕ, List, ◌++◌, Bool, false, Option, None, Some}
+use Rattle.std.specs.Prelude.{◌≡◌, ◌⊎◌, ℕ, List, ◌++◌, false, Option, None, Some}
 use Rattle.apdu_core.specs.Reply.{status_bytes}
 use Rattle.policy_rules.specs.Admission.{Admits, Admitted, Bars, Leaves, general_rules}
 use Rattle.policy_rules.specs.Commands.{Does, Judges}

@@ -1,7 +1,5 @@
-use Rattle.std.proofs.Common.{◌≡◌, ◌≢◌, ℕ, Bool, true, false, None, Some, refl, sym, ap, subst, ◌∙◌}
-use Rattle.std.specs.Prelude.{slice_index_or}
+use Rattle.std.proofs.Common.{sym, ◌∙◌}
 use Rattle.apdu_core.specs.Apdu.{apdu_of}
-use Rattle.policy_rules.specs.Classes.{IsKnown, channel_of, class_of}
 use Rattle.card_core.proofs.Admitting.{all_passed, for_no_application, no_channel, no_class, over, unknown}
 use Rattle.card_core.proofs.admit.admit.Goals as goal
 

@@ -1,4 +1,4 @@
-use Rattle.std.proofs.Common.{◌≡◌, ◌<◌, ℕ, List, None, Some, refl, sym, ap, subst, ◌∙◌, inr}
+use Rattle.std.proofs.Common.{ℕ, refl, sym, ap, subst, ◌∙◌, inr}
 use Rattle.bertlv.specs.Spelling.{Spelling}
 use Rattle.policy_rules.proofs.DataAsked.{asked_for, asks}
 use Rattle.policy_rules.proofs.Judging.{get_passes, get_refused, only_get}

@@ -1,4 +1,4 @@
-use Rattle.std.proofs.Common.{◌≡◌, ◌++◌, ℕ, List, [], None, Some, refl, sym, ap, subst, ◌∙◌, inl}
+use Rattle.std.proofs.Common.{◌≡◌, ◌++◌, ℕ, List, [], None, Some, sym, ap, subst, ◌∙◌, inl}
 use Rattle.bertlv.specs.Spelling.{Appends, Spelling}
 use Rattle.card_types.specs.Least.{IsLeast}
 use Rattle.card_types.specs.Says.{domain_aid}

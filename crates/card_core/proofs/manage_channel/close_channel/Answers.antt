@@ -1,4 +1,4 @@
-use Rattle.std.proofs.Common.{rules, ◌≡◌, ◌≢◌, ℕ, ◌<◌, ◌≤◌, List, [], Bool, true, false, None, Some, length, refl, inl, inr, sym, ap, subst, ◌∙◌, arith}
+use Rattle.std.proofs.Common.{rules, ◌≡◌, ◌≢◌, ℕ, ◌≤◌, [], true, false, None, length, refl, inl, inr, arith}
 use Rattle.std.specs.Prelude.{is_none, slice_index_or}
 use Rattle.policy_rules.proofs.Judging.{close_passes}
 use Rattle.policy_rules.specs.Volatile.{without_channel}

@@ -1,4 +1,4 @@
-use Rattle.std.proofs.Common.{rules, ◌≡◌, ◌<◌, ℕ, List, [], ◌∷◌, None, Some, length, refl, inl, inr, sym, ap, subst, ◌∙◌}
+use Rattle.std.proofs.Common.{rules, ◌≡◌, ◌<◌, ℕ, List, length, refl, inl, ap, subst, ◌∙◌}
 use Rattle.policy_rules.proofs.Judging.{only_select, select_passes, select_refused}
 use Rattle.policy_rules.specs.Select.{IsControlInformation, selected_status}
 use Rattle.policy_rules.specs.Volatile.{with_selected}

@@ -1,6 +1,6 @@
-use Rattle.std.proofs.Common.{◌≡◌, ℕ, List, [], Some, Result, Ok, Err, refl, sym, ap, subst, ◌∙◌}
+use Rattle.std.proofs.Common.{◌≡◌, ℕ, List, [], Some, Result, Ok, Err, sym, subst}
 use Rattle.std.specs.Prelude.{IsErrAnd}
-use Rattle.apdu_core.specs.Apdu.{Apdu, apdu_of}
+use Rattle.apdu_core.specs.Apdu.{apdu_of}
 use Rattle.apdu_core.specs.declared.reply.Status.{Status}
 use Rattle.policy_rules.specs.Admission.{Admitted, admitted_as}
 use Rattle.policy_rules.specs.Commands.{Judges}

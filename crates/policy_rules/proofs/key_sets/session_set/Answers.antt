@@ -1,11 +1,6 @@
-use Rattle.std.proofs.Common.{ℕ, List, ◌≡◌, Option, None, Some, subst, sym}
+use Rattle.std.proofs.Common.{Option, None, Some}
 use Rattle.std.specs.Prelude.{IfSome, IfNone}
 use Rattle.card_types.proofs.DomainLines.{line_in_slots}
-use Rattle.card_types.specs.Hierarchy.{IsLine}
-use Rattle.card_types.specs.Says.{domain_slot}
-use Rattle.card_types.specs.Slots.{held}
-use Rattle.card_types.specs.declared.tables.Entry.{Entry}
-use Rattle.domain_tree.specs.Above.{IsFirstAbove, NoneAbove}
 use Rattle.policy_rules.proofs.SessionSets.{not_none, uses_above, uses_none, uses_own}
 use Rattle.policy_rules.proofs.key_sets.session_set.Goals as goal
 

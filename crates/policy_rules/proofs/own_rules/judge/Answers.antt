@@ -1,4 +1,4 @@
-use Rattle.std.proofs.Common.{rules, ◌≡◌, ℕ, List, ◌<◌, None, Some, sym, ap, subst, ◌∙◌}
+use Rattle.std.proofs.Common.{rules, ◌≡◌, None, Some, sym, ap, ◌∙◌}
 use Rattle.std.specs.Prelude.{slice_index_or}
 use Rattle.policy_rules.specs.Volatile.{selected_on}
 use Rattle.policy_rules.proofs.DataAsked.{asked_for, asks, has_data}

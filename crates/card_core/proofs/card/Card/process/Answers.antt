@@ -1,6 +1,5 @@
-use Rattle.std.proofs.Common.{◌≡◌, ℕ, List, ◌++◌, None, Some, sym, ap, subst, ◌∙◌}
+use Rattle.std.proofs.Common.{ℕ, ◌++◌, ap, ◌∙◌}
 use Rattle.apdu_core.specs.Reply.{status_bytes}
-use Rattle.policy_rules.specs.Step.{Outcome, Step}
 use Rattle.card_core.proofs.card.Card.process.Goals.{in-Ok, in-Err}
 use Rattle.card_core.proofs.card.Card.process.Goals as goal
 
