@@ -1,15 +1,17 @@
 -- Keys and counters in slots, and those that the registry has by names.
-use Rattle.std.proofs.Common.{◌≡◌, ℕ, Bool, true, ◌&&◌, List, None, Some}
+use Rattle.std.proofs.Common.{◌≡◌, ℕ, Bool, true, ◌&&◌, List, None, Some, refl, ap}
 use Rattle.std.specs.Prelude.{find}
 use Rattle.std.specs.Cmp.{IsTotalOrder}
-use Rattle.std.proofs.lemmas.Cmp.{nat_cmp_total, nat_list_cmp_total, on_total, then_total}
+use Rattle.std.proofs.lemmas.Cmp.{nat_cmp_total, nat_list_cmp_total, on_total, then_total, tied_itself}
 use Rattle.card_types.specs.Ascending.{key_order, counter_order}
 use Rattle.card_types.specs.Least.{IsLeast, NoneFits}
 use Rattle.card_types.specs.Registry as registry
-use Rattle.card_types.specs.Says.{Says, counter_of, keeps_counter, key_of}
+use Rattle.card_types.specs.Slots.{held}
+use Rattle.card_types.proofs.SameAid.{aid_same_equal}
+use Rattle.card_types.specs.Says.{Says, counter_of, domain_aid, keeps_counter, key_of}
 use Rattle.card_types.specs.declared.tables.KeyRec.{KeyRec}
 use Rattle.card_types.specs.declared.tables.Tables.{Tables}
-use Rattle.card_types.proofs.Shows.{Shows, least_shown, none_shown, shows_kept, shows_used}
+use Rattle.card_types.proofs.Shows.{Shows, least_shown, none_shown, one_slot, shows_kept, shows_used}
 
 pub key_order_total : IsTotalOrder key_order
 key_order_total =
@@ -49,3 +51,10 @@ module _ (page : ℕ → List ℕ) (tables : Tables) (said : registry.Registry) 
   pub no_counter : (p : registry.Counter → Bool) → NoneFits (λ k. keeps_counter k && p (counter_of tables.entries.items k)) tables.keys.items
       → find p said.counters ≡ None
   no_counter p none = none_shown (counter_of tables.entries.items) keeps_counter tables.keys.items said.counters counters_shown p none
+
+  -- no two slots have keys of one owner slot, version and identifier
+  pub one_key_slot : (a b : ℕ) (x y : KeyRec) → held tables.keys.items a ≡ Some x → held tables.keys.items b ≡ Some y
+      → x.owner ≡ y.owner → x.version ≡ y.version → x.identifier ≡ y.identifier → a ≡ b
+  one_key_slot a b x y at_a at_b owner version identifier =
+      one_slot (key_of tables.entries.items) tables.keys.items said.keys says.keys key_order key_order_total says.ascending.keys a b x y at_a at_b
+      (rw (aid_same_equal _ _ (ap (domain_aid tables.entries.items) owner), version, identifier, tied_itself nat_cmp_total y.version, tied_itself nat_cmp_total y.identifier) refl)

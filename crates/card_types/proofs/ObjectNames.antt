@@ -19,7 +19,7 @@ use Rattle.card_types.specs.declared.tables.Object.{Object}
 use Rattle.card_types.specs.declared.tables.Tables.{Tables}
 use Rattle.card_types.proofs.Domains.{object_owner_is_used, same_domain}
 use Rattle.card_types.proofs.SameAid.{aid_same_equal, aid_same_itself, same_aid_decides}
-use Rattle.card_types.proofs.Shows.{Shows, least_shown, none_shown, only_shown, shows_used}
+use Rattle.card_types.proofs.Shows.{Shows, least_shown, none_shown, one_slot, only_shown, shows_used}
 
 pub object_order_total : IsTotalOrder object_order
 object_order_total =
@@ -69,3 +69,10 @@ module _ (page : ℕ → List ℕ) (tables : Tables) (said : registry.Registry) 
       let domain = object_owner_is_used page tables said says well slot object here in
       let slots : object.owner ≡ owner = same_domain page tables said says object.owner owner domain.0 entry domain.1 at same.0 in
       none slot object here (and_from (object.owner == owner) (object.tag == tag) (eq-eqb object.owner owner slots) (eq-eqb object.tag tag same.1))))
+
+  -- no two slots have objects of one owner slot and tag
+  pub one_object_slot : (a b : ℕ) (x y : Object) → held tables.objects.items a ≡ Some x → held tables.objects.items b ≡ Some y
+      → x.owner ≡ y.owner → x.tag ≡ y.tag → a ≡ b
+  one_object_slot a b x y at_a at_b owner tag =
+      one_slot (object_of tables.entries.items) tables.objects.items said.objects says.objects object_order object_order_total says.ascending.objects a b x y at_a at_b
+      (rw (aid_same_equal _ _ (ap (domain_aid tables.entries.items) owner)) (same_number x.tag y.tag tag))
