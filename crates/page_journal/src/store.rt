@@ -52,6 +52,7 @@ impl<F: Flash> PageStore<F> {
         ensures only { F.tells → IfOk result (λ s. Only (F.pages flash) (F.may_leave s.flash)) }
         ensures moments { F.tells → IfOk result (λ s. LeavesOnly F.moment F.left_since flash s.flash (F.may_leave flash)) }
         ensures later { IfOk result (λ s. F.faults flash ≤ F.faults s.flash) }
+        ensures err_later { IfErr result (λ e. F.faults flash ≤ F.faults e.flash) }
         ensures err_pages { F.tells → IfErr result (λ e. F.pages e.flash ≡ F.pages flash) }
         ensures err_moments { F.tells → IfErr result (λ e. LeavesOnly F.moment F.left_since flash e.flash (F.may_leave flash)) }
         ensures err { IfErr result (λ e. MountFails F.tells F.faults F.pages flash e.cause e.flash) }
