@@ -1,4 +1,4 @@
-use Rattle.std.proofs.Common.{ℕ, ◌+◌, ◌<◌, List, ◌++◌, length, length-append, arith, rules}
+use Rattle.std.proofs.Common.{ℕ, List, ◌++◌, length-append, arith, rules}
 use Rattle.bertlv.specs.Spelling.{Spelling}
 use Rattle.bertlv.proofs.SpellingLemmas.{fields_spell}
 use Rattle.bertlv.proofs.writer.write.Goals as goal
