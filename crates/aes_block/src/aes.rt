@@ -38,6 +38,7 @@ impl<S: KeySize> BlockKey for Aes<S> {
 
     ghost key_bytes = { λ k. first_bytes (schedule_of S.BYTES k.words) (S.BYTES / 4) };
 
+    #[inline(always)]
     fn from_key(key: &[u8]) -> Aes<S> {
         let rounds = rounds::<S>();
         let mut words = [0; MOST_WORDS];

@@ -36,6 +36,7 @@ impl<S: KeySize> BlockKey for SealingAes<S> {
 
     ghost key_bytes = { λ k. first_bytes (schedule_of S.BYTES k.words) (S.BYTES / 4) };
 
+    #[inline(always)]
     fn from_key(key: &[u8]) -> SealingAes<S> {
         let mut words = [0; MOST_WORDS];
         expand(key, &mut words[..4 * rounds::<S>() + 4]);

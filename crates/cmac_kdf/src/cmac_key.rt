@@ -32,6 +32,7 @@ impl<K: BlockKey> Model for CmacKey<K> {
 
 impl<K: BlockKey> CmacKey<K> {
     /// Makes the subkeys.
+    #[inline(always)]
     pub fn new(key: K) -> CmacKey<K>
         ensures { result ≡ K.key_bytes key }
     {

@@ -7,6 +7,7 @@ use crate::block::{block_at, doubled, xor_block};
 use crate::padding::padded_block;
 use aes_block::BlockKey;
 
+/// K1, for a whole last block, and K2, for a cut one.
 #[derive(Clone, Copy)]
 pub struct Subkeys {
     pub first: [u8; 16],
