@@ -1,4 +1,4 @@
--- What 608 pages stand for, by layout 02: store page p is page p, the gate is page 45, the descriptor page 46, and
+-- What 608 pages stand for. Store page p is page p, the gate is page 45, the descriptor page 46, and
 -- copy i page 47 + i. Behind an open gate the copies count, and the pages that the descriptor names do not.
 use Rattle.std.specs.Prelude.{◌≡◌, ◌≢◌, ℕ, zero, suc, ◌+◌, ◌<◌, ◌≤◌, Bool, true, if◌then◌else◌, ◌==◌, List, [], Option, None, Some, slice_get, slice_index}
 use Rattle.flash_core.specs.declared.page.Page.{Page}
