@@ -1,11 +1,12 @@
 -- Staged pages by their places.
-use Rattle.std.proofs.Common.{◌≡◌, ◌≢◌, ◌⊎◌, inl, inr, ℕ, zero, suc, ◌+◌, ◌<◌, ◌≤◌, List, [], ◌∷◌, ◌++◌, length, get_or, set, Some, None, slice_get, option_map, refl, sym, ap, ◌∙◌, arith}
+use Rattle.std.proofs.Common.{◌≡◌, ◌≢◌, ◌⊎◌, inl, inr, ℕ, zero, suc, ◌+◌, ◌<◌, ◌≤◌, List, [], ◌∷◌, ◌++◌, length, take, get_or, set, Some, None, slice_get, option_map, refl, sym, ap, ◌∙◌, arith}
 use Rattle.std.proofs.lemmas.Bool.{cases_eq}
 use Rattle.std.proofs.lemmas.Bool.Decides.{nat_tests}
 use Rattle.std.proofs.lemmas.Option.{slice_get-get_or, slice_get-map, slice_get_within}
 use Rattle.flash_core.specs.declared.page.Page.{Page}
+use Rattle.flash_core.proofs.PageLists.{get_set_same, get_set_other, length_set}
 use Rattle.frame_pool.specs.declared.pool.Frame.{Frame}
-use Rattle.frame_pool.specs.Entries.{entries}
+use Rattle.frame_pool.specs.Entries.{entries, AreLinked}
 use Rattle.frame_pool.specs.Staged.{staged, with_page, with_bytes_at, AreDistinct}
 
 abbrev Pages : Type 0
@@ -72,10 +73,54 @@ found_with (e ∷ pages) (suc at) number page w is none = let ne : e.0 ≢ numbe
     let tail = found_with pages at number page w is (λ k s lt there. none (suc k) s (omega arith) there) in grind (arith, nat_tests)
 
 -- writing the bytes of a frame
-pub set_bytes : (frames : List Frame) (at number : ℕ) (d : Frame) (w : Page) → at < length frames → number ≡ (get_or frames at d).number → entries (set frames at (record { number = number; page = w })) ≡ with_bytes_at (entries frames) at w
-set_bytes [] at number d w lt is = absurd (omega arith)
-set_bytes (f ∷ frames) zero number d w lt is = ap (λ n. (n, w) ∷ entries frames) is
-set_bytes (f ∷ frames) (suc at) number d w lt is = ap (λ l. (f.number, f.page) ∷ l) (set_bytes frames at number d w (omega arith) is)
+pub set_bytes : (frames : List Frame) (at : ℕ) (f : Frame) (w : Page) → slice_get frames at ≡ Some f → entries (set frames at (record { number = f.number; next = f.next; page = w })) ≡ with_bytes_at (entries frames) at w
+set_bytes [] at f w is = absurd (cc is)
+set_bytes (g ∷ frames) zero f w is = let same : g ≡ f = cc is in ap (λ (x : Frame). (x.number, w) ∷ entries frames) (sym same)
+set_bytes (g ∷ frames) (suc at) f w is = ap (λ l. (g.number, g.page) ∷ l) (set_bytes frames at f w is)
+
+-- the first frames
+pub get_take : {X : Type 0} (n k : ℕ) (xs : List X) → k < n → slice_get (take n xs) k ≡ slice_get xs k
+get_take zero k xs lt = absurd (omega arith)
+get_take (suc n) k [] lt = refl
+get_take (suc n) zero (x ∷ xs) lt = refl
+get_take (suc n) (suc k) (x ∷ xs) lt = get_take n k xs (omega (arith, lt))
+
+pub take_set : {X : Type 0} (n k : ℕ) (xs : List X) (x : X) → k < n → take n (set xs k x) ≡ set (take n xs) k x
+take_set zero k xs x lt = absurd (omega arith)
+take_set (suc n) k [] x lt = refl
+take_set (suc n) zero (y ∷ xs) x lt = refl
+take_set (suc n) (suc k) (y ∷ xs) x lt = ap (λ l. y ∷ l) (take_set n k xs x (omega (arith, lt)))
+
+take_next : {X : Type 0} (n : ℕ) (xs : List X) (x : X) → n < length xs → take (suc n) (set xs n x) ≡ take n xs ++ x ∷ []
+take_next n [] x lt = absurd (omega arith)
+take_next zero (y ∷ xs) x lt = refl
+take_next (suc n) (y ∷ xs) x lt = ap (λ l. y ∷ l) (take_next n xs x (omega (arith, lt)))
+
+pub take_push : {X : Type 0} (n : ℕ) (xs : List X) (x : X) → n < length xs → take (n + 1) (set xs n x) ≡ take n xs ++ x ∷ []
+take_push n xs x lt = let next : n + 1 ≡ suc n = omega arith in ap (λ m. take m (set xs n x)) next ∙ take_next n xs x lt
+
+pub get_set : {X : Type 0} (xs : List X) (i j : ℕ) (x y : X) → slice_get (set xs i x) j ≡ Some y → ((j ≡ i) × (y ≡ x)) ⊎ ((j ≢ i) × (slice_get xs j ≡ Some y))
+get_set xs i j x y is = elim (cases_eq j i) [
+  | inl same ↦ inl (same, at_same xs i j x y same is)
+  | inr other ↦ inr (other, sym (get_set_other xs i j x other) ∙ is)
+]
+  where
+    at_same : {X : Type 0} (xs : List X) (i j : ℕ) (x y : X) → j ≡ i → slice_get (set xs i x) j ≡ Some y → y ≡ x
+    at_same xs i j x y same is =
+        let within : i < length xs = omega (arith, slice_get_within (set xs i x) j y is, length_set xs i x, same) in
+        let got : Some x ≡ Some y = sym (get_set_same xs i x within) ∙ ap (slice_get (set xs i x)) (sym same) ∙ is in
+        let e : x ≡ y = cc got in sym e
+
+-- a frame and what it holds
+pub entry_of : (frames : List Frame) (at : ℕ) (f : Frame) → slice_get frames at ≡ Some f → slice_get (entries frames) at ≡ Some (f.number, f.page)
+entry_of frames at f is = slice_get-map (λ f. (f.number, f.page)) frames at ∙ ap (option_map (λ f. (f.number, f.page))) is
+
+pub more_of : (pages : Pages) (at number : ℕ) (e : ℕ × Page) → slice_get pages at ≡ Some e → NoneBefore pages at number → e.0 ≢ number → NoneBefore pages (at + 1) number
+more_of pages at number e is before ne k s lt there = by_place (cases_eq k at)
+  where
+    by_place : (k ≡ at) ⊎ (k ≢ at) → s.0 ≢ number
+    by_place (inl same) = let got : Some e ≡ Some s = sym is ∙ (ap (slice_get pages) (sym same) ∙ there) in let eq : e ≡ s = cc got in λ has. ne (ap (λ (o : ℕ × Page). o.0) eq ∙ has)
+    by_place (inr other) = before k s (omega (arith, lt, other)) there
 
 number_kept : (pages : Pages) (at : ℕ) (w : Page) (i : ℕ) (a : ℕ × Page) → slice_get (with_bytes_at pages at w) i ≡ Some a → (b : ℕ × Page) × (slice_get pages i ≡ Some b) × (a.0 ≡ b.0)
 number_kept [] at w i a is = absurd (cc is)
@@ -124,3 +169,15 @@ entries_push (g ∷ frames) f = ap (λ l. (g.number, g.page) ∷ l) (entries_pus
 pub length_with : (pages : Pages) (number : ℕ) (page : Page) → length (with_page pages number page) ≤ length pages + 1
 length_with [] number page = omega arith
 length_with (e ∷ pages) number page = let tail = length_with pages number page in elim (cases_eq e.0 number) [ inl is ↦ grind (arith, nat_tests) | inr ne ↦ grind (arith, nat_tests) ]
+
+pub linked_set : (frames : List Frame) (at : ℕ) (f : Frame) (w : Page) → slice_get frames at ≡ Some f → AreLinked frames → AreLinked (set frames at (record { number = f.number; next = f.next; page = w }))
+linked_set frames at f w here linked i frame is = elim (get_set frames at i _ frame is) [
+  | inl same ↦ ap (λ (x : Frame). x.next) same.1 ∙ linked at f here ∙ ap (λ n. n + 1) (sym same.0)
+  | inr other ↦ linked i frame other.1
+]
+
+pub linked_put : (frames : List Frame) (at : ℕ) (f : Frame) → f.next ≡ at + 1 → AreLinked frames → AreLinked (set frames at f)
+linked_put frames at f next linked i frame is = elim (get_set frames at i f frame is) [
+  | inl same ↦ ap (λ (x : Frame). x.next) same.1 ∙ next ∙ ap (λ n. n + 1) (sym same.0)
+  | inr other ↦ linked i frame other.1
+]

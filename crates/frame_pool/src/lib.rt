@@ -1,8 +1,9 @@
 //! A pool of `FRAMES` frames for staged pages.
 //!
-//! The pool takes memory for all its frames at once, when it is made, and frees it once, at its end: no call after
-//! `new` can want memory. Contracts see a list of page numbers with their bytes, no number twice. `stage` lends the
-//! bytes of a page for writing where they lie.
+//! The frames stand in one block, which is taken when the pool is made and freed once, at its end: no call after
+//! `new` can want memory. Each frame has a page's number, its bytes, and the link to the frame that is staged after
+//! it. Contracts see a list of page numbers with their bytes, no number twice. `stage` lends the bytes of a page for
+//! writing where they lie.
 #![tactic(auto)]
 
 mod pool;

@@ -1,8 +1,11 @@
-use Rattle.std.proofs.Common.{◌≡◌, ◌≢◌, ◌<◌, ℕ, Some, slice_get}
-use Rattle.flash_core.specs.declared.page.Page.{Page}
+use Rattle.std.proofs.Common.{◌≡◌, take}
 use Rattle.frame_pool.specs.Entries.{entries}
+use Rattle.frame_pool.proofs.Places.{NoneBefore}
 use Rattle.frame_pool.proofs.pool.find.Given as goal
 
--- no frame so far has the number
-abbrev pub invariant-loop-at : goal.invariant-loop-at
-invariant-loop-at l = (k : ℕ) (s : ℕ × Page) → k < l.at → slice_get (entries l.frames) k ≡ Some s → s.0 ≢ l.page
+-- the links lead from place to place, and no frame so far has the number
+abbrev pub invariant-loop-place : goal.invariant-loop-place
+invariant-loop-place l = record {
+  at : l.at ≡ l.place;
+  none : NoneBefore (entries (take l.len l.frames.items)) l.place l.page;
+}
