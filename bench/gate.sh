@@ -1,48 +1,64 @@
 #!/usr/bin/env bash
-# What the merge gate costs: for each crate the processor seconds of a verdict from
-# nothing (the proofs of the crate and of its tests, and its tests' runs), and of its
-# must-fail edits.
+# What the merge gate costs: it runs `rt ci --anew` in a copy, and prints for each crate the
+# processor seconds of the prover: proofs, tests, and must-fail edits.
 #
 #   bench/gate.sh            every crate
-#   bench/gate.sh CRATE...   these crates
+#   bench/gate.sh CRATE...   these crates and those below them
 #
-# It works in a copy. The crates below are built first and counted with none.
+# It looks twice a second, so what a process does in its last half second is not counted. It
+# ends as the gate does, and prints the gate's last lines where that fails.
 set -euo pipefail
 
 top=$(dirname "$(dirname "$(readlink -f "${BASH_SOURCE[0]}")")")
 copy=$(mktemp -d "${TMPDIR:-/tmp}/gate.XXXXXX")
 trap 'rm -rf "$copy"' EXIT
 
-cp "$top/crates.txt" "$top/HANDLES" "$copy"
-mkdir "$copy/crates"
-for crate in "$top"/crates/*/; do
-    mkdir "$copy/crates/$(basename "$crate")"
-    find "$crate" -mindepth 1 -maxdepth 1 ! -name out ! -name wrong \
-        -exec cp -r {} "$copy/crates/$(basename "$crate")" \;
-done
+git -C "$top" ls-files -z | (cd "$top" && xargs -0 cp --parents -t "$copy")
 cd "$copy"
+git init -q
+# The edits' own copies lie below this folder too, so that nobody else's processes count.
+mkdir tmp
+chmod 1777 . tmp
+TMPDIR=$copy/tmp rt ci --anew "$@" >tmp/log 2>&1 </dev/null &
+gate=$!
 
-# Processor seconds, user and system, of a command and all that it starts.
-seconds_of() {
-    local TIMEFORMAT='%U %S'
-    { time "$@" >>log 2>&1; } 2>&1 | awk '{ printf "%.0f", $1 + $2 }'
-}
-
-verdict() { (cd "crates/$1" && rt verdict); }
-
-if (($# == 0)); then
-    set -- $(sed -n 's/^\([a-z0-9_]*\):.*/\1/p' crates.txt)
-fi
-printf '%-14s %8s %8s %8s\n' crate proof edits sum
-total=0
-for name; do
-    (cd "crates/$name" && rt check >>../../log 2>&1)
-    proof=$(seconds_of verdict "$name")
-    edits=0
-    if [[ -d crates/$name/must-fail ]]; then
-        edits=$(seconds_of rt must-fail "$name")
-    fi
-    printf '%-14s %8d %8d %8d\n' "$name" "$proof" "$edits" "$((proof + edits))"
-    total=$((total + proof + edits))
+declare -A spent
+while kill -0 "$gate" 2>/dev/null; do
+    while read -r pid seconds command; do
+        folder=$(readlink "/proc/$pid/cwd") || continue
+        [[ $folder == "$copy"/* && $command =~ --crate-name\ ([a-z0-9_]+) ]] || continue
+        crate=${BASH_REMATCH[1]}
+        case $folder:$command in
+        */rt-edit-*) part=edits ;;
+        *\ --test*) part=tests ;;
+        *) part=proofs ;;
+        esac
+        spent["$crate $part $pid"]=$seconds
+    done < <(ps -C rattle -o pid=,cputimes=,args= || true)
+    sleep 0.5
 done
-printf '%-14s %26d\n' all "$total"
+status=0
+wait "$gate" || status=$?
+
+for what in "${!spent[@]}"; do
+    echo "$what ${spent[$what]}"
+done | awk -v minutes="$((SECONDS / 60))" '
+    { spent[$1, $2] += $4; crates[$1] }
+    function row(crate, proofs, tests, edits) {
+        return sprintf("%-14s %8d %8d %8d %8d", crate, proofs, tests, edits, proofs + tests + edits)
+    }
+    END {
+        printf "%-14s %8s %8s %8s %8s\n", "crate", "proofs", "tests", "edits", "sum"
+        fflush()
+        for (crate in crates) {
+            print row(crate, spent[crate, "proofs"], spent[crate, "tests"], spent[crate, "edits"]) | "sort"
+            proofs += spent[crate, "proofs"]
+            tests += spent[crate, "tests"]
+            edits += spent[crate, "edits"]
+        }
+        close("sort")
+        print row("all", proofs, tests, edits)
+        print "minutes", minutes
+    }'
+if ((status == 0)); then tail -n 1 tmp/log; else tail -n 40 tmp/log >&2; fi
+exit "$status"

@@ -1,12 +1,13 @@
 //! GET DATA: data of the selected domain are answered.
 
-ghost use Rattle.std.specs.Prelude.{◌≡◌, ◌≤◌, ◌<◌, ◌+◌, ◌++◌, ℕ, List, [], ◌∷◌, length};
+ghost use Rattle.std.specs.Prelude.{◌≡◌, ◌≤◌, ◌<◌, ◌+◌, ◌++◌, ℕ, List, [], ◌∷◌, length, None, Some, slice_index_or};
 ghost use Rattle.arrayvec.specs.ArrayVec.{array_vec_len};
 ghost use Rattle.bertlv.specs.Spelling.{Spelling};
 ghost use Rattle.bertlv.specs.Tag.{IsTag};
 ghost use Rattle.card_core.specs.Kept.{Kept, Stands};
 ghost use Rattle.card_core.specs.Serves.{CarriesOut};
 ghost use Rattle.card_types.specs.InOrder.{IsInOrder};
+ghost use Rattle.card_types.specs.Least.{IsLeast};
 ghost use Rattle.card_types.specs.Registry.{Registry};
 ghost use Rattle.card_types.specs.Says.{Says, domain_aid};
 ghost use Rattle.card_types.specs.Slots.{held};
@@ -18,8 +19,6 @@ ghost use Rattle.policy_rules.specs.GetData.{HasData, IsKeyInformation, counter_
 ghost use Rattle.policy_rules.specs.KeyOrder.{follows, name_order};
 ghost use Rattle.policy_rules.specs.Means.{IsRequestOf};
 ghost use Rattle.policy_rules.specs.declared.request.Request.TheVariants.{Get};
-ghost use Rattle.std.specs.Prelude.{None, Some, slice_index_or};
-ghost use Rattle.card_types.specs.Least.{IsLeast};
 
 use crate::reply::REPLY_LIMIT;
 use apdu_core::Status;
@@ -115,6 +114,8 @@ fn write_datum(tables: &Tables, tag: u16, datum: Datum<'_>, reply: &mut ArrayVec
 }
 
 /// Answers the data of a tag, for the domain in the slot that is selected on the channel.
+// Most commands are others, and run faster where this is not between them.
+#[inline(never)]
 pub fn get_data(
     tables: &Tables,
     live: &Live,
