@@ -1,10 +1,10 @@
--- Key sets: the three keys of one version. Version 00 asks for any set (GlobalPlatform Card Specification 2.3.1, 11.8;
--- Amendment D, 7.1.1).
+-- Key sets: the three keys of one key version number. Key version number 00 asks for any set (GlobalPlatform Card
+-- Specification 2.3.1, 11.8; Amendment D, 7.1.1).
 use Rattle.std.specs.Prelude.{◌≡◌, ℕ, ◌≤◌, ◌⊎◌, List, [], ◌∷◌, Option, MatchOption}
 use Rattle.card_types.specs.Slots.{held}
 use Rattle.card_types.specs.declared.tables.KeyRec.{KeyRec}
 
--- the key of this owner and version with this identifier
+-- the key of this owner with this key version number and key identifier
 pub record IsKey (owner version identifier : ℕ) (key : KeyRec) : Type 0 where
   pub same_owner : key.owner ≡ owner
   pub same_version : key.version ≡ version
@@ -14,7 +14,7 @@ pub record IsKey (owner version identifier : ℕ) (key : KeyRec) : Type 0 where
 abbrev pub HasKey : List (Option KeyRec) → ℕ → ℕ → ℕ → ℕ → Type 0
 HasKey keys owner version identifier slot = MatchOption (held keys slot) ⊥ (IsKey owner version identifier)
 
--- the slots hold the three keys of this version
+-- the slots hold the three keys of this key version number
 pub record HasKeys (keys : List (Option KeyRec)) (owner version : ℕ) (slots : List ℕ) : Type 0 where
   pub first : ℕ
   pub second : ℕ
@@ -24,13 +24,13 @@ pub record HasKeys (keys : List (Option KeyRec)) (owner version : ℕ) (slots : 
   pub second_key : HasKey keys owner version 2 second
   pub third_key : HasKey keys owner version 3 third
 
--- a version of a key set that is asked for: the given one, or any where 00 is given
+-- a key version number that is asked for: the given one, or any of a key set where 00 is given
 pub record IsAsked (given version : ℕ) : Type 0 where
   pub asked : (given ≡ 0) ⊎ (given ≡ version)
   pub least : 0x01 ≤ version
   pub most : version ≤ 0x6F
 
--- the slots hold the key set asked for, with the lowest version
+-- the slots hold the key set asked for, with the lowest key version number
 pub record IsSetOf (keys : List (Option KeyRec)) (owner given : ℕ) (slots : List ℕ) : Type 0 where
   pub version : ℕ
   pub asked : IsAsked given version

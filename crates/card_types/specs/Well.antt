@@ -56,14 +56,14 @@ pages_of size = (size + 255) / 256
 abbrev pub IsKeyLength : ℕ → Type 0
 IsKeyLength n = n ≡ 16
 
--- A key of a set has a key version number of 01 to 6F and a key identifier of 01 to 03. A token key has version 70, a
--- receipt key 71, and identifier 01.
+-- A key of a set has a key version number of 01 to 6F and a key identifier of 01 to 03. A token key has key
+-- version number 70, a receipt key 71, and key identifier 01.
 abbrev pub IsKeyName : ℕ → ℕ → Type 0
 IsKeyName version identifier =
     ((0x01 ≤ version) × (version ≤ 0x6F) × (0x01 ≤ identifier) × (identifier ≤ 0x03))
     ⊎ (((version ≡ 0x70) ⊎ (version ≡ 0x71)) × (identifier ≡ 0x01))
 
--- the domain has a key of this version and identifier, and a counter of this version
+-- the domain has a key of this key version number and key identifier, and a counter of this key version number
 pub record HasKeyNamed (registry : Registry) (owner : List ℕ) (version identifier : ℕ) : Type 0 where
   pub key : Key
   pub is_there : Contains registry.keys key
@@ -77,7 +77,7 @@ pub record HasCounterOf (registry : Registry) (owner : List ℕ) (version : ℕ)
   pub owner_is : counter.owner ≡ owner
   pub version_is : counter.version ≡ version
 
--- the key set of this version is whole: its three keys and its counter
+-- the key set of this key version number is whole: its three keys and its counter
 pub record IsWholeSet (registry : Registry) (owner : List ℕ) (version : ℕ) : Type 0 where
   pub first : HasKeyNamed registry owner version 1
   pub second : HasKeyNamed registry owner version 2

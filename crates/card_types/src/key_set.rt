@@ -6,7 +6,7 @@ ghost use Rattle.card_types.specs.KeySets.{HasKey, HasKeys, IsSetOf, NoSetOf};
 use crate::limits::KEYS;
 use crate::tables::{KeyRec, in_slot};
 
-/// The highest version of a key set. Keys of higher versions stand alone.
+/// The highest key version number of a key set. Keys of higher ones stand alone.
 const LAST_VERSION: u8 = 0x6F;
 
 fn has_key(keys: &[Option<KeyRec>], owner: u8, version: u8, identifier: u8, slot: u8) -> bool
@@ -48,8 +48,8 @@ fn is_asked(given: u8, version: u8) -> bool
     given == 0 || given == version
 }
 
-/// The slots of the keys 01, 02 and 03 of a key set of the domain in the slot `owner`. Version 00
-/// asks for the lowest version that has a whole set.
+/// The slots of the keys 01, 02 and 03 of a key set of the domain in the slot `owner`. Key
+/// version number 00 asks for the lowest one that has a whole set.
 pub fn set_of(keys: &[Option<KeyRec>], owner: u8, version: u8) -> Option<[u8; 3]>
     requires { length keys.now ≡ KEYS }
     ensures some { IfSome result (IsSetOf keys.now owner version) }

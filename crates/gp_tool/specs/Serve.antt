@@ -9,7 +9,7 @@ use Rattle.gp_tool.specs.Plays.{Plays, text_of}
 use Rattle.gp_tool.specs.declared.serve.Served.{Served}
 use Rattle.gp_tool.specs.declared.serve.Served.TheVariants.{Done, NoForm, WriteFault}
 
--- how the card stands and what has been written after a line, where the sink tells it
+-- how the card stands and what has been written after a line, where what the sink has written is known
 abbrev pub Serves : Type 0 → List ℕ → Kept → Kept → List ℕ → List ℕ → Served → Type 0
 Serves tells line card card' old new Done =
     tells → (state : State) → Stands card state

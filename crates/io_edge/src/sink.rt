@@ -9,7 +9,7 @@ pub struct WriteFailed;
 
 /// A stream that bytes are appended to, which counts its faults. What it tells of its bytes is optional.
 pub trait Sink {
-    // A fact where the sink tells what was written, and `⊥` where it tells nothing.
+    // A fact where what was written is known, and `⊥` where it is not.
     ghost tells: { Type 0 };
 
     // The bytes that were written.

@@ -9,7 +9,7 @@ pub struct ReadFailed;
 
 /// A stream of bytes that counts its faults. What it tells of its bytes is optional.
 pub trait Source {
-    // A fact where the source tells what is left, and `⊥` where it tells nothing.
+    // A fact where what is left is known, and `⊥` where it is not.
     ghost tells: { Type 0 };
 
     // The bytes that are left.

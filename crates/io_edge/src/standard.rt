@@ -10,7 +10,7 @@ use crate::source::{ReadFailed, Source};
 use std::io::{Read, Write};
 use std::marker::Model;
 
-/// A reader of std. It counts the errors that the reader answers. As a source it tells nothing of its bytes.
+/// A reader of std. It counts the errors that the reader answers. As a source its content is not known.
 #[derive(Drop)]
 pub struct StdSource<R: Read> {
     inner: R,
@@ -58,7 +58,7 @@ impl<R: Read> Source for StdSource<R> {
     }
 }
 
-/// A writer of std. It counts the errors that the writer answers. As a sink it tells nothing of its bytes.
+/// A writer of std. It counts the errors that the writer answers. As a sink its content is not known.
 #[derive(Drop)]
 pub struct StdSink<W: Write> {
     inner: W,
