@@ -12,7 +12,7 @@ use std::marker::Model;
 /// The pages of a file, one after another. What lies past the file's end reads as zeros. The file is made at the
 /// first write, and kept open. Any refusal of a file call is a counted fault.
 ///
-/// It tells nothing of its pages: that the file follows the device model is a premise. A second program that
+/// Its content is not known: that the file follows the device model is a premise. A second program that
 /// writes the same file is outside it.
 #[derive(Drop)]
 pub struct FileFlash<'a, R: Files> {

@@ -12,9 +12,9 @@ use crate::page::Page;
 #[derive(Clone, Copy, Debug, PartialEq, Eq)]
 pub struct FlashFailed;
 
-/// A device of `PAGES` pages that counts its faults. What it tells of its pages is optional.
+/// A device of `PAGES` pages that counts its faults. Its content may be unknown.
 pub trait Flash {
-    // A fact where the device tells its pages, and `⊥` where it tells nothing.
+    // A fact where the content is known, and `⊥` where it is not.
     ghost tells: { Type 0 };
 
     // The pages as a read gives them.

@@ -3,7 +3,7 @@
 //! `Flash` says what its calls do to the pages as read, and what power lost at any moment may leave: any bytes
 //! in the pages written since the last good sync, and all other pages as they are read. `MemFlash` is such a
 //! device in memory, and `power_cut` takes its power away. `FuseFlash` and `OnceFlash` make the calls of another
-//! device fail. `FileFlash` is a file: it tells nothing of its pages, so that a real file follows the device
+//! device fail. `FileFlash` is a file: its content is not known, so that a real file follows the device
 //! model is a premise.
 #![tactic(auto)]
 
