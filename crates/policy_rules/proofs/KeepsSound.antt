@@ -98,7 +98,7 @@ placeless_fits registry volatile class keeps fits =
 pub class_fits : (registry : Registry) (volatile : Volatile) (command : Apdu) → Fits registry volatile → Fits registry (class_passed volatile command)
 class_fits registry volatile command fits = placeless_fits registry volatile command.class (command.ins == EXTERNAL_AUTHENTICATE) fits
 
-either : (holds : Volatile → Type 0) (test : Bool) (a b : Volatile) → holds a → holds b → holds (if test then a else b)
+pub either : (holds : Volatile → Type 0) (test : Bool) (a b : Volatile) → holds a → holds b → holds (if test then a else b)
 either holds true a b one other = one
 either holds false a b one other = other
 

@@ -4,6 +4,7 @@ pub mod DataFound
 pub mod FirstUnique
 pub mod Judging
 pub mod KeepsSound
+pub mod Offers
 pub mod OneOutcome
 pub mod OwnKeys
 pub mod Selected

@@ -1,11 +1,17 @@
 -- The laws of the policy machine.
-use Rattle.std.specs.Prelude.{◌≡◌, ℕ, List}
+use Rattle.std.specs.Prelude.{◌≡◌, ℕ, List, Bool, true, false, Option, MatchOption}
 use Rattle.card_types.specs.Registry.{Registry}
 use Rattle.card_types.specs.Well.{Well}
+use Rattle.policy_rules.specs.Admission.{Of}
+use Rattle.policy_rules.specs.Classes.{channel_of}
 use Rattle.policy_rules.specs.Run.{Input, Run}
 use Rattle.policy_rules.specs.Sound.{IsSound}
 use Rattle.policy_rules.specs.State.{State, powered_on}
 use Rattle.policy_rules.specs.Step.{Outcome, Step}
+use Rattle.policy_rules.specs.Volatile.{Channel, Nothing, Offered, Secured, Standing, channel_at}
+use Rattle.policy_rules.specs.declared.rule.Rule.{Rule}
+use Rattle.policy_rules.specs.declared.rule.Rule.TheVariants.{G, PS, SE, MC, GD}
+use Rattle.policy_rules.specs.declared.rule.RuleG.TheVariants.{G1, G2, G3, G4, G5}
 
 -- a card that is powered on is sound
 abbrev pub StartsSound : Type 0
@@ -24,3 +30,29 @@ abbrev pub OneRun : Type 0
 OneRun =
     (state : State) (inputs : List Input) (some others : List Outcome) (last another : State)
     → Run state inputs some last → Run state inputs others another → (some ≡ others) × (last ≡ another)
+
+-- the rules behind the checks of class, channel and instruction
+abbrev pub is_later : Rule → Bool
+is_later (G G1) = false
+is_later (G G2) = false
+is_later (G G3) = false
+is_later (G G4) = false
+is_later (G G5) = true
+is_later (PS rule) = true
+is_later (SE rule) = true
+is_later (MC rule) = true
+is_later (GD rule) = true
+
+abbrev pub IsOffered : Standing → Type 0
+IsOffered Nothing = ⊥
+IsOffered (Offered offer) = Unit {0}
+IsOffered (Secured session) = ⊥
+
+abbrev pub HasNoOffer : Option Channel → Type 0
+HasNoOffer channel = MatchOption channel (Unit {0}) (λ opened. IsOffered opened.standing → ⊥)
+
+-- a command that a later rule refuses leaves no offer on its channel
+abbrev pub RefusalsDropOffers : Type 0
+RefusalsDropOffers =
+    (state : State) (bytes : List ℕ) (outcome : Outcome) → Step state bytes outcome → MatchOption outcome.rule ⊥ (λ rule. is_later rule ≡ true)
+    → Of bytes (λ command. HasNoOffer (channel_at outcome.state.volatile (channel_of command.class)))

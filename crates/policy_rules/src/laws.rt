@@ -1,6 +1,6 @@
 //! The laws of the policy machine, as functions that do nothing when they run.
 
-ghost use Rattle.policy_rules.specs.Laws.{OneOutcome, OneRun, StartsSound, StepsKeepSound};
+ghost use Rattle.policy_rules.specs.Laws.{OneOutcome, OneRun, RefusalsDropOffers, StartsSound, StepsKeepSound};
 
 /// A card that is powered on is sound, and each step keeps it so.
 pub fn steps_keep_sound()
@@ -12,4 +12,9 @@ pub fn steps_keep_sound()
 pub fn one_outcome()
     ensures step { OneOutcome }
     ensures run { OneRun }
+{}
+
+/// A command that is refused behind the checks of class, channel and instruction leaves no offer on its channel.
+pub fn refusals_drop_offers()
+    ensures { RefusalsDropOffers }
 {}

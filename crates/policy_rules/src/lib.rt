@@ -19,7 +19,7 @@ pub use get_data::{Datum, RuleGD, judge_get_data};
 pub use instruction::{EXTERNAL_AUTHENTICATE, GET_DATA, LOAD, MANAGE_CHANNEL, SELECT};
 pub use key_order::{KeyName, lowest_set, next_key};
 pub use key_sets::session_set;
-pub use laws::{one_outcome, steps_keep_sound};
+pub use laws::{one_outcome, refusals_drop_offers, steps_keep_sound};
 pub use live::{CHANNELS, Live};
 pub use manage_channel::{RuleMC, judge_more_channel};
 pub use own_rules::judge;
