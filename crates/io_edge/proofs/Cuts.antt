@@ -1,5 +1,5 @@
 -- The lines of what is ahead, from its next line on.
-use Rattle.std.proofs.Common.{◌≡◌, ◌≢◌, ℕ, ◌+◌, ◌<◌, ◌≤◌, length-append, append_assoc, Bool, false, ◌==◌, List, [], ◌∷◌, ◌++◌, length, slice_index_or, refl, sym, ap, ◌∙◌, inl, inr, arith}
+use Rattle.std.proofs.Common.{◌≡◌, ◌≢◌, ℕ, ◌<◌, ◌≤◌, length-append, append_assoc, Bool, false, ◌==◌, List, [], ◌∷◌, ◌++◌, length, slice_index_or, refl, sym, ap, ◌∙◌, inl, inr, arith}
 use Rattle.std.proofs.lemmas.Bool.Decides.{eqb_tells}
 use Rattle.std.proofs.lemmas.List.{append-nil}
 use Rattle.std.proofs.lemmas.List.Splits.{slice_split_at, slice_split_none, length-slice_split}
@@ -11,7 +11,7 @@ use Rattle.io_edge.specs.Lines.{NoNewline, IsLine}
 no_newline : (b : ℕ) → b ≢ 10 → (b == 10) ≡ false
 no_newline b other = elim (eqb_tells b 10) [ inl here ↦ absurd (other here.1) | inr apart ↦ apart.0 ]
 
-none_pass : (bytes : List ℕ) → NoNewline bytes → All (λ b. (b == 10) ≡ false) bytes
+pub none_pass : (bytes : List ℕ) → NoNewline bytes → All (λ b. (b == 10) ≡ false) bytes
 none_pass bytes none k d within = no_newline (slice_index_or bytes k d) (none k d within)
 
 -- where more parts follow, the first one is a line that had its newline

@@ -101,8 +101,9 @@ pub record GivesStop (tells : Type 0) (old new : Reading) (left left' : List ℕ
   pub within : IsWithin new
   pub passed : new.passed ≡ old.passed
   pub kept : tells → ahead new left' ≡ ahead old left
-  -- A read is refused only where no whole line is held.
+  -- A read is refused only where no whole line is held, and what is held of the next line is not too long already.
   pub clear : old.stop ≡ None → cause ≡ ReadFailed → NoNewline new.held
+  pub short : old.stop ≡ None → cause ≡ ReadFailed → length (strip_carriage_return new.held) ≤ LINE_LIMIT
 
 -- The reading after a call, by its answer.
 abbrev pub Gives : Type 0 → Reading → Reading → List ℕ → List ℕ → Result Line LineStop → Type 0

@@ -54,16 +54,17 @@ pub fn look_ahead<S: Source>(
     ensures found { IfOk result (Finds room buffer.new.held) }
     ensures last { S.tells → result ≡ Ok Ahead.Last → S.left source.new ≡ [] }
     ensures failed { OnErr result (NoNewline buffer.new.held) }
+    ensures failed_short { OnErr result (length (strip_carriage_return buffer.new.held) ≤ LINE_LIMIT) }
     ensures cause { HasCause (S.faults source.old) (S.faults source.new) result }
 {
     loop {
         if let Some(at) = newline_in(buffer.held()) {
             return Ok(Ahead::Newline(at));
         }
-        let held = buffer.held().len();
-        if held > LINE_LIMIT + 1 {
+        if stripped_len(buffer.held()) > LINE_LIMIT {
             return Ok(Ahead::Long);
         }
+        let held = buffer.held().len();
         if held == room {
             return Ok(Ahead::Limit);
         }

@@ -3,10 +3,10 @@
 ghost use Rattle.std.specs.Prelude.{◌≡◌, ◌≢◌, ◌<◌, ◌≤◌, ◌+◌, ◌-◌, ◌∷◌, ◌++◌, List, [], ℕ, length, None, Some, Err, IfOk, IfErr, IfSome, OnOk, OnErr};
 ghost use Rattle.std.specs.Borrow.{sem};
 ghost use Rattle.std.specs.Io.BufRead.{Rests};
-ghost use Rattle.std.specs.Str.Lines.{lines};
+ghost use Rattle.std.specs.Str.Lines.{lines, strip_carriage_return};
 ghost use Rattle.io_edge.specs.Ahead.{Finds};
 ghost use Rattle.io_edge.specs.Lines.{Reading, NoNewline, IsLine, IsWithin, Stops, LineCause, Gives, ahead, room};
-ghost use Rattle.io_edge.specs.declared.line.TheConstants.{INPUT_LIMIT};
+ghost use Rattle.io_edge.specs.declared.line.TheConstants.{INPUT_LIMIT, LINE_LIMIT};
 
 use crate::ahead::{Ahead, look_ahead};
 use crate::buffer::Buffer;
@@ -48,6 +48,7 @@ fn advance<S: Source>(
         × (S.tells → n + length (buffer.new.held ++ S.left source.new) ≡ length (buffer.old.held ++ S.left source.old))) }
     ensures stop { S.tells → IfErr result (Stops room number (buffer.old.held ++ S.left source.old)) }
     ensures clear { IfErr result (λ stop. stop ≡ LineStop.ReadFailed → NoNewline buffer.new.held) }
+    ensures short { IfErr result (λ stop. stop ≡ LineStop.ReadFailed → length (strip_carriage_return buffer.new.held) ≤ LINE_LIMIT) }
     ensures cause { LineCause (S.faults source.old) (S.faults source.new) result }
     ensures kept { S.tells → OnErr result (buffer.new.held ++ S.left source.new ≡ buffer.old.held ++ S.left source.old) }
 {

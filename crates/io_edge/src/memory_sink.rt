@@ -1,8 +1,8 @@
 //! A sink that keeps what is written in memory.
 
 ghost use Rattle.std.specs.Prelude.{◌≡◌, ◌⊎◌, ◌↔◌, ◌+◌, ◌<◌, ◌≤◌, ◌++◌, List, [], ℕ, length, take, vec_len, vec_capacity, IsErr, IfOk, OnOk, OnErr, Contains};
-ghost use Rattle.io_edge.specs.Faults.{HasCause};
-ghost use Rattle.io_edge.specs.Memory.{MemorySink, next_count};
+ghost use Rattle.io_edge.specs.Faults.{HasCause, next_count};
+ghost use Rattle.io_edge.specs.Memory.{MemorySink};
 
 use crate::calls::is_refused;
 use crate::sink::{Sink, WriteFailed};
@@ -13,18 +13,29 @@ use std::marker::Model;
 #[derive(Drop)]
 pub struct MemSink {
     bytes: Vec<u8>,
+    // How many of the bytes were handed on.
+    handed: usize,
     room: usize,
     fails: Vec<u32>,
     calls: u64,
+    flushes: u64,
     faults: u64,
 }
 
 impl Model for MemSink {
     ghost Value = { MemorySink };
 
-    ghost view = { λ s. record { written = s.bytes.items; room = s.room; fails = s.fails.items; calls = s.calls; faults = s.faults } };
+    ghost view = { λ s. record {
+      written = s.bytes.items;
+      handed_on = take s.handed s.bytes.items;
+      room = s.room;
+      fails = s.fails.items;
+      calls = s.calls;
+      flushes = s.flushes;
+      faults = s.faults;
+    } };
 
-    ghost invariant = { λ s. (vec_len s.bytes ≤ s.room) × (s.room ≤ vec_capacity s.bytes) };
+    ghost invariant = { λ s. (s.handed ≤ vec_len s.bytes) × (vec_len s.bytes ≤ s.room) × (s.room ≤ vec_capacity s.bytes) };
 }
 
 impl MemSink {
@@ -32,13 +43,23 @@ impl MemSink {
     /// Its calls of `write_all` and `flush` are numbered together, from 0. `AllocError` is want of memory for
     /// that room.
     pub fn new(alloc: Global, room: usize, fails: &[u32]) -> Result<MemSink, AllocError>
-        ensures { IfOk result (λ s. s ≡ record { written = []; room = room; fails = fails.now; calls = 0; faults = 0 }) }
+        ensures { IfOk result (λ s. s ≡ record {
+          written = [];
+          handed_on = [];
+          room = room;
+          fails = fails.now;
+          calls = 0;
+          flushes = 0;
+          faults = 0;
+        }) }
     {
         Ok(MemSink {
             bytes: Vec::with_capacity(alloc, room)?,
+            handed: 0,
             room,
             fails: Vec::from_slice(alloc, fails)?,
             calls: 0,
+            flushes: 0,
             faults: 0,
         })
     }
@@ -49,6 +70,20 @@ impl MemSink {
     {
         &self.bytes
     }
+
+    /// The bytes that were handed on: those that were written before the last flush that was not refused.
+    pub fn handed_on(&self) -> &[u8]
+        ensures { result.now ≡ self.now.handed_on }
+    {
+        &self.bytes[..self.handed]
+    }
+
+    /// How many calls of `flush` there were.
+    pub fn flushes(&self) -> u64
+        ensures { result ≡ self.now.flushes }
+    {
+        self.flushes
+    }
 }
 
 impl Sink for MemSink {
@@ -56,11 +91,16 @@ impl Sink for MemSink {
 
     ghost written = { λ s. s.written };
 
+    ghost handed_on = { λ s. s.handed_on };
+
+    ghost flushes = { λ s. s.flushes };
+
     ghost faults = { λ s. s.faults };
 
     fn write_all(&mut self, bytes: &[u8]) -> Result<(), WriteFailed>
         ensures ok { Unit {0} → OnOk result (self.new.written ≡ self.old.written ++ bytes.now) }
         ensures err { Unit {0} → OnErr result ((n : ℕ) × (self.new.written ≡ self.old.written ++ take n bytes.now)) }
+        ensures flushes { self.new.flushes ≡ self.old.flushes }
         ensures cause { HasCause self.old.faults self.new.faults result }
 
         // It fails exactly where it was told to and where the bytes don't fit, and appends nothing then.
@@ -68,7 +108,7 @@ impl Sink for MemSink {
             ⊎ (self.old.room < length self.old.written + length bytes.now)) }
         ensures nothing { OnErr result (self.new.written ≡ self.old.written) }
         ensures calls { self.new.calls ≡ next_count self.old.calls }
-        ensures same { (self.new.room ≡ self.old.room) × (self.new.fails ≡ self.old.fails) }
+        ensures same { (self.new.handed_on ≡ self.old.handed_on) × (self.new.room ≡ self.old.room) × (self.new.fails ≡ self.old.fails) }
     {
         let refused = is_refused(&self.fails, &mut self.calls);
         if refused
@@ -83,17 +123,22 @@ impl Sink for MemSink {
 
     fn flush(&mut self) -> Result<(), WriteFailed>
         ensures same { Unit {0} → self.new.written ≡ self.old.written }
+        ensures handed_on { Unit {0} → OnOk result (self.new.handed_on ≡ self.new.written) }
+        ensures flushes { self.new.flushes ≡ next_count self.old.flushes }
         ensures cause { HasCause self.old.faults self.new.faults result }
 
-        // It fails exactly where it was told to.
+        // It fails exactly where it was told to, and hands on nothing then.
         ensures refused { IsErr result ↔ Contains self.old.fails self.old.calls }
+        ensures nothing { OnErr result (self.new.handed_on ≡ self.old.handed_on) }
         ensures calls { self.new.calls ≡ next_count self.old.calls }
         ensures kept { (self.new.room ≡ self.old.room) × (self.new.fails ≡ self.old.fails) }
     {
+        self.flushes = self.flushes.saturating_add(1);
         if is_refused(&self.fails, &mut self.calls) {
             self.faults = self.faults.saturating_add(1);
             return Err(WriteFailed);
         }
+        self.handed = self.bytes.len();
         Ok(())
     }
 }

@@ -2,8 +2,8 @@
 
 ghost use Rattle.std.specs.Prelude.{◌≡◌, ◌<◌, ◌≤◌, ℕ, [], length, IfOk, OnOk};
 ghost use Rattle.std.specs.Io.KnownBytes.{Appends, Keeps, ReadConsumes};
-ghost use Rattle.io_edge.specs.Counted.{Counted};
-ghost use Rattle.io_edge.specs.Faults.{HasCause};
+ghost use Rattle.io_edge.specs.Counted.{CountedReader, CountedWriter};
+ghost use Rattle.io_edge.specs.Faults.{HasCause, next_count};
 
 use crate::sink::{Sink, WriteFailed};
 use crate::source::{ReadFailed, Source};
@@ -19,7 +19,7 @@ pub struct StdSource<R: Read> {
 
 // Contracts see the reader and the count of faults.
 impl<R: Read> Model for StdSource<R> {
-    ghost Value = { Counted R };
+    ghost Value = { CountedReader R };
 
     ghost view = { λ s. record { inner = s.inner; faults = s.faults } };
 }
@@ -58,26 +58,32 @@ impl<R: Read> Source for StdSource<R> {
     }
 }
 
-/// A writer of std. It counts the errors that the writer answers. As a sink its content is not known.
+/// A writer of std. It counts the flushes, and the errors that the writer answers. As a sink its content is not known:
+/// of a flush the traits of std say no more than that the bytes stay.
 #[derive(Drop)]
 pub struct StdSink<W: Write> {
     inner: W,
+    flushes: u64,
     faults: u64,
 }
 
-// Contracts see the writer and the count of faults.
+// Contracts see the writer and the counts.
 impl<W: Write> Model for StdSink<W> {
-    ghost Value = { Counted W };
+    ghost Value = { CountedWriter W };
 
-    ghost view = { λ s. record { inner = s.inner; faults = s.faults } };
+    ghost view = { λ s. record { inner = s.inner; flushes = s.flushes; faults = s.faults } };
 }
 
 impl<W: Write> StdSink<W> {
-    /// A sink over the writer, with no faults yet.
+    /// A sink over the writer, with no flushes and no faults yet.
     pub fn new(inner: W) -> StdSink<W>
-        ensures { result ≡ record { inner = inner; faults = 0 } }
+        ensures { result ≡ record { inner = inner; flushes = 0; faults = 0 } }
     {
-        StdSink { inner, faults: 0 }
+        StdSink {
+            inner,
+            flushes: 0,
+            faults: 0,
+        }
     }
 }
 
@@ -86,9 +92,14 @@ impl<W: Write> Sink for StdSink<W> {
 
     ghost written = { λ _. [] };
 
+    ghost handed_on = { λ _. [] };
+
+    ghost flushes = { λ s. s.flushes };
+
     ghost faults = { λ s. s.faults };
 
     fn write_all(&mut self, bytes: &[u8]) -> Result<(), WriteFailed>
+        ensures flushes { self.new.flushes ≡ self.old.flushes }
         ensures cause { HasCause self.old.faults self.new.faults result }
 
         // What the writer tells of its bytes holds of these.
@@ -104,9 +115,13 @@ impl<W: Write> Sink for StdSink<W> {
     }
 
     fn flush(&mut self) -> Result<(), WriteFailed>
+        ensures flushes { self.new.flushes ≡ next_count self.old.flushes }
         ensures cause { HasCause self.old.faults self.new.faults result }
+
+        // What the writer tells of its bytes holds of these.
         ensures told { Keeps (W.contents self.old.inner) (W.contents self.new.inner) }
     {
+        self.flushes = self.flushes.saturating_add(1);
         match self.inner.flush() {
             Ok(()) => Ok(()),
             Err(_) => {

@@ -133,6 +133,33 @@ fn gives_the_lines_before_a_refused_read(rt: HostRuntime) -> Result<(), Fail> {
     Ok(())
 }
 
+/// Where the bytes taken are too long for a line whatever follows, no more is read: the refused read that would follow
+/// doesn't come.
+#[test]
+fn reads_on_only_where_a_line_may_yet_fit(rt: HostRuntime) -> Result<(), Fail> {
+    let cases: [(usize, &[u8], LineStop); 4] = [
+        (521, b"\r", LineStop::ReadFailed),
+        (522, b"", LineStop::ReadFailed),
+        (522, b"\r", LineStop::ReadFailed),
+        (523, b"", LineStop::TooLong(1)),
+    ];
+    for (count, end, want) in cases {
+        let mut bytes = Vec::new(rt.alloc());
+        for _ in 0..count {
+            bytes.push(b'0')?;
+        }
+        bytes.extend_from_slice(end)?;
+        let mut source = MemSource::new(rt.alloc(), &bytes, 4096, &[1])?;
+        let mut lines = Lines::new();
+        assert_eq!(rt;
+            measure(&mut lines, &mut source),
+            Err(want),
+            "{count} {end:?}"
+        );
+    }
+    Ok(())
+}
+
 /// Lines of `LINE_LIMIT` bytes, without end.
 #[derive(Drop)]
 struct Endless {
@@ -217,7 +244,24 @@ fn keeps_what_was_written(rt: HostRuntime) -> Result<(), Fail> {
         let mut sink = MemSink::new(rt.alloc(), room, fails)?;
         assert_eq!(rt; write_twice(&mut sink), refused, "{room} {fails:?}");
         assert_eq!(rt; sink.written(), want, "{room} {fails:?}");
+        let handed_on: &[u8] = if refused[2] { b"" } else { want };
+        assert_eq!(rt; sink.handed_on(), handed_on, "{room} {fails:?}");
+        assert_eq!(rt; sink.flushes(), 1, "{room} {fails:?}");
     }
+    Ok(())
+}
+
+#[test]
+fn hands_on_what_was_written_before_a_flush(rt: HostRuntime) -> Result<(), Fail> {
+    let mut sink = MemSink::new(rt.alloc(), 9, &[])?;
+    assert!(rt; sink.write_all(b"9000").is_ok());
+    assert_eq!(rt; sink.handed_on(), b"".as_slice());
+    assert!(rt; sink.flush().is_ok());
+    assert!(rt; sink.write_all(b"6d00").is_ok());
+    assert_eq!(rt; sink.handed_on(), b"9000".as_slice());
+    assert!(rt; sink.flush().is_ok());
+    assert_eq!(rt; sink.handed_on(), b"90006d00".as_slice());
+    assert_eq!(rt; sink.flushes(), 2);
     Ok(())
 }
 

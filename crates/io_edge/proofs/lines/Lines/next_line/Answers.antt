@@ -14,6 +14,7 @@ returns-in-Err g c =
           passed = refl;
           kept = c.in-Err.ensures.kept;
           clear = λ _. c.in-Err.ensures.clear;
+          short = λ _. c.in-Err.ensures.short;
         },
       ),
       record {
