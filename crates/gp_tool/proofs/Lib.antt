@@ -1,6 +1,9 @@
+pub mod ComeFirst
 pub mod Complete
 pub mod Course
+pub mod Exclusive
 pub mod Flush
 pub mod One
+pub mod OneText
 pub mod PlaysMore
 pub mod Turns

@@ -1,33 +1,36 @@
 -- How a run ends, and what has been read and written then.
-use Rattle.std.specs.Prelude.{◌≡◌, ◌⊎◌, ℕ, ◌+◌, ◌-◌, ◌<◌, ◌≤◌, List, [], ◌++◌, length, take}
+use Rattle.std.specs.Prelude.{◌≡◌, ◌⊎◌, ℕ, ◌+◌, ◌-◌, ◌<◌, ◌≤◌, List, [], ◌∷◌, ◌++◌, length, take}
 use Rattle.std.specs.List.{AllByRecursion}
-use Rattle.std.specs.Str.Lines.{lines}
-use Rattle.io_edge.specs.Faults.{Rose}
+use Rattle.std.specs.Str.Lines.{lines, strip_carriage_return}
+use Rattle.io_edge.specs.Faults.{Rose, next_count}
 use Rattle.io_edge.specs.Lines.{NoNewline, IsLine, IsCut, IsNextText}
 use Rattle.io_edge.specs.declared.line.TheConstants.{INPUT_LIMIT, LINE_LIMIT}
 use Rattle.policy_rules.specs.State.{State}
 use Rattle.policy_rules.specs.Step.{Outcome}
+use Rattle.gp_tool.specs.Flush.{FlushesLast, IsHandedOn}
 use Rattle.gp_tool.specs.Form.{HasNoForm}
 use Rattle.gp_tool.specs.Plays.{Plays, bad_line, text_of}
 use Rattle.gp_tool.specs.declared.ending.Ending.{Ending}
 use Rattle.gp_tool.specs.declared.ending.Ending.TheVariants.{Finished, BadLine, ReadFault, WriteFault, InputTooLong}
 
--- the bytes that a source has left, and those that a sink was given
+-- What is seen of a source and a sink: the bytes left, the bytes written and handed on, and how often the sink was flushed.
 pub record Outside : Type 0 where
   pub left : List ℕ
   pub written : List ℕ
+  pub handed_on : List ℕ
+  pub flushes : ℕ
+
+-- what a source and a sink show by their meanings
+abbrev pub outside : {S K : Type 0} → (S → List ℕ) → (K → List ℕ) → (K → List ℕ) → (K → ℕ) → S → K → Outside
+outside left written handed_on flushes source sink =
+    record { left = left source; written = written sink; handed_on = handed_on sink; flushes = flushes sink }
 
 -- no line is too long
 abbrev pub AreShort : List (List ℕ) → Type 0
 AreShort lines = AllByRecursion (λ line. length line ≤ LINE_LIMIT) lines
 
--- How far a run from a first state has come in an input: the bytes passed, the lines that were given, the outcomes of
--- their commands, the bytes ahead, and the state of the card.
-pub record Reached (first : State) (input : List ℕ) (given : List (List ℕ)) (outcomes : List Outcome) (ahead : List ℕ) (state : State) : Type 0 where
-  pub passed : List ℕ
-  pub split : input ≡ passed ++ ahead
-  pub within : length passed ≤ INPUT_LIMIT
-  pub lines : lines input ≡ given ++ lines ahead
+-- The lines that were given to a card, from a first state on: each has a form and is not too long.
+pub record Course (first : State) (given : List (List ℕ)) (outcomes : List Outcome) (state : State) : Type 0 where
   pub fits : AreShort given
   pub plays : Plays first given outcomes state
 
@@ -35,73 +38,99 @@ pub record Reached (first : State) (input : List ℕ) (given : List (List ℕ)) 
 abbrev pub room_for : List ℕ → List ℕ → ℕ
 room_for input ahead = INPUT_LIMIT - (length input - length ahead)
 
+-- The lines come first in an input of which so many bytes may be taken, and this stands ahead behind them.
+abbrev pub ComeFirst : ℕ → List ℕ → List (List ℕ) → List ℕ → Type 0
+ComeFirst room input [] ahead = ahead ≡ input
+ComeFirst room input (line ∷ lines) ahead =
+    (after : List ℕ) × IsLine room input line after × ComeFirst (room - (length input - length after)) after lines ahead
+
+-- the same, of an input of which nothing was taken before
+abbrev pub Reached : List ℕ → List (List ℕ) → List ℕ → Type 0
+Reached input given ahead = ComeFirst INPUT_LIMIT input given ahead
+
 -- the next line has no form, or is too long
 abbrev pub IsBad : ℕ → List ℕ → Type 0
 IsBad room ahead =
     (text : List ℕ) × (((after : List ℕ) × IsLine room ahead text after × HasNoForm text) ⊎ (IsNextText room ahead text × (LINE_LIMIT < length text)))
 
+-- In what follows `reads` and `writes` are facts where the source and the sink tell their bytes, and `⊥` where they don't.
+
 -- The input was read to its end, each line has a form and is not too long, and the text of all lines was written.
-pub record IsFinished (first : State) (old new : Outside) : Type 0 where
+pub record IsFinished (reads writes : Type 0) (first : State) (old new : Outside) : Type 0 where
+  pub given : List (List ℕ)
   pub outcomes : List Outcome
   pub state : State
-  pub plays : Plays first (lines old.left) outcomes state
-  pub fits : AreShort (lines old.left)
-  pub short : length old.left < INPUT_LIMIT
-  pub read : new.left ≡ []
-  pub written : new.written ≡ old.written ++ text_of outcomes
+  pub course : Course first given outcomes state
+  pub reached : reads → Reached old.left given []
+  pub all : reads → lines old.left ≡ given
+  pub short : reads → length old.left < INPUT_LIMIT
+  pub read : reads → new.left ≡ []
+  pub written : writes → new.written ≡ old.written ++ text_of outcomes
 
 -- The next line is bad: the text of the lines before it was written, and then the line's number.
-pub record IsAtBadLine (first : State) (old new : Outside) : Type 0 where
+pub record IsAtBadLine (reads writes : Type 0) (first : State) (old new : Outside) : Type 0 where
   pub given : List (List ℕ)
   pub outcomes : List Outcome
+  pub state : State
   pub ahead : List ℕ
-  pub state : State
-  pub reached : Reached first old.left given outcomes ahead state
-  pub bad : IsBad (room_for old.left ahead) ahead
-  pub written : new.written ≡ old.written ++ (text_of outcomes ++ bad_line (length given + 1))
+  pub course : Course first given outcomes state
+  pub reached : reads → Reached old.left given ahead
+  pub bad : reads → IsBad (room_for old.left ahead) ahead
+  pub written : writes → new.written ≡ old.written ++ (text_of outcomes ++ bad_line (length given + 1))
 
--- A read was refused: the text of the whole lines of the bytes taken was written.
-pub record IsAtReadFault (first : State) (old new : Outside) : Type 0 where
+-- A read was refused: the text of the whole lines of the bytes taken was written. The bytes behind them are no line that is
+-- too long already.
+pub record IsAtReadFault (reads writes : Type 0) (first : State) (old new : Outside) : Type 0 where
   pub given : List (List ℕ)
   pub outcomes : List Outcome
-  pub held : List ℕ
   pub state : State
-  pub reached : Reached first old.left given outcomes (held ++ new.left) state
-  pub no_line : NoNewline held
-  pub within : length held ≤ room_for old.left (held ++ new.left)
-  pub written : new.written ≡ old.written ++ text_of outcomes
+  pub held : List ℕ
+  pub course : Course first given outcomes state
+  pub reached : reads → Reached old.left given (held ++ new.left)
+  pub no_line : reads → NoNewline held
+  pub short : reads → length (strip_carriage_return held) ≤ LINE_LIMIT
+  pub within : reads → length held ≤ room_for old.left (held ++ new.left)
+  pub written : writes → new.written ≡ old.written ++ text_of outcomes
 
 -- The limit of the input comes before the next line's end.
-pub record IsAtLimit (first : State) (old new : Outside) : Type 0 where
+pub record IsAtLimit (reads writes : Type 0) (first : State) (old new : Outside) : Type 0 where
   pub given : List (List ℕ)
   pub outcomes : List Outcome
-  pub ahead : List ℕ
-  pub cut : List ℕ
   pub state : State
-  pub reached : Reached first old.left given outcomes ahead state
-  pub is_cut : IsCut (room_for old.left ahead) ahead cut
-  pub short : length cut ≤ LINE_LIMIT
-  pub written : new.written ≡ old.written ++ text_of outcomes
+  pub ahead : List ℕ
+  pub course : Course first given outcomes state
+  pub reached : reads → Reached old.left given ahead
+  pub cut : reads → (text : List ℕ) × IsCut (room_for old.left ahead) ahead text × (length text ≤ LINE_LIMIT)
+  pub written : writes → new.written ≡ old.written ++ text_of outcomes
 
--- A write was refused: a prefix of the text was written, to which the number of a bad line belongs.
-pub record IsAtWriteFault (first : State) (old new : Outside) : Type 0 where
+-- A write or the flush was refused: a prefix of the text was written, to which the number of a bad line belongs.
+pub record IsAtWriteFault (reads writes : Type 0) (first : State) (old new : Outside) : Type 0 where
   pub given : List (List ℕ)
   pub outcomes : List Outcome
+  pub state : State
   pub ahead : List ℕ
   pub whole : List ℕ
-  pub count : ℕ
-  pub state : State
-  pub reached : Reached first old.left given outcomes ahead state
-  pub is_whole : (whole ≡ text_of outcomes) ⊎ (IsBad (room_for old.left ahead) ahead × (whole ≡ text_of outcomes ++ bad_line (length given + 1)))
-  pub written : new.written ≡ old.written ++ take count whole
+  pub course : Course first given outcomes state
+  pub reached : reads → Reached old.left given ahead
+  pub is_whole : (whole ≡ text_of outcomes) ⊎ ((reads → IsBad (room_for old.left ahead) ahead) × (whole ≡ text_of outcomes ++ bad_line (length given + 1)))
+  pub written : writes → (count : ℕ) × (new.written ≡ old.written ++ take count whole)
+  pub flushes : FlushesLast writes old.flushes new.flushes old.written whole new.written
 
--- what holds at each ending of a run from a first state, where the content of source and sink is known
-abbrev pub Ends : State → Ending → Outside → Outside → Type 0
-Ends first Finished old new = IsFinished first old new
-Ends first BadLine old new = IsAtBadLine first old new
-Ends first ReadFault old new = IsAtReadFault first old new
-Ends first WriteFault old new = IsAtWriteFault first old new
-Ends first InputTooLong old new = IsAtLimit first old new
+-- what holds at each ending of a run from a first state
+abbrev pub Ends : Type 0 → Type 0 → State → Ending → Outside → Outside → Type 0
+Ends reads writes first Finished old new = IsFinished reads writes first old new
+Ends reads writes first BadLine old new = IsAtBadLine reads writes first old new
+Ends reads writes first ReadFault old new = IsAtReadFault reads writes first old new
+Ends reads writes first WriteFault old new = IsAtWriteFault reads writes first old new
+Ends reads writes first InputTooLong old new = IsAtLimit reads writes first old new
+
+-- What was done with the text at each ending. At a refused write `Ends` says it.
+abbrev pub Flushes : Type 0 → Ending → Outside → Outside → Type 0
+Flushes writes Finished old new = IsHandedOn writes old.flushes new.flushes new.written new.handed_on
+Flushes writes BadLine old new = IsHandedOn writes old.flushes new.flushes new.written new.handed_on
+Flushes writes InputTooLong old new = IsHandedOn writes old.flushes new.flushes new.written new.handed_on
+Flushes writes ReadFault old new = new.flushes ≡ next_count old.flushes
+Flushes writes WriteFault old new = Unit {0}
 
 -- Whose count of faults has risen at an ending: the source's, from one number to another, or the sink's.
 abbrev pub EndCause : Ending → ℕ → ℕ → ℕ → ℕ → Type 0

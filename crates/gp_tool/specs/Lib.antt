@@ -1,7 +1,9 @@
 pub mod Ends
+pub mod Flush
 pub mod Form
 pub mod Going
 pub mod Good
+pub mod Laws
 pub mod Plays
 pub mod Read
 pub mod Serve

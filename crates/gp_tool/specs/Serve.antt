@@ -9,16 +9,22 @@ use Rattle.gp_tool.specs.Plays.{Plays, text_of}
 use Rattle.gp_tool.specs.declared.serve.Served.{Served}
 use Rattle.gp_tool.specs.declared.serve.Served.TheVariants.{Done, NoForm, WriteFault}
 
--- how the card stands and what has been written after a line, where what the sink has written is known
+-- The card plays the line: it stands for the state behind it.
+pub record PlaysLine (line : List ℕ) (card : Kept) (state : State) : Type 0 where
+  pub outcomes : List Outcome
+  pub last : State
+  pub plays : Plays state (line ∷ []) outcomes last
+  pub stands : Stands card last
+
+-- how the card stands after a line, and what has been written where the sink tells it
 abbrev pub Serves : Type 0 → List ℕ → Kept → Kept → List ℕ → List ℕ → Served → Type 0
-Serves tells line card card' old new Done =
-    tells → (state : State) → Stands card state
-    → (outcomes : List Outcome) × (last : State) × Plays state (line ∷ []) outcomes last × Stands card' last × (new ≡ old ++ text_of outcomes)
-Serves tells line card card' old new NoForm = HasNoForm line × (tells → new ≡ old)
-Serves tells line card card' old new WriteFault =
-    tells → (state : State) → Stands card state
-    → (outcomes : List Outcome) × (n : ℕ) × (last : State) × Plays state (line ∷ []) outcomes last × Stands card' last
-    × (new ≡ old ++ take n (text_of outcomes))
+Serves writes line card card' old new Done =
+    (state : State) → Stands card state
+    → (played : PlaysLine line card' state) × (writes → new ≡ old ++ text_of played.outcomes)
+Serves writes line card card' old new NoForm = HasNoForm line × (writes → new ≡ old)
+Serves writes line card card' old new WriteFault =
+    (state : State) → Stands card state
+    → (played : PlaysLine line card' state) × (writes → (n : ℕ) × (new ≡ old ++ take n (text_of played.outcomes)))
 
 abbrev pub ServeCause : ℕ → ℕ → Served → Type 0
 ServeCause before now Done = now ≡ before

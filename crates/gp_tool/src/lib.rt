@@ -13,6 +13,8 @@
 
 mod ending;
 mod form;
+mod laws;
+mod pinned;
 mod reply;
 mod run;
 mod serve;
@@ -21,4 +23,6 @@ mod tests;
 mod top;
 
 pub use ending::Ending;
+pub use laws::{one_ending, one_text};
+pub use pinned::constants;
 pub use top::gp;

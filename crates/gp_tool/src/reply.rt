@@ -34,6 +34,7 @@ pub fn write_reply<K: Sink>(
     requires { length reply.now ≤ REPLY_LIMIT }
     ensures ok { K.tells → OnOk result (K.written sink.new ≡ K.written sink.old ++ (encode_lower reply.now ++ 10 ∷ [])) }
     ensures err { K.tells → OnErr result ((n : ℕ) × (K.written sink.new ≡ K.written sink.old ++ take n (encode_lower reply.now ++ 10 ∷ []))) }
+    ensures flushes { K.flushes sink.new ≡ K.flushes sink.old }
     ensures cause { HasCause (K.faults sink.old) (K.faults sink.new) result }
 {
     let count = spell_reply(reply, text);
@@ -44,6 +45,7 @@ pub fn write_reply<K: Sink>(
 pub fn write_bad_line<K: Sink>(number: u32, sink: &mut K) -> Result<(), WriteFailed>
     ensures ok { K.tells → OnOk result (K.written sink.new ≡ K.written sink.old ++ bad_line number) }
     ensures err { K.tells → OnErr result ((n : ℕ) × (K.written sink.new ≡ K.written sink.old ++ take n (bad_line number))) }
+    ensures flushes { K.flushes sink.new ≡ K.flushes sink.old }
     ensures cause { HasCause (K.faults sink.old) (K.faults sink.new) result }
 {
     let mut digits = Buffer::new();

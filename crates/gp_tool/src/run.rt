@@ -1,9 +1,10 @@
 //! A run over the lines of a source.
 
-ghost use Rattle.std.specs.Prelude.{◌≡◌, ◌≢◌, ◌⊎◌, ℕ, None, IfNone, IfSome};
+ghost use Rattle.std.specs.Prelude.{◌≡◌, ℕ, None, IfNone, IfSome};
 ghost use Rattle.card_core.specs.Kept.{Stands};
 ghost use Rattle.policy_rules.specs.State.{State};
-ghost use Rattle.gp_tool.specs.Ends.{Ends, EndCause};
+ghost use Rattle.gp_tool.specs.Ends.{Ends, EndCause, Flushes, outside};
+ghost use Rattle.gp_tool.specs.Flush.{AfterFlush};
 ghost use Rattle.gp_tool.specs.Turn.{GoesOn, EndsWith, Refuses};
 
 use crate::ending::Ending;
@@ -16,7 +17,8 @@ use io_edge::{LineStop, Lines, Sink, Source};
 
 // Writes the number of a line that has no form or is too long.
 fn refuse_line<K: Sink>(number: u32, sink: &mut K) -> Ending
-    ensures refused { K.tells → Refuses number (K.written sink.old) (K.written sink.new) result }
+    ensures refused { Refuses K.tells number (K.written sink.old) (K.written sink.new) result }
+    ensures flushes { K.flushes sink.new ≡ K.flushes sink.old }
     ensures cause { (reads : ℕ) → EndCause result reads reads (K.faults sink.old) (K.faults sink.new) }
 {
     match write_bad_line(number, sink) {
@@ -34,10 +36,11 @@ fn take_turn<S: Source, K: Sink>(
     sink: &mut K,
 ) -> Option<Ending>
     requires { lines.old.stop ≡ None }
-    ensures goes_on { IfNone result (GoesOn (S.tells × K.tells) card.old card.new lines.old lines.new
-        (record { left = S.left source.old; written = K.written sink.old }) (record { left = S.left source.new; written = K.written sink.new })) }
-    ensures ends { S.tells × K.tells → IfSome result (EndsWith card.old lines.old
-        (record { left = S.left source.old; written = K.written sink.old }) (record { left = S.left source.new; written = K.written sink.new })) }
+    ensures goes_on { IfNone result (GoesOn S.tells K.tells card.old card.new lines.old lines.new
+        (outside S.left K.written K.handed_on K.flushes source.old sink.old) (outside S.left K.written K.handed_on K.flushes source.new sink.new)) }
+    ensures ends { IfSome result (EndsWith S.tells K.tells card.old lines.old
+        (outside S.left K.written K.handed_on K.flushes source.old sink.old) (outside S.left K.written K.handed_on K.flushes source.new sink.new)) }
+    ensures flushes { K.flushes sink.new ≡ K.flushes sink.old }
     ensures quiet { IfNone result ((S.faults source.new ≡ S.faults source.old) × (K.faults sink.new ≡ K.faults sink.old)) }
     ensures cause { IfSome result (λ ending. EndCause ending (S.faults source.old) (S.faults source.new) (K.faults sink.old) (K.faults sink.new)) }
 {
@@ -56,8 +59,9 @@ fn take_turn<S: Source, K: Sink>(
 
 // Takes lines until the run ends.
 fn take_lines<S: Source, K: Sink>(card: &mut Card, source: &mut S, sink: &mut K) -> Ending
-    ensures ends { (first : State) → Stands card.old first → S.tells × K.tells → Ends first result
-        (record { left = S.left source.old; written = K.written sink.old }) (record { left = S.left source.new; written = K.written sink.new }) }
+    ensures flushes { K.flushes sink.new ≡ K.flushes sink.old }
+    ensures ends { (first : State) → Stands card.old first → Ends S.tells K.tells first result
+        (outside S.left K.written K.handed_on K.flushes source.old sink.old) (outside S.left K.written K.handed_on K.flushes source.new sink.new) }
     ensures cause { EndCause result (S.faults source.old) (S.faults source.new) (K.faults sink.old) (K.faults sink.new) }
 {
     let mut lines = Lines::new();
@@ -76,7 +80,7 @@ fn take_lines<S: Source, K: Sink>(card: &mut Card, source: &mut S, sink: &mut K)
 // Flushes the sink at the end of a run, unless a write was refused.
 fn flush_at_end<K: Sink>(ending: Ending, sink: &mut K) -> Ending
     ensures same { K.tells → K.written sink.new ≡ K.written sink.old }
-    ensures ending { (result ≡ ending) ⊎ ((result ≡ Ending.WriteFault) × (ending ≢ Ending.ReadFault)) }
+    ensures ending { AfterFlush K.tells ending (K.flushes sink.old) (K.flushes sink.new) (K.written sink.new) (K.handed_on sink.new) result }
     ensures cause { (reads reads' writes : ℕ) → EndCause ending reads reads' writes (K.faults sink.old) → EndCause result reads reads' writes (K.faults sink.new) }
 {
     match ending {
@@ -94,8 +98,10 @@ fn flush_at_end<K: Sink>(ending: Ending, sink: &mut K) -> Ending
 
 /// Gives the lines of a source to a card, and writes each reply before the next line is taken.
 pub fn run<S: Source, K: Sink>(card: &mut Card, source: &mut S, sink: &mut K) -> Ending
-    ensures ends { (first : State) → Stands card.old first → S.tells × K.tells → Ends first result
-        (record { left = S.left source.old; written = K.written sink.old }) (record { left = S.left source.new; written = K.written sink.new }) }
+    ensures flushes { Flushes K.tells result
+        (outside S.left K.written K.handed_on K.flushes source.old sink.old) (outside S.left K.written K.handed_on K.flushes source.new sink.new) }
+    ensures ends { (first : State) → Stands card.old first → Ends S.tells K.tells first result
+        (outside S.left K.written K.handed_on K.flushes source.old sink.old) (outside S.left K.written K.handed_on K.flushes source.new sink.new) }
     ensures cause { EndCause result (S.faults source.old) (S.faults source.new) (K.faults sink.old) (K.faults sink.new) }
 {
     let ending = take_lines(card, source, sink);

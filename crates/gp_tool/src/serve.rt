@@ -1,6 +1,6 @@
 //! What is done with one line.
 
-ghost use Rattle.std.specs.Prelude.{◌≤◌, length};
+ghost use Rattle.std.specs.Prelude.{◌≡◌, ◌≤◌, length};
 ghost use Rattle.gp_tool.specs.Serve.{Serves, ServeCause};
 
 use crate::form::{COMMAND_LIMIT, Form, read_form};
@@ -37,6 +37,7 @@ pub fn serve_line<K: Sink>(
 ) -> Served
     requires { length line.now ≤ LINE_LIMIT }
     ensures served { Serves K.tells line.now card.old card.new (K.written sink.old) (K.written sink.new) result }
+    ensures flushes { K.flushes sink.new ≡ K.flushes sink.old }
     ensures cause { ServeCause (K.faults sink.old) (K.faults sink.new) result }
 {
     match read_form(line, &mut space.command) {

@@ -26,17 +26,28 @@ const AMPLE: SinkPlan<'static> = SinkPlan {
 fn answer(
     alloc: Global,
     words: &[&str],
-    mut source: MemSource,
+    source: MemSource,
     plan: SinkPlan<'_>,
 ) -> Result<(u8, Vec<u8>), AllocError> {
+    let (status, sink) = answer_to(alloc, words, source, plan)?;
+    let text = Vec::from_slice(alloc, sink.written())?;
+    Ok((status, text))
+}
+
+/// The status, and the sink.
+fn answer_to(
+    alloc: Global,
+    words: &[&str],
+    mut source: MemSource,
+    plan: SinkPlan<'_>,
+) -> Result<(u8, MemSink), AllocError> {
     let mut given = Vec::new(alloc);
     for word in words {
         given.push(String::from_str(alloc, word)?)?;
     }
     let mut sink = MemSink::new(alloc, plan.room, plan.fails)?;
     let status = gp(alloc, &given, &mut source, &mut sink);
-    let text = Vec::from_slice(alloc, sink.written())?;
-    Ok((status, text))
+    Ok((status, sink))
 }
 
 #[test]
@@ -311,6 +322,52 @@ fn stops_at_a_refused_write(rt: HostRuntime) -> Result<(), Fail> {
         let (got, written) = answer(rt.alloc(), &["run"], source, plan)?;
         assert_eq!(rt; written.as_slice(), text, "{fails:?}");
         assert_eq!(rt; got, status, "{fails:?}");
+    }
+    Ok(())
+}
+
+/// A run that flushes its sink: its input, the call on the source that is refused, and the status.
+const FLUSHED: [(&[u8], &[u32], &str, u8); 6] = [
+    (b"", &[], "run", 0),
+    (b"00B00000\n00B00000\n", &[], "run", 0),
+    (b"00B00000\nx\n", &[], "run", 2),
+    (b"x\n", &[], "run", 2),
+    (b"00B00000\n", &[1], "run", 5),
+    (b"", &[], "walk", 1),
+];
+
+/// The text is handed on by one flush, behind the last write.
+#[test]
+fn hands_the_text_on_once(rt: HostRuntime) -> Result<(), Fail> {
+    for (input, refused, word, status) in FLUSHED {
+        let source = MemSource::new(rt.alloc(), input, 64, refused)?;
+        let (got, sink) = answer_to(rt.alloc(), &[word], source, AMPLE)?;
+        assert_eq!(rt; got, status, "{input:?}");
+        assert_eq!(rt; sink.flushes(), 1, "{input:?}");
+        assert_eq!(rt; sink.handed_on(), sink.written(), "{input:?}");
+    }
+    Ok(())
+}
+
+/// Calls 0 and 1 on the sink are two replies, and call 2 is the flush: none follows a refused write.
+#[test]
+fn flushes_nothing_after_a_refused_write(rt: HostRuntime) -> Result<(), Fail> {
+    let cases: [(&str, &[u32], u64, &[u8]); 6] = [
+        ("run", &[0], 0, b""),
+        ("run", &[1], 0, b"6d00\n"),
+        ("run", &[2], 1, b"6d00\n6d00\n"),
+        ("run", &[0, 2], 0, b""),
+        ("walk", &[0], 0, b""),
+        ("walk", &[1], 1, b"usage: gp run\n"),
+    ];
+    for (word, fails, flushes, written) in cases {
+        let source = MemSource::new(rt.alloc(), b"00B00000\n00B00000\n", 64, &[])?;
+        let plan = SinkPlan { room: 64, fails };
+        let (status, sink) = answer_to(rt.alloc(), &[word], source, plan)?;
+        assert_eq!(rt; status, 6, "{word} {fails:?}");
+        assert_eq!(rt; sink.flushes(), flushes, "{word} {fails:?}");
+        assert_eq!(rt; sink.written(), written, "{word} {fails:?}");
+        assert_eq!(rt; sink.handed_on(), b"".as_slice(), "{word} {fails:?}");
     }
     Ok(())
 }

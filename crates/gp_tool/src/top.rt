@@ -6,7 +6,8 @@ ghost use Rattle.card_types.specs.Factory.{factory_registry};
 ghost use Rattle.policy_rules.specs.State.{powered_on};
 ghost use Rattle.io_edge.specs.Faults.{HasCause, Rose};
 ghost use Rattle.io_edge.specs.declared.line.TheConstants.{INPUT_LIMIT};
-ghost use Rattle.gp_tool.specs.Ends.{Ends, EndCause, status_of};
+ghost use Rattle.gp_tool.specs.Ends.{Ends, EndCause, Flushes, outside, status_of};
+ghost use Rattle.gp_tool.specs.Flush.{FlushesLast, IsHandedOn};
 ghost use Rattle.gp_tool.specs.Good.{AreGood};
 ghost use Rattle.gp_tool.specs.Words.{AreRun, usage_line};
 ghost use Rattle.gp_tool.specs.declared.ending.Ending.{Ending};
@@ -38,6 +39,8 @@ fn are_run(words: &[String]) -> bool
 fn write_usage<K: Sink>(sink: &mut K) -> Result<(), WriteFailed>
     ensures ok { K.tells → OnOk result (K.written sink.new ≡ K.written sink.old ++ usage_line) }
     ensures err { K.tells → OnErr result ((n : ℕ) × (K.written sink.new ≡ K.written sink.old ++ take n usage_line)) }
+    ensures handed_on { OnOk result (IsHandedOn K.tells (K.flushes sink.old) (K.flushes sink.new) (K.written sink.new) (K.handed_on sink.new)) }
+    ensures flushes { OnErr result (FlushesLast K.tells (K.flushes sink.old) (K.flushes sink.new) (K.written sink.old) usage_line (K.written sink.new)) }
     ensures cause { HasCause (K.faults sink.old) (K.faults sink.new) result }
 {
     sink.write_all(USAGE)?;
@@ -49,6 +52,8 @@ fn refuse_words<K: Sink>(sink: &mut K) -> u8
     ensures status { (result ≡ 1) ⊎ (result ≡ 6) }
     ensures written { K.tells → result ≡ 1 → K.written sink.new ≡ K.written sink.old ++ usage_line }
     ensures part { K.tells → result ≡ 6 → (n : ℕ) × (K.written sink.new ≡ K.written sink.old ++ take n usage_line) }
+    ensures handed_on { result ≡ 1 → IsHandedOn K.tells (K.flushes sink.old) (K.flushes sink.new) (K.written sink.new) (K.handed_on sink.new) }
+    ensures flushes { result ≡ 6 → FlushesLast K.tells (K.flushes sink.old) (K.flushes sink.new) (K.written sink.old) usage_line (K.written sink.new) }
     ensures quiet { result ≡ 1 → K.faults sink.new ≡ K.faults sink.old }
     ensures cause { result ≡ 6 → Rose (K.faults sink.old) (K.faults sink.new) }
 {
@@ -68,22 +73,25 @@ pub fn gp<S: Source, K: Sink>(alloc: Global, words: &[String], source: &mut S, s
     ensures usage { (AreRun words.now → ⊥) → ((result ≡ 1) ⊎ (result ≡ 6)) × (source.new ≡ source.old) }
     ensures usage_written { (AreRun words.now → ⊥) → K.tells → result ≡ 1 → K.written sink.new ≡ K.written sink.old ++ usage_line }
     ensures usage_part { (AreRun words.now → ⊥) → K.tells → result ≡ 6 → (n : ℕ) × (K.written sink.new ≡ K.written sink.old ++ take n usage_line) }
+    ensures usage_handed_on { (AreRun words.now → ⊥) → result ≡ 1 → IsHandedOn K.tells (K.flushes sink.old) (K.flushes sink.new) (K.written sink.new) (K.handed_on sink.new) }
+    ensures usage_flushes { (AreRun words.now → ⊥) → result ≡ 6 → FlushesLast K.tells (K.flushes sink.old) (K.flushes sink.new) (K.written sink.old) usage_line (K.written sink.new) }
     ensures usage_quiet { (AreRun words.now → ⊥) → result ≡ 1 → K.faults sink.new ≡ K.faults sink.old }
     ensures usage_cause { (AreRun words.now → ⊥) → result ≡ 6 → Rose (K.faults sink.old) (K.faults sink.new) }
 
     // Want of memory for the card: nothing is read or written.
     ensures memory { AreRun words.now → result ≡ 7 → (source.new ≡ source.old) × (sink.new ≡ sink.old) }
 
-    // `run`: the status is that of an ending, which says what was read and written.
+    // `run`: the status is that of an ending, which says what was read, written and handed on.
     ensures run { AreRun words.now → result ≢ 7 → (ending : Ending) × (result ≡ status_of ending)
         × EndCause ending (S.faults source.old) (S.faults source.new) (K.faults sink.old) (K.faults sink.new)
-        × (S.tells × K.tells → Ends (powered_on factory_registry) ending
-        (record { left = S.left source.old; written = K.written sink.old })
-        (record { left = S.left source.new; written = K.written sink.new })) }
+        × Flushes K.tells ending
+        (outside S.left K.written K.handed_on K.flushes source.old sink.old) (outside S.left K.written K.handed_on K.flushes source.new sink.new)
+        × Ends S.tells K.tells (powered_on factory_registry) ending
+        (outside S.left K.written K.handed_on K.flushes source.old sink.old) (outside S.left K.written K.handed_on K.flushes source.new sink.new) }
 
     // Where each line has a form, the input is short enough and nothing fails, all is done. Only want of memory comes
     // then besides.
-    ensures complete { AreRun words.now → S.tells × K.tells → AreGood (lines (S.left source.old)) → length (S.left source.old) < INPUT_LIMIT
+    ensures complete { AreRun words.now → S.tells → AreGood (lines (S.left source.old)) → length (S.left source.old) < INPUT_LIMIT
         → (Rose (S.faults source.old) (S.faults source.new) → ⊥) → (Rose (K.faults sink.old) (K.faults sink.new) → ⊥)
         → (result ≡ 0) ⊎ (result ≡ 7) }
 {

@@ -69,6 +69,13 @@ Stops room number ahead (TooLong n) = (n ≡ number) × ((text : List ℕ) × Is
 Stops room number ahead InputTooLong = (text : List ℕ) × IsCut room ahead text × (length text ≤ LINE_LIMIT)
 Stops room number ahead ReadFailed = Unit {0}
 
+-- a line that is too long has this number
+abbrev pub IsNumbered : ℕ → LineStop → Type 0
+IsNumbered number (TooLong n) = n ≡ number
+IsNumbered number End = Unit {0}
+IsNumbered number InputTooLong = Unit {0}
+IsNumbered number ReadFailed = Unit {0}
+
 -- the source's count of faults has risen where its read was refused, and stands still at each other stop
 abbrev pub StopCause : ℕ → ℕ → LineStop → Type 0
 StopCause before now ReadFailed = (before ≤ now) × Rose before now

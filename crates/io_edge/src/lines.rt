@@ -5,7 +5,7 @@ ghost use Rattle.std.specs.Borrow.{sem};
 ghost use Rattle.std.specs.Io.BufRead.{Rests};
 ghost use Rattle.std.specs.Str.Lines.{lines, strip_carriage_return};
 ghost use Rattle.io_edge.specs.Ahead.{Finds};
-ghost use Rattle.io_edge.specs.Lines.{Reading, NoNewline, IsLine, IsWithin, Stops, LineCause, Gives, ahead, room};
+ghost use Rattle.io_edge.specs.Lines.{Reading, NoNewline, IsLine, IsNumbered, IsWithin, Stops, LineCause, Gives, ahead, room};
 ghost use Rattle.io_edge.specs.declared.line.TheConstants.{INPUT_LIMIT, LINE_LIMIT};
 
 use crate::ahead::{Ahead, look_ahead};
@@ -47,6 +47,7 @@ fn advance<S: Source>(
     ensures count { IfOk result (λ n. (0 < n) × (n + length buffer.new.held ≤ room)
         × (S.tells → n + length (buffer.new.held ++ S.left source.new) ≡ length (buffer.old.held ++ S.left source.old))) }
     ensures stop { S.tells → IfErr result (Stops room number (buffer.old.held ++ S.left source.old)) }
+    ensures numbered { IfErr result (IsNumbered number) }
     ensures clear { IfErr result (λ stop. stop ≡ LineStop.ReadFailed → NoNewline buffer.new.held) }
     ensures short { IfErr result (λ stop. stop ≡ LineStop.ReadFailed → length (strip_carriage_return buffer.new.held) ≤ LINE_LIMIT) }
     ensures cause { LineCause (S.faults source.old) (S.faults source.new) result }
@@ -86,6 +87,7 @@ impl Lines {
 
         // Why there is none, where it is said for the first time.
         ensures stop { S.tells → self.old.stop ≡ None → IfErr result (Stops (room self.old) (self.old.number + 1) (ahead self.old (S.left source.old))) }
+        ensures numbered { self.old.stop ≡ None → IfErr result (IsNumbered (self.old.number + 1)) }
         ensures cause { self.old.stop ≡ None → LineCause (S.faults source.old) (S.faults source.new) result }
 
         // A stop is given again, with no call on the source.

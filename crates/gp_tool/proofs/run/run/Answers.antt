@@ -1,12 +1,15 @@
-use Rattle.std.proofs.Common.{inl, inr}
-use Rattle.gp_tool.proofs.Flush.{flush_refused}
+use Rattle.std.proofs.Common.{refl}
+use Rattle.gp_tool.proofs.Flush.{after_flush, flushed}
 use Rattle.gp_tool.proofs.run.run.Goals as goal
 
+pub returns-clause-flushes : goal.returns-clause-flushes
+returns-clause-flushes g c =
+    flushed g.K.Sink.tells c.take_lines-ending.result _ _ _ (rw (← c.take_lines-ending.ensures.flushes) c.flush_at_end.ensures.ending)
+
 pub returns-clause-ends : goal.returns-clause-ends
-returns-clause-ends g c first stands told =
-    let ends = c.take_lines-ending.ensures.ends first stands told in
-    rw (c.flush_at_end.ensures.same told.1)
-    (elim c.flush_at_end.ensures.ending [
-      | inl same ↦ rw same ends
-      | inr fault ↦ rw fault.0 (flush_refused first c.take_lines-ending.result _ _ fault.1 ends)
-    ])
+returns-clause-ends g c first stands =
+    after_flush g.S.Source.tells g.K.Sink.tells first c.take_lines-ending.result _ _ _ _
+    (record { left = refl; written = c.flush_at_end.ensures.same })
+    c.take_lines-ending.ensures.flushes
+    (rw (← c.take_lines-ending.ensures.flushes) c.flush_at_end.ensures.ending)
+    (c.take_lines-ending.ensures.ends first stands)

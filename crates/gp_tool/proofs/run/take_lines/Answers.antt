@@ -9,12 +9,14 @@ loop-ending-init g c =
       within = omega arith;
       reads = refl;
       writes = refl;
-      going = λ first stands told. going_first first _ _ stands;
+      flushes = refl;
+      going = λ first stands. going_first g.S.Source.tells g.K.Sink.tells first _ _ stands;
     })
 
 pub returns-in-Some-clause-ends : goal.returns-in-Some-clause-ends
-returns-in-Some-clause-ends g c first stands told =
-    going_ends first _ _ _ _ c.loop-ending.lines c.in-Some.ending (c.loop-ending.invariant.going first stands told) (c.in-Some.ensures.ends told)
+returns-in-Some-clause-ends g c first stands =
+    going_ends g.S.Source.tells g.K.Sink.tells first _ _ _ _ c.loop-ending.lines c.in-Some.ending
+    (c.loop-ending.invariant.going first stands) c.in-Some.ensures.ends (c.in-Some.ensures.flushes ∙ c.loop-ending.invariant.flushes)
 
 pub loop-ending-preserved : goal.loop-ending-preserved
 loop-ending-preserved g c =
@@ -26,5 +28,6 @@ loop-ending-preserved g c =
       within = on.within;
       reads = quiet.0 ∙ kept.reads;
       writes = quiet.1 ∙ kept.writes;
-      going = λ first stands told. going_further first (g.S.Source.tells × g.K.Sink.tells) _ _ _ _ _ c.loop-ending.lines _ (kept.going first stands told) on told;
+      flushes = c.in_default.ensures.flushes ∙ kept.flushes;
+      going = λ first stands. going_further g.S.Source.tells g.K.Sink.tells first _ _ _ _ _ c.loop-ending.lines _ (kept.going first stands) on;
     }

@@ -2,6 +2,7 @@ use Rattle.std.proofs.Common.{◌≡◌, ◌-◌, None}
 use Rattle.io_edge.specs.Lines.{IsWithin}
 use Rattle.card_core.specs.Kept.{Stands}
 use Rattle.policy_rules.specs.State.{State}
+use Rattle.gp_tool.specs.Ends.{outside}
 use Rattle.gp_tool.specs.Going.{Going}
 use Rattle.gp_tool.proofs.run.take_lines.Given as goal
 
@@ -11,9 +12,10 @@ invariant-loop-ending g l = record {
   within : IsWithin l.lines;
   reads : g.S.Source.faults l.source ≡ g.S.Source.faults l.fn.source;
   writes : g.K.Sink.faults l.sink ≡ g.K.Sink.faults l.fn.sink;
-  going : (first : State) → Stands l.fn.card first → g.S.Source.tells × g.K.Sink.tells → Going first l.card
-      (record { left = g.S.Source.left l.fn.source; written = g.K.Sink.written l.fn.sink })
-      (record { left = g.S.Source.left l.source; written = g.K.Sink.written l.sink })
+  flushes : g.K.Sink.flushes l.sink ≡ g.K.Sink.flushes l.fn.sink;
+  going : (first : State) → Stands l.fn.card first → Going g.S.Source.tells g.K.Sink.tells first l.card
+      (outside g.S.Source.left g.K.Sink.written g.K.Sink.handed_on g.K.Sink.flushes l.fn.source l.fn.sink)
+      (outside g.S.Source.left g.K.Sink.written g.K.Sink.handed_on g.K.Sink.flushes l.source l.sink)
       l.lines;
 }
 

@@ -7,5 +7,6 @@ use Rattle.gp_tool.proofs.top.gp.Goals as goal
 
 pub returns-in-Ok-clause-complete : goal.returns-in-Ok-clause-complete
 returns-in-Ok-clause-complete g c words told good short no_read no_write =
-    let ends = c.run.ensures.ends (powered_on factory_registry) c.in-Ok.ensures.stands told in
-    inl (c.status.ensures ∙ ap status_of (finishes (powered_on factory_registry) c.run.result _ _ _ _ _ _ c.run.ensures.cause ends good short no_read no_write))
+    let ends = c.run.ensures.ends (powered_on factory_registry) c.in-Ok.ensures.stands in
+    inl (c.status.ensures ∙ ap status_of
+    (finishes g.S.Source.tells g.K.Sink.tells (powered_on factory_registry) c.run.result _ _ _ _ _ _ c.run.ensures.cause ends told good short no_read no_write))

@@ -22,6 +22,7 @@ returns-in-Err g c =
         text = tt;
         after_borrow = tt;
         stop = λ told _. c.in-Err.ensures.stop told;
+        numbered = λ _. c.in-Err.ensures.numbered;
         cause = λ _. c.in-Err.ensures.cause;
         again = rw c.in_default.is tt;
       },

@@ -1,0 +1,42 @@
+-- The laws of runs over lines.
+use Rattle.std.specs.Prelude.{◌≡◌, ℕ, List}
+use Rattle.policy_rules.specs.State.{State}
+use Rattle.policy_rules.specs.Step.{Outcome}
+use Rattle.gp_tool.specs.Ends.{Ends, Outside}
+use Rattle.gp_tool.specs.Plays.{Plays, text_of}
+use Rattle.gp_tool.specs.declared.ending.Ending.{Ending}
+use Rattle.gp_tool.specs.declared.ending.Ending.TheVariants.{Finished, BadLine, ReadFault, WriteFault, InputTooLong}
+
+-- from one state the same lines write one text
+abbrev pub OneText : Type 0
+OneText =
+    (first : State) (lines : List (List ℕ)) (some others : List Outcome) (last another : State)
+    → Plays first lines some last → Plays first lines others another → text_of some ≡ text_of others
+
+-- and lead to one state
+abbrev pub OneLast : Type 0
+OneLast =
+    (first : State) (lines : List (List ℕ)) (some others : List Outcome) (last another : State)
+    → Plays first lines some last → Plays first lines others another → last ≡ another
+
+-- nothing was refused by source or sink
+abbrev pub IsFaultless : Ending → Type 0
+IsFaultless Finished = Unit {0}
+IsFaultless BadLine = Unit {0}
+IsFaultless InputTooLong = Unit {0}
+IsFaultless ReadFault = ⊥
+IsFaultless WriteFault = ⊥
+
+-- what two runs from one state over the same bytes, without faults, have in common
+abbrev pub OfRuns : (Ending → Outside → Ending → Outside → Type 0) → Type 0
+OfRuns holds =
+    (first : State) (ending another : Ending) (old new other : Outside) → IsFaultless ending → IsFaultless another
+    → Ends (Unit {0}) (Unit {0}) first ending old new → Ends (Unit {0}) (Unit {0}) first another old other → holds ending new another other
+
+-- they end alike
+abbrev pub OneEnding : Type 0
+OneEnding = OfRuns (λ ending new another other. ending ≡ another)
+
+-- and have written the same
+abbrev pub OneWritten : Type 0
+OneWritten = OfRuns (λ ending new another other. new.written ≡ other.written)

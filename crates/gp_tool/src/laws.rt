@@ -1,0 +1,15 @@
+//! The laws of runs over lines, as functions that do nothing when they run.
+
+ghost use Rattle.gp_tool.specs.Laws.{OneEnding, OneLast, OneText, OneWritten};
+
+/// From one state of the card the same lines write one text and lead to one state.
+pub fn one_text()
+    ensures text { OneText }
+    ensures last { OneLast }
+{}
+
+/// From one state of the card and the same bytes, of the endings without a fault one alone may come, with one text.
+pub fn one_ending()
+    ensures ending { OneEnding }
+    ensures written { OneWritten }
+{}
