@@ -9,6 +9,7 @@ mod key_set;
 mod level;
 mod life;
 mod limits;
+mod pinned;
 mod privileges;
 mod search;
 mod tables;
@@ -24,6 +25,7 @@ pub use limits::{
     COUNTER_LIMIT, DOMAIN_KEYS, ENTRIES, FILE_LIMIT, FILES, KEYS, LOAD_PAGES, OBJECTS,
     RECEIPT_LIMIT,
 };
+pub use pinned::constants;
 pub use privileges::Privileges;
 pub use search::{InSlot, Search, least};
 pub use tables::{Entry, ISSUER_SLOT, KeyRec, LoadFile, Object, Tables, in_slot};
