@@ -1,0 +1,27 @@
+//! The numbers that definitions read from the code, each against its literal, and the classes in whole.
+
+ghost use Rattle.std.specs.Prelude.{◌≡◌, [], ◌∷◌, ◌++◌, None, Some, map, replicate};
+ghost use Rattle.std.specs.List.{range_with_len};
+ghost use Rattle.policy_rules.specs.Classes.{class_of, instructions_of};
+ghost use Rattle.policy_rules.specs.declared.class.Class.TheVariants.{Interindustry, Plain, Secure};
+ghost use Rattle.policy_rules.specs.declared.instruction.TheConstants.{SELECT, MANAGE_CHANNEL, GET_DATA, EXTERNAL_AUTHENTICATE, LOAD};
+ghost use Rattle.policy_rules.specs.declared.live.TheConstants.{CHANNELS};
+
+/// The instruction bytes, and how many channels there are.
+pub fn constants()
+    ensures select { SELECT ≡ 0xA4 }
+    ensures manage_channel { MANAGE_CHANNEL ≡ 0x70 }
+    ensures get_data { GET_DATA ≡ 0xCA }
+    ensures external_authenticate { EXTERNAL_AUTHENTICATE ≡ 0x82 }
+    ensures load { LOAD ≡ 0xE8 }
+    ensures channels { CHANNELS ≡ 4 }
+{}
+
+/// The class of each class byte from 00 to FF, and the instructions of each class.
+pub fn classes()
+    ensures class_bytes { map class_of (range_with_len 0 256)
+        ≡ replicate 4 (Some Interindustry) ++ replicate 124 None ++ replicate 4 (Some Plain) ++ replicate 4 (Some Secure) ++ replicate 120 None }
+    ensures interindustry { instructions_of Interindustry ≡ 0xA4 ∷ 0x70 ∷ 0xCA ∷ [] }
+    ensures plain { instructions_of Plain ≡ 0xCA ∷ [] }
+    ensures secure { instructions_of Secure ≡ [] }
+{}
