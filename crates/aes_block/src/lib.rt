@@ -26,6 +26,7 @@ mod column;
 mod columns;
 mod inverse_schedule;
 mod key_size;
+mod pinned;
 mod rounds;
 mod schedule;
 mod seal_table;
@@ -36,6 +37,7 @@ mod unseal_table;
 pub use aes::{Aes, Aes128, Aes192, Aes256};
 pub use block_key::BlockKey;
 pub use key_size::{Bits128, Bits192, Bits256, KeySize};
+pub use pinned::constants;
 pub use sealing_aes::{SealingAes, SealingAes128, SealingAes192, SealingAes256};
 
 #[cfg(test)]
