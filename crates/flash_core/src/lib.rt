@@ -13,6 +13,7 @@ mod fuse;
 mod memory;
 mod once;
 mod page;
+mod pinned;
 #[cfg(test)]
 mod tests;
 
@@ -22,3 +23,4 @@ pub use fuse::FuseFlash;
 pub use memory::MemFlash;
 pub use once::OnceFlash;
 pub use page::{PAGES, Page};
+pub use pinned::constants;
