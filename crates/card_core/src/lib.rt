@@ -7,11 +7,13 @@ mod admit;
 mod card;
 mod get_data;
 mod manage_channel;
+mod pinned;
 mod reply;
 mod select;
 mod serve;
 
 pub use card::Card;
+pub use pinned::constants;
 pub use reply::REPLY_LIMIT;
 
 #[cfg(test)]
