@@ -114,7 +114,7 @@ fn write_datum(tables: &Tables, tag: u16, datum: Datum<'_>, reply: &mut ArrayVec
 }
 
 /// Answers the data of a tag, for the domain in the slot that is selected on the channel.
-// Most commands are others, and run faster where this is not between them.
+// Out of line: the fastest of the placements that were measured.
 #[inline(never)]
 pub fn get_data(
     tables: &Tables,
