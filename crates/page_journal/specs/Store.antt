@@ -18,11 +18,15 @@ pub record Store (F : Type 0) : Type 0 where
 abbrev pub SameBelow : List Page → List Page → Type 0
 SameBelow old new = (page : ℕ) → page < 96 → slice_get new page ≡ slice_get old page
 
+-- what was read of the journal is what stands there
+pub record HasJournal (pages : List Page) (journal : Option Page) : Type 0 where
+  pub gate : is_open pages ≡ is_some journal
+  pub named : IfSome journal (λ page. slice_get pages 46 ≡ Some page)
+
 -- Between two calls nothing below the load pages is pending, and the journal is as it was read.
 pub record Stands (pages : List Page) (may_leave : List Page → Type 0) (journal : Option Page) : Type 0 where
   pub calm : Always may_leave (SameBelow pages)
-  pub gate : is_open pages ≡ is_some journal
-  pub named : IfSome journal (λ page. slice_get pages 46 ≡ Some page)
+  pub as_read : HasJournal pages journal
 
 -- only store pages are staged
 abbrev pub AreStorePages : List (ℕ × Page) → Type 0
@@ -31,11 +35,6 @@ AreStorePages pages = (i : ℕ) (entry : ℕ × Page) → slice_get pages i ≡ 
 -- the pages of a device stand for this list
 abbrev pub IsListed : (ℕ → Option Page) → List Page → Type 0
 IsListed list pages = (page : ℕ) → (page < 45) ⊎ (96 ≤ page) → stored pages page ≡ list page
-
--- what was read of the journal is what stands there
-pub record HasJournal (pages : List Page) (journal : Option Page) : Type 0 where
-  pub gate : is_open pages ≡ is_some journal
-  pub named : IfSome journal (λ page. slice_get pages 46 ≡ Some page)
 
 -- Why a device is not mounted: it failed, or the gate is open before a descriptor that has no valid form.
 abbrev pub CauseHolds : Type 0 → ℕ → ℕ → List Page → MountCause → Type 0

@@ -12,7 +12,7 @@ returns-clause-moments g c told loose before =
     let old = c.self.inside.flash in
     let new = c.write.new.self in
     let stands = c.self.invariant.2 told (ap (λ s. s.live) c.self.view_is ∙ c.requires.live) in
-    let closed = stands.gate ∙ none_some c.self.inside.journal (ap (λ s. s.settled) c.self.view_is ∙ c.requires.settled) in
+    let closed = stands.as_read.gate ∙ none_some c.self.inside.journal (ap (λ s. s.settled) c.self.view_is ∙ c.requires.settled) in
     let e = c.write.ensures in
     let run = by_write F.pages F.moment F.may_leave F.left_since g.met.F.Flash.only_now told page old new (e.torn told) (e.loss told) (e.time told) in
     subst (λ f. Always (F.may_leave f) (Leaves (stored (F.pages f)) loose) → LeavesOnly F.moment F.left_since f new (Leaves (stored (F.pages f)) (page ∷ loose))) (ap (λ s. s.flash) c.self.view_is)
