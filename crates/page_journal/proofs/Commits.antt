@@ -8,8 +8,8 @@ use Rattle.page_journal.specs.Moments.{Always, LeavesOnly, Leaves, current}
 use Rattle.page_journal.specs.Phases.{IsRecord, IsStaged, CopiesOf, Names, HomesOf}
 use Rattle.page_journal.specs.Store.{AreStorePages, SameBelow, IsListed}
 use Rattle.page_journal.specs.Touches.{SameOutside, IsTorn, Touches}
-use Rattle.page_journal.proofs.Runs.{only_torn}
-use Rattle.page_journal.proofs.Lists.{IsPage, gate_same, stored_shut, shut, staged_store, Recorded, recorded_after, opened, closed_after, listed}
+use Rattle.page_journal.proofs.Runs.{only_torn, then_only}
+use Rattle.page_journal.proofs.Lists.{IsPage, no_gate, gate_same, stored_shut, shut, staged_store, Recorded, recorded_after, opened, closed_after, listed}
 
 -- what the gate is after a byte was written
 pub gate_is : (pages : List Page) (page : Page) (byte : ℕ) → slice_get pages 45 ≡ Some page → get_or page.bytes 0 0 ≡ byte → is_open pages ≡ (byte == 165)
@@ -19,20 +19,26 @@ pub is_or_not : (b : Bool) → (b ≡ true) ⊎ (b ≡ false)
 is_or_not true = inl refl
 is_or_not false = inr refl
 
+-- no page of the list is part of the record
+outside : (p : ℕ) → IsPage p → IsRecord p → ⊥
+outside p (inl lt) r = omega (arith, lt, r.0)
+outside p (inr le) r = omega (arith, le, r.1)
+
 module _ {F T : Type 0} (pages : F → List Page) (moment : F → ℕ) (may_leave : F → List Page → Type 0) (left_since : F → ℕ → List Page → Type 0) (only : (f : F) (c : List Page) → T → left_since f (moment f) c → may_leave f c) (told : T)
     (pool : List (ℕ × Page)) (some : 0 < length pool) (room : length pool ≤ 30) (homes : AreStorePages pool) (distinct : AreDistinct pool) (f0 : F) (closed : is_open (pages f0) ≡ false) where
   -- power lost leaves the pages from before or those after
   abbrev pub Either : List ℕ → List Page → Type 0
   Either loose c = Leaves (stored (pages f0)) loose c ⊎ Leaves (current pool (pages f0)) [] c
 
+  -- behind a part of a commit: what power lost may have left so far, and what is recorded
+  pub record SoFar (loose : List ℕ) (f : F) : Type 0 where
+    pub moments : LeavesOnly moment left_since f0 f (Either loose)
+    pub kept : Recorded pool (pages f0) (pages f)
+
   -- The copies and the descriptor are written behind the closed gate.
   pub first : (loose : List ℕ) (f1 : F) → Always (may_leave f0) (SameBelow (pages f0)) → Always (may_leave f0) (Leaves (stored (pages f0)) loose) → Touches pages moment may_leave left_since IsRecord f0 f1 → LeavesOnly moment left_since f0 f1 (Either loose)
   first loose f1 calm before run = only_torn pages moment may_leave left_since only told IsRecord f0 f1 (Either loose) run here
     where
-      outside : (p : ℕ) → IsPage p → IsRecord p → ⊥
-      outside p (inl lt) r = omega (arith, lt, r.0)
-      outside p (inr le) r = omega (arith, le, r.1)
-
       here : (c : List Page) → IsTorn IsRecord (may_leave f0) c → Either loose c
       here c torn =
           let d = torn.0 in
@@ -48,23 +54,17 @@ module _ {F T : Type 0} (pages : F → List Page) (moment : F → ℕ) (may_leav
     copies = copies;
     others = λ p out page. run.seen p (outside p page);
   }
-    where
-      outside : (p : ℕ) → IsPage p → IsRecord p → ⊥
-      outside p (inl lt) r = omega (arith, lt, r.0)
-      outside p (inr le) r = omega (arith, le, r.1)
 
   -- The gate is opened before the copies.
-  pub second : (loose : List ℕ) (f1 f2 : F) → Touches pages moment may_leave left_since IsRecord f0 f1 → Recorded pool (pages f0) (pages f1) → Only (pages f1) (may_leave f1) → Touches pages moment may_leave left_since (λ p. p ≡ 45) f1 f2
-      → LeavesOnly moment left_since f1 f2 (Either loose)
-  second loose f1 f2 wrote was synced run = only_torn pages moment may_leave left_since only told (λ p. p ≡ 45) f1 f2 (Either loose) run here
+  pub second : (loose : List ℕ) (f1 f2 : F) → Always (may_leave f0) (SameBelow (pages f0)) → Always (may_leave f0) (Leaves (stored (pages f0)) loose) → Touches pages moment may_leave left_since IsRecord f0 f1 → CopiesOf (length pool) pool (pages f1)
+      → (page : Page) × (slice_get (pages f1) 46 ≡ Some page) × Names pool page.bytes → Only (pages f1) (may_leave f1) → Touches pages moment may_leave left_since (λ p. p ≡ 45) f1 f2 → SoFar loose f2
+  second loose f1 f2 calm before wrote copies names synced run = record {
+    moments = then_only pages moment may_leave left_since only told f0 f1 f2 (Either loose) (first loose f1 calm before wrote) (only_torn pages moment may_leave left_since only told (λ p. p ≡ 45) f1 f2 (Either loose) run here);
+    kept = recorded_after (λ p. p ≡ 45) pool (pages f0) (pages f1) (pages f2) homes (λ p is. inl is) run.seen was;
+  }
     where
-      outside : (p : ℕ) → IsPage p → IsRecord p → ⊥
-      outside p (inl lt) r = omega (arith, lt, r.0)
-      outside p (inr le) r = omega (arith, le, r.1)
-
-      no_gate : (p : ℕ) → IsPage p → p ≡ 45 → ⊥
-      no_gate p (inl lt) is = omega (arith, lt, is)
-      no_gate p (inr le) is = omega (arith, le, is)
+      was : Recorded pool (pages f0) (pages f1)
+      was = recorded f1 wrote copies names
 
       here : (c : List Page) → IsTorn (λ p. p ≡ 45) (may_leave f1) c → Either loose c
       here c torn =
@@ -79,8 +79,11 @@ module _ {F T : Type 0} (pages : F → List Page) (moment : F → ℕ) (may_leav
           by_gate same (inr gate) = inl (shut (stored (pages f0)) loose c gate (λ p lt. at same p (inl lt)) (λ p le tight. at same p (inr le)))
 
   -- The pages in place are written behind the open gate.
-  pub third : (loose : List ℕ) (f2 f3 : F) → Recorded pool (pages f0) (pages f2) → is_open (pages f2) ≡ true → Only (pages f2) (may_leave f2) → Touches pages moment may_leave left_since (IsStaged pool) f2 f3 → LeavesOnly moment left_since f2 f3 (Either loose)
-  third loose f2 f3 was gate synced run = only_torn pages moment may_leave left_since only told (IsStaged pool) f2 f3 (Either loose) run here
+  pub third : (loose : List ℕ) (f2 f3 : F) → SoFar loose f2 → is_open (pages f2) ≡ true → Only (pages f2) (may_leave f2) → Touches pages moment may_leave left_since (IsStaged pool) f2 f3 → SoFar loose f3
+  third loose f2 f3 before gate synced run = record {
+    moments = then_only pages moment may_leave left_since only told f0 f2 f3 (Either loose) before.moments (only_torn pages moment may_leave left_since only told (IsStaged pool) f2 f3 (Either loose) run here);
+    kept = recorded_after (IsStaged pool) pool (pages f0) (pages f2) (pages f3) homes (λ p is. inr is) run.seen before.kept;
+  }
     where
       low : IsStaged pool 45 → ⊥
       low is = omega (arith, staged_store pool 45 homes is)
@@ -88,16 +91,17 @@ module _ {F T : Type 0} (pages : F → List Page) (moment : F → ℕ) (may_leav
       here : (c : List Page) → IsTorn (IsStaged pool) (may_leave f2) c → Either loose c
       here c torn =
           let same : SameOutside (IsStaged pool) (pages f2) c = subst (λ d. SameOutside (IsStaged pool) d c) (synced torn.0 torn.1) torn.2 in
-          inr (opened pool (pages f0) c some room homes distinct closed (recorded_after (IsStaged pool) pool (pages f0) (pages f2) c homes (λ p is. inr is) same was) (gate_same c (pages f2) (same 45 low) ∙ gate))
+          inr (opened pool (pages f0) c some room homes distinct closed (recorded_after (IsStaged pool) pool (pages f0) (pages f2) c homes (λ p is. inr is) same before.kept) (gate_same c (pages f2) (same 45 low) ∙ gate))
 
   -- The gate is closed before the pages in place.
-  pub fourth : (loose : List ℕ) (f3 f4 : F) → Recorded pool (pages f0) (pages f3) → HomesOf (length pool) pool (pages f3) → Only (pages f3) (may_leave f3) → Touches pages moment may_leave left_since (λ p. p ≡ 45) f3 f4 → LeavesOnly moment left_since f3 f4 (Either loose)
-  fourth loose f3 f4 was put synced run = only_torn pages moment may_leave left_since only told (λ p. p ≡ 45) f3 f4 (Either loose) run here
+  pub fourth : (loose : List ℕ) (f3 f4 : F) → SoFar loose f3 → HomesOf (length pool) pool (pages f3) → Only (pages f3) (may_leave f3) → Touches pages moment may_leave left_since (λ p. p ≡ 45) f3 f4 → LeavesOnly moment left_since f0 f4 (Either loose)
+  fourth loose f3 f4 before put synced run =
+      then_only pages moment may_leave left_since only told f0 f3 f4 (Either loose) before.moments (only_torn pages moment may_leave left_since only told (λ p. p ≡ 45) f3 f4 (Either loose) run here)
     where
       here : (c : List Page) → IsTorn (λ p. p ≡ 45) (may_leave f3) c → Either loose c
       here c torn =
           let same : SameOutside (λ p. p ≡ 45) (pages f3) c = subst (λ d. SameOutside (λ p. p ≡ 45) d c) (synced torn.0 torn.1) torn.2 in
-          by_gate (recorded_after (λ p. p ≡ 45) pool (pages f0) (pages f3) c homes (λ p is. inl is) same was) (λ i e lt is. same e.0 (λ gate. omega (arith, gate, homes i e is)) ∙ put i e lt is) (is_or_not (is_open c))
+          by_gate (recorded_after (λ p. p ≡ 45) pool (pages f0) (pages f3) c homes (λ p is. inl is) same before.kept) (λ i e lt is. same e.0 (λ gate. omega (arith, gate, homes i e is)) ∙ put i e lt is) (is_or_not (is_open c))
         where
           by_gate : Recorded pool (pages f0) c → HomesOf (length pool) pool c → (is_open c ≡ true) ⊎ (is_open c ≡ false) → Either loose c
           by_gate kept stand (inl gate) = inr (opened pool (pages f0) c some room homes distinct closed kept gate)

@@ -91,6 +91,11 @@ names_valid pool bytes some room homes distinct names = record {
       omega (arith, ij, eq);
 }
 
+-- no page of the list is the gate
+pub no_gate : (p : ℕ) → IsPage p → p ≡ 45 → ⊥
+no_gate p (inl lt) is = omega (arith, lt, is)
+no_gate p (inr le) is = omega (arith, le, is)
+
 -- The staged pages are recorded: the descriptor names them, the copies stand, and all others are as they were.
 pub record Recorded (pool : Pages) (start c : List Page) : Type 0 where
   pub names : Names pool (descriptor c)
@@ -108,10 +113,6 @@ recorded_after inside pool start a c homes within same was = record {
     low : (p : ℕ) → 46 ≤ p → (p ≡ 45) ⊎ IsStaged pool p → ⊥
     low p le (inl gate) = omega (arith, le, gate)
     low p le (inr is) = omega (arith, le, staged_store pool p homes is)
-
-    no_gate : (p : ℕ) → IsPage p → p ≡ 45 → ⊥
-    no_gate p (inl lt) is = omega (arith, lt, is)
-    no_gate p (inr le) is = omega (arith, le, is)
 
 module _ (pool : Pages) (start c : List Page) (some : 0 < length pool) (room : length pool ≤ 30) (homes : AreStorePages pool) (distinct : AreDistinct pool) (closed : is_open start ≡ false) where
   unstaged : (p : ℕ) → staged pool p ≡ None → IsStaged pool p → ⊥

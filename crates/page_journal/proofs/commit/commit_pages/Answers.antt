@@ -1,9 +1,8 @@
 use Rattle.std.proofs.Common.{◌≡◌, inl, inr}
 use Rattle.page_journal.specs.Phases.{IsStaged}
-use Rattle.page_journal.proofs.Runs.{then_only}
 use Rattle.page_journal.proofs.Causes.{where_ok}
 use Rattle.page_journal.proofs.Lists.{recorded_after}
-use Rattle.page_journal.proofs.Commits.{Either, gate_is, first, recorded, second, third, fourth, ended}
+use Rattle.page_journal.proofs.Commits.{gate_is, first, recorded, second, third, fourth, ended}
 use Rattle.page_journal.proofs.commit.commit_pages.Goals as goal
 
 pub returns-in_err-record-clause-moments : goal.returns-in_err-record-clause-moments
@@ -18,13 +17,7 @@ returns-in_err-set_gate-clause-moments g c told loose before =
     let r = c.requires in
     let e1 = c.in_ok-record.ensures in
     let e2 = c.in_err-set_gate.ensures in
-    let pool = c.args.pool.now in
-    let f0 = c.args.flash.now in
-    let P = Either F.pages F.moment F.may_leave F.left_since g.met.F.Flash.only_now told pool r.some r.room r.homes r.distinct f0 (r.closed told) loose in
-    let was = recorded F.pages F.moment F.may_leave F.left_since g.met.F.Flash.only_now told pool r.some r.room r.homes r.distinct f0 (r.closed told) _ (e1.touches told) (e1.copies told) (e1.names told) in
-    then_only F.pages F.moment F.may_leave F.left_since g.met.F.Flash.only_now told f0 _ _ P
-    (first F.pages F.moment F.may_leave F.left_since g.met.F.Flash.only_now told pool r.some r.room r.homes r.distinct f0 (r.closed told) loose _ (r.calm told) before (e1.touches told))
-    (second F.pages F.moment F.may_leave F.left_since g.met.F.Flash.only_now told pool r.some r.room r.homes r.distinct f0 (r.closed told) loose _ _ (e1.touches told) was (e1.only told) (e2.touches told))
+    (second F.pages F.moment F.may_leave F.left_since g.met.F.Flash.only_now told c.args.pool.now r.some r.room r.homes r.distinct c.args.flash.now (r.closed told) loose _ _ (r.calm told) before (e1.touches told) (e1.copies told) (e1.names told) (e1.only told) (e2.touches told)).moments
 
 pub returns-in_err-put_in_place-clause-moments : goal.returns-in_err-put_in_place-clause-moments
 returns-in_err-put_in_place-clause-moments g c told loose before =
@@ -33,16 +26,9 @@ returns-in_err-put_in_place-clause-moments g c told loose before =
     let e1 = c.in_ok-record.ensures in
     let e2 = c.in_ok-set_gate.ensures in
     let e3 = c.in_err-put_in_place.ensures in
-    let pool = c.args.pool.now in
-    let f0 = c.args.flash.now in
-    let P = Either F.pages F.moment F.may_leave F.left_since g.met.F.Flash.only_now told pool r.some r.room r.homes r.distinct f0 (r.closed told) loose in
-    let was1 = recorded F.pages F.moment F.may_leave F.left_since g.met.F.Flash.only_now told pool r.some r.room r.homes r.distinct f0 (r.closed told) _ (e1.touches told) (e1.copies told) (e1.names told) in
-    let was2 = recorded_after (λ p. p ≡ 45) pool (F.pages f0) _ _ r.homes (λ p is. inl is) (e2.touches told).seen was1 in
     let gate = gate_is (F.pages c.set_gate.new.flash) (e2.written told).0 165 (e2.written told).1 (e2.written told).2 in
-    let opened = then_only F.pages F.moment F.may_leave F.left_since g.met.F.Flash.only_now told f0 _ _ P
-    (first F.pages F.moment F.may_leave F.left_since g.met.F.Flash.only_now told pool r.some r.room r.homes r.distinct f0 (r.closed told) loose _ (r.calm told) before (e1.touches told))
-    (second F.pages F.moment F.may_leave F.left_since g.met.F.Flash.only_now told pool r.some r.room r.homes r.distinct f0 (r.closed told) loose _ _ (e1.touches told) was1 (e1.only told) (e2.touches told)) in
-    then_only F.pages F.moment F.may_leave F.left_since g.met.F.Flash.only_now told f0 _ _ P opened (third F.pages F.moment F.may_leave F.left_since g.met.F.Flash.only_now told pool r.some r.room r.homes r.distinct f0 (r.closed told) loose _ _ was2 gate (e2.only told) (e3.touches told))
+    let opened = second F.pages F.moment F.may_leave F.left_since g.met.F.Flash.only_now told c.args.pool.now r.some r.room r.homes r.distinct c.args.flash.now (r.closed told) loose _ _ (r.calm told) before (e1.touches told) (e1.copies told) (e1.names told) (e1.only told) (e2.touches told) in
+    (third F.pages F.moment F.may_leave F.left_since g.met.F.Flash.only_now told c.args.pool.now r.some r.room r.homes r.distinct c.args.flash.now (r.closed told) loose _ _ opened gate (e2.only told) (e3.touches told)).moments
 
 pub returns-clause-moments : goal.returns-clause-moments
 returns-clause-moments g c told loose before =
@@ -51,19 +37,11 @@ returns-clause-moments g c told loose before =
     let e1 = c.in_ok-record.ensures in
     let e2 = c.in_ok-set_gate.ensures in
     let e3 = c.in_ok-put_in_place.ensures in
-    let pool = c.args.pool.now in
-    let f0 = c.args.flash.now in
-    let P = Either F.pages F.moment F.may_leave F.left_since g.met.F.Flash.only_now told pool r.some r.room r.homes r.distinct f0 (r.closed told) loose in
-    let was1 = recorded F.pages F.moment F.may_leave F.left_since g.met.F.Flash.only_now told pool r.some r.room r.homes r.distinct f0 (r.closed told) _ (e1.touches told) (e1.copies told) (e1.names told) in
-    let was2 = recorded_after (λ p. p ≡ 45) pool (F.pages f0) _ _ r.homes (λ p is. inl is) (e2.touches told).seen was1 in
-    let gate = gate_is (F.pages c.set_gate.new.flash) (e2.written told).0 165 (e2.written told).1 (e2.written told).2 in
-    let opened = then_only F.pages F.moment F.may_leave F.left_since g.met.F.Flash.only_now told f0 _ _ P
-    (first F.pages F.moment F.may_leave F.left_since g.met.F.Flash.only_now told pool r.some r.room r.homes r.distinct f0 (r.closed told) loose _ (r.calm told) before (e1.touches told))
-    (second F.pages F.moment F.may_leave F.left_since g.met.F.Flash.only_now told pool r.some r.room r.homes r.distinct f0 (r.closed told) loose _ _ (e1.touches told) was1 (e1.only told) (e2.touches told)) in
     let e4 = c.set_gate-2.ensures in
-    let was3 = recorded_after (IsStaged pool) pool (F.pages f0) _ _ r.homes (λ p is. inr is) (e3.touches told).seen was2 in
-    then_only F.pages F.moment F.may_leave F.left_since g.met.F.Flash.only_now told f0 _ _ P (then_only F.pages F.moment F.may_leave F.left_since g.met.F.Flash.only_now told f0 _ _ P opened (third F.pages F.moment F.may_leave F.left_since g.met.F.Flash.only_now told pool r.some r.room r.homes r.distinct f0 (r.closed told) loose _ _ was2 gate (e2.only told) (e3.touches told)))
-    (fourth F.pages F.moment F.may_leave F.left_since g.met.F.Flash.only_now told pool r.some r.room r.homes r.distinct f0 (r.closed told) loose _ _ was3 (e3.homes told) (e3.only told) (e4.touches told))
+    let gate = gate_is (F.pages c.set_gate.new.flash) (e2.written told).0 165 (e2.written told).1 (e2.written told).2 in
+    let opened = second F.pages F.moment F.may_leave F.left_since g.met.F.Flash.only_now told c.args.pool.now r.some r.room r.homes r.distinct c.args.flash.now (r.closed told) loose _ _ (r.calm told) before (e1.touches told) (e1.copies told) (e1.names told) (e1.only told) (e2.touches told) in
+    let placed = third F.pages F.moment F.may_leave F.left_since g.met.F.Flash.only_now told c.args.pool.now r.some r.room r.homes r.distinct c.args.flash.now (r.closed told) loose _ _ opened gate (e2.only told) (e3.touches told) in
+    fourth F.pages F.moment F.may_leave F.left_since g.met.F.Flash.only_now told c.args.pool.now r.some r.room r.homes r.distinct c.args.flash.now (r.closed told) loose _ _ placed (e3.homes told) (e3.only told) (e4.touches told)
 
 pub returns-clause-list : goal.returns-clause-list
 returns-clause-list g c told =
