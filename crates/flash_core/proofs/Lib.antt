@@ -1,3 +1,2 @@
 pub mod PageLists
-mod Counts
 mod Steps

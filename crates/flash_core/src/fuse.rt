@@ -1,6 +1,6 @@
 //! A device that fails from some call on.
 
-ghost use Rattle.std.specs.Prelude.{◌≡◌, ◌+◌, ◌^◌, ◌<◌, ◌≤◌, Some, slice_get, IsErr, OnOk, OnErr};
+ghost use Rattle.std.specs.Prelude.{◌≡◌, ◌+◌, ◌<◌, ◌≤◌, Some, slice_get, IsErr, OnOk, OnErr};
 ghost use Rattle.flash_core.specs.Device.{SameBut, NoneNew, AnyBytesIn, Only, Elapses};
 ghost use Rattle.flash_core.specs.Faults.{HasCause, next_count};
 ghost use Rattle.flash_core.specs.Wrapped.{Fused, IsRefused, IsPassed};
@@ -46,13 +46,12 @@ impl<F: Flash> FuseFlash<F> {
     // Whether a call is passed on. It counts the call.
     fn passes(&mut self) -> Result<(), FlashFailed>
         ensures inner { self.new.inner ≡ self.old.inner }
-        ensures small { self.old.refused < 2 ^ 64 }
+        ensures cause { HasCause (F.faults self.old.inner + self.old.refused) (F.faults self.new.inner + self.new.refused) result }
         ensures ok { OnOk result ((self.new.left + 1 ≡ self.old.left) × (self.new.refused ≡ self.old.refused)) }
         ensures err { OnErr result ((self.old.left ≡ 0) × (self.new.left ≡ 0) × (self.new.refused ≡ next_count self.old.refused)) }
     {
-        let refused = self.refused;
         if self.left == 0 {
-            self.refused = refused.saturating_add(1);
+            self.refused = self.refused.saturating_add(1);
             return Err(FlashFailed);
         }
         self.left -= 1;

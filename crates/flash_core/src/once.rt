@@ -1,6 +1,6 @@
 //! A device that fails once.
 
-ghost use Rattle.std.specs.Prelude.{◌≡◌, ℕ, ◌+◌, ◌^◌, ◌-◌, ◌<◌, ◌≤◌, Some, None, slice_get, MatchOption, OnOk, OnErr};
+ghost use Rattle.std.specs.Prelude.{◌≡◌, ℕ, ◌+◌, ◌-◌, ◌<◌, ◌≤◌, Some, None, slice_get, MatchOption, OnOk, OnErr};
 ghost use Rattle.flash_core.specs.Device.{SameBut, NoneNew, AnyBytesIn, Only, Elapses};
 ghost use Rattle.flash_core.specs.Faults.{HasCause, next_count};
 ghost use Rattle.flash_core.specs.Wrapped.{Tripped, IsTripped, IsBefore, IsAfter};
@@ -46,17 +46,16 @@ impl<F: Flash> OnceFlash<F> {
     // Whether a call is passed on. It counts the call.
     fn passes(&mut self) -> Result<(), FlashFailed>
         ensures inner { self.new.inner ≡ self.old.inner }
-        ensures small { self.old.refused < 2 ^ 64 }
+        ensures cause { HasCause (F.faults self.old.inner + self.old.refused) (F.faults self.new.inner + self.new.refused) result }
         ensures ok { OnOk result ((self.new.refused ≡ self.old.refused)
             × MatchOption self.old.wait (self.new.wait ≡ None) (λ n. (self.new.wait ≡ Some (n - 1)) × (0 < n))) }
         ensures err { OnErr result ((self.old.wait ≡ Some 0) × (self.new.wait ≡ None) × (self.new.refused ≡ next_count self.old.refused)) }
     {
-        let refused = self.refused;
         match self.wait {
             None => Ok(()),
             Some(0) => {
                 self.wait = None;
-                self.refused = refused.saturating_add(1);
+                self.refused = self.refused.saturating_add(1);
                 Err(FlashFailed)
             }
             Some(n) => {
