@@ -1,14 +1,11 @@
-ghost use Rattle.std.specs.Prelude.{◌≡◌, ◌+◌, ◌/◌};
-ghost use Rattle.aes_block.specs.Cipher.{IsKey};
+ghost use Rattle.std.specs.Prelude.{◌+◌, ◌/◌};
 ghost use Rattle.aes_block.specs.Inverse.{IsInverseSchedule};
-ghost use Rattle.aes_block.specs.State.{schedule_of};
-ghost use Rattle.aes_block.specs.Words.{first_bytes, key_words};
+ghost use Rattle.aes_block.specs.State.{HasSchedule, key_in, schedule_of};
 
 use crate::block_key::BlockKey;
-use crate::inverse_schedule::invert;
-use crate::key_size::{Bits128, Bits192, Bits256, KeySize, rounds};
-use crate::rounds::{seal_rounds, unseal_rounds};
-use crate::schedule::{MOST_WORDS, expand};
+use crate::kept::{make_inverse, make_words, seal_by, unseal_by};
+use crate::key_size::{Bits128, Bits192, Bits256, KeySize};
+use crate::schedule::MOST_WORDS;
 use std::marker::PhantomData;
 
 /// A key for both directions, with both key schedules made.
@@ -17,8 +14,7 @@ pub struct Aes<S: KeySize> {
     words: [u32; MOST_WORDS],
     inverse_words: [u32; MOST_WORDS],
     size: PhantomData<S>,
-    ghost whole: { IsKey S.BYTES (first_bytes (schedule_of S.BYTES words) (S.BYTES / 4)) },
-    ghost schedule: { schedule_of S.BYTES words ≡ key_words (first_bytes (schedule_of S.BYTES words) (S.BYTES / 4)) },
+    ghost schedule: { HasSchedule S.BYTES words },
     ghost inverse: { IsInverseSchedule (schedule_of S.BYTES words) (schedule_of S.BYTES inverse_words) (S.BYTES / 4 + 6) },
 }
 
@@ -36,19 +32,14 @@ impl<S: KeySize> BlockKey for Aes<S> {
 
     ghost LEN = { S.BYTES };
 
-    ghost key_bytes = { λ k. first_bytes (schedule_of S.BYTES k.words) (S.BYTES / 4) };
+    ghost key_bytes = { λ k. key_in S.BYTES k.words };
 
     #[inline(always)]
     fn from_key(key: &[u8]) -> Aes<S> {
-        let rounds = rounds::<S>();
         let mut words = [0; MOST_WORDS];
-        expand(key, &mut words[..4 * rounds + 4]);
+        make_words::<S>(key, &mut words);
         let mut inverse_words = [0; MOST_WORDS];
-        invert(
-            &words[..4 * rounds + 4],
-            rounds,
-            &mut inverse_words[..4 * rounds + 4],
-        );
+        make_inverse::<S>(&words, &mut inverse_words);
         Aes {
             words,
             inverse_words,
@@ -57,16 +48,14 @@ impl<S: KeySize> BlockKey for Aes<S> {
     }
 
     fn seal(&self, block: &mut [u8; 16]) {
-        let rounds = rounds::<S>();
-        seal_rounds(&self.words[..4 * rounds + 4], rounds, block);
+        seal_by::<S>(&self.words, block);
     }
 
     fn unseal(&self, block: &mut [u8; 16]) {
-        let rounds = rounds::<S>();
-        unseal_rounds(&self.inverse_words[..4 * rounds + 4], rounds, block);
+        unseal_by::<S>(&self.words, &self.inverse_words, block);
     }
 
     ghost standard_length = { S.standard };
 
-    ghost whole_key = { λ k. k.whole };
+    ghost whole_key = { λ k. k.schedule.whole };
 }

@@ -25,6 +25,7 @@ mod block_key;
 mod column;
 mod columns;
 mod inverse_schedule;
+mod kept;
 mod key_size;
 mod pinned;
 mod rounds;

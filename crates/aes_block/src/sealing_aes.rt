@@ -1,13 +1,9 @@
-ghost use Rattle.std.specs.Prelude.{◌≡◌, ◌/◌};
-ghost use Rattle.aes_block.specs.Cipher.{IsKey};
-ghost use Rattle.aes_block.specs.State.{schedule_of};
-ghost use Rattle.aes_block.specs.Words.{first_bytes, key_words};
+ghost use Rattle.aes_block.specs.State.{HasSchedule, key_in};
 
 use crate::block_key::BlockKey;
-use crate::inverse_schedule::invert;
-use crate::key_size::{Bits128, Bits192, Bits256, KeySize, rounds};
-use crate::rounds::{seal_rounds, unseal_rounds};
-use crate::schedule::{MOST_WORDS, expand};
+use crate::kept::{make_inverse, make_words, seal_by, unseal_by};
+use crate::key_size::{Bits128, Bits192, Bits256, KeySize};
+use crate::schedule::MOST_WORDS;
 use std::marker::PhantomData;
 
 /// A key for blocks that are sealed. It has no inverse key schedule, so that `unseal` makes it at
@@ -16,8 +12,7 @@ use std::marker::PhantomData;
 pub struct SealingAes<S: KeySize> {
     words: [u32; MOST_WORDS],
     size: PhantomData<S>,
-    ghost whole: { IsKey S.BYTES (first_bytes (schedule_of S.BYTES words) (S.BYTES / 4)) },
-    ghost schedule: { schedule_of S.BYTES words ≡ key_words (first_bytes (schedule_of S.BYTES words) (S.BYTES / 4)) },
+    ghost schedule: { HasSchedule S.BYTES words },
 }
 
 /// A key of sixteen bytes.
@@ -34,12 +29,12 @@ impl<S: KeySize> BlockKey for SealingAes<S> {
 
     ghost LEN = { S.BYTES };
 
-    ghost key_bytes = { λ k. first_bytes (schedule_of S.BYTES k.words) (S.BYTES / 4) };
+    ghost key_bytes = { λ k. key_in S.BYTES k.words };
 
     #[inline(always)]
     fn from_key(key: &[u8]) -> SealingAes<S> {
         let mut words = [0; MOST_WORDS];
-        expand(key, &mut words[..4 * rounds::<S>() + 4]);
+        make_words::<S>(key, &mut words);
         SealingAes {
             words,
             size: PhantomData,
@@ -47,22 +42,16 @@ impl<S: KeySize> BlockKey for SealingAes<S> {
     }
 
     fn seal(&self, block: &mut [u8; 16]) {
-        let rounds = rounds::<S>();
-        seal_rounds(&self.words[..4 * rounds + 4], rounds, block);
+        seal_by::<S>(&self.words, block);
     }
 
     fn unseal(&self, block: &mut [u8; 16]) {
-        let rounds = rounds::<S>();
         let mut inverse_words = [0; MOST_WORDS];
-        invert(
-            &self.words[..4 * rounds + 4],
-            rounds,
-            &mut inverse_words[..4 * rounds + 4],
-        );
-        unseal_rounds(&inverse_words[..4 * rounds + 4], rounds, block);
+        make_inverse::<S>(&self.words, &mut inverse_words);
+        unseal_by::<S>(&self.words, &inverse_words, block);
     }
 
     ghost standard_length = { S.standard };
 
-    ghost whole_key = { λ k. k.whole };
+    ghost whole_key = { λ k. k.schedule.whole };
 }
