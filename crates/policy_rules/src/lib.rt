@@ -24,7 +24,7 @@ pub use laws::{one_outcome, refusals_drop_offers, steps_keep_sound};
 pub use live::{CHANNELS, Live};
 pub use manage_channel::{RuleMC, judge_more_channel};
 pub use own_rules::judge;
-pub use pinned::{classes, constants};
+pub use pinned::{classes, constants, status_words};
 pub use request::{Request, parse};
 pub use rule::{Rule, RuleG, RulePS};
 pub use select::{RuleSE, judge_select};

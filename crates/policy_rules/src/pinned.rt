@@ -2,10 +2,17 @@
 
 ghost use Rattle.std.specs.Prelude.{◌≡◌, [], ◌∷◌, ◌++◌, None, Some, map, replicate};
 ghost use Rattle.std.specs.List.{range_with_len};
+ghost use Rattle.policy_rules.specs.Admission.{general_rules};
 ghost use Rattle.policy_rules.specs.Classes.{class_of, instructions_of};
+ghost use Rattle.policy_rules.specs.Rules.{status_of};
 ghost use Rattle.policy_rules.specs.declared.class.Class.TheVariants.{Interindustry, Plain, Secure};
+ghost use Rattle.policy_rules.specs.declared.get_data.RuleGD.TheVariants.{GD1};
 ghost use Rattle.policy_rules.specs.declared.instruction.TheConstants.{SELECT, MANAGE_CHANNEL, GET_DATA, EXTERNAL_AUTHENTICATE, LOAD};
 ghost use Rattle.policy_rules.specs.declared.live.TheConstants.{CHANNELS};
+ghost use Rattle.policy_rules.specs.declared.manage_channel.RuleMC.TheVariants.{MC1};
+ghost use Rattle.policy_rules.specs.declared.rule.Rule.TheVariants.{G, PS, SE, MC, GD};
+ghost use Rattle.policy_rules.specs.declared.rule.RulePS.TheVariants.{P, S};
+ghost use Rattle.policy_rules.specs.declared.select.RuleSE.TheVariants.{SE1};
 
 /// The instruction bytes, and how many channels there are.
 pub fn constants()
@@ -24,4 +31,11 @@ pub fn classes()
     ensures interindustry { instructions_of Interindustry ≡ 0xA4 ∷ 0x70 ∷ 0xCA ∷ [] }
     ensures plain { instructions_of Plain ≡ 0xCA ∷ [] }
     ensures secure { instructions_of Secure ≡ [] }
+{}
+
+/// The status word of each rule.
+pub fn status_words()
+    ensures general { map (λ rule. status_of (G rule)) general_rules ≡ 0x6700 ∷ 0x6E00 ∷ 0x6881 ∷ 0x6D00 ∷ 0x6985 ∷ [] }
+    ensures form { map status_of (PS P ∷ PS S ∷ []) ≡ 0x6A86 ∷ 0x6A80 ∷ [] }
+    ensures own { map status_of (SE SE1 ∷ MC MC1 ∷ GD GD1 ∷ []) ≡ 0x6A82 ∷ 0x6A81 ∷ 0x6A88 ∷ [] }
 {}
