@@ -1,6 +1,6 @@
 //! The least of the things in slots that fit.
 
-ghost use Rattle.std.specs.Prelude.{◌≡◌, ℕ, ◌≤◌, Bool, true, List, IfSome, IfNone, length};
+ghost use Rattle.std.specs.Prelude.{◌≡◌, ℕ, ◌≤◌, Bool, true, List, Some, IfSome, IfNone, if◌then◌else◌, length};
 ghost use Rattle.std.specs.Cmp.{IsTotalOrder};
 ghost use Rattle.std.specs.Ordering.{is_lt};
 ghost use Rattle.std.specs.declared.cmp.Ordering.{Ordering};
@@ -40,31 +40,34 @@ pub fn least<'a, T, S: Search<T>>(slots: &'a [Option<T>], search: &S) -> Option<
     ensures none { IfNone result (NoneFits (S.fits search.now) slots.now) }
 {
     let mut least: Option<InSlot<'a, T>> = None;
-    for slot in 0..slots.len() {
-        if let Some(thing) = &slots[slot] {
-            if is_nearer(search, &least, thing) {
-                least = Some(InSlot {
-                    slot: slot as u8,
-                    thing,
-                });
-            }
+    for (slot, thing) in slots.iter().enumerate() {
+        if let Some(thing) = thing {
+            take_nearer(search, &mut least, slot as u8, thing);
         }
     }
     least
 }
 
-// Whether the thing is looked for and comes before the least so far. It is no part of the loop over the slots, most of
-// which are free, so that the loop's state stays in registers.
+// Takes the thing for the least, where it is looked for and comes before the least so far. It is out of line, so that the
+// loop has little to do for a free slot, as most are.
 #[inline(never)]
-fn is_nearer<T, S: Search<T>>(search: &S, least: &Option<InSlot<T>>, thing: &T) -> bool
-    requires { IfSome least.now (λ found. S.fits search.now found.thing.now ≡ true) }
-    ensures { result ≡ is_nearer (S.fits search.now) (S.order search.now) least.now thing.now }
+fn take_nearer<'a, T, S: Search<T>>(
+    search: &S,
+    least: &mut Option<InSlot<'a, T>>,
+    slot: u8,
+    thing: &'a T,
+)
+    requires { IfSome least.old (λ found. S.fits search.now found.thing.now ≡ true) }
+    ensures { least.new ≡ if is_nearer (S.fits search.now) (S.order search.now) least.old thing.now
+        then Some (record { slot = slot; thing = thing.entry }) else least.old }
 {
     if !search.fits(thing) {
-        return false;
+        return;
     }
-    match least {
-        Some(least) => search.is_below(thing, least.thing),
-        None => true,
+    if let Some(found) = least {
+        if !search.is_below(thing, found.thing) {
+            return;
+        }
     }
+    *least = Some(InSlot { slot, thing });
 }
