@@ -26,4 +26,5 @@ pub mod ObjectNames
 pub mod PrivilegeFacts
 pub mod Room
 pub mod SameAid
+pub mod SetNames
 pub mod Shows

@@ -70,9 +70,18 @@ domain_of registry aid = option_map (λ entry. entry.domain) (entry_named regist
 abbrev pub keys_of : Registry → List ℕ → List Key
 keys_of registry owner = filter (λ key. same_aid key.owner owner) registry.keys
 
+-- the key of a domain with this key version number and key identifier
+abbrev pub key_named : Registry → List ℕ → ℕ → ℕ → Option Key
+key_named registry owner version identifier =
+    find (λ key. same_aid key.owner owner && key.version == version && key.identifier == identifier) registry.keys
+
 -- the counters of a domain's key sets, by ascending key version number
 abbrev pub counters_of : Registry → List ℕ → List Counter
 counters_of registry owner = filter (λ counter. same_aid counter.owner owner) registry.counters
+
+-- the counter of a domain's key set with this key version number
+abbrev pub counter_named : Registry → List ℕ → ℕ → Option Counter
+counter_named registry owner version = find (λ counter. same_aid counter.owner owner && counter.version == version) registry.counters
 
 -- the data object of a domain with this tag
 abbrev pub object_named : Registry → List ℕ → ℕ → Option Object
