@@ -19,6 +19,7 @@ pub mod Nearer
 pub mod Found
 pub mod Following
 pub mod KeySets
+pub mod NamedKeys
 pub mod Says
 pub mod Changed
 pub mod SlotChange

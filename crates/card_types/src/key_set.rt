@@ -1,13 +1,20 @@
-//! Key sets in the list of keys.
+//! Key sets: in the list of keys, and by the domain and the key version number.
 
-ghost use Rattle.std.specs.Prelude.{◌≡◌, ◌↔◌, ◌⊎◌, ℕ, List, IsTrue, IfSome, IfNone, length};
+ghost use Rattle.std.specs.Prelude.{◌≡◌, ◌≤◌, ◌↔◌, ◌⊎◌, ℕ, List, Some, IsSome, IsTrue, IfSome, IfNone, Contains, length};
+ghost use Rattle.card_types.specs.InOrder.{IsInOrder};
 ghost use Rattle.card_types.specs.KeySets.{HasKey, HasKeys, IsSetOf, NoSetOf};
+ghost use Rattle.card_types.specs.NamedKeys.{AreKeysOf, HaveKeyLength};
+ghost use Rattle.card_types.specs.Registry.{Counter, Registry};
+ghost use Rattle.card_types.specs.Says.{Says, domain_aid};
+ghost use Rattle.card_types.specs.Slots.{held};
+ghost use Rattle.card_types.specs.Well.{Well};
+ghost use Rattle.card_types.specs.declared.tables.Entry.{Entry};
 
 use crate::limits::KEYS;
-use crate::tables::{KeyRec, in_slot};
+use crate::tables::{KeyRec, Tables, in_slot};
 
 /// The highest key version number of a key set. Keys of higher ones stand alone.
-const LAST_VERSION: u8 = 0x6F;
+pub const LAST_VERSION: u8 = 0x6F;
 
 fn has_key(keys: &[Option<KeyRec>], owner: u8, version: u8, identifier: u8, slot: u8) -> bool
     ensures { IsTrue result ↔ HasKey keys.now owner version identifier slot }
@@ -63,4 +70,42 @@ pub fn set_of(keys: &[Option<KeyRec>], owner: u8, version: u8) -> Option<[u8; 3]
         }
     }
     None
+}
+
+/// The keys of a key set: those with key identifiers 01, 02 and 03 (GlobalPlatform Amendment D, chapter 6).
+#[derive(Drop)]
+pub struct KeySet<'a> {
+    /// Key-ENC.
+    pub enc: &'a KeyRec,
+
+    /// Key-MAC.
+    pub mac: &'a KeyRec,
+
+    /// Key-DEK.
+    pub dek: &'a KeyRec,
+}
+
+fn key_at(tables: &Tables, slot: u8) -> &KeyRec
+    requires { IsSome (held tables.now.keys.items slot) }
+    ensures { held tables.now.keys.items slot ≡ Some result.now }
+{
+    in_slot(&tables.keys, slot).unwrap()
+}
+
+/// The keys of the key set of the domain in the slot `owner` with this key version number.
+pub fn keys_of_set(tables: &Tables, owner: u8, version: u8) -> Option<KeySet<'_>>
+    requires in_order { IsInOrder tables.now }
+    requires version { 1 ≤ version }
+    ensures lengths { IfSome result HaveKeyLength }
+    ensures some { (page : ℕ → List ℕ) (said : Registry) → Says page tables.now said
+        → IfSome result (AreKeysOf tables.now.entries.items said (domain_aid tables.now.entries.items owner) version) }
+    ensures none { (page : ℕ → List ℕ) (said : Registry) (entry : Entry) → Says page tables.now said → Well said → held tables.now.entries.items owner ≡ Some entry
+        → IfNone result ((counter : Counter) → Contains said.counters counter → counter.owner ≡ domain_aid tables.now.entries.items owner → counter.version ≡ version → ⊥) }
+{
+    let [first, second, third] = set_of(&tables.keys, owner, version)?;
+    Some(KeySet {
+        enc: key_at(tables, first),
+        mac: key_at(tables, second),
+        dek: key_at(tables, third),
+    })
 }

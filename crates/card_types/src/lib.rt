@@ -18,7 +18,7 @@ pub use aid::Aid;
 pub use card_life::CardLife;
 pub use factory::{FACTORY_FILE, FACTORY_KEY, FACTORY_MODULE, FACTORY_VERSION, ISSUER};
 pub use found::{Found, Kind, find, next_after};
-pub use key_set::set_of;
+pub use key_set::{KeySet, keys_of_set, set_of};
 pub use level::Level;
 pub use life::{Life, LifeMark};
 pub use limits::{
