@@ -24,6 +24,7 @@ pub mod Next
 pub mod NotAbove
 pub mod ObjectNames
 pub mod PrivilegeFacts
+pub mod RaisedCounter
 pub mod Room
 pub mod SameAid
 pub mod SetNames

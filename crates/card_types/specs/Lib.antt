@@ -20,6 +20,7 @@ pub mod Found
 pub mod Following
 pub mod KeySets
 pub mod NamedKeys
+pub mod Counters
 pub mod Says
 pub mod Changed
 pub mod SlotChange
