@@ -7,6 +7,7 @@ pub mod ChangedKeys
 pub mod ChangedSlot
 pub mod DomainLines
 pub mod Domains
+pub mod DrawnCounter
 pub mod EntryNames
 pub mod FactoryRegistry
 pub mod FactoryWell

@@ -3,6 +3,7 @@
 
 mod aid;
 mod card_life;
+mod counter;
 mod factory;
 mod found;
 mod key_set;
