@@ -1,5 +1,6 @@
 use crate::{
-    Aid, CardLife, Found, Kind, Level, Life, LifeMark, Privileges, Tables, find, next_after, set_of,
+    Aid, CardLife, Found, Kind, Level, Life, LifeMark, Privileges, Tables, find, keys_of_set,
+    next_after, set_of,
 };
 use bitflags::Flags;
 use std::test::Fail;
@@ -89,5 +90,46 @@ fn makes_the_factory_card(rt: HostRuntime) -> Result<(), Fail> {
     }
     assert_eq!(rt; next_after(&tables, Kind::Issuer, Some(&issuer.aid)), None);
     assert_eq!(rt; set_of(&tables.keys, 0, 0x30), Some([0, 1, 2]));
+    Ok(())
+}
+
+#[test]
+fn finds_the_keys_of_a_set(rt: HostRuntime) -> Result<(), Fail> {
+    let tables = Tables::factory(rt.alloc())?;
+    let set = keys_of_set(&tables, 0, 0x30).ok_or("the factory key set")?;
+    for (identifier, key) in [(1, set.enc), (2, set.mac), (3, set.dek)] {
+        assert_eq!(rt; key.identifier, identifier);
+        assert_eq!(rt; key.version, 0x30);
+    }
+    for (owner, version) in [(0, 0x31), (0, 0x70), (0, 0xFF), (1, 0x30)] {
+        assert!(rt;
+            keys_of_set(&tables, owner, version).is_none(),
+            "{owner} {version}"
+        );
+    }
+    Ok(())
+}
+
+#[test]
+fn draws_sequence_counters(rt: HostRuntime) -> Result<(), Fail> {
+    let mut tables = Tables::factory(rt.alloc())?;
+    assert!(rt; tables.has_next_counter(0));
+    assert_eq!(rt; tables.draw_counter(0), 0);
+    assert!(rt; tables.has_next_counter(0));
+    assert_eq!(rt; tables.draw_counter(0), 1);
+    for (slot, counter) in [(0, 2), (1, 0), (2, 0)] {
+        let key = tables.keys[slot].as_ref().ok_or("a factory key")?;
+        assert_eq!(rt; key.counter, counter);
+        assert_eq!(rt; tables.has_next_counter(slot as u8), slot == 0);
+    }
+    assert_eq!(rt;
+        keys_of_set(&tables, 0, 0x30)
+            .ok_or("the factory key set")?
+            .enc
+            .counter,
+        2
+    );
+    tables.keys[0].as_mut().ok_or("a factory key")?.counter = 0xFF_FFFF;
+    assert!(rt; !tables.has_next_counter(0));
     Ok(())
 }
