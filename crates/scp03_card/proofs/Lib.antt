@@ -1,1 +1,4 @@
 pub mod GivesLemmas
+pub mod ListLemmas
+pub mod OfferLemmas
+pub mod SessionLemmas

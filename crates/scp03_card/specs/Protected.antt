@@ -27,7 +27,15 @@ reply_field session (b ∷ bs) =
 unfoldable pub r_mac : Session → List ℕ → ℕ → List ℕ
 r_mac session field status = take 8 (cmac (s_rmac session.offer) (chain_of session ++ field ++ status_bytes status))
 
+-- a reply with its R-MAC
+abbrev pub with_r_mac : Session → List ℕ → ℕ → List ℕ
+with_r_mac session field status = field ++ r_mac session field status ++ status_bytes status
+
 -- the whole reply with this data field and this status: with R-MAC an error is its status alone (6.2.5)
 abbrev pub protected : Session → List ℕ → ℕ → List ℕ
 protected session body status =
-    if has_r_mac session.level then (if is_success_or_warning status then reply_field session body ++ r_mac session (reply_field session body) status ++ status_bytes status else status_bytes status) else body ++ status_bytes status
+    if has_r_mac session.level
+    then if is_success_or_warning status
+    then with_r_mac session (reply_field session body) status
+    else status_bytes status
+    else body ++ status_bytes status

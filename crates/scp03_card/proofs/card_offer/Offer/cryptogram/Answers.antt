@@ -1,0 +1,11 @@
+use Rattle.std.proofs.Common.{◌∙◌, ◌++◌, ap}
+use Rattle.cmac_kdf.specs.Derivation.{kdf}
+use Rattle.scp03_card.specs.Kept.{KeptOffer}
+use Rattle.scp03_card.proofs.OfferLemmas.{kept_card_cryptogram}
+use Rattle.scp03_card.proofs.card_offer.Offer.cryptogram.Goals as goal
+
+pub returns : goal.returns
+returns g c = λ offer stands.
+    c.cryptogram.ensures
+    ∙ ap (λ (o : KeptOffer). kdf o.keys.mac 0x00 64 (o.host ++ o.card)) c.self.view_is
+    ∙ kept_card_cryptogram c.args.self.now offer stands

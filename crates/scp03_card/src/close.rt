@@ -1,0 +1,90 @@
+//! Replies to protected commands (GlobalPlatform Amendment D, 6.2.5, 6.2.7).
+
+ghost use Rattle.std.specs.Prelude.{◌≡◌, ℕ, ◌+◌, ◌≤◌, List, ◌++◌, length};
+ghost use Rattle.aes_block.specs.Cipher.{cipher};
+ghost use Rattle.arrayvec.specs.ArrayVec.{array_vec_len};
+ghost use Rattle.apdu_core.specs.Reply as standard_reply;
+ghost use Rattle.cmac_kdf.specs.Cbc.{sealed};
+ghost use Rattle.scp03_card.specs.Kept.{StandsFor};
+ghost use Rattle.scp03_card.specs.Protected as standard;
+ghost use Rattle.scp03_card.specs.Session as model;
+
+use crate::levels::{has_r_encryption, has_r_mac};
+use crate::session::Session;
+use crate::session_keys::SessionKeys;
+use aes_block::BlockKey;
+use apdu_core::Status;
+use arrayvec::ArrayVec;
+use cmac_kdf::padded_len;
+
+impl<K: BlockKey> Session<K> {
+    /// Makes the whole reply to the command that was opened last. At entry `reply` is its plain data
+    /// field.
+    pub fn close_reply(&mut self, reply: &mut ArrayVec<u8, 258>, status: Status)
+        requires { array_vec_len reply.old ≤ 239 }
+        ensures protected { (session : model.Session) → StandsFor self.old session → reply.new.items ≡ standard.protected session reply.old.items status.0 }
+        ensures unchanged { self.new ≡ self.old }
+    {
+        let status_bytes = status_bytes(status);
+        if !has_r_mac(self.level) {
+            append(reply, &status_bytes);
+            return;
+        }
+        if !is_success_or_warning(status) {
+            reply.clear();
+            append(reply, &status_bytes);
+            return;
+        }
+        self.encipher(reply);
+        let mac = self.keys.reply_mac(&self.chain, reply, &status_bytes);
+        append(reply, &mac[..8]);
+        append(reply, &status_bytes);
+    }
+
+    // At the level that asks for it, enciphers a data field that is not empty.
+    fn encipher(&self, reply: &mut ArrayVec<u8, 258>)
+        requires { array_vec_len reply.old ≤ 239 }
+        ensures field { (session : model.Session) → StandsFor self.now session → reply.new.items ≡ standard.reply_field session reply.old.items }
+        ensures room { array_vec_len reply.new ≤ 240 }
+    {
+        if reply.is_empty() || !has_r_encryption(self.level) {
+            return;
+        }
+        let mut counter = self.number.to_be_bytes();
+        counter[0] = 0x80;
+        seal_whole(&self.keys, &counter, reply);
+    }
+}
+
+// Pads the whole of `reply`, and enciphers it.
+fn seal_whole<K: BlockKey>(keys: &SessionKeys<K>, counter: &[u8; 16], reply: &mut ArrayVec<u8, 258>)
+    requires { array_vec_len reply.old ≤ 239 }
+    ensures sealed { reply.new.items ≡ sealed keys.now.enc (cipher keys.now.enc counter.now) reply.old.items }
+    ensures room { array_vec_len reply.new ≤ 240 }
+{
+    let len = reply.len();
+    let padding = padded_len(len) - len;
+    append(reply, &[0; 16][..padding]);
+    keys.seal(counter, reply.as_mut_slice(), len);
+}
+
+fn append(reply: &mut ArrayVec<u8, 258>, bytes: &[u8])
+    requires { array_vec_len reply.old + length bytes.now ≤ 258 }
+    ensures items { reply.new.items ≡ reply.old.items ++ bytes.now }
+    ensures length { array_vec_len reply.new ≡ array_vec_len reply.old + length bytes.now }
+{
+    reply.try_extend_from_slice(bytes).unwrap();
+}
+
+fn status_bytes(status: Status) -> [u8; 2]
+    ensures { result ≡ standard_reply.status_bytes status.0 }
+{
+    status.0.to_be_bytes()
+}
+
+// Success, or a warning.
+fn is_success_or_warning(status: Status) -> bool
+    ensures { result ≡ standard.is_success_or_warning status.0 }
+{
+    status.0 == 0x9000 || status.0 / 0x100 == 0x62 || status.0 / 0x100 == 0x63
+}
