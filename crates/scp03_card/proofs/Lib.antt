@@ -1,4 +1,5 @@
 pub mod GivesLemmas
+pub mod Lengths
 pub mod ListLemmas
 pub mod OfferLemmas
 pub mod SessionLemmas

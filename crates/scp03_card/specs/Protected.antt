@@ -31,11 +31,11 @@ r_mac session field status = take 8 (cmac (s_rmac session.offer) (chain_of sessi
 abbrev pub with_r_mac : Session → List ℕ → ℕ → List ℕ
 with_r_mac session field status = field ++ r_mac session field status ++ status_bytes status
 
--- the whole reply with this data field and this status: with R-MAC an error is its status alone (6.2.5)
+-- with R-MAC an error is its status alone (6.2.5)
+abbrev pub authenticated : Session → List ℕ → ℕ → List ℕ
+authenticated session body status =
+    if is_success_or_warning status then with_r_mac session (reply_field session body) status else status_bytes status
+
+-- the whole reply with this data field and this status
 abbrev pub protected : Session → List ℕ → ℕ → List ℕ
-protected session body status =
-    if has_r_mac session.level
-    then if is_success_or_warning status
-    then with_r_mac session (reply_field session body) status
-    else status_bytes status
-    else body ++ status_bytes status
+protected session body status = if has_r_mac session.level then authenticated session body status else body ++ status_bytes status

@@ -2,7 +2,8 @@
 
 ghost use Rattle.std.specs.Prelude.{◌≡◌};
 ghost use Rattle.scp03_card.specs.Kept.{StandsForOffer};
-ghost use Rattle.scp03_card.specs.Offer as standard;
+ghost use Rattle.scp03_card.specs.Offer as model;
+ghost use Rattle.scp03_card.specs.Offer.{card_cryptogram};
 
 use crate::session_keys::SessionKeys;
 use aes_block::BlockKey;
@@ -29,14 +30,14 @@ impl<K: BlockKey> Model for Offer<K> {
 impl<K: BlockKey> Offer<K> {
     /// The card challenge.
     pub fn challenge(&self) -> [u8; 8]
-        ensures { (offer : standard.Offer) → StandsForOffer self.now offer → result ≡ offer.card }
+        ensures { (offer : model.Offer) → StandsForOffer self.now offer → result ≡ offer.card }
     {
         self.card
     }
 
     /// The card cryptogram.
     pub fn cryptogram(&self) -> [u8; 8]
-        ensures { (offer : standard.Offer) → StandsForOffer self.now offer → result ≡ standard.card_cryptogram offer }
+        ensures { (offer : model.Offer) → StandsForOffer self.now offer → result ≡ card_cryptogram offer }
     {
         self.keys
             .cryptogram(CARD_CRYPTOGRAM, &self.host, &self.card)

@@ -3,10 +3,10 @@
 ghost use Rattle.std.specs.Prelude.{◌≡◌, ℕ, ◌+◌, ◌≤◌, List, ◌++◌, length};
 ghost use Rattle.aes_block.specs.Cipher.{cipher};
 ghost use Rattle.arrayvec.specs.ArrayVec.{array_vec_len};
-ghost use Rattle.apdu_core.specs.Reply as standard_reply;
+ghost use Rattle.apdu_core.specs.Reply.{status_bytes};
 ghost use Rattle.cmac_kdf.specs.Cbc.{sealed};
 ghost use Rattle.scp03_card.specs.Kept.{StandsFor};
-ghost use Rattle.scp03_card.specs.Protected as standard;
+ghost use Rattle.scp03_card.specs.Protected.{is_success_or_warning, protected, reply_field};
 ghost use Rattle.scp03_card.specs.Session as model;
 
 use crate::levels::{has_r_encryption, has_r_mac};
@@ -22,29 +22,29 @@ impl<K: BlockKey> Session<K> {
     /// field.
     pub fn close_reply(&mut self, reply: &mut ArrayVec<u8, 258>, status: Status)
         requires { array_vec_len reply.old ≤ 239 }
-        ensures protected { (session : model.Session) → StandsFor self.old session → reply.new.items ≡ standard.protected session reply.old.items status.0 }
+        ensures protected { (session : model.Session) → StandsFor self.old session → reply.new.items ≡ protected session reply.old.items status.0 }
         ensures unchanged { self.new ≡ self.old }
     {
-        let status_bytes = status_bytes(status);
+        let sw = sw_bytes(status);
         if !has_r_mac(self.level) {
-            append(reply, &status_bytes);
+            append(reply, &sw);
             return;
         }
-        if !is_success_or_warning(status) {
+        if !is_no_error(status) {
             reply.clear();
-            append(reply, &status_bytes);
+            append(reply, &sw);
             return;
         }
         self.encipher(reply);
-        let mac = self.keys.reply_mac(&self.chain, reply, &status_bytes);
+        let mac = self.keys.reply_mac(&self.chain, reply, &sw);
         append(reply, &mac[..8]);
-        append(reply, &status_bytes);
+        append(reply, &sw);
     }
 
     // At the level that asks for it, enciphers a data field that is not empty.
     fn encipher(&self, reply: &mut ArrayVec<u8, 258>)
         requires { array_vec_len reply.old ≤ 239 }
-        ensures field { (session : model.Session) → StandsFor self.now session → reply.new.items ≡ standard.reply_field session reply.old.items }
+        ensures field { (session : model.Session) → StandsFor self.now session → reply.new.items ≡ reply_field session reply.old.items }
         ensures room { array_vec_len reply.new ≤ 240 }
     {
         if reply.is_empty() || !has_r_encryption(self.level) {
@@ -76,15 +76,14 @@ fn append(reply: &mut ArrayVec<u8, 258>, bytes: &[u8])
     reply.try_extend_from_slice(bytes).unwrap();
 }
 
-fn status_bytes(status: Status) -> [u8; 2]
-    ensures { result ≡ standard_reply.status_bytes status.0 }
+fn sw_bytes(status: Status) -> [u8; 2]
+    ensures { result ≡ status_bytes status.0 }
 {
     status.0.to_be_bytes()
 }
 
-// Success, or a warning.
-fn is_success_or_warning(status: Status) -> bool
-    ensures { result ≡ standard.is_success_or_warning status.0 }
+fn is_no_error(status: Status) -> bool
+    ensures { result ≡ is_success_or_warning status.0 }
 {
     status.0 == 0x9000 || status.0 / 0x100 == 0x62 || status.0 / 0x100 == 0x63
 }

@@ -1,8 +1,8 @@
 //! EXTERNAL AUTHENTICATE (GlobalPlatform Amendment D, 7.1.2).
 
-ghost use Rattle.std.specs.Prelude.{◌≡◌, IfOk, OnOk};
+ghost use Rattle.std.specs.Prelude.{◌≡◌, IfOk, IsOk, OnOk};
 ghost use Rattle.scp03_card.specs.Kept.{StandsFor, StandsForOffer};
-ghost use Rattle.scp03_card.specs.Offer as standard;
+ghost use Rattle.scp03_card.specs.Offer as model;
 ghost use Rattle.scp03_card.specs.Offer.{host_cryptogram};
 ghost use Rattle.scp03_card.specs.Session.{HasCryptogram, HasMac, answered, chain_of};
 
@@ -20,12 +20,13 @@ impl<K: BlockKey> Offer<K> {
     /// Judges the host's answer at this level: `body` is that of EXTERNAL AUTHENTICATE. The offer is
     /// spent.
     pub fn authenticate(self, level: Level, body: &[u8; 16]) -> Result<Session<K>, AuthRefusal>
-        ensures ok { (offer : standard.Offer) → StandsForOffer self offer → IfOk result (λ kept. StandsFor kept (answered offer level)) }
-        ensures cryptogram_right { (offer : standard.Offer) → StandsForOffer self offer → OnOk result (HasCryptogram offer body.now) }
-        ensures mac_right { (offer : standard.Offer) → StandsForOffer self offer → OnOk result (HasMac offer level body.now) }
-        ensures cryptogram { (offer : standard.Offer) → StandsForOffer self offer → result ≡ Err AuthRefusal.Cryptogram → HasCryptogram offer body.now → ⊥ }
-        ensures mac { (offer : standard.Offer) → StandsForOffer self offer → result ≡ Err AuthRefusal.Mac → HasMac offer level body.now → ⊥ }
-        ensures mac_alone { (offer : standard.Offer) → StandsForOffer self offer → result ≡ Err AuthRefusal.Mac → HasCryptogram offer body.now }
+        ensures ok { (offer : model.Offer) → StandsForOffer self offer → IfOk result (λ kept. StandsFor kept (answered offer level)) }
+        ensures cryptogram_right { (offer : model.Offer) → StandsForOffer self offer → OnOk result (HasCryptogram offer body.now) }
+        ensures mac_right { (offer : model.Offer) → StandsForOffer self offer → OnOk result (HasMac offer level body.now) }
+        ensures back { (offer : model.Offer) → StandsForOffer self offer → HasCryptogram offer body.now → HasMac offer level body.now → IsOk result }
+        ensures cryptogram { (offer : model.Offer) → StandsForOffer self offer → result ≡ Err AuthRefusal.Cryptogram → HasCryptogram offer body.now → ⊥ }
+        ensures mac { (offer : model.Offer) → StandsForOffer self offer → result ≡ Err AuthRefusal.Mac → HasMac offer level body.now → ⊥ }
+        ensures mac_alone { (offer : model.Offer) → StandsForOffer self offer → result ≡ Err AuthRefusal.Mac → HasCryptogram offer body.now }
     {
         let cryptogram = self.host_cryptogram();
         if !same(&body[..8], &cryptogram) {
@@ -44,7 +45,7 @@ impl<K: BlockKey> Offer<K> {
     }
 
     fn host_cryptogram(&self) -> [u8; 8]
-        ensures { (offer : standard.Offer) → StandsForOffer self.now offer → result ≡ host_cryptogram offer }
+        ensures { (offer : model.Offer) → StandsForOffer self.now offer → result ≡ host_cryptogram offer }
     {
         self.keys
             .cryptogram(HOST_CRYPTOGRAM, &self.host, &self.card)
@@ -52,7 +53,7 @@ impl<K: BlockKey> Offer<K> {
 
     // The chaining value after the message of EXTERNAL AUTHENTICATE.
     fn first_chain(&self, level: Level, cryptogram: &[u8; 8]) -> [u8; 16]
-        ensures { (offer : standard.Offer) → StandsForOffer self.now offer → cryptogram.now ≡ host_cryptogram offer → result ≡ chain_of (answered offer level) }
+        ensures { (offer : model.Offer) → StandsForOffer self.now offer → cryptogram.now ≡ host_cryptogram offer → result ≡ chain_of (answered offer level) }
     {
         let header = [0x84, 0x82, level.code(), 0x00, 0x10];
         self.keys.chain_after(&[0; 16], &header, cryptogram)

@@ -16,7 +16,10 @@ mod static_keys;
 
 pub use card_offer::Offer;
 pub use initialize_update::offer;
-pub use laws::one_plain;
+pub use laws::{first_message, one_plain};
 pub use refusals::{AuthRefusal, OpenRefusal};
 pub use session::Session;
 pub use static_keys::StaticKeys;
+
+#[cfg(test)]
+mod tests;

@@ -3,9 +3,8 @@
 ghost use Rattle.std.specs.Prelude.{◌≡◌, ℕ, ◌+◌, ◌≤◌, List, length, take, IfOk, OnOk, OnErr, IfSome, IfNone};
 ghost use Rattle.apdu_core.specs.Apdu.{apdu_of};
 ghost use Rattle.scp03_card.specs.Kept.{HasKeys, StandsFor};
-ghost use Rattle.scp03_card.specs.Opens as standard_field;
-ghost use Rattle.scp03_card.specs.Opens.{Gives, IsAuthentic, Opens, accepting};
-ghost use Rattle.scp03_card.specs.Session as standard;
+ghost use Rattle.scp03_card.specs.Opens.{Gives, IsAuthentic, Opens, accepting, field_of};
+ghost use Rattle.scp03_card.specs.Session as model;
 ghost use Rattle.scp03_card.specs.Session.{chain_of, message, with_message};
 
 use crate::eight_bytes::same;
@@ -26,20 +25,20 @@ impl<K: BlockKey> Session<K> {
         plain: &mut [u8; 255],
     ) -> Result<usize, OpenRefusal>
         requires { length command.now.body.now ≤ 255 }
-        ensures opened { (session : standard.Session) → StandsFor self.old session → IfOk result (λ n. Opens session (apdu_of command.now) (take n plain.new)) }
-        ensures accepted { (session : standard.Session) → StandsFor self.old session → OnOk result (StandsFor self.new (accepting session (apdu_of command.now))) }
+        ensures opened { (session : model.Session) → StandsFor self.old session → IfOk result (λ n. Opens session (apdu_of command.now) (take n plain.new)) }
+        ensures accepted { (session : model.Session) → StandsFor self.old session → OnOk result (StandsFor self.new (accepting session (apdu_of command.now))) }
         ensures length { IfOk result (λ n. n + 8 ≤ length command.now.body.now) }
-        ensures mac { (session : standard.Session) → StandsFor self.old session → result ≡ Err OpenRefusal.Mac → IsAuthentic session (apdu_of command.now) → ⊥ }
-        ensures padding { (session : standard.Session) → StandsFor self.old session → result ≡ Err OpenRefusal.Padding
-            → (p : List ℕ) → Gives (accepting session (apdu_of command.now)) (standard_field.field_of (apdu_of command.now)) p → ⊥ }
-        ensures padding_alone { (session : standard.Session) → StandsFor self.old session → result ≡ Err OpenRefusal.Padding → IsAuthentic session (apdu_of command.now) }
+        ensures mac { (session : model.Session) → StandsFor self.old session → result ≡ Err OpenRefusal.Mac → IsAuthentic session (apdu_of command.now) → ⊥ }
+        ensures padding { (session : model.Session) → StandsFor self.old session → result ≡ Err OpenRefusal.Padding
+            → (p : List ℕ) → Gives (accepting session (apdu_of command.now)) (field_of (apdu_of command.now)) p → ⊥ }
+        ensures padding_alone { (session : model.Session) → StandsFor self.old session → result ≡ Err OpenRefusal.Padding → IsAuthentic session (apdu_of command.now) }
         ensures unchanged { OnErr result (self.new ≡ self.old) }
 
         // What opens is opened.
-        ensures back { (session : standard.Session) (p : List ℕ) → StandsFor self.old session → Opens session (apdu_of command.now) p
+        ensures back { (session : model.Session) (p : List ℕ) → StandsFor self.old session → Opens session (apdu_of command.now) p
             → (n : ℕ) × (result ≡ Ok n) × (take n plain.new ≡ p) }
     {
-        let field = field_of(command);
+        let field = sent_field(command);
         let chain = self.chain_after(command, field);
         if !same(&command.body[field.len()..], &chain[..8]) {
             return Err(OpenRefusal::Mac);
@@ -56,7 +55,7 @@ impl<K: BlockKey> Session<K> {
     // The chaining value after a command with this data field.
     fn chain_after(&self, command: &Command<'_>, field: &[u8]) -> [u8; 16]
         requires { length field.now ≤ 247 }
-        ensures { (session : standard.Session) → StandsFor self.now session
+        ensures { (session : model.Session) → StandsFor self.now session
             → result ≡ chain_of (with_message session (message (apdu_of command.now) field.now)) }
     {
         let header = [
@@ -71,8 +70,8 @@ impl<K: BlockKey> Session<K> {
 }
 
 // The data field as it was sent, without the C-MAC.
-fn field_of<'a>(command: &Command<'a>) -> &'a [u8]
-    ensures { result.now ≡ standard_field.field_of (apdu_of command.now) }
+fn sent_field<'a>(command: &Command<'a>) -> &'a [u8]
+    ensures { result.now ≡ field_of (apdu_of command.now) }
 {
     &command.body[..command.body.len().saturating_sub(8)]
 }
@@ -86,9 +85,9 @@ fn plain_field<K: BlockKey>(
     plain: &mut [u8; 255],
 ) -> Option<usize>
     requires { length field.now ≤ 255 }
-    ensures some { (session : standard.Session) → HasKeys keys.now session.offer → level ≡ session.level → number ≡ standard.number session
+    ensures some { (session : model.Session) → HasKeys keys.now session.offer → level ≡ session.level → number ≡ model.number session
         → IfSome result (λ n. Gives session field.now (take n plain.new)) }
-    ensures none { (session : standard.Session) → HasKeys keys.now session.offer → level ≡ session.level → number ≡ standard.number session
+    ensures none { (session : model.Session) → HasKeys keys.now session.offer → level ≡ session.level → number ≡ model.number session
         → IfNone result ((p : List ℕ) → Gives session field.now p → ⊥) }
     ensures length { IfSome result (λ n. n ≤ length field.now) }
 {
@@ -104,9 +103,9 @@ fn decipher<K: BlockKey>(
     number: u128,
     field: &mut [u8],
 ) -> Option<usize>
-    ensures some { (session : standard.Session) → HasKeys keys.now session.offer → level ≡ session.level → number ≡ standard.number session
+    ensures some { (session : model.Session) → HasKeys keys.now session.offer → level ≡ session.level → number ≡ model.number session
         → IfSome result (λ n. Gives session field.old (take n field.new)) }
-    ensures none { (session : standard.Session) → HasKeys keys.now session.offer → level ≡ session.level → number ≡ standard.number session
+    ensures none { (session : model.Session) → HasKeys keys.now session.offer → level ≡ session.level → number ≡ model.number session
         → IfNone result ((p : List ℕ) → Gives session field.old p → ⊥) }
     ensures length { IfSome result (λ n. n ≤ length field.old) }
 {

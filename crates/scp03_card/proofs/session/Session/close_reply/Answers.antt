@@ -12,7 +12,7 @@ returns-clause-protected g c = λ session stands.
     let status : ℕ = c.args.status.0 in
     let x : List ℕ = reply_field session c.args.reply.now.items in
     let field : c.encipher.new.reply.items ≡ x = c.encipher.ensures.field session stands in
-    let sw = c.status_bytes-status_bytes.ensures in
+    let sw = c.sw_bytes-sw.ensures in
     let mac : take 8 c.reply_mac-mac.result ≡ r_mac session x status =
     ap (take 8)
     (c.reply_mac-mac.ensures
@@ -24,4 +24,4 @@ returns-clause-protected g c = λ session stands.
     c.append-3.ensures.items
     ∙ (λ i. c.append-2.ensures.items i ++ sw i)
     ∙ (λ i. field i ++ mac i ++ status_bytes status)
-    ∙ protected_whole session c.args.reply.now.items status protects (sym c.is_success_or_warning.ensures ∙ c.if-not-is_success_or_warning.false)
+    ∙ protected_whole session c.args.reply.now.items status protects (sym c.is_no_error.ensures ∙ c.if-not-is_no_error.false)

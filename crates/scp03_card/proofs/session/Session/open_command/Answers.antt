@@ -15,5 +15,5 @@ returns-clause-back g c = λ session p stands opens.
     let level = ap (λ (k : KeptSession). k.level) c.self.view_is ∙ stands.level in
     let number = kept_next_number c.args.self.now session stands (message command (field_of command)) _ (ap (λ (k : KeptSession). (k.number + 1) % 2 ^ 128) c.self.view_is) in
     let found : Gives (accepting session command) (field_of command) plain =
-    subst (λ (f : List ℕ). Gives (accepting session command) f plain) c.field_of-field.ensures (c.in-Some.ensures.some (accepting session command) keys level number) in
+    subst (λ (f : List ℕ). Gives (accepting session command) f plain) c.sent_field-field.ensures (c.in-Some.ensures.some (accepting session command) keys level number) in
     (c.in-Some.len, refl, gives_one (accepting session command) (field_of command) plain p found opens.gives)

@@ -1,0 +1,438 @@
+// Sessions with the static keys 40 to 4F, the host challenge 00 to 07, the sequence counter 000000 and the AID
+// A000000151000000. All values were computed apart from this project, by a script over the CMAC and the AES of OpenSSL.
+
+ghost use Rattle.std.specs.Prelude.{◌≡◌, ◌<◌, ◌≤◌, length, OnOk};
+ghost use Rattle.apdu_core.specs.Apdu.{apdu_of};
+ghost use Rattle.arrayvec.specs.ArrayVec.{array_vec_len};
+ghost use Rattle.scp03_card.specs.Kept.{StandsFor};
+ghost use Rattle.scp03_card.specs.Opens.{accepting};
+ghost use Rattle.scp03_card.specs.Protected.{protected};
+ghost use Rattle.scp03_card.specs.Session as model;
+
+use super::{AuthRefusal, Offer, OpenRefusal, Session, StaticKeys, offer};
+use aes_block::{Aes128, Aes192, Aes256, BlockKey, SealingAes128};
+use apdu_core::{Command, Status};
+use arrayvec::ArrayVec;
+use card_types::{Aid, Level};
+use std::test::Fail;
+
+const KEY: [u8; 32] = [
+    0x40, 0x41, 0x42, 0x43, 0x44, 0x45, 0x46, 0x47, 0x48, 0x49, 0x4a, 0x4b, 0x4c, 0x4d, 0x4e, 0x4f,
+    0x50, 0x51, 0x52, 0x53, 0x54, 0x55, 0x56, 0x57, 0x58, 0x59, 0x5a, 0x5b, 0x5c, 0x5d, 0x5e, 0x5f,
+];
+
+const HOST: [u8; 8] = [0, 1, 2, 3, 4, 5, 6, 7];
+
+/// Challenge and cryptogram of the card.
+const CARD: (u64, u64) = (0x4d2614d48b5a5572, 0x5102ce101bd72357);
+
+type Told = Result<(), &'static str>;
+
+fn told(holds: bool, what: &'static str) -> Told {
+    if holds { Ok(()) } else { Err(what) }
+}
+
+fn digit(digit: u8) -> u8
+    ensures { result < 16 }
+{
+    match digit {
+        b'0'..=b'9' => digit - b'0',
+        b'a'..=b'f' => digit - b'a' + 10,
+        _ => 0,
+    }
+}
+
+/// The bytes that these hexadecimal digits write.
+fn bytes(digits: &[u8]) -> ArrayVec<u8, 258> {
+    let mut bytes = ArrayVec::new();
+    for i in 0..digits.len() / 2 {
+        let _fits = bytes.try_push(16 * digit(digits[2 * i]) + digit(digits[2 * i + 1]));
+    }
+    bytes
+}
+
+/// A session that the host has begun, and the values of the card before: `card` is the challenge and
+/// the cryptogram, `host` the body of EXTERNAL AUTHENTICATE.
+fn begun<K: BlockKey>(
+    counter: u32,
+    card: (u64, u64),
+    level: Level,
+    host: u128,
+) -> Result<Session<K>, &'static str>
+    requires { counter ≤ 0xFFFFFF }
+{
+    let offer = offered::<K>(counter)?;
+    told(u64::from_be_bytes(offer.challenge()) == card.0, "challenge")?;
+    told(
+        u64::from_be_bytes(offer.cryptogram()) == card.1,
+        "cryptogram",
+    )?;
+    offer
+        .authenticate(level, &host.to_be_bytes())
+        .ok()
+        .ok_or("authentic")
+}
+
+fn offered<K: BlockKey>(counter: u32) -> Result<Offer<K>, &'static str>
+    requires { counter ≤ 0xFFFFFF }
+{
+    let keys = StaticKeys {
+        enc: K::from_key(&KEY[..K::LEN]),
+        mac: K::from_key(&KEY[..K::LEN]),
+        dek: K::from_key(&KEY[..K::LEN]),
+    };
+    let aid = Aid::new(b"\xa0\x00\x00\x01\x51\x00\x00\x00").ok_or("an AID")?;
+    Ok(offer(keys, counter, &aid, &HOST))
+}
+
+/// What comes of a command, in digits.
+fn open<K: BlockKey>(
+    session: &mut Session<K>,
+    sent: &[u8],
+    plain: &mut [u8; 255],
+) -> Result<usize, OpenRefusal> {
+    let sent = bytes(sent);
+    match Command::read(&sent) {
+        Ok(command) => session.open_command(&command, plain),
+        Err(_) => Err(OpenRefusal::Mac),
+    }
+}
+
+/// One command with its reply: both as they are sent, and plain.
+fn exchange<K: BlockKey>(
+    session: &mut Session<K>,
+    sent: &[u8],
+    answer: &[u8],
+    plain: &[u8],
+    data: &[u8],
+    status: u16,
+) -> Told {
+    let mut buffer = [0; 255];
+    let count = open(session, sent, &mut buffer).ok().ok_or("opens")?;
+    told(buffer.get(..count) == Some(&bytes(plain)[..]), "plain")?;
+    let mut reply = bytes(data);
+    if reply.len() > 239 {
+        return Err("a data field");
+    }
+    session.close_reply(&mut reply, Status(status));
+    told(reply == bytes(answer), "reply")
+}
+
+// The reply is that of the session which has accepted the command: the caller of the crate's documentation.
+fn answered<K: BlockKey>(
+    session: &mut Session<K>,
+    command: &Command<'_>,
+    plain: &mut [u8; 255],
+    reply: &mut ArrayVec<u8, 258>,
+    status: Status,
+) -> Result<usize, OpenRefusal>
+    requires body { length command.now.body.now ≤ 255 }
+    requires field { array_vec_len reply.old ≤ 239 }
+    ensures { (s : model.Session) → StandsFor session.old s
+        → OnOk result (reply.new.items ≡ protected (accepting s (apdu_of command.now)) reply.old.items status.0) }
+{
+    let len = session.open_command(command, plain)?;
+    session.close_reply(reply, status);
+    Ok(len)
+}
+
+#[test]
+fn an_answered_command(rt: HostRuntime) -> Result<(), Fail> {
+    let mut session = begun::<Aes128>(0, CARD, Level::Full, 0x76857f0738ab1422cc3a9195e19f90a3)?;
+    let sent = bytes(b"84ca00c10839888bfe9333e491");
+    let command = Command::read(&sent).ok().ok_or("a command")?;
+    let mut reply = bytes(b"c103000001");
+    assert!(rt; reply.len() <= 239);
+    let len = answered(
+        &mut session,
+        &command,
+        &mut [0; 255],
+        &mut reply,
+        Status(0x9000),
+    );
+    assert_eq!(rt; len, Ok(0));
+    assert_eq!(rt;
+        reply,
+        bytes(b"fd75588f5a63ef6905c90d099f369ee91e85fc9247a98b7c9000")
+    );
+    Ok(())
+}
+
+#[test]
+fn transcripts_at_each_level(rt: HostRuntime) {
+    let transcripts: [(Level, u128, [(&[u8], &[u8]); 4]); 5] = [
+        (
+            Level::Mac,
+            0x76857f0738ab14222d8dc8e0cddd3b2a,
+            [
+                (b"84ca00c10888910f8a9e0ff493", b"c1030000019000"),
+                (b"86f240020a4f00bef9a1ec24f4e4d2", b"6310"),
+                (
+                    b"84e400001a4f10a0a1a2a3a4a5a6a7a8a9aaabacadaeafa42a1f02368c92f8",
+                    b"006a88",
+                ),
+                (
+                    b"85e2900018000102030405060708090a0b0c0d0e0fff8d387e2ad10e3b",
+                    b"101112131415161718191a1b1c1d1e1f9000",
+                ),
+            ],
+        ),
+        (
+            Level::EncMac,
+            0x76857f0738ab1422175ebdab660f4280,
+            [
+                (b"84ca00c108a79beaec6d951a0f", b"c1030000019000"),
+                (
+                    b"86f24002182fb52f669170f38c7b57ee68b891badf7dde136f3a69899e",
+                    b"6310",
+                ),
+                (
+                    b"84e400002898f7d8c342b68c9a2d85e39eda82a457f1632f11b920132a6a7c9e86d5aee2269fcf4a1c1e18a7d0",
+                    b"006a88",
+                ),
+                (
+                    b"85e2900028abfcff01b81d2d8d549eb6f04a18bd5ba809a4cb6b46dcd5f4d8946ee2b4980fea97544c6ea38200",
+                    b"101112131415161718191a1b1c1d1e1f9000",
+                ),
+            ],
+        ),
+        (
+            Level::MacR,
+            0x76857f0738ab1422ef323fbe5edf2a8f,
+            [
+                (
+                    b"84ca00c1083f52caa85154bb2d",
+                    b"c103000001021e30d5aed62bd59000",
+                ),
+                (b"86f240020a4f00c3fc5f7f8cbcc42c", b"29d3e997b4f7b23a6310"),
+                (
+                    b"84e400001a4f10a0a1a2a3a4a5a6a7a8a9aaabacadaeaf92a5c08644a1a5e0",
+                    b"6a88",
+                ),
+                (
+                    b"85e2900018000102030405060708090a0b0c0d0e0f9415c18948d8c8ab",
+                    b"101112131415161718191a1b1c1d1e1f3621a4bfa3ecbfd09000",
+                ),
+            ],
+        ),
+        (
+            Level::EncMacR,
+            0x76857f0738ab1422ac1e5412e7c32421,
+            [
+                (
+                    b"84ca00c10839e77c4412a338b8",
+                    b"c1030000013f4bc01af81a8edf9000",
+                ),
+                (
+                    b"86f24002182fb52f669170f38c7b57ee68b891badfd9c23c5fba3844dd",
+                    b"a4a3716a237fbb5e6310",
+                ),
+                (
+                    b"84e400002898f7d8c342b68c9a2d85e39eda82a457f1632f11b920132a6a7c9e86d5aee226949ff3f0018dc638",
+                    b"6a88",
+                ),
+                (
+                    b"85e2900028abfcff01b81d2d8d549eb6f04a18bd5ba809a4cb6b46dcd5f4d8946ee2b4980f11e8fb3d47e68e4b",
+                    b"101112131415161718191a1b1c1d1e1f374e99efdb401d309000",
+                ),
+            ],
+        ),
+        (
+            Level::Full,
+            0x76857f0738ab1422cc3a9195e19f90a3,
+            [
+                (
+                    b"84ca00c10839888bfe9333e491",
+                    b"fd75588f5a63ef6905c90d099f369ee91e85fc9247a98b7c9000",
+                ),
+                (
+                    b"86f24002182fb52f669170f38c7b57ee68b891badf4b9d1e756d9eafa5",
+                    b"2417e9df37c6ea3b6310",
+                ),
+                (
+                    b"84e400002898f7d8c342b68c9a2d85e39eda82a457f1632f11b920132a6a7c9e86d5aee22620bf2f4a2d46e72a",
+                    b"6a88",
+                ),
+                (
+                    b"85e2900028abfcff01b81d2d8d549eb6f04a18bd5ba809a4cb6b46dcd5f4d8946ee2b4980f949632b1e6de0826",
+                    b"3f9c99dd0c48721ce7ba6f35f0b853c2e8fe1356f99beec56c5d65938665dd4168d8e6980f4e8e719000",
+                ),
+            ],
+        ),
+    ];
+    for (level, host, [first, second, third, fourth]) in transcripts {
+        assert_eq!(rt;
+            transcript(level, host, first, second, third, fourth),
+            Ok(()),
+            "{level:?}"
+        );
+    }
+}
+
+/// GET DATA without a data field, a warning on channel 2 without data, an error that had data, and a
+/// data field of one block that is answered with one.
+fn transcript(
+    level: Level,
+    host: u128,
+    first: (&[u8], &[u8]),
+    second: (&[u8], &[u8]),
+    third: (&[u8], &[u8]),
+    fourth: (&[u8], &[u8]),
+) -> Told {
+    let mut session = begun::<Aes128>(0, CARD, level, host)?;
+    told(session.level() == level, "level")?;
+    exchange(&mut session, first.0, first.1, b"", b"c103000001", 0x9000)?;
+    exchange(&mut session, second.0, second.1, b"4f00", b"", 0x6310)?;
+    exchange(
+        &mut session,
+        third.0,
+        third.1,
+        b"4f10a0a1a2a3a4a5a6a7a8a9aaabacadaeaf",
+        b"00",
+        0x6a88,
+    )?;
+    exchange(
+        &mut session,
+        fourth.0,
+        fourth.1,
+        b"000102030405060708090a0b0c0d0e0f",
+        b"101112131415161718191a1b1c1d1e1f",
+        0x9000,
+    )
+}
+
+#[test]
+fn longer_keys(rt: HostRuntime) {
+    assert_eq!(rt;
+        longer::<Aes192>(
+            (0xa8a2d77b4abb8088, 0xd92bf3e48645bfd3),
+            0x2a07cb91e5ccc97e1f144413bab96c93,
+            b"84e2900018309ebb53bb7e5d65f006d3d42d5aa379d21c06fa1c8cb3e4",
+            b"4d6f06395eda644c0f53932f947ed482396f772363e2e98b9000"
+        ),
+        Ok(())
+    );
+    assert_eq!(rt;
+        longer::<Aes256>(
+            (0x52fb20a4a161ef50, 0x42f70f62f52a4741),
+            0xfdea76797ec68442cee8dec9c0a01fca,
+            b"84e2900018a83107d0bec913d314acc2edfaf55ca3eae409a407a0c48f",
+            b"e6b71ae6f23146a1cd47f618ecd59851bfaccd0ee56d5c299000"
+        ),
+        Ok(())
+    );
+}
+
+// The keys begin with 40, and the sequence counter is 01FFFE.
+fn longer<K: BlockKey>(card: (u64, u64), host: u128, sent: &[u8], answer: &[u8]) -> Told {
+    let mut session = begun::<K>(0x01fffe, card, Level::Full, host)?;
+    exchange(&mut session, sent, answer, b"010203", b"05", 0x9000)
+}
+
+#[test]
+fn refused_answers(rt: HostRuntime) {
+    let cases = [
+        (0x76857f0738ab1422_cc3a9195e19f90a3, None),
+        (
+            0x76857f0738ab1423_cc3a9195e19f90a3,
+            Some(AuthRefusal::Cryptogram),
+        ),
+        (
+            0x5102ce101bd72357_cc3a9195e19f90a3,
+            Some(AuthRefusal::Cryptogram),
+        ),
+        (0x76857f0738ab1422_cc3a9195e19f90a2, Some(AuthRefusal::Mac)),
+        (0x76857f0738ab1422_2d8dc8e0cddd3b2a, Some(AuthRefusal::Mac)),
+    ];
+    for (host, refusal) in cases {
+        assert_eq!(rt; answer(host), Ok(refusal), "{host:x}");
+    }
+}
+
+fn answer(host: u128) -> Result<Option<AuthRefusal>, &'static str> {
+    let offer = offered::<SealingAes128>(0)?;
+    Ok(offer.authenticate(Level::Full, &host.to_be_bytes()).err())
+}
+
+// Each is the second command of a session at level 33. The same session takes the right one after all of them.
+#[test]
+fn refused_commands(rt: HostRuntime) -> Result<(), Fail> {
+    let mut session = begun::<Aes128>(0, CARD, Level::Full, 0x76857f0738ab1422cc3a9195e19f90a3)?;
+    let mut plain = [0; 255];
+    let first = b"84ca00c10839888bfe9333e491";
+    assert_eq!(rt; open(&mut session, first, &mut plain), Ok(0));
+    let cases: [(&[u8], OpenRefusal); 11] = [
+        // The first command again, its last byte changed, seven bytes, one, none.
+        (first, OpenRefusal::Mac),
+        (
+            b"84e29000180867aa3310ed241f8fd5673ffbdb823f21b24e18cf970404",
+            OpenRefusal::Mac,
+        ),
+        (
+            b"84e29000180867aa3310ed241f8fd5673ffbdb823f21b24e19cf970405",
+            OpenRefusal::Mac,
+        ),
+        (
+            b"84e29000170867aa3310ed241f8fd5673ffbdb823f21b24e18cf9704",
+            OpenRefusal::Mac,
+        ),
+        (b"84e290000721b24e18cf9704", OpenRefusal::Mac),
+        (b"84e290000121", OpenRefusal::Mac),
+        (b"84e29000", OpenRefusal::Mac),
+        // Blocks without 80, zeros alone, another byte behind 80, fifteen bytes, a block and a byte.
+        (
+            b"84e290001871c60dbcb03acff42004b9993d548fdbd3b0b3183a271d47",
+            OpenRefusal::Padding,
+        ),
+        (
+            b"84e29000189d8af9e0ed0eea6cde39020be3f20fd07547cf39c8c20d08",
+            OpenRefusal::Padding,
+        ),
+        (
+            b"84e29000186a51d73ed6c65f2c9d624809bf987ac631b77a98b46cf314",
+            OpenRefusal::Padding,
+        ),
+        (
+            b"84e29000170000000000000000000000000000004d5bebe4da1ca1dd",
+            OpenRefusal::Padding,
+        ),
+    ];
+    for (sent, refusal) in cases {
+        assert_eq!(rt;
+            open(&mut session, sent, &mut plain),
+            Err(refusal),
+            "{sent:?}"
+        );
+    }
+    assert_eq!(rt;
+        open(
+            &mut session,
+            b"84e29000180867aa3310ed241f8fd5673ffbdb823f21b24e18cf970405",
+            &mut plain
+        ),
+        Ok(3)
+    );
+    let front = &plain[..3];
+    assert_eq!(rt; front, [1, 2, 3].as_slice());
+    Ok(())
+}
+
+// A block that is 80 and zeros is a data field of no bytes.
+#[test]
+fn a_padding_alone_is_opened(rt: HostRuntime) -> Result<(), Fail> {
+    let mut session = begun::<Aes128>(0, CARD, Level::Full, 0x76857f0738ab1422cc3a9195e19f90a3)?;
+    let mut plain = [0; 255];
+    assert_eq!(rt;
+        open(&mut session, b"84ca00c10839888bfe9333e491", &mut plain),
+        Ok(0)
+    );
+    assert_eq!(rt;
+        open(
+            &mut session,
+            b"84e2900018202618d60155e0824624e2b9972ad74f0939fadb101786ec",
+            &mut plain
+        ),
+        Ok(0)
+    );
+    Ok(())
+}
