@@ -26,6 +26,12 @@ const HOST: [u8; 8] = [0, 1, 2, 3, 4, 5, 6, 7];
 /// Challenge and cryptogram of the card.
 const CARD: (u64, u64) = (0x4d2614d48b5a5572, 0x5102ce101bd72357);
 
+/// The body of EXTERNAL AUTHENTICATE at level 33.
+const HOST_FULL: u128 = 0x76857f0738ab1422_cc3a9195e19f90a3;
+
+/// The first command at level 33: GET DATA of the sequence counter.
+const GET_DATA: &[u8] = b"84ca00c10839888bfe9333e491";
+
 type Told = Result<(), &'static str>;
 
 fn told(holds: bool, what: &'static str) -> Told {
@@ -138,8 +144,8 @@ fn answered<K: BlockKey>(
 
 #[test]
 fn an_answered_command(rt: HostRuntime) -> Result<(), Fail> {
-    let mut session = begun::<Aes128>(0, CARD, Level::Full, 0x76857f0738ab1422cc3a9195e19f90a3)?;
-    let sent = bytes(b"84ca00c10839888bfe9333e491");
+    let mut session = begun::<Aes128>(0, CARD, Level::Full, HOST_FULL)?;
+    let sent = bytes(GET_DATA);
     let command = Command::read(&sent).ok().ok_or("a command")?;
     let mut reply = bytes(b"c103000001");
     assert!(rt; reply.len() <= 239);
@@ -160,145 +166,106 @@ fn an_answered_command(rt: HostRuntime) -> Result<(), Fail> {
 
 #[test]
 fn transcripts_at_each_level(rt: HostRuntime) {
-    let transcripts: [(Level, u128, [(&[u8], &[u8]); 4]); 5] = [
+    // The level, the body of EXTERNAL AUTHENTICATE, and each command with its reply.
+    let transcripts: [(Level, u128, [&[u8]; 8]); 5] = [
         (
             Level::Mac,
             0x76857f0738ab14222d8dc8e0cddd3b2a,
             [
-                (b"84ca00c10888910f8a9e0ff493", b"c1030000019000"),
-                (b"86f240020a4f00bef9a1ec24f4e4d2", b"6310"),
-                (
-                    b"84e400001a4f10a0a1a2a3a4a5a6a7a8a9aaabacadaeafa42a1f02368c92f8",
-                    b"006a88",
-                ),
-                (
-                    b"85e2900018000102030405060708090a0b0c0d0e0fff8d387e2ad10e3b",
-                    b"101112131415161718191a1b1c1d1e1f9000",
-                ),
+                b"84ca00c10888910f8a9e0ff493",
+                b"c1030000019000",
+                b"86f240020a4f00bef9a1ec24f4e4d2",
+                b"6310",
+                b"84e400001a4f10a0a1a2a3a4a5a6a7a8a9aaabacadaeafa42a1f02368c92f8",
+                b"006a88",
+                b"85e2900018000102030405060708090a0b0c0d0e0fff8d387e2ad10e3b",
+                b"101112131415161718191a1b1c1d1e1f9000",
             ],
         ),
         (
             Level::EncMac,
             0x76857f0738ab1422175ebdab660f4280,
             [
-                (b"84ca00c108a79beaec6d951a0f", b"c1030000019000"),
-                (
-                    b"86f24002182fb52f669170f38c7b57ee68b891badf7dde136f3a69899e",
-                    b"6310",
-                ),
-                (
-                    b"84e400002898f7d8c342b68c9a2d85e39eda82a457f1632f11b920132a6a7c9e86d5aee2269fcf4a1c1e18a7d0",
-                    b"006a88",
-                ),
-                (
-                    b"85e2900028abfcff01b81d2d8d549eb6f04a18bd5ba809a4cb6b46dcd5f4d8946ee2b4980fea97544c6ea38200",
-                    b"101112131415161718191a1b1c1d1e1f9000",
-                ),
+                b"84ca00c108a79beaec6d951a0f",
+                b"c1030000019000",
+                b"86f24002182fb52f669170f38c7b57ee68b891badf7dde136f3a69899e",
+                b"6310",
+                b"84e400002898f7d8c342b68c9a2d85e39eda82a457f1632f11b920132a6a7c9e86d5aee2269fcf4a1c1e18a7d0",
+                b"006a88",
+                b"85e2900028abfcff01b81d2d8d549eb6f04a18bd5ba809a4cb6b46dcd5f4d8946ee2b4980fea97544c6ea38200",
+                b"101112131415161718191a1b1c1d1e1f9000",
             ],
         ),
         (
             Level::MacR,
             0x76857f0738ab1422ef323fbe5edf2a8f,
             [
-                (
-                    b"84ca00c1083f52caa85154bb2d",
-                    b"c103000001021e30d5aed62bd59000",
-                ),
-                (b"86f240020a4f00c3fc5f7f8cbcc42c", b"29d3e997b4f7b23a6310"),
-                (
-                    b"84e400001a4f10a0a1a2a3a4a5a6a7a8a9aaabacadaeaf92a5c08644a1a5e0",
-                    b"6a88",
-                ),
-                (
-                    b"85e2900018000102030405060708090a0b0c0d0e0f9415c18948d8c8ab",
-                    b"101112131415161718191a1b1c1d1e1f3621a4bfa3ecbfd09000",
-                ),
+                b"84ca00c1083f52caa85154bb2d",
+                b"c103000001021e30d5aed62bd59000",
+                b"86f240020a4f00c3fc5f7f8cbcc42c",
+                b"29d3e997b4f7b23a6310",
+                b"84e400001a4f10a0a1a2a3a4a5a6a7a8a9aaabacadaeaf92a5c08644a1a5e0",
+                b"6a88",
+                b"85e2900018000102030405060708090a0b0c0d0e0f9415c18948d8c8ab",
+                b"101112131415161718191a1b1c1d1e1f3621a4bfa3ecbfd09000",
             ],
         ),
         (
             Level::EncMacR,
             0x76857f0738ab1422ac1e5412e7c32421,
             [
-                (
-                    b"84ca00c10839e77c4412a338b8",
-                    b"c1030000013f4bc01af81a8edf9000",
-                ),
-                (
-                    b"86f24002182fb52f669170f38c7b57ee68b891badfd9c23c5fba3844dd",
-                    b"a4a3716a237fbb5e6310",
-                ),
-                (
-                    b"84e400002898f7d8c342b68c9a2d85e39eda82a457f1632f11b920132a6a7c9e86d5aee226949ff3f0018dc638",
-                    b"6a88",
-                ),
-                (
-                    b"85e2900028abfcff01b81d2d8d549eb6f04a18bd5ba809a4cb6b46dcd5f4d8946ee2b4980f11e8fb3d47e68e4b",
-                    b"101112131415161718191a1b1c1d1e1f374e99efdb401d309000",
-                ),
+                b"84ca00c10839e77c4412a338b8",
+                b"c1030000013f4bc01af81a8edf9000",
+                b"86f24002182fb52f669170f38c7b57ee68b891badfd9c23c5fba3844dd",
+                b"a4a3716a237fbb5e6310",
+                b"84e400002898f7d8c342b68c9a2d85e39eda82a457f1632f11b920132a6a7c9e86d5aee226949ff3f0018dc638",
+                b"6a88",
+                b"85e2900028abfcff01b81d2d8d549eb6f04a18bd5ba809a4cb6b46dcd5f4d8946ee2b4980f11e8fb3d47e68e4b",
+                b"101112131415161718191a1b1c1d1e1f374e99efdb401d309000",
             ],
         ),
         (
             Level::Full,
             0x76857f0738ab1422cc3a9195e19f90a3,
             [
-                (
-                    b"84ca00c10839888bfe9333e491",
-                    b"fd75588f5a63ef6905c90d099f369ee91e85fc9247a98b7c9000",
-                ),
-                (
-                    b"86f24002182fb52f669170f38c7b57ee68b891badf4b9d1e756d9eafa5",
-                    b"2417e9df37c6ea3b6310",
-                ),
-                (
-                    b"84e400002898f7d8c342b68c9a2d85e39eda82a457f1632f11b920132a6a7c9e86d5aee22620bf2f4a2d46e72a",
-                    b"6a88",
-                ),
-                (
-                    b"85e2900028abfcff01b81d2d8d549eb6f04a18bd5ba809a4cb6b46dcd5f4d8946ee2b4980f949632b1e6de0826",
-                    b"3f9c99dd0c48721ce7ba6f35f0b853c2e8fe1356f99beec56c5d65938665dd4168d8e6980f4e8e719000",
-                ),
+                b"84ca00c10839888bfe9333e491",
+                b"fd75588f5a63ef6905c90d099f369ee91e85fc9247a98b7c9000",
+                b"86f24002182fb52f669170f38c7b57ee68b891badf4b9d1e756d9eafa5",
+                b"2417e9df37c6ea3b6310",
+                b"84e400002898f7d8c342b68c9a2d85e39eda82a457f1632f11b920132a6a7c9e86d5aee22620bf2f4a2d46e72a",
+                b"6a88",
+                b"85e2900028abfcff01b81d2d8d549eb6f04a18bd5ba809a4cb6b46dcd5f4d8946ee2b4980f949632b1e6de0826",
+                b"3f9c99dd0c48721ce7ba6f35f0b853c2e8fe1356f99beec56c5d65938665dd4168d8e6980f4e8e719000",
             ],
         ),
     ];
-    for (level, host, [first, second, third, fourth]) in transcripts {
-        assert_eq!(rt;
-            transcript(level, host, first, second, third, fourth),
-            Ok(()),
-            "{level:?}"
-        );
+    for (level, host, lines) in transcripts {
+        assert_eq!(rt; transcript(level, host, lines), Ok(()), "{level:?}");
     }
 }
 
-/// GET DATA without a data field, a warning on channel 2 without data, an error that had data, and a
-/// data field of one block that is answered with one.
-fn transcript(
-    level: Level,
-    host: u128,
-    first: (&[u8], &[u8]),
-    second: (&[u8], &[u8]),
-    third: (&[u8], &[u8]),
-    fourth: (&[u8], &[u8]),
-) -> Told {
+// No data field, then a warning on channel 2 without data, then an error that had data, then blocks
+// that are whole both ways.
+fn transcript(level: Level, host: u128, lines: [&[u8]; 8]) -> Told {
     let mut session = begun::<Aes128>(0, CARD, level, host)?;
     told(session.level() == level, "level")?;
-    exchange(&mut session, first.0, first.1, b"", b"c103000001", 0x9000)?;
-    exchange(&mut session, second.0, second.1, b"4f00", b"", 0x6310)?;
-    exchange(
-        &mut session,
-        third.0,
-        third.1,
-        b"4f10a0a1a2a3a4a5a6a7a8a9aaabacadaeaf",
-        b"00",
-        0x6a88,
-    )?;
-    exchange(
-        &mut session,
-        fourth.0,
-        fourth.1,
-        b"000102030405060708090a0b0c0d0e0f",
-        b"101112131415161718191a1b1c1d1e1f",
-        0x9000,
-    )
+    let [
+        get_data,
+        counter,
+        get_status,
+        warning,
+        delete,
+        error,
+        store_data,
+        block,
+    ] = lines;
+    exchange(&mut session, get_data, counter, b"", b"c103000001", 0x9000)?;
+    exchange(&mut session, get_status, warning, b"4f00", b"", 0x6310)?;
+    let aid = b"4f10a0a1a2a3a4a5a6a7a8a9aaabacadaeaf";
+    exchange(&mut session, delete, error, aid, b"00", 0x6a88)?;
+    let stored = b"000102030405060708090a0b0c0d0e0f";
+    let data = b"101112131415161718191a1b1c1d1e1f";
+    exchange(&mut session, store_data, block, stored, data, 0x9000)
 }
 
 #[test]
@@ -331,22 +298,21 @@ fn longer<K: BlockKey>(card: (u64, u64), host: u128, sent: &[u8], answer: &[u8])
 
 #[test]
 fn refused_answers(rt: HostRuntime) {
-    let cases = [
-        (0x76857f0738ab1422_cc3a9195e19f90a3, None),
-        (
-            0x76857f0738ab1423_cc3a9195e19f90a3,
-            Some(AuthRefusal::Cryptogram),
-        ),
-        (
-            0x5102ce101bd72357_cc3a9195e19f90a3,
-            Some(AuthRefusal::Cryptogram),
-        ),
-        (0x76857f0738ab1422_cc3a9195e19f90a2, Some(AuthRefusal::Mac)),
-        (0x76857f0738ab1422_2d8dc8e0cddd3b2a, Some(AuthRefusal::Mac)),
-    ];
-    for (host, refusal) in cases {
-        assert_eq!(rt; answer(host), Ok(refusal), "{host:x}");
+    for host in [
+        0x76857f0738ab1423_cc3a9195e19f90a3,
+        // The card cryptogram.
+        0x5102ce101bd72357_cc3a9195e19f90a3,
+    ] {
+        assert_eq!(rt; answer(host), Ok(Some(AuthRefusal::Cryptogram)), "{host:x}");
     }
+    for host in [
+        0x76857f0738ab1422_cc3a9195e19f90a2,
+        // That of level 01.
+        0x76857f0738ab1422_2d8dc8e0cddd3b2a,
+    ] {
+        assert_eq!(rt; answer(host), Ok(Some(AuthRefusal::Mac)), "{host:x}");
+    }
+    assert_eq!(rt; answer(HOST_FULL), Ok(None));
 }
 
 fn answer(host: u128) -> Result<Option<AuthRefusal>, &'static str> {
@@ -354,64 +320,46 @@ fn answer(host: u128) -> Result<Option<AuthRefusal>, &'static str> {
     Ok(offer.authenticate(Level::Full, &host.to_be_bytes()).err())
 }
 
-// Each is the second command of a session at level 33. The same session takes the right one after all of them.
+// Each is sent as the second command of a session at level 33, which takes the right one after all of them.
 #[test]
 fn refused_commands(rt: HostRuntime) -> Result<(), Fail> {
-    let mut session = begun::<Aes128>(0, CARD, Level::Full, 0x76857f0738ab1422cc3a9195e19f90a3)?;
+    let mut session = begun::<Aes128>(0, CARD, Level::Full, HOST_FULL)?;
     let mut plain = [0; 255];
-    let first = b"84ca00c10839888bfe9333e491";
-    assert_eq!(rt; open(&mut session, first, &mut plain), Ok(0));
-    let cases: [(&[u8], OpenRefusal); 11] = [
-        // The first command again, its last byte changed, seven bytes, one, none.
-        (first, OpenRefusal::Mac),
-        (
-            b"84e29000180867aa3310ed241f8fd5673ffbdb823f21b24e18cf970404",
-            OpenRefusal::Mac,
-        ),
-        (
-            b"84e29000180867aa3310ed241f8fd5673ffbdb823f21b24e19cf970405",
-            OpenRefusal::Mac,
-        ),
-        (
-            b"84e29000170867aa3310ed241f8fd5673ffbdb823f21b24e18cf9704",
-            OpenRefusal::Mac,
-        ),
-        (b"84e290000721b24e18cf9704", OpenRefusal::Mac),
-        (b"84e290000121", OpenRefusal::Mac),
-        (b"84e29000", OpenRefusal::Mac),
-        // Blocks without 80, zeros alone, another byte behind 80, fifteen bytes, a block and a byte.
-        (
-            b"84e290001871c60dbcb03acff42004b9993d548fdbd3b0b3183a271d47",
-            OpenRefusal::Padding,
-        ),
-        (
-            b"84e29000189d8af9e0ed0eea6cde39020be3f20fd07547cf39c8c20d08",
-            OpenRefusal::Padding,
-        ),
-        (
-            b"84e29000186a51d73ed6c65f2c9d624809bf987ac631b77a98b46cf314",
-            OpenRefusal::Padding,
-        ),
-        (
-            b"84e29000170000000000000000000000000000004d5bebe4da1ca1dd",
-            OpenRefusal::Padding,
-        ),
+    assert_eq!(rt; open(&mut session, GET_DATA, &mut plain), Ok(0));
+    let wrong_macs: [&[u8]; 7] = [
+        GET_DATA,
+        b"84e29000180867aa3310ed241f8fd5673ffbdb823f21b24e18cf970404",
+        b"84e29000180867aa3310ed241f8fd5673ffbdb823f21b24e19cf970405",
+        b"84e29000170867aa3310ed241f8fd5673ffbdb823f21b24e18cf9704",
+        b"84e290000721b24e18cf9704",
+        b"84e290000121",
+        b"84e29000",
     ];
-    for (sent, refusal) in cases {
+    for sent in wrong_macs {
         assert_eq!(rt;
             open(&mut session, sent, &mut plain),
-            Err(refusal),
+            Err(OpenRefusal::Mac),
             "{sent:?}"
         );
     }
-    assert_eq!(rt;
-        open(
-            &mut session,
-            b"84e29000180867aa3310ed241f8fd5673ffbdb823f21b24e18cf970405",
-            &mut plain
-        ),
-        Ok(3)
-    );
+    let wrong_paddings: [&[u8]; 5] = [
+        // No byte 80; zeros alone; another byte behind 80.
+        b"84e290001871c60dbcb03acff42004b9993d548fdbd3b0b3183a271d47",
+        b"84e29000189d8af9e0ed0eea6cde39020be3f20fd07547cf39c8c20d08",
+        b"84e29000186a51d73ed6c65f2c9d624809bf987ac631b77a98b46cf314",
+        // Fifteen bytes; seventeen.
+        b"84e29000170000000000000000000000000000004d5bebe4da1ca1dd",
+        b"84e2900019202618d60155e0824624e2b9972ad74f00b08282ff3a296446",
+    ];
+    for sent in wrong_paddings {
+        assert_eq!(rt;
+            open(&mut session, sent, &mut plain),
+            Err(OpenRefusal::Padding),
+            "{sent:?}"
+        );
+    }
+    let right = b"84e29000180867aa3310ed241f8fd5673ffbdb823f21b24e18cf970405";
+    assert_eq!(rt; open(&mut session, right, &mut plain), Ok(3));
     let front = &plain[..3];
     assert_eq!(rt; front, [1, 2, 3].as_slice());
     Ok(())
@@ -420,19 +368,10 @@ fn refused_commands(rt: HostRuntime) -> Result<(), Fail> {
 // A block that is 80 and zeros is a data field of no bytes.
 #[test]
 fn a_padding_alone_is_opened(rt: HostRuntime) -> Result<(), Fail> {
-    let mut session = begun::<Aes128>(0, CARD, Level::Full, 0x76857f0738ab1422cc3a9195e19f90a3)?;
+    let mut session = begun::<Aes128>(0, CARD, Level::Full, HOST_FULL)?;
     let mut plain = [0; 255];
-    assert_eq!(rt;
-        open(&mut session, b"84ca00c10839888bfe9333e491", &mut plain),
-        Ok(0)
-    );
-    assert_eq!(rt;
-        open(
-            &mut session,
-            b"84e2900018202618d60155e0824624e2b9972ad74f0939fadb101786ec",
-            &mut plain
-        ),
-        Ok(0)
-    );
+    assert_eq!(rt; open(&mut session, GET_DATA, &mut plain), Ok(0));
+    let sent = b"84e2900018202618d60155e0824624e2b9972ad74f0939fadb101786ec";
+    assert_eq!(rt; open(&mut session, sent, &mut plain), Ok(0));
     Ok(())
 }
