@@ -1,5 +1,5 @@
 -- Lengths of challenges, cryptograms and C-MACs, and a command that is sent with its C-MAC.
-use Rattle.std.proofs.Common.{◌≡◌, ℕ, ◌+◌, ◌-◌, ◌*◌, ◌/◌, ◌<◌, ◌≤◌, Option, List, [], ◌∷◌, ◌++◌, length, take, refl, sym, ap, ◌∙◌, arith}
+use Rattle.std.proofs.Common.{◌≡◌, ℕ, ◌+◌, ◌-◌, ◌*◌, ◌/◌, ◌<◌, Option, List, ◌∷◌, ◌++◌, length, take, refl, sym, ap, ◌∙◌, arith}
 use Rattle.std.proofs.lemmas.List.{length-append, length-take-le, take_at}
 use Rattle.apdu_core.specs.Apdu.{Apdu}
 use Rattle.card_types.specs.Level.{code_of}
@@ -8,7 +8,7 @@ use Rattle.cmac_kdf.specs.Cmac.{cmac}
 use Rattle.cmac_kdf.specs.Derivation.{derivation_data, derived_blocks, kdf}
 use Rattle.cmac_kdf.proofs.CmacLemmas.{cmac_is_block}
 use Rattle.scp03_card.specs.Offer.{Offer, card_challenge, card_cryptogram, host_cryptogram, context, counter_bytes, s_mac}
-use Rattle.scp03_card.specs.Opens.{IsAuthentic, accepting, field_of}
+use Rattle.scp03_card.specs.Opens.{IsAuthentic, field_of}
 use Rattle.scp03_card.specs.Session.{Session, authentication, c_mac, chain_of, message, with_message}
 use Rattle.scp03_card.proofs.SessionLemmas.{chain_more}
 

@@ -35,7 +35,7 @@ pub record KeptSession : Type 0 where
   pub chain : List ℕ
   pub number : ℕ
 
--- what is kept is this session, which has begun with EXTERNAL AUTHENTICATE
+-- what is kept is this session, which has a first message
 pub record StandsFor (kept : KeptSession) (session : Session) : Type 0 where
   pub keys : HasKeys kept.keys session.offer
   pub level : kept.level ≡ session.level

@@ -33,7 +33,7 @@ chain_of session = chain (s_mac session.offer) session.messages
 abbrev pub c_mac : Session → List ℕ
 c_mac session = take 8 (chain_of session)
 
--- the number of a session's last message: that of EXTERNAL AUTHENTICATE is 0 (6.2.6)
+-- the number of a session's last message, in 128 bits: that of EXTERNAL AUTHENTICATE is 0 (6.2.6)
 abbrev pub number : Session → ℕ
 number session = (length session.messages - 1) % 2 ^ 128
 

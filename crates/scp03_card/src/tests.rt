@@ -96,12 +96,12 @@ fn open<K: BlockKey>(
     session: &mut Session<K>,
     sent: &[u8],
     plain: &mut [u8; 255],
-) -> Result<usize, OpenRefusal> {
+) -> Option<Result<usize, OpenRefusal>> {
     let sent = bytes(sent);
-    match Command::read(&sent) {
-        Ok(command) => session.open_command(&command, plain),
-        Err(_) => Err(OpenRefusal::Mac),
-    }
+    let Ok(command) = Command::read(&sent) else {
+        return None;
+    };
+    Some(session.open_command(&command, plain))
 }
 
 /// One command with its reply: both as they are sent, and plain.
@@ -114,7 +114,8 @@ fn exchange<K: BlockKey>(
     status: u16,
 ) -> Told {
     let mut buffer = [0; 255];
-    let count = open(session, sent, &mut buffer).ok().ok_or("opens")?;
+    let opened = open(session, sent, &mut buffer).ok_or("a command")?;
+    let count = opened.ok().ok_or("opens")?;
     told(buffer.get(..count) == Some(&bytes(plain)[..]), "plain")?;
     let mut reply = bytes(data);
     if reply.len() > 239 {
@@ -249,6 +250,12 @@ fn transcripts_at_each_level(rt: HostRuntime) {
 fn transcript(level: Level, host: u128, lines: [&[u8]; 8]) -> Told {
     let mut session = begun::<Aes128>(0, CARD, level, host)?;
     told(session.level() == level, "level")?;
+    let mut block = [0; 16];
+    session.dek().seal(&mut block);
+    told(
+        u128::from_be_bytes(block) == 0x1899564a9da8de833d25c71739eaadce,
+        "Key-DEK",
+    )?;
     let [
         get_data,
         counter,
@@ -325,7 +332,7 @@ fn answer(host: u128) -> Result<Option<AuthRefusal>, &'static str> {
 fn refused_commands(rt: HostRuntime) -> Result<(), Fail> {
     let mut session = begun::<Aes128>(0, CARD, Level::Full, HOST_FULL)?;
     let mut plain = [0; 255];
-    assert_eq!(rt; open(&mut session, GET_DATA, &mut plain), Ok(0));
+    assert_eq!(rt; open(&mut session, GET_DATA, &mut plain), Some(Ok(0)));
     let wrong_macs: [&[u8]; 7] = [
         GET_DATA,
         b"84e29000180867aa3310ed241f8fd5673ffbdb823f21b24e18cf970404",
@@ -338,7 +345,7 @@ fn refused_commands(rt: HostRuntime) -> Result<(), Fail> {
     for sent in wrong_macs {
         assert_eq!(rt;
             open(&mut session, sent, &mut plain),
-            Err(OpenRefusal::Mac),
+            Some(Err(OpenRefusal::Mac)),
             "{sent:?}"
         );
     }
@@ -354,12 +361,12 @@ fn refused_commands(rt: HostRuntime) -> Result<(), Fail> {
     for sent in wrong_paddings {
         assert_eq!(rt;
             open(&mut session, sent, &mut plain),
-            Err(OpenRefusal::Padding),
+            Some(Err(OpenRefusal::Padding)),
             "{sent:?}"
         );
     }
     let right = b"84e29000180867aa3310ed241f8fd5673ffbdb823f21b24e18cf970405";
-    assert_eq!(rt; open(&mut session, right, &mut plain), Ok(3));
+    assert_eq!(rt; open(&mut session, right, &mut plain), Some(Ok(3)));
     let front = &plain[..3];
     assert_eq!(rt; front, [1, 2, 3].as_slice());
     Ok(())
@@ -370,8 +377,8 @@ fn refused_commands(rt: HostRuntime) -> Result<(), Fail> {
 fn a_padding_alone_is_opened(rt: HostRuntime) -> Result<(), Fail> {
     let mut session = begun::<Aes128>(0, CARD, Level::Full, HOST_FULL)?;
     let mut plain = [0; 255];
-    assert_eq!(rt; open(&mut session, GET_DATA, &mut plain), Ok(0));
+    assert_eq!(rt; open(&mut session, GET_DATA, &mut plain), Some(Ok(0)));
     let sent = b"84e2900018202618d60155e0824624e2b9972ad74f0939fadb101786ec";
-    assert_eq!(rt; open(&mut session, sent, &mut plain), Ok(0));
+    assert_eq!(rt; open(&mut session, sent, &mut plain), Some(Ok(0)));
     Ok(())
 }
