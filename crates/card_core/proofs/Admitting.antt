@@ -6,21 +6,20 @@ use Rattle.card_types.proofs.EntryNames.{entry_in_slot}
 use Rattle.card_types.proofs.Domains.{domain_aid_is}
 use Rattle.card_types.specs.Registry.{Entry as NamedEntry, entry_named, is_domain}
 use Rattle.card_types.specs.Says.{entry_of}
-use Rattle.card_types.specs.declared.card_life.CardLife.TheVariants.{Terminated}
 use Rattle.card_types.specs.declared.tables.Tables.{Tables}
-use Rattle.policy_rules.proofs.KeepsSound.{channel_is_low}
+use Rattle.policy_rules.proofs.Passing.{channel_is_low}
 use Rattle.policy_rules.proofs.OneOutcome.{of_one}
 use Rattle.policy_rules.proofs.Selected.{selected_entry}
-use Rattle.policy_rules.specs.Admission.{Bars, IsToApplication, Of, general_rules}
-use Rattle.policy_rules.specs.Classes.{IsKnown, IsPlainGetData, channel_of, class_of, is_secure}
+use Rattle.policy_rules.specs.Admission.{Bars, IsToApplication, Of, command_rules, general_rules}
+use Rattle.policy_rules.specs.Classes.{IsKnown, channel_of, class_of}
 use Rattle.policy_rules.specs.FirstFailing.{IsFirst}
 use Rattle.policy_rules.specs.Means.{Says}
 use Rattle.policy_rules.specs.State.{State}
 use Rattle.policy_rules.specs.Volatile.{channel_at, selected_on}
 use Rattle.policy_rules.specs.declared.class.Class.{Class}
-use Rattle.policy_rules.specs.declared.instruction.TheConstants.{SELECT, MANAGE_CHANNEL, GET_DATA}
+use Rattle.policy_rules.specs.declared.instruction.TheConstants.{SELECT, MANAGE_CHANNEL}
 use Rattle.policy_rules.specs.declared.live.Live.{Live}
-use Rattle.policy_rules.specs.declared.rule.RuleG.TheVariants.{G1, G2, G3, G4, G5}
+use Rattle.policy_rules.specs.declared.rule.RuleG.TheVariants.{G1, G2, G3, G4}
 use Rattle.card_core.specs.Domains.{is_domain_in}
 use Rattle.card_core.proofs.Standing.{none_selected, some_selected}
 
@@ -95,39 +94,5 @@ module _ (tables : Tables) (live : Live) (state : State) (bytes : List ℕ) (com
         takes : Bars state bytes G4 → ⊥
         takes = not_of (λ c. (IsKnown c.class c.ins → ⊥) ⊎ (IsToApplication state c × (c.ins ≢ SELECT) × (c.ins ≢ MANAGE_CHANNEL))) is_taken
 
-        pub over : state.registry.life ≡ Terminated → ((command.ins ≡ GET_DATA) × (is_secure class ≡ false) → ⊥) → IsFirst (Bars state bytes) general_rules (Some G5)
-        over ended other =
-            inr (
-              is_command,
-              inr (
-                has_class class is_class,
-                inr (
-                  is_open slot opened,
-                  inr (
-                    takes,
-                    inl ((command, short, (ended, λ plain. other (plain.0, rw is_class at plain.1))), refl),
-                  ),
-                ),
-              ),
-            )
-
-        pub all_passed : ((state.registry.life ≡ Terminated) × ((command.ins ≡ GET_DATA) × (is_secure class ≡ false) → ⊥) → ⊥)
-            → IsFirst (Bars state bytes) general_rules None
-        all_passed goes_on =
-            inr (
-              is_command,
-              inr (
-                has_class class is_class,
-                inr (
-                  is_open slot opened,
-                  inr (
-                    takes,
-                    inr (
-                      not_of (λ c. (state.registry.life ≡ Terminated) × (IsPlainGetData c → ⊥))
-                          (λ ended. goes_on (ended.0, λ plain. ended.1 (plain.0, rw is_class plain.1))),
-                      refl,
-                    ),
-                  ),
-                ),
-              ),
-            )
+        pub all_passed : IsFirst (Bars state bytes) command_rules None
+        all_passed = inr (is_command, inr (has_class class is_class, inr (is_open slot opened, inr (takes, refl))))

@@ -1,4 +1,8 @@
+pub mod Acting
 pub mod Admitting
+pub mod Carrying
 pub mod Listing
+pub mod OfferMade
+pub mod Passed
 pub mod Serving
 pub mod Standing

@@ -1,166 +1,259 @@
 -- What comes of a command is one step of the policy machine.
-use Rattle.std.proofs.Common.{◌≡◌, ◌⊎◌, ℕ, List, [], ◌∷◌, ◌++◌, false, Option, None, Some, Result, Ok, Err, refl, sym, ap, subst, ◌∙◌, inl, inr, arith}
-use Rattle.std.specs.Prelude.{Contains, MatchOption}
+use Rattle.std.proofs.Common.{◌≡◌, ◌⊎◌, ℕ, zero, suc, ◌<◌, List, [], ◌∷◌, ◌++◌, true, false, Option, None, Some, Result, Ok, Err, refl, sym, ap, subst, ◌∙◌, inl, inr, arith}
+use Rattle.std.specs.Prelude.{Contains, IsSome, MatchOption, slice_index_or}
+use Rattle.std.proofs.lemmas.Bool.{true≢false}
 use Rattle.apdu_core.specs.Apdu.{Apdu, Short}
 use Rattle.apdu_core.specs.Reply.{status_bytes}
 use Rattle.apdu_core.specs.declared.reply.Status.{Status}
 use Rattle.card_types.proofs.Members.{contains_cases}
-use Rattle.policy_rules.specs.Admission.{Admits, Admitted, Bars, admitted_as, general_rules, placeless, protects}
-use Rattle.policy_rules.specs.Classes.{IsKnown, channel_of, class_of, instructions_of}
-use Rattle.policy_rules.specs.Commands.{Judges}
+use Rattle.card_types.specs.declared.card_life.CardLife.TheVariants.{Terminated}
+use Rattle.scp03_card.specs.Opens.{Gives, IsAuthentic, Opens, accepting, field_of}
+use Rattle.scp03_card.specs.Session.{Session}
+use Rattle.policy_rules.proofs.KeepsSound.{steps_keep_sound}
+use Rattle.policy_rules.proofs.OneOutcome.{of_one}
+use Rattle.policy_rules.specs.Admission.{Admits, Admitted, Bars, InSession, Leaves, Of, admitted_as, command_rules, general_rules, session_for}
+use Rattle.policy_rules.specs.Classes.{IsKnown, IsPlainGetData, IsPlainManagement, class_of, instructions_of, is_protected, is_secure, management, protects}
 use Rattle.policy_rules.specs.FirstFailing.{IsFirst}
-use Rattle.policy_rules.specs.Means.{IsMalformed}
+use Rattle.policy_rules.specs.Instructions.{instruction_of}
 use Rattle.policy_rules.specs.Rules.{status_of}
+use Rattle.policy_rules.specs.Sound.{IsSound}
 use Rattle.policy_rules.specs.State.{State}
+use Rattle.policy_rules.specs.Step.{refusal_leaves, sent}
+use Rattle.policy_rules.specs.Volatile.{Volatile}
 use Rattle.policy_rules.specs.declared.class.Class.{Class}
 use Rattle.policy_rules.specs.declared.class.Class.TheVariants.{Interindustry, Plain, Secure}
-use Rattle.policy_rules.specs.declared.instruction.TheConstants.{SELECT, MANAGE_CHANNEL, GET_DATA}
+use Rattle.policy_rules.specs.declared.instruction.TheConstants.{SELECT, MANAGE_CHANNEL, GET_DATA, INITIALIZE_UPDATE, EXTERNAL_AUTHENTICATE}
 use Rattle.policy_rules.specs.declared.rule.Rule.{Rule}
 use Rattle.policy_rules.specs.declared.rule.Rule.TheVariants.{G}
 use Rattle.policy_rules.specs.declared.rule.RuleG.{RuleG}
-use Rattle.policy_rules.specs.declared.rule.RuleG.TheVariants.{G1, G2, G3, G4, G5}
-use Rattle.card_core.specs.Kept.{Kept, Stands}
-use Rattle.card_core.specs.Serves.{CarriesOut, Serves, outcome_of}
-use Rattle.card_core.proofs.Standing.{placeless_stands}
+use Rattle.policy_rules.specs.declared.rule.RuleG.TheVariants.{G5, G6, G7, G8}
+use Rattle.card_core.specs.Kept.{Kept, Shows}
+use Rattle.card_core.specs.Serves.{CarriesOut, Serves, rule_of, word_of}
 
--- the rule that is found fails
-first_fails : {R : Type 0} (fails : R → Type 0) (rules : List R) (rule : R) → IsFirst fails rules (Some rule) → fails rule
-first_fails fails [] rule first = cc
-first_fails fails (next ∷ rules) rule (inl first) = (let same : rule ≡ next = (let is = first.1 in cc) in subst fails (sym same) first.0)
-first_fails fails (next ∷ rules) rule (inr first) = first_fails fails rules rule first.1
-
--- a refusal's reply is the status word alone
-alone : (state : State) (body : List ℕ) (rule : Rule) → body ≡ []
-    → outcome_of state body (Err rule) ≡ record { state = state; reply = status_bytes (status_of rule); rule = Some rule }
-alone state body rule empty = ap (λ (front : List ℕ). record { state = state; reply = front ++ status_bytes (status_of rule); rule = Some rule }) empty
-
-pub barred : (card : Kept) (state : State) (bytes body : List ℕ) (rule : RuleG) → Stands card state → IsFirst (Bars state bytes) general_rules (Some rule)
-    → body ≡ [] → Serves state bytes card body (Err (G rule))
-barred card state bytes body G1 stands first empty =
-    (state, stands, inl (record { rule = G1; left = state.volatile; first = first; leaves = refl; outcome_is = alone state body (G G1) empty }))
-barred card state bytes body G2 stands first empty =
-    (state, stands, inl (record { rule = G2; left = state.volatile; first = first; leaves = refl; outcome_is = alone state body (G G2) empty }))
-barred card state bytes body G3 stands first empty =
-    (state, stands, inl (record { rule = G3; left = state.volatile; first = first; leaves = refl; outcome_is = alone state body (G G3) empty }))
-barred card state bytes body G4 stands first empty =
-    (state, stands, inl (record { rule = G4; left = state.volatile; first = first; leaves = refl; outcome_is = alone state body (G G4) empty }))
-barred card state bytes body G5 stands first empty =
-    let of = first_fails (Bars state bytes) general_rules G5 first in
-    let command = of.0 in
-    let number = channel_of command.class in
-    let left = placeless state.volatile number false in (
+-- a general rule bars the bytes
+pub barred : (card : Kept) (state : State) (bytes reply : List ℕ) (rule : RuleG) (left : Volatile) → IsSound state
+    → IsFirst (Bars state bytes) general_rules (Some rule) → Leaves state bytes rule left
+    → Shows card (record { registry = state.registry; volatile = left }) → reply ≡ status_bytes (status_of (G rule))
+    → Serves state bytes card reply (Some (G rule))
+barred card state bytes reply rule left sound first leaves shows is =
+    let step = inl (record {
+      rule = rule;
+      left = left;
+      first = first;
+      leaves = leaves;
+      outcome_is = ap (λ (r : List ℕ). record { state = record { registry = state.registry; volatile = left }; reply = r; rule = Some (G rule) }) is;
+    }) in (
       record { registry = state.registry; volatile = left },
-      placeless_stands card state number false stands,
-      inl (record {
-        rule = G5;
-        left = left;
-        first = first;
-        leaves = (of.0, of.1, refl);
-        outcome_is = alone (record { registry = state.registry; volatile = left }) body (G G5) empty;
-      }),
+      record { shows = shows; sound = steps_keep_sound state bytes _ sound step },
+      step,
     )
 
--- the instructions that some class has
-abbrev IsBuilt : ℕ → Type 0
-IsBuilt ins = (ins ≡ SELECT) ⊎ (ins ≡ MANAGE_CHANNEL) ⊎ (ins ≡ GET_DATA)
-
-in_none : {P : Type 0} (ins : ℕ) → Contains [] ins → P
-in_none ins there = absurd (let low = there.1 in omega arith)
-
-built_in : (class : Class) (ins : ℕ) → Contains (instructions_of class) ins → IsBuilt ins
-built_in Interindustry ins there = elim (contains_cases SELECT (MANAGE_CHANNEL ∷ GET_DATA ∷ []) ins there) [
-  | inl select ↦ inl (sym select)
-  | inr more ↦ elim (contains_cases MANAGE_CHANNEL (GET_DATA ∷ []) ins more) [
-    | inl manage ↦ inr (inl (sym manage))
-    | inr last ↦ elim (contains_cases GET_DATA [] ins last) [
-      | inl get ↦ inr (inr (sym get))
-      | inr none ↦ in_none ins none
-    ]
-  ]
-]
-built_in Plain ins there = elim (contains_cases GET_DATA [] ins there) [
-  | inl get ↦ inr (inr (sym get))
-  | inr none ↦ in_none ins none
-]
-built_in Secure ins there = in_none ins there
-
-known_cases : (class : Option Class) (ins : ℕ) → MatchOption class ⊥ (λ c. Contains (instructions_of c) ins) → IsBuilt ins × (protects class ins ≡ false)
-known_cases None ins known = absurd known
-known_cases (Some Interindustry) ins known = (built_in Interindustry ins known, refl)
-known_cases (Some Plain) ins known = (built_in Plain ins known, refl)
-known_cases (Some Secure) ins known = in_none ins known
-
--- a malformed command is refused by a rule on its form
-pub malformed : (admitted : Admitted) (rule : Rule) → IsBuilt admitted.command.ins
-    → IsMalformed admitted.command.ins admitted.command.p1 admitted.command.p2 admitted.command.body rule → Judges admitted (Some rule)
-malformed admitted rule (inl is) (inl parameters) = inl (is, inl ((λ right. parameters.1 (inl (is, right))), ap Some parameters.0))
-malformed admitted rule (inl is) (inr field) =
-    inl (
-      is,
-      inr (
-        (λ wrong. elim field.1 [
-          | inl select ↦ wrong select.1
-          | inr other ↦ elim other [
-            | inl manage ↦ (let clash : SELECT ≡ MANAGE_CHANNEL = sym is ∙ manage.0 in absurd (omega arith))
-            | inr get ↦ (let clash : SELECT ≡ GET_DATA = sym is ∙ get in absurd (omega arith))
-          ]
-        ]),
-        inl ((λ right. field.2 (inl (is, right))), ap Some field.0),
-      ),
-    )
-malformed admitted rule (inr (inl is)) (inl parameters) = inr (inl (is, inl ((λ right. parameters.1 (inr (inl (is, right)))), ap Some parameters.0)))
-malformed admitted rule (inr (inl is)) (inr field) =
-    inr (inl (
-      is,
-      inr (
-        (λ wrong. elim field.1 [
-          | inl select ↦ (let clash : MANAGE_CHANNEL ≡ SELECT = sym is ∙ select.0 in absurd (omega arith))
-          | inr other ↦ elim other [
-            | inl manage ↦ wrong manage.1
-            | inr get ↦ (let clash : MANAGE_CHANNEL ≡ GET_DATA = sym is ∙ get in absurd (omega arith))
-          ]
-        ]),
-        inl ((λ right. field.2 (inr (inl (is, right)))), ap Some field.0),
-      ),
-    ))
-malformed admitted rule (inr (inr is)) (inl parameters) = absurd (parameters.1 (inr (inr is)))
-malformed admitted rule (inr (inr is)) (inr field) = inr (inr (is, inl ((λ right. field.2 (inr (inr (is, right)))), ap Some field.0)))
-
-module _ (state : State) (bytes : List ℕ) (command : Apdu) (first : IsFirst (Bars state bytes) general_rules None) (short : Short command bytes)
-    (known : IsKnown command.class command.ins) where
-  admits : Admits state bytes (admitted_as state command)
-  admits = (first, (command, short, refl))
-
-  pub is_built : IsBuilt command.ins
-  is_built = (known_cases (class_of command.class) command.ins known).0
-
-  is_plain : (admitted_as state command).is_protected ≡ false
-  is_plain = (known_cases (class_of command.class) command.ins known).1
-
-  -- a command that was carried out, or refused by a rule of its own
-  pub carried_out : (card : Kept) (body : List ℕ) (result : Result Status Rule) → CarriesOut (admitted_as state command) card body result
-      → Serves state bytes card body result
-  carried_out card body (Ok status) (done, stands, judges, does, is, word) = (
-    done.state,
-    stands,
-    inr (inr (record {
-      admitted = admitted_as state command;
+-- a command that was carried out, or refused by a rule of its own
+pub carried_out : (state : State) (bytes : List ℕ) (command : Apdu) (session : Option Session) (plain : List ℕ) (card : Kept) (body reply : List ℕ)
+    (result : Result Status Rule) → IsSound state → Admits state bytes (admitted_as state command session plain)
+    → CarriesOut (admitted_as state command session plain) card body result → reply ≡ sent session body (word_of result)
+    → Serves state bytes card reply (rule_of result)
+carried_out state bytes command session plain card body reply (Ok status) sound admits (done, shows, judges, does, body_is, word) is =
+    let step = inr (inr (record {
+      admitted = admitted_as state command session plain;
       done = done;
       admits = admits;
       judges = judges;
       does = does;
-      plain = is_plain;
-      outcome_is = (λ i. record { state = done.state; reply = is i ++ status_bytes (word i); rule = None });
-    })),
-  )
-  carried_out card body (Err rule) (stands, judges, empty) = (
-    (admitted_as state command).at,
-    stands,
-    inr (inl (record {
-      admitted = admitted_as state command;
+      outcome_is = ap (λ (r : List ℕ). record { state = done.state; reply = r; rule = None }) (is ∙ (λ i. sent session (body_is i) (word i)));
+    })) in
+    (done.state, record { shows = shows; sound = steps_keep_sound state bytes _ sound step }, step)
+carried_out state bytes command session plain card body reply (Err rule) sound admits (shows, judges, empty) is =
+    let admitted : Admitted = admitted_as state command session plain in
+    let left = refusal_leaves (admitted_as state command session plain) in
+    let step = inr (inl (record {
+      admitted = admitted_as state command session plain;
       rule = rule;
       admits = admits;
       judges = judges;
-      outcome_is = alone (admitted_as state command).at body rule empty;
-    })),
-  )
+      outcome_is = ap (λ (r : List ℕ). record { state = record { registry = state.registry; volatile = left }; reply = r; rule = Some rule })
+          (is ∙ ap (λ (b : List ℕ). sent session b (status_of rule)) empty);
+    })) in (
+      record { registry = state.registry; volatile = left },
+      record { shows = shows; sound = steps_keep_sound state bytes _ sound step },
+      step,
+    )
+
+-- rules behind others that pass
+behind : {R : Type 0} (fails : R → Type 0) (front rest : List R) (found : Option R) → IsFirst fails front None → IsFirst fails rest found
+    → IsFirst fails (front ++ rest) found
+behind fails [] rest found passed first = first
+behind fails (next ∷ front) rest found (inl failed) first = (let clash = failed.1 in cc)
+behind fails (next ∷ front) rest found (inr passed) first = inr (passed.0, behind fails front rest found passed.1 first)
+
+in_none : {P : Type 0} (ins : ℕ) → Contains [] ins → P
+in_none ins there = absurd (let low = there.1 in omega arith)
+
+-- what a class takes, by its instruction bytes
+abbrev IsBuilt : ℕ → Type 0
+IsBuilt ins = IsSome (instruction_of ins)
+
+built : (class : Class) (ins : ℕ) → Contains (instructions_of class) ins → IsBuilt ins
+built Interindustry ins there = elim (contains_cases SELECT (MANAGE_CHANNEL ∷ GET_DATA ∷ []) ins there) [
+  | inl select ↦ subst IsBuilt select refl
+  | inr more ↦ elim (contains_cases MANAGE_CHANNEL (GET_DATA ∷ []) ins more) [
+    | inl manage ↦ subst IsBuilt manage refl
+    | inr last ↦ elim (contains_cases GET_DATA [] ins last) [
+      | inl get ↦ subst IsBuilt get refl
+      | inr none ↦ in_none ins none
+    ]
+  ]
+]
+built Plain ins there = elim (contains_cases GET_DATA (INITIALIZE_UPDATE ∷ []) ins there) [
+  | inl get ↦ subst IsBuilt get refl
+  | inr more ↦ elim (contains_cases INITIALIZE_UPDATE [] ins more) [
+    | inl initialize ↦ subst IsBuilt initialize refl
+    | inr none ↦ in_none ins none
+  ]
+]
+built Secure ins there = elim (contains_cases EXTERNAL_AUTHENTICATE (GET_DATA ∷ []) ins there) [
+  | inl answer ↦ subst IsBuilt answer refl
+  | inr more ↦ elim (contains_cases GET_DATA [] ins more) [
+    | inl get ↦ subst IsBuilt get refl
+    | inr none ↦ in_none ins none
+  ]
+]
+
+pub is_built : (class : Option Class) (ins : ℕ) → MatchOption class ⊥ (λ c. Contains (instructions_of c) ins) → IsBuilt ins
+is_built None ins known = absurd known
+is_built (Some class) ins known = built class ins known
+
+-- a protected command is GET DATA, so far
+pub protected_gets : (class : Option Class) (ins : ℕ) → MatchOption class ⊥ (λ c. Contains (instructions_of c) ins) → protects class ins ≡ true → ins ≡ GET_DATA
+protected_gets None ins known protected = absurd known
+protected_gets (Some Interindustry) ins known protected = cc
+protected_gets (Some Plain) ins known protected = cc
+protected_gets (Some Secure) ins known protected = elim (contains_cases EXTERNAL_AUTHENTICATE (GET_DATA ∷ []) ins known) [
+  | inl answer ↦ (let clash = subst (λ (n : ℕ). protects (Some Secure) n ≡ true) (sym answer) protected in cc)
+  | inr more ↦ elim (contains_cases GET_DATA [] ins more) [
+    | inl get ↦ sym get
+    | inr none ↦ in_none ins none
+  ]
+]
+
+-- no command of card content management is built yet
+not_managed : (ins k : ℕ) → (ins ≡ GET_DATA) ⊎ (ins ≡ INITIALIZE_UPDATE) → k < 7 → slice_index_or management k ins ≡ ins → ⊥
+not_managed ins zero which low is = elim which [ inl get ↦ omega (arith, is, get) | inr offer ↦ omega (arith, is, offer) ]
+not_managed ins (suc zero) which low is = elim which [ inl get ↦ omega (arith, is, get) | inr offer ↦ omega (arith, is, offer) ]
+not_managed ins (suc (suc zero)) which low is = elim which [ inl get ↦ omega (arith, is, get) | inr offer ↦ omega (arith, is, offer) ]
+not_managed ins (suc (suc (suc zero))) which low is = elim which [ inl get ↦ omega (arith, is, get) | inr offer ↦ omega (arith, is, offer) ]
+not_managed ins (suc (suc (suc (suc zero)))) which low is = elim which [ inl get ↦ omega (arith, is, get) | inr offer ↦ omega (arith, is, offer) ]
+not_managed ins (suc (suc (suc (suc (suc zero))))) which low is = elim which [ inl get ↦ omega (arith, is, get) | inr offer ↦ omega (arith, is, offer) ]
+not_managed ins (suc (suc (suc (suc (suc (suc zero)))))) which low is = elim which [ inl get ↦ omega (arith, is, get) | inr offer ↦ omega (arith, is, offer) ]
+not_managed ins (suc (suc (suc (suc (suc (suc (suc k))))))) which low is = omega (arith, low)
+
+plain_built : (ins : ℕ) → Contains (instructions_of Plain) ins → (ins ≡ GET_DATA) ⊎ (ins ≡ INITIALIZE_UPDATE)
+plain_built ins there = elim (contains_cases GET_DATA (INITIALIZE_UPDATE ∷ []) ins there) [
+  | inl get ↦ inl (sym get)
+  | inr more ↦ elim (contains_cases INITIALIZE_UPDATE [] ins more) [
+    | inl initialize ↦ inr (sym initialize)
+    | inr none ↦ in_none ins none
+  ]
+]
+
+pub no_plain_management : (command : Apdu) → IsKnown command.class command.ins → IsPlainManagement command → ⊥
+no_plain_management command known (plain, managed) =
+    let there = subst (λ (c : Option Class). MatchOption c ⊥ (λ class. Contains (instructions_of class) command.ins)) plain known in
+    not_managed command.ins managed.0 (plain_built command.ins there) managed.1 managed.2
+
+module _ (state : State) (bytes : List ℕ) (command : Apdu) (short : Short command bytes) (known : IsKnown command.class command.ins)
+    (class : Class) (is_class : class_of command.class ≡ Some class) (front : IsFirst (Bars state bytes) command_rules None) where
+  not_of : (holds : Apdu → Type 0) → (holds command → ⊥) → Of bytes holds → ⊥
+  not_of holds never of = never (of_one bytes holds command short of)
+
+  -- the card is terminated
+  abbrev IsOver : Type 0
+  IsOver = (state.registry.life ≡ Terminated) × ((command.ins ≡ GET_DATA) × (is_secure class ≡ false) → ⊥)
+
+  ended : IsOver → (state.registry.life ≡ Terminated) × (IsPlainGetData command → ⊥)
+  ended over = (over.0, λ plain. over.1 (plain.0, subst (λ (c : Option Class). MatchOption c ⊥ (λ k. is_secure k ≡ false)) is_class plain.1))
+
+  goes_on : (state.registry.life ≡ Terminated) × (IsPlainGetData command → ⊥) → IsOver
+  goes_on over = (over.0, λ plain. over.1 (plain.0, subst (λ (c : Option Class). MatchOption c ⊥ (λ k. is_secure k ≡ false)) (sym is_class) plain.1))
+
+  pub over_first : IsOver → IsFirst (Bars state bytes) general_rules (Some G5)
+  over_first over = behind (Bars state bytes) command_rules (G5 ∷ G6 ∷ G7 ∷ G8 ∷ []) (Some G5) front (inl ((command, short, ended over), refl))
+
+  module _ (not_over : IsOver → ⊥) where
+    behind_over : (found : Option RuleG) → IsFirst (Bars state bytes) (G6 ∷ G7 ∷ G8 ∷ []) found → IsFirst (Bars state bytes) general_rules found
+    behind_over found first =
+        behind (Bars state bytes) command_rules (G5 ∷ G6 ∷ G7 ∷ G8 ∷ []) found front
+        (inr (not_of (λ c. (state.registry.life ≡ Terminated) × (IsPlainGetData c → ⊥)) (λ over. not_over (goes_on over)), first))
+
+    pub no_session_first : is_protected command ≡ true → session_for state command ≡ None → IsFirst (Bars state bytes) general_rules (Some G6)
+    no_session_first protected none = behind_over (Some G6) (inl ((command, short, inr (protected, none)), refl))
+
+    -- a command in plain passes
+    pub plain_passes : is_protected command ≡ false → IsFirst (Bars state bytes) general_rules None
+    plain_passes plain =
+        behind_over None (inr (
+          not_of (λ c. IsPlainManagement c ⊎ ((is_protected c ≡ true) × (session_for state c ≡ None))) g6,
+          inr (
+            not_of (λ c. InSession state c (λ session. IsAuthentic session c → ⊥)) (λ fails. true≢false (sym fails.0 ∙ plain)),
+            inr (
+              not_of (λ c. InSession state c (λ session. (p : List ℕ) → Gives (accepting session c) (field_of c) p → ⊥))
+                  (λ fails. true≢false (sym fails.0 ∙ plain)),
+              refl,
+            ),
+          ),
+        ))
+      where
+        g6 : IsPlainManagement command ⊎ ((is_protected command ≡ true) × (session_for state command ≡ None)) → ⊥
+        g6 (inl managed) = no_plain_management command known managed
+        g6 (inr unsecured) = true≢false (sym unsecured.0 ∙ plain)
+
+    module _ (protected : is_protected command ≡ true) (session : Session) (is_session : session_for state command ≡ Some session) where
+      has_session : IsPlainManagement command ⊎ ((is_protected command ≡ true) × (session_for state command ≡ None)) → ⊥
+      has_session (inl managed) = no_plain_management command known managed
+      has_session (inr unsecured) = (let none = unsecured.1 in let clash = sym none ∙ is_session in cc)
+
+      in_session : (holds : Session → Type 0) → holds session → InSession state command holds
+      in_session holds is = (protected, subst (λ (o : Option Session). MatchOption o ⊥ holds) (sym is_session) is)
+
+      of_session : (holds : Session → Type 0) → InSession state command holds → holds session
+      of_session holds is = subst (λ (o : Option Session). MatchOption o ⊥ holds) is_session is.1
+
+      behind_session : (found : Option RuleG) → IsFirst (Bars state bytes) (G7 ∷ G8 ∷ []) found → IsFirst (Bars state bytes) general_rules found
+      behind_session found first =
+          behind_over found (inr (not_of (λ c. IsPlainManagement c ⊎ ((is_protected c ≡ true) × (session_for state c ≡ None))) has_session, first))
+
+      pub wrong_mac_first : (IsAuthentic session command → ⊥) → IsFirst (Bars state bytes) general_rules (Some G7)
+      wrong_mac_first wrong = behind_session (Some G7) (inl ((command, short, in_session (λ s. IsAuthentic s command → ⊥) wrong), refl))
+
+      behind_mac : (found : Option RuleG) → IsAuthentic session command → IsFirst (Bars state bytes) (G8 ∷ []) found → IsFirst (Bars state bytes) general_rules found
+      behind_mac found authentic first =
+          behind_session found (inr (
+            not_of (λ c. InSession state c (λ s. IsAuthentic s c → ⊥)) (λ fails. of_session (λ s. IsAuthentic s command → ⊥) fails authentic),
+            first,
+          ))
+
+      pub wrong_padding_first : IsAuthentic session command → ((p : List ℕ) → Gives (accepting session command) (field_of command) p → ⊥)
+          → IsFirst (Bars state bytes) general_rules (Some G8)
+      wrong_padding_first authentic wrong =
+          behind_mac (Some G8) authentic
+          (inl ((command, short, in_session (λ s. (p : List ℕ) → Gives (accepting s command) (field_of command) p → ⊥) wrong), refl))
+
+      -- a command that opens passes
+      pub opened_passes : (plain : List ℕ) → Opens session command plain → IsFirst (Bars state bytes) general_rules None
+      opened_passes plain opens =
+          behind_mac None opens.authentic
+          (inr (
+            not_of (λ c. InSession state c (λ s. (p : List ℕ) → Gives (accepting s c) (field_of c) p → ⊥))
+                (λ fails. of_session (λ s. (p : List ℕ) → Gives (accepting s command) (field_of command) p → ⊥) fails plain opens.gives),
+            refl,
+          ))
+
+      pub admits_opened : (plain : List ℕ) → Opens session command plain
+          → Admits state bytes (admitted_as state command (Some (accepting session command)) plain)
+      admits_opened plain opens = (
+        opened_passes plain opens,
+        (command, short, (Some (accepting session command), plain, in_session (λ s. Opens s command plain × (accepting session command ≡ accepting s command)) (opens, refl), refl)),
+      )
+
+    pub admits_plain : is_protected command ≡ false → Admits state bytes (admitted_as state command None command.body)
+    admits_plain plain = (plain_passes plain, (command, short, (None, command.body, (plain, refl), refl)))

@@ -1,10 +1,9 @@
--- What a card stands for, when a channel is set.
-use Rattle.std.proofs.Common.{◌≡◌, ◌≢◌, ℕ, zero, suc, ◌<◌, List, [], ◌∷◌, Bool, true, false, Option, None, Some, refl, sym, ap, subst, ◌∙◌, inl, inr, length, arith}
-use Rattle.std.specs.Prelude.{MatchOption, is_none, is_some, slice_index_or, slice_set, if◌then◌else◌, ◌==◌}
+-- What a card shows, when a channel is set.
+use Rattle.std.proofs.Common.{◌≡◌, ℕ, zero, suc, ◌<◌, List, [], ◌∷◌, Bool, true, false, Option, None, Some, refl, sym, ap, subst, ◌∙◌, inl, inr, length, arith}
+use Rattle.std.specs.Prelude.{MatchOption, is_none, slice_index_or, slice_set, if◌then◌else◌, ◌==◌}
 use Rattle.std.proofs.lemmas.Bool.Decides.{eqb_tells}
 use Rattle.std.proofs.lemmas.List.{get_or-set_other, get_or-set_same, set-get_or}
 use Rattle.apdu_core.specs.Apdu.{Apdu}
-use Rattle.card_types.proofs.EntryNames.{entry_in_slot}
 use Rattle.card_types.specs.Layout.{HasIssuer, HasLayout}
 use Rattle.card_types.specs.Registry.{Registry}
 use Rattle.card_types.specs.Says.{Says as SaysRegistry}
@@ -14,19 +13,21 @@ use Rattle.card_types.specs.declared.factory.TheConstants.{ISSUER}
 use Rattle.card_types.specs.declared.tables.Entry.{Entry}
 use Rattle.card_types.specs.declared.tables.TheConstants.{ISSUER_SLOT}
 use Rattle.card_types.specs.declared.tables.Tables.{Tables}
-use Rattle.policy_rules.proofs.KeepsSound.{fresh_is_well, issuer_is_well, starts_sound}
-use Rattle.policy_rules.proofs.SetChannel.{by_number, ended_fits, lowest_is_closed, set_fits}
-use Rattle.policy_rules.specs.Admission.{admitted_as, channel_passed, offer_passed, placeless, session_passed}
+use Rattle.policy_rules.proofs.KeepsSound.{starts_sound}
+use Rattle.policy_rules.specs.Admission.{channel_passed, placeless, session_passed}
 use Rattle.policy_rules.specs.Classes.{channel_of}
+use Rattle.policy_rules.proofs.SetChannel.{lowest_is_closed}
 use Rattle.policy_rules.specs.ManageChannel.{lowest_closed}
 use Rattle.policy_rules.specs.Means.{IsSelectedIn, Says}
-use Rattle.policy_rules.specs.Sound.{IsSecured}
 use Rattle.policy_rules.specs.State.{State, powered_on}
-use Rattle.policy_rules.specs.Volatile.{Channel, LoadSession, Nothing, Standing, Volatile, channel_at, first_volatile, fresh, load_of_others, with_channel, with_selected, without_channel, without_load}
-use Rattle.policy_rules.specs.declared.instruction.TheConstants.{EXTERNAL_AUTHENTICATE, LOAD}
+use Rattle.policy_rules.specs.Volatile.{Channel, LoadSession, Nothing, Offered, Secured, Standing, Volatile, channel_at, first_volatile, fresh, load_of_others, standing_of, standing_so, with_channel, with_standing, without_load, without_offer}
+use Rattle.policy_rules.specs.declared.instruction.TheConstants.{LOAD}
 use Rattle.policy_rules.specs.declared.live.Live.{Live}
 use Rattle.policy_rules.specs.declared.live.TheConstants.{CHANNELS}
-use Rattle.card_core.specs.Kept.{HoldsNoMore, Kept, Stands}
+use Rattle.card_core.specs.Holds.{Holds, HoldsAs, held_passed, without_offer_held}
+use Rattle.card_core.specs.Kept.{Kept, Shows, Stands}
+use Rattle.card_core.specs.declared.held.Held.{Held}
+use Rattle.card_core.specs.declared.held.Held.TheVariants as held
 
 -- a channel is set beside the slot of what it has selected
 says_set : (tables : Tables) (live : Live) (state : State) (number : ℕ) (slot : Option ℕ) (channel : Option Channel) (after : Volatile)
@@ -52,83 +53,199 @@ says_set tables live state number slot channel after says low few selected is = 
       ]);
 }
 
-abbrev IsBare : Option Channel → Type 0
-IsBare channel = MatchOption channel (Unit {0}) (λ c. c ≡ fresh c.selected)
+-- a channel is set, with what it has selected in the same slot
+says_kept : (tables : Tables) (live : Live) (state : State) (number : ℕ) (channel : Option Channel) (after : Volatile)
+    → Says tables live state → number < length state.volatile.channels
+    → IsSelectedIn tables.entries.items (slice_index_or live.selected number None) channel → after.channels ≡ slice_set state.volatile.channels number channel
+    → Says tables live (record { registry = state.registry; volatile = after })
+says_kept tables live state number channel after says few selected is = record {
+  page = says.page;
+  registry = says.registry;
+  selected = λ other within.
+      subst (λ (channels : List (Option Channel)). IsSelectedIn tables.entries.items (slice_index_or live.selected other None) (slice_index_or channels other None))
+      (sym is)
+      (elim (eqb_tells other number) [
+        | inl same ↦ subst (λ (n : ℕ). IsSelectedIn tables.entries.items (slice_index_or live.selected n None) (slice_index_or (slice_set state.volatile.channels number channel) n None))
+            (sym same.1)
+            (subst (IsSelectedIn tables.entries.items (slice_index_or live.selected number None)) (sym (get_or-set_same state.volatile.channels number channel None few)) selected)
+        | inr differs ↦ subst (IsSelectedIn tables.entries.items (slice_index_or live.selected other None)) (sym (get_or-set_other state.volatile.channels number other channel None differs.1))
+            (says.selected other within)
+      ]);
+}
 
-no_more_set : (volatile : Volatile) (number : ℕ) (channel : Option Channel) (after : Volatile) → HoldsNoMore volatile
-    → number < length volatile.channels → IsBare channel → after.channels ≡ slice_set volatile.channels number channel
-    → after.load ≡ None → HoldsNoMore after
-no_more_set volatile number channel after no_more low bare is load = record {
-  channels = λ other. subst (λ (channels : List (Option Channel)). IsBare (slice_index_or channels other None)) (sym is)
-      (by_number IsBare volatile number channel low bare other (no_more.channels other));
+-- no place in a listing
+abbrev HasNoPlace : Option Channel → Type 0
+HasNoPlace channel = MatchOption channel (Unit {0}) (λ c. c.place ≡ None)
+
+-- a channel is set beside what it holds
+pub holds_set : (all : List Held) (volatile : Volatile) (number : ℕ) (now : Held) (channel : Option Channel) (after : Volatile)
+    → Holds all volatile → number < length all → number < length volatile.channels → HoldsAs now (standing_of channel) → HasNoPlace channel
+    → after.channels ≡ slice_set volatile.channels number channel → after.load ≡ None → Holds (slice_set all number now) after
+holds_set all volatile number now channel after holds low few stands place is load = record {
+  channels = λ other within.
+      subst (λ (channels : List (Option Channel)). HoldsAs (slice_index_or (slice_set all number now) other held.Nothing) (standing_of (slice_index_or channels other None))) (sym is)
+      (elim (eqb_tells other number) [
+        | inl same ↦ subst (λ (n : ℕ). HoldsAs (slice_index_or (slice_set all number now) n held.Nothing) (standing_of (slice_index_or (slice_set volatile.channels number channel) n None)))
+            (sym same.1)
+            (subst (λ (h : Held). HoldsAs h (standing_of (slice_index_or (slice_set volatile.channels number channel) number None)))
+            (sym (get_or-set_same all number now held.Nothing low))
+            (subst (λ (c : Option Channel). HoldsAs now (standing_of c)) (sym (get_or-set_same volatile.channels number channel None few)) stands))
+        | inr differs ↦ subst (λ (h : Held). HoldsAs h (standing_of (slice_index_or (slice_set volatile.channels number channel) other None)))
+            (sym (get_or-set_other all number other now held.Nothing differs.1))
+            (subst (λ (c : Option Channel). HoldsAs (slice_index_or all other held.Nothing) (standing_of c)) (sym (get_or-set_other volatile.channels number other channel None differs.1))
+            (holds.channels other within))
+      ]);
+  places = λ other.
+      subst (λ (channels : List (Option Channel)). HasNoPlace (slice_index_or channels other None)) (sym is)
+      (elim (eqb_tells other number) [
+        | inl same ↦ subst (λ (n : ℕ). HasNoPlace (slice_index_or (slice_set volatile.channels number channel) n None)) (sym same.1)
+            (subst HasNoPlace (sym (get_or-set_same volatile.channels number channel None few)) place)
+        | inr differs ↦ subst HasNoPlace (sym (get_or-set_other volatile.channels number other channel None differs.1)) (holds.places other)
+      ]);
   load = load;
 }
 
--- behind the check of the class nothing is lost that a channel holds yet
-nothing_passed : (keeps : Bool) → offer_passed keeps Nothing ≡ Nothing
-nothing_passed true = refl
-nothing_passed false = refl
+-- there are four channels
+pub record HasFour (card : Kept) (state : State) : Type 0 where
+  pub held : length card.held ≡ CHANNELS
+  pub channels : length state.volatile.channels ≡ CHANNELS
 
-bare_passed : (keeps : Bool) (channel : Option Channel) → IsBare channel → channel_passed keeps channel ≡ channel
-bare_passed keeps None bare = refl
-bare_passed keeps (Some channel) bare =
-    ap (λ (c : Channel). channel_passed keeps (Some c)) bare
-    ∙ ap (λ (standing : Standing). Some (record { selected = channel.selected; standing = standing; place = None })) (nothing_passed keeps)
-    ∙ ap Some (sym bare)
+module _ (tables : Tables) (live : Live) (all : List Held) (state : State) (shows : Shows (record { tables = tables; live = live; held = all }) state)
+    (four : HasFour (record { tables = tables; live = live; held = all }) state) (number : ℕ) (low : number < CHANNELS) where
+  few : number < length state.volatile.channels
+  few = subst (λ (n : ℕ). number < n) (sym four.channels) low
 
-placeless_same : (volatile : Volatile) (number : ℕ) (keeps : Bool) → HoldsNoMore volatile → placeless volatile number keeps ≡ volatile
-placeless_same volatile number keeps no_more =
-    let same = bare_passed keeps (channel_at volatile number) (no_more.channels number) in
-    ap (with_channel volatile number) same
-    ∙ ap (λ (channels : List (Option Channel)). record { channels = channels; load = volatile.load }) (set-get_or volatile.channels number None)
+  few_held : number < length all
+  few_held = subst (λ (n : ℕ). number < n) (sym four.held) low
 
-load_same : (volatile : Volatile) (number : ℕ) → volatile.load ≡ None → without_load volatile number ≡ volatile
+  abbrev here : Option Channel
+  here = channel_at state.volatile number
+
+  abbrev holds_here : HoldsAs (slice_index_or all number held.Nothing) (standing_of here)
+  holds_here = shows.holds.channels number low
+
+  -- a channel is set, with its slot and what it holds
+  pub channel_shows : length live.selected ≡ CHANNELS → (slot : Option ℕ) (now : Held) (channel : Option Channel) (after : Volatile)
+      → IsSelectedIn tables.entries.items slot channel → HoldsAs now (standing_of channel) → HasNoPlace channel
+      → after.channels ≡ slice_set state.volatile.channels number channel → after.load ≡ None
+      → Shows (record { tables = tables; live = record { selected = slice_set live.selected number slot }; held = slice_set all number now })
+      (record { registry = state.registry; volatile = after })
+  channel_shows live_four slot now channel after selected stands place is load = record {
+    says = says_set tables live state number slot channel after shows.says (subst (λ (n : ℕ). number < n) (sym live_four) low) few selected is;
+    holds = holds_set all state.volatile number now channel after shows.holds few_held few stands place is load;
+  }
+
+  -- the same is selected on the channel, which holds something else
+  pub holds_shows : (now : Held) (channel : Option Channel) (after : Volatile)
+      → IsSelectedIn tables.entries.items (slice_index_or live.selected number None) channel → HoldsAs now (standing_of channel) → HasNoPlace channel
+      → after.channels ≡ slice_set state.volatile.channels number channel → after.load ≡ None
+      → Shows (record { tables = tables; live = live; held = slice_set all number now }) (record { registry = state.registry; volatile = after })
+  holds_shows now channel after selected stands place is load = record {
+    says = says_kept tables live state number channel after shows.says few selected is;
+    holds = holds_set all state.volatile number now channel after shows.holds few_held few stands place is load;
+  }
+
+  -- it holds the same
+  pub same_held : slice_set all number (slice_index_or all number held.Nothing) ≡ all
+  same_held = set-get_or all number held.Nothing
+
+  selected_passed : (keeps : Bool) (slot : Option ℕ) (channel : Option Channel) → IsSelectedIn tables.entries.items slot channel
+      → IsSelectedIn tables.entries.items slot (channel_passed keeps channel)
+  selected_passed keeps slot None selected = selected
+  selected_passed keeps None (Some channel) selected = selected
+  selected_passed keeps (Some slot) (Some channel) selected = selected
+
+  place_passed : (keeps : Bool) (channel : Option Channel) → HasNoPlace (channel_passed keeps channel)
+  place_passed keeps None = tt
+  place_passed keeps (Some channel) = refl
+
+  standing_passed : (now : Held) (channel : Option Channel) → HoldsAs now (without_offer (standing_of channel)) → HoldsAs now (standing_of (channel_passed false channel))
+  standing_passed now None holds = holds
+  standing_passed now (Some channel) holds = holds
+
+  standing_kept : (now : Held) (channel : Option Channel) → HoldsAs now (standing_of channel) → HoldsAs now (standing_of (channel_passed true channel))
+  standing_kept now None holds = holds
+  standing_kept now (Some channel) holds = holds
+
+  offer_dropped : (now : Held) (standing : Standing) → HoldsAs now standing → HoldsAs (without_offer_held now) (without_offer standing)
+  offer_dropped held.Nothing Nothing holds = tt
+  offer_dropped held.Nothing (Offered offer) holds = absurd holds
+  offer_dropped held.Nothing (Secured session) holds = absurd holds
+  offer_dropped (held.Offered kept) Nothing holds = absurd holds
+  offer_dropped (held.Offered kept) (Offered offer) holds = tt
+  offer_dropped (held.Offered kept) (Secured session) holds = absurd holds
+  offer_dropped (held.Secured kept) Nothing holds = absurd holds
+  offer_dropped (held.Secured kept) (Offered offer) holds = absurd holds
+  offer_dropped (held.Secured kept) (Secured session) holds = holds
+
+  -- the channel has lost its offer, if it had one
+  pub lost_shows : (now : Held) → HoldsAs now (without_offer (standing_of here))
+      → Shows (record { tables = tables; live = live; held = slice_set all number now }) (record { registry = state.registry; volatile = placeless state.volatile number false })
+  lost_shows now holds =
+      holds_shows now (channel_passed false here) (placeless state.volatile number false)
+      (selected_passed false (slice_index_or live.selected number None) here (shows.says.selected number low))
+      (standing_passed now here holds) (place_passed false here) refl shows.holds.load
+
+  -- behind the check of the class
+  pub passed_shows : (keeps : Bool)
+      → Shows (record { tables = tables; live = live; held = slice_set all number (held_passed keeps (slice_index_or all number held.Nothing)) })
+      (record { registry = state.registry; volatile = placeless state.volatile number keeps })
+  passed_shows true =
+      holds_shows (slice_index_or all number held.Nothing) (channel_passed true here) (placeless state.volatile number true)
+      (selected_passed true (slice_index_or live.selected number None) here (shows.says.selected number low))
+      (standing_kept (slice_index_or all number held.Nothing) here holds_here) (place_passed true here) refl shows.holds.load
+  passed_shows false = lost_shows (without_offer_held (slice_index_or all number held.Nothing)) (offer_dropped (slice_index_or all number held.Nothing) (standing_of here) holds_here)
+
+  selected_so : (standing : Standing) (slot : Option ℕ) (channel : Option Channel) → IsSelectedIn tables.entries.items slot channel
+      → IsSelectedIn tables.entries.items slot (standing_so standing channel)
+  selected_so standing slot None selected = selected
+  selected_so standing None (Some channel) selected = selected
+  selected_so standing (Some slot) (Some channel) selected = selected
+
+  place_so : (standing : Standing) (channel : Option Channel) → HasNoPlace channel → HasNoPlace (standing_so standing channel)
+  place_so standing None place = tt
+  place_so standing (Some channel) place = place
+
+  stands_so : (now : Held) (standing : Standing) (channel : Option Channel) (slot : ℕ) → IsSelectedIn tables.entries.items (Some slot) channel
+      → HoldsAs now standing → HoldsAs now (standing_of (standing_so standing channel))
+  stands_so now standing None slot selected holds = absurd selected
+  stands_so now standing (Some channel) slot selected holds = holds
+
+  -- an open channel holds something else
+  pub standing_shows : (slot : ℕ) (now : Held) (standing : Standing) → slice_index_or live.selected number None ≡ Some slot → HoldsAs now standing
+      → Shows (record { tables = tables; live = live; held = slice_set all number now }) (record { registry = state.registry; volatile = with_standing state.volatile number standing })
+  standing_shows slot now standing opened holds =
+      holds_shows now (standing_so standing here) (with_standing state.volatile number standing)
+      (selected_so standing (slice_index_or live.selected number None) here (shows.says.selected number low))
+      (stands_so now standing here slot (subst (λ (s : Option ℕ). IsSelectedIn tables.entries.items s here) opened (shows.says.selected number low)) holds)
+      (place_so standing here (shows.holds.places number)) refl shows.holds.load
+
+-- there is no load session that could end
+pub load_same : (volatile : Volatile) (number : ℕ) → volatile.load ≡ None → without_load volatile number ≡ volatile
 load_same volatile number none =
     ap (λ (load : Option LoadSession). record { channels = volatile.channels; load = load_of_others number load }) none
     ∙ ap (λ (load : Option LoadSession). record { channels = volatile.channels; load = load }) (sym none)
 
-session_same : (volatile : Volatile) (command : Apdu) → HoldsNoMore volatile → session_passed volatile command ≡ volatile
-session_same volatile command no_more = by (command.ins == LOAD)
+pub session_same : (volatile : Volatile) (command : Apdu) → volatile.load ≡ None → session_passed volatile command ≡ volatile
+session_same volatile command none = by (command.ins == LOAD)
   where
     by : (loads : Bool) → (if loads then volatile else without_load volatile (channel_of command.class)) ≡ volatile
     by true = refl
-    by false = load_same volatile (channel_of command.class) no_more.load
+    by false = load_same volatile (channel_of command.class) none
 
--- so a card stands for the state on which a command's own rules are judged
-pub admitted_stands : (card : Kept) (state : State) (command : Apdu) → Stands card state → Stands card (admitted_as state command).at
-admitted_stands card state command stands =
-    let passed = placeless_same state.volatile (channel_of command.class) (command.ins == EXTERNAL_AUTHENTICATE) stands.no_more in
-    let same : (admitted_as state command).at.volatile ≡ state.volatile
-    = ap (λ (v : Volatile). session_passed v command) passed ∙ session_same state.volatile command stands.no_more in
-    subst (Stands card) (λ i. record { registry = state.registry; volatile = sym same i }) stands
+-- nothing is set in what is held
+pub held_same : (card : Kept) (state : State) (number : ℕ) (now : Held) → slice_index_or card.held number held.Nothing ≡ now → Shows card state
+    → Shows (record { tables = card.tables; live = card.live; held = slice_set card.held number now }) state
+held_same card state number now same shows =
+    subst (λ (all : List Held). Shows (record { tables = card.tables; live = card.live; held = all }) state)
+    (sym (ap (slice_set card.held number) (sym same) ∙ set-get_or card.held number held.Nothing)) shows
 
-pub placeless_stands : (card : Kept) (state : State) (number : ℕ) (keeps : Bool) → Stands card state
-    → Stands card (record { registry = state.registry; volatile = placeless state.volatile number keeps })
-placeless_stands card state number keeps stands =
-    subst (Stands card) (λ i. record { registry = state.registry; volatile = sym (placeless_same state.volatile number keeps stands.no_more) i }) stands
+-- the same volatile state
+pub shows_same : (card : Kept) (registry : Registry) (a b : Volatile) → a ≡ b → Shows card (record { registry = registry; volatile = a })
+    → Shows card (record { registry = registry; volatile = b })
+shows_same card registry a b same shows = subst (λ (v : Volatile). Shows card (record { registry = registry; volatile = v })) same shows
 
--- an entry is selected
-pub selected_stands : (tables : Tables) (live : Live) (state : State) (number slot : ℕ) (entry : Entry) → Stands (record { tables = tables; live = live }) state
-    → number < CHANNELS → length live.selected ≡ CHANNELS → held tables.entries.items slot ≡ Some entry
-    → Stands (record { tables = tables; live = record { selected = slice_set live.selected number (Some slot) } })
-    (record { registry = state.registry; volatile = with_selected state.volatile number entry.aid })
-selected_stands tables live state number slot entry stands low four at =
-    let says = stands.says in
-    let few : number < length state.volatile.channels = subst (λ (n : ℕ). number < n) (sym stands.sound.fits.channels) low in
-    let named = ap is_some (entry_in_slot says.page tables state.registry says.registry slot entry at) in
-    record {
-      says = says_set tables live state number (Some slot) (Some (fresh entry.aid)) (with_selected state.volatile number entry.aid) says
-          (subst (λ (n : ℕ). number < n) (sym four) low) few (entry, at, refl) refl;
-      sound = record {
-        well = stands.sound.well;
-        fits = ended_fits state.registry state.volatile number (Some (fresh entry.aid)) stands.sound.fits few
-            (fresh_is_well state.registry entry.aid named) (λ first. refl);
-      };
-      no_more = no_more_set state.volatile number (Some (fresh entry.aid)) (with_selected state.volatile number entry.aid) stands.no_more few refl refl
-          (ap (load_of_others number) stands.no_more.load);
-    }
-
-issuer_selected : (entries : List (Option Entry)) → HasIssuer entries → IsSelectedIn entries (Some ISSUER_SLOT) (Some (fresh ISSUER))
+pub issuer_selected : (entries : List (Option Entry)) → HasIssuer entries → IsSelectedIn entries (Some ISSUER_SLOT) (Some (fresh ISSUER))
 issuer_selected entries has = by (held entries ISSUER_SLOT) refl has
   where
     by : (o : Option Entry) → held entries ISSUER_SLOT ≡ o → MatchOption o ⊥ (λ entry. entry.aid ≡ ISSUER)
@@ -136,44 +253,21 @@ issuer_selected entries has = by (held entries ISSUER_SLOT) refl has
     by None at is = absurd is
     by (Some entry) at is = (entry, at, is)
 
--- the lowest closed channel is opened
-pub opened_stands : (tables : Tables) (live : Live) (state : State) (number : ℕ) → HasLayout tables → Stands (record { tables = tables; live = live }) state
-    → length live.selected ≡ CHANNELS → lowest_closed state.volatile.channels ≡ Some number
-    → Stands (record { tables = tables; live = record { selected = slice_set live.selected number (Some ISSUER_SLOT) } })
+-- the lowest closed channel is opened, and holds nothing, as it did
+pub opened_shows : (tables : Tables) (live : Live) (all : List Held) (state : State) → Shows (record { tables = tables; live = live; held = all }) state
+    → HasFour (record { tables = tables; live = live; held = all }) state → length live.selected ≡ CHANNELS → (number : ℕ) → number < CHANNELS → HasLayout tables
+    → lowest_closed state.volatile.channels ≡ Some number
+    → Shows (record { tables = tables; live = record { selected = slice_set live.selected number (Some ISSUER_SLOT) }; held = all })
     (record { registry = state.registry; volatile = with_channel state.volatile number (Some (fresh ISSUER)) })
-opened_stands tables live state number layout stands four found =
+opened_shows tables live all state shows four live_four number low layout found =
     let closed = lowest_is_closed state.volatile.channels number found in
-    let low : number < length live.selected = subst (λ (n : ℕ). number < n) (stands.sound.fits.channels ∙ sym four) closed.0 in
-    record {
-      says = says_set tables live state number (Some ISSUER_SLOT) (Some (fresh ISSUER)) (with_channel state.volatile number (Some (fresh ISSUER))) stands.says
-          low closed.0 (issuer_selected tables.entries.items layout.issuer) refl;
-      sound = record {
-        well = stands.sound.well;
-        fits = set_fits state.registry state.volatile number (Some (fresh ISSUER)) stands.sound.fits closed.0
-            (issuer_is_well state.registry stands.sound.well) (λ first. refl)
-            (λ session. absurd (subst (λ (c : Option Channel). MatchOption c ⊥ (λ opened. IsSecured opened.standing)) closed.1 session));
-      };
-      no_more = no_more_set state.volatile number (Some (fresh ISSUER)) (with_channel state.volatile number (Some (fresh ISSUER))) stands.no_more closed.0 refl refl
-          stands.no_more.load;
-    }
-
--- a channel is closed
-pub closed_stands : (tables : Tables) (live : Live) (state : State) (number : ℕ) → Stands (record { tables = tables; live = live }) state
-    → number < CHANNELS → number ≢ 0 → length live.selected ≡ CHANNELS
-    → Stands (record { tables = tables; live = record { selected = slice_set live.selected number None } })
-    (record { registry = state.registry; volatile = without_channel state.volatile number })
-closed_stands tables live state number stands low other four =
-    let few : number < length state.volatile.channels = subst (λ (n : ℕ). number < n) (sym stands.sound.fits.channels) low in
-    record {
-      says = says_set tables live state number None None (without_channel state.volatile number) stands.says
-          (subst (λ (n : ℕ). number < n) (sym four) low) few tt refl;
-      sound = record {
-        well = stands.sound.well;
-        fits = ended_fits state.registry state.volatile number None stands.sound.fits few tt (λ first. absurd (other first));
-      };
-      no_more = no_more_set state.volatile number None (without_channel state.volatile number) stands.no_more few tt refl
-          (ap (load_of_others number) stands.no_more.load);
-    }
+    let nothing : HoldsAs (slice_index_or all number held.Nothing) Nothing =
+    subst (λ (c : Option Channel). HoldsAs (slice_index_or all number held.Nothing) (standing_of c)) closed.1 (shows.holds.channels number low) in
+    subst (λ (h : List Held). Shows (record { tables = tables; live = record { selected = slice_set live.selected number (Some ISSUER_SLOT) }; held = h })
+    (record { registry = state.registry; volatile = with_channel state.volatile number (Some (fresh ISSUER)) }))
+    (set-get_or all number held.Nothing)
+    (channel_shows tables live all state shows four number low live_four (Some ISSUER_SLOT) (slice_index_or all number held.Nothing) (Some (fresh ISSUER))
+    (with_channel state.volatile number (Some (fresh ISSUER))) (issuer_selected tables.entries.items layout.issuer) nothing refl refl shows.holds.load)
 
 first_selected : (entries : List (Option Entry)) → HasIssuer entries → (number : ℕ) → number < CHANNELS
     → IsSelectedIn entries (slice_index_or (Some ISSUER_SLOT ∷ None ∷ None ∷ None ∷ []) number None) (channel_at first_volatile number)
@@ -183,25 +277,41 @@ first_selected entries has (suc (suc zero)) low = tt
 first_selected entries has (suc (suc (suc zero))) low = tt
 first_selected entries has (suc (suc (suc (suc number)))) low = absurd (omega arith)
 
-first_bare : (number : ℕ) → IsBare (channel_at first_volatile number)
-first_bare zero = refl
-first_bare (suc zero) = tt
-first_bare (suc (suc zero)) = tt
-first_bare (suc (suc (suc zero))) = tt
-first_bare (suc (suc (suc (suc number)))) = tt
+first_holds : (number : ℕ) → number < CHANNELS
+    → HoldsAs (slice_index_or (held.Nothing ∷ held.Nothing ∷ held.Nothing ∷ held.Nothing ∷ []) number held.Nothing) (standing_of (channel_at first_volatile number))
+first_holds zero low = tt
+first_holds (suc zero) low = tt
+first_holds (suc (suc zero)) low = tt
+first_holds (suc (suc (suc zero))) low = tt
+first_holds (suc (suc (suc (suc number)))) low = absurd (omega arith)
+
+first_places : (number : ℕ) → HasNoPlace (channel_at first_volatile number)
+first_places zero = refl
+first_places (suc zero) = tt
+first_places (suc (suc zero)) = tt
+first_places (suc (suc (suc zero))) = tt
+first_places (suc (suc (suc (suc number)))) = tt
 
 -- power on
-pub powered_on_stands : (page : ℕ → List ℕ) (tables : Tables) (live : Live) (said : Registry) → HasLayout tables → SaysRegistry page tables said → Well said
-    → live.selected ≡ Some ISSUER_SLOT ∷ None ∷ None ∷ None ∷ [] → Stands (record { tables = tables; live = live }) (powered_on said)
-powered_on_stands page tables live said layout says well is = record {
-  says = record {
-    page = page;
-    registry = says;
-    selected = λ number low. subst (λ (slots : List (Option ℕ)). IsSelectedIn tables.entries.items (slice_index_or slots number None) (channel_at first_volatile number))
-        (sym is) (first_selected tables.entries.items layout.issuer number low);
+pub powered_on_stands : (page : ℕ → List ℕ) (tables : Tables) (live : Live) (all : List Held) (said : Registry) → HasLayout tables → SaysRegistry page tables said → Well said
+    → live.selected ≡ Some ISSUER_SLOT ∷ None ∷ None ∷ None ∷ [] → all ≡ held.Nothing ∷ held.Nothing ∷ held.Nothing ∷ held.Nothing ∷ []
+    → Stands (record { tables = tables; live = live; held = all }) (powered_on said)
+powered_on_stands page tables live all said layout says well is nothing = record {
+  shows = record {
+    says = record {
+      page = page;
+      registry = says;
+      selected = λ number low. subst (λ (slots : List (Option ℕ)). IsSelectedIn tables.entries.items (slice_index_or slots number None) (channel_at first_volatile number))
+          (sym is) (first_selected tables.entries.items layout.issuer number low);
+    };
+    holds = record {
+      channels = λ number low. subst (λ (h : List Held). HoldsAs (slice_index_or h number held.Nothing) (standing_of (channel_at first_volatile number)))
+          (sym nothing) (first_holds number low);
+      places = first_places;
+      load = refl;
+    };
   };
-  sound = starts_sound said well;
-  no_more = record { channels = first_bare; load = refl };
+  sound = starts_sound said well says.ascending;
 }
 
 -- a channel is closed exactly where no slot is selected on it

@@ -1,3 +1,6 @@
 pub mod Domains
+pub mod Holds
 pub mod Kept
+pub mod Offers
+pub mod Secured
 pub mod Serves

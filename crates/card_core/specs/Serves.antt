@@ -1,26 +1,39 @@
--- What comes of a command before its reply is closed by a status word.
-use Rattle.std.specs.Prelude.{◌≡◌, ℕ, List, [], ◌++◌, Result, Ok, Err, Some, None}
-use Rattle.apdu_core.specs.Reply.{status_bytes}
+-- What comes of a command.
+use Rattle.std.specs.Prelude.{◌≡◌, ℕ, List, [], false, Result, Ok, Err, Some, None, Option}
 use Rattle.apdu_core.specs.declared.reply.Status.{Status}
 use Rattle.policy_rules.specs.Admission.{Admitted}
+use Rattle.card_types.specs.declared.card_life.CardLife.{CardLife}
+use Rattle.card_types.specs.declared.card_life.CardLife.TheVariants.{Terminated}
+use Rattle.policy_rules.specs.Classes.{is_secure}
 use Rattle.policy_rules.specs.Commands.{Does, Judges}
 use Rattle.policy_rules.specs.Rules.{status_of}
 use Rattle.policy_rules.specs.State.{Effect, State}
-use Rattle.policy_rules.specs.Step.{Outcome, Step}
+use Rattle.policy_rules.specs.Step.{Step, refusal_leaves}
+use Rattle.policy_rules.specs.declared.class.Class.{Class}
+use Rattle.policy_rules.specs.declared.instruction.TheConstants.{GET_DATA}
 use Rattle.policy_rules.specs.declared.rule.Rule.{Rule}
-use Rattle.card_core.specs.Kept.{Kept, Stands}
-
--- the outcome, once the body is closed by the status word, or by that of the rule
-abbrev pub outcome_of : State → List ℕ → Result Status Rule → Outcome
-outcome_of next body (Ok status) = record { state = next; reply = body ++ status_bytes status.0; rule = None }
-outcome_of next body (Err rule) = record { state = next; reply = body ++ status_bytes (status_of rule); rule = Some rule }
+use Rattle.card_core.specs.Kept.{Kept, Shows, Stands}
 
 -- one step of the policy machine was made
-abbrev pub Serves : State → List ℕ → Kept → List ℕ → Result Status Rule → Type 0
-Serves state bytes card body result = (next : State) × Stands card next × Step state bytes (outcome_of next body result)
+abbrev pub Serves : State → List ℕ → Kept → List ℕ → Option Rule → Type 0
+Serves state bytes card reply rule = (next : State) × Stands card next × Step state bytes (record { state = next; reply = reply; rule = rule })
 
--- an admitted command was carried out, or a rule of its own refused it and nothing changed
+-- an admitted command was carried out, or a rule of its own refused it
 abbrev pub CarriesOut : Admitted → Kept → List ℕ → Result Status Rule → Type 0
 CarriesOut admitted card body (Ok status) =
-    (done : Effect) × Stands card done.state × Judges admitted None × Does admitted done × (body ≡ done.body) × (status.0 ≡ done.status)
-CarriesOut admitted card body (Err rule) = Stands card admitted.at × Judges admitted (Some rule) × (body ≡ [])
+    (done : Effect) × Shows card done.state × Judges admitted None × Does admitted done × (body ≡ done.body) × (status.0 ≡ done.status)
+CarriesOut admitted card body (Err rule) =
+    Shows card (record { registry = admitted.at.registry; volatile = refusal_leaves admitted }) × Judges admitted (Some rule) × (body ≡ [])
+
+-- the status word of the reply, and the rule that refused the command
+abbrev pub word_of : Result Status Rule → ℕ
+word_of (Ok status) = status.0
+word_of (Err rule) = status_of rule
+
+abbrev pub rule_of : Result Status Rule → Option Rule
+rule_of (Ok status) = None
+rule_of (Err rule) = Some rule
+
+-- a terminated card answers GET DATA in plain alone
+abbrev pub IsOver : CardLife → Class → ℕ → Type 0
+IsOver life class ins = (life ≡ Terminated) × ((ins ≡ GET_DATA) × (is_secure class ≡ false) → ⊥)

@@ -3,8 +3,9 @@
 ghost use Rattle.std.specs.Prelude.{◌≡◌, ◌≢◌, ◌↔◌, IsTrue, false, IfOk, IfErr, None, Some, slice_index_or};
 ghost use Rattle.apdu_core.specs.Apdu.{Short, apdu_of};
 ghost use Rattle.card_core.specs.Domains.{is_domain_in};
-ghost use Rattle.policy_rules.specs.Admission.{Bars, general_rules};
-ghost use Rattle.policy_rules.specs.Classes.{IsKnown, channel_of as channel_of_byte, is_secure};
+ghost use Rattle.card_core.specs.Serves.{IsOver};
+ghost use Rattle.policy_rules.specs.Admission.{Bars, Leaves, command_rules, general_rules};
+ghost use Rattle.policy_rules.specs.Classes.{IsKnown, channel_of as channel_of_byte, class_of, is_secure};
 ghost use Rattle.policy_rules.specs.FirstFailing.{IsFirst};
 ghost use Rattle.policy_rules.specs.Means.{Says};
 ghost use Rattle.policy_rules.specs.State.{State};
@@ -31,17 +32,18 @@ fn is_not_for(tables: &Tables, slot: u8, ins: u8) -> bool
     !is_domain(tables, slot) && ins != SELECT && ins != MANAGE_CHANNEL
 }
 
-// Whether the card is terminated, which answers GET DATA in plain alone.
-fn is_over(card_life: CardLife, class: Class, ins: u8) -> bool
-    ensures { IsTrue result ↔ ((card_life ≡ CardLife.Terminated) × ((ins ≡ GET_DATA) × (is_secure class ≡ false) → ⊥)) }
+/// Whether the card is terminated, which answers GET DATA in plain alone.
+pub fn is_over(card_life: CardLife, class: Class, ins: u8) -> bool
+    ensures { IsTrue result ↔ IsOver card_life class ins }
 {
     card_life == CardLife::Terminated && (ins != GET_DATA || class == Class::Secure)
 }
 
-/// A command that has passed the general rules.
+/// A command whose class, channel and instruction the card takes.
 #[derive(Clone, Copy)]
 pub struct Admitted<'a> {
     pub command: Command<'a>,
+    pub class: Class,
 
     /// The logical channel that it comes on.
     pub channel: u8,
@@ -50,16 +52,18 @@ pub struct Admitted<'a> {
     pub selected: u8,
 }
 
-/// The command that the bytes are, or the first of the general rules that fails.
+/// The command that the bytes are, or the first of the rules on class, channel and instruction that fails.
 pub fn admit<'a>(tables: &Tables, live: &Live, bytes: &'a [u8]) -> Result<Admitted<'a>, RuleG>
     ensures known { IfOk result (λ admitted. IsKnown admitted.command.class admitted.command.ins) }
     ensures spelled { IfOk result (λ admitted. Short (apdu_of admitted.command) bytes.now) }
+    ensures class { IfOk result (λ admitted. class_of admitted.command.class ≡ Some admitted.class) }
     ensures channel { IfOk result (λ admitted. admitted.channel ≡ channel_of_byte admitted.command.class) }
     ensures selected { IfOk result (λ admitted. slice_index_or live.now.selected admitted.channel None ≡ Some admitted.selected) }
     ensures passed { (state : State) → Says tables.now live.now state
-        → IfOk result (λ admitted. IsFirst (Bars state bytes.now) general_rules None) }
+        → IfOk result (λ admitted. IsFirst (Bars state bytes.now) command_rules None) }
     ensures refused { (state : State) → Says tables.now live.now state
         → IfErr result (λ rule. IsFirst (Bars state bytes.now) general_rules (Some rule)) }
+    ensures leaves { (state : State) → IfErr result (λ rule. Leaves state bytes.now rule state.volatile) }
 {
     let Ok(command) = Command::read(bytes) else {
         return Err(RuleG::G1);
@@ -78,11 +82,9 @@ pub fn admit<'a>(tables: &Tables, live: &Live, bytes: &'a [u8]) -> Result<Admitt
     if is_not_for(tables, selected, ins) {
         return Err(RuleG::G4);
     }
-    if is_over(tables.life, class, ins) {
-        return Err(RuleG::G5);
-    }
     Ok(Admitted {
         command,
+        class,
         channel,
         selected,
     })

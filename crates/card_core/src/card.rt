@@ -1,6 +1,7 @@
 //! A card.
 
-ghost use Rattle.std.specs.Prelude.{◌≡◌, ℕ, List, IfOk};
+ghost use Rattle.std.specs.Prelude.{◌≡◌, ℕ, List, [], ◌∷◌, IfOk};
+ghost use Rattle.card_core.specs.declared.held.Held.TheVariants as holding;
 ghost use Rattle.card_core.specs.Kept.{Kept, Stands};
 ghost use Rattle.card_types.specs.Factory.{factory_registry};
 ghost use Rattle.card_types.specs.InOrder.{IsInOrder};
@@ -10,11 +11,12 @@ ghost use Rattle.card_types.specs.Well.{Well};
 ghost use Rattle.policy_rules.specs.State.{State, powered_on};
 ghost use Rattle.policy_rules.specs.Step.{Step};
 
-use crate::reply::{REPLY_LIMIT, write_status};
+use crate::held::Held;
+use crate::reply::REPLY_LIMIT;
 use crate::serve::serve;
 use arrayvec::ArrayVec;
 use card_types::Tables;
-use policy_rules::{Live, Rule};
+use policy_rules::{CHANNELS, Live, Rule};
 use std::alloc::{AllocError, Global};
 use std::marker::Model;
 
@@ -23,6 +25,7 @@ use std::marker::Model;
 pub struct Card {
     tables: Tables,
     live: Live,
+    held: [Held; CHANNELS],
 }
 
 impl Model for Card {
@@ -31,9 +34,16 @@ impl Model for Card {
 
     ghost Value = { Kept };
 
-    ghost view = { λ card. record { tables = card.tables; live = card.live } };
+    ghost view = { λ card. record { tables = card.tables; live = card.live; held = card.held } };
 
     ghost invariant = { λ card. IsInOrder card.tables };
+}
+
+// What the channels hold after power on.
+fn nothing_held() -> [Held; CHANNELS]
+    ensures { result ≡ holding.Nothing ∷ holding.Nothing ∷ holding.Nothing ∷ holding.Nothing ∷ [] }
+{
+    [Held::Nothing, Held::Nothing, Held::Nothing, Held::Nothing]
 }
 
 impl Card {
@@ -46,6 +56,7 @@ impl Card {
         Card {
             tables,
             live: Live::powered_on(),
+            held: nothing_held(),
         }
     }
 
@@ -63,16 +74,13 @@ impl Card {
             × Step state command.now (record { state = next; reply = reply.new.items; rule = result }) }
     {
         reply.clear();
-        match serve(&self.tables, &mut self.live, command, reply) {
-            Ok(status) => {
-                write_status(status, reply);
-                None
-            }
-            Err(rule) => {
-                write_status(rule.status(), reply);
-                Some(rule)
-            }
-        }
+        serve(
+            &mut self.tables,
+            &mut self.live,
+            &mut self.held,
+            command,
+            reply,
+        )
     }
 
     /// Takes the power away and gives it back: channel 0 alone is open then, with the Issuer Security Domain selected.
@@ -80,6 +88,7 @@ impl Card {
         ensures stands { (state : State) → Stands self.old state → Stands self.new (powered_on state.registry) }
     {
         self.live = Live::powered_on();
+        self.held = nothing_held();
     }
 
     /// The registry.

@@ -6,6 +6,7 @@ ghost use Rattle.bertlv.specs.Spelling.{Spelling};
 ghost use Rattle.bertlv.specs.Tag.{IsTag};
 ghost use Rattle.card_core.specs.Kept.{Kept, Stands};
 ghost use Rattle.card_core.specs.Serves.{CarriesOut};
+ghost use Rattle.card_core.specs.declared.held.Held.{Held};
 ghost use Rattle.card_types.specs.InOrder.{IsInOrder};
 ghost use Rattle.card_types.specs.Least.{IsLeast};
 ghost use Rattle.card_types.specs.Registry.{Registry};
@@ -15,7 +16,8 @@ ghost use Rattle.card_types.specs.Well.{Well};
 ghost use Rattle.card_types.specs.declared.tables.Entry.{Entry};
 ghost use Rattle.policy_rules.specs.Admission.{Admitted};
 ghost use Rattle.policy_rules.specs.Found.{IsFor};
-ghost use Rattle.policy_rules.specs.GetData.{HasData, IsKeyInformation, counter_bytes};
+ghost use Rattle.scp03_card.specs.Offer.{counter_bytes};
+ghost use Rattle.policy_rules.specs.GetData.{HasData, IsKeyInformation};
 ghost use Rattle.policy_rules.specs.KeyOrder.{follows, name_order};
 ghost use Rattle.policy_rules.specs.Means.{IsRequestOf};
 ghost use Rattle.policy_rules.specs.declared.request.Request.TheVariants.{Get};
@@ -85,7 +87,7 @@ fn write_datum(tables: &Tables, tag: u16, datum: Datum<'_>, reply: &mut ArrayVec
     ensures written { (domain : ℕ) (page : ℕ → List ℕ) (said : Registry) (entry : Entry) → Says page tables.now said → Well said
         → held tables.now.entries.items domain ≡ Some entry → IsFor tables.now said domain tag datum.entry
         → (value : List ℕ) × HasData said (domain_aid tables.now.entries.items domain) tag value × Spelling tag value reply.new.items }
-    ensures room { length reply.new.items ≤ 256 }
+    ensures room { length reply.new.items ≤ 239 }
 {
     match datum {
         Datum::Keys { first } => {
@@ -128,10 +130,10 @@ pub fn get_data(
     requires channel { channel < CHANNELS }
     requires selected { slice_index_or live.now.selected channel None ≡ Some domain }
     requires empty { reply.old.items ≡ [] }
-    ensures done { (admitted : Admitted) → Stands (record { tables = tables.now; live = live.now }) admitted.at → channel ≡ admitted.channel
-        → IsRequestOf (Get tag) admitted.command
-        → CarriesOut admitted (record { tables = tables.now; live = live.now }) reply.new.items result }
-    ensures room { length reply.new.items ≤ 256 }
+    ensures done { (all : List Held) (admitted : Admitted) → Stands (record { tables = tables.now; live = live.now; held = all }) admitted.at
+        → channel ≡ admitted.channel → IsRequestOf (Get tag) admitted.command
+        → CarriesOut admitted (record { tables = tables.now; live = live.now; held = all }) reply.new.items result }
+    ensures room { length reply.new.items ≤ 239 }
 {
     match judge_get_data(tables, domain, tag) {
         Ok(datum) => {

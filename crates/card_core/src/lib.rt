@@ -5,10 +5,14 @@
 
 mod admit;
 mod card;
+mod external_authenticate;
 mod get_data;
+mod held;
+mod initialize_update;
 mod manage_channel;
 mod pinned;
 mod reply;
+mod secure_messaging;
 mod select;
 mod serve;
 

@@ -3,12 +3,14 @@
 ghost use Rattle.std.specs.Prelude.{◌≡◌, ◌≤◌, ◌<◌, ℕ, List, [], length};
 ghost use Rattle.card_core.specs.Kept.{Kept, Stands};
 ghost use Rattle.card_core.specs.Serves.{CarriesOut};
+ghost use Rattle.card_core.specs.declared.held.Held.{Held};
 ghost use Rattle.card_types.specs.Layout.{HasLayout};
 ghost use Rattle.card_types.specs.declared.tables.Tables.{Tables};
 ghost use Rattle.policy_rules.specs.Admission.{Admitted};
 ghost use Rattle.policy_rules.specs.Means.{IsRequestOf};
 ghost use Rattle.policy_rules.specs.declared.request.Request.TheVariants.{MoreChannel, LessChannel};
 
+use crate::held::Held;
 use crate::reply::REPLY_LIMIT;
 use apdu_core::Status;
 use arrayvec::ArrayVec;
@@ -18,10 +20,11 @@ use policy_rules::{CHANNELS, Live, Rule, judge_more_channel};
 /// Opens the lowest closed channel, with the Issuer Security Domain selected, and answers its number.
 pub fn open_channel(live: &mut Live, reply: &mut ArrayVec<u8, REPLY_LIMIT>) -> Result<Status, Rule>
     requires empty { reply.old.items ≡ [] }
-    ensures done { (tables : Tables) (admitted : Admitted) → HasLayout tables
-        → Stands (record { tables = tables; live = live.old }) admitted.at → IsRequestOf MoreChannel admitted.command
-        → CarriesOut admitted (record { tables = tables; live = live.new }) reply.new.items result }
-    ensures room { length reply.new.items ≤ 256 }
+    ensures done { (tables : Tables) (all : List Held) (admitted : Admitted) → HasLayout tables
+        → Stands (record { tables = tables; live = live.old; held = all }) admitted.at → length all ≡ CHANNELS
+        → IsRequestOf MoreChannel admitted.command
+        → CarriesOut admitted (record { tables = tables; live = live.new; held = all }) reply.new.items result }
+    ensures room { length reply.new.items ≤ 239 }
 {
     match judge_more_channel(live) {
         Ok(number) => {
@@ -34,17 +37,22 @@ pub fn open_channel(live: &mut Live, reply: &mut ArrayVec<u8, REPLY_LIMIT>) -> R
 }
 
 /// Closes a channel. A warning says that it was closed already.
-pub fn close_channel(live: &mut Live, number: u8) -> Result<Status, Rule>
+pub fn close_channel(
+    live: &mut Live,
+    held: &mut [Held; CHANNELS],
+    number: u8,
+) -> Result<Status, Rule>
     requires low { 1 ≤ number }
     requires high { number < CHANNELS }
-    ensures done { (tables : Tables) (admitted : Admitted) → Stands (record { tables = tables; live = live.old }) admitted.at
+    ensures done { (tables : Tables) (admitted : Admitted) → Stands (record { tables = tables; live = live.old; held = held.old }) admitted.at
         → IsRequestOf (LessChannel number) admitted.command
-        → CarriesOut admitted (record { tables = tables; live = live.new }) [] result }
+        → CarriesOut admitted (record { tables = tables; live = live.new; held = held.new }) [] result }
 {
     let place = usize::from(number);
     if live.selected[place].is_none() {
         return Ok(Status(0x6200));
     }
     live.selected[place] = None;
+    held[place].end();
     Ok(Status(0x9000))
 }

@@ -1,15 +1,18 @@
 //! SELECT: an entry is selected on a channel.
 
-ghost use Rattle.std.specs.Prelude.{◌≡◌, ◌≤◌, ◌<◌, ℕ, List, [], length};
+ghost use Rattle.std.specs.Prelude.{◌≡◌, ◌≤◌, ◌<◌, ℕ, List, [], length, slice_index_or, slice_set};
 ghost use Rattle.arrayvec.specs.ArrayVec.{array_vec_len};
 ghost use Rattle.card_types.specs.InOrder.{IsInOrder};
 ghost use Rattle.card_core.specs.Kept.{Kept, Stands};
 ghost use Rattle.card_core.specs.Serves.{CarriesOut};
+ghost use Rattle.card_core.specs.declared.held.Held.{Held};
+ghost use Rattle.card_core.specs.declared.held.Held.TheVariants as holding;
 ghost use Rattle.policy_rules.specs.Admission.{Admitted};
 ghost use Rattle.policy_rules.specs.Means.{IsRequestOf};
 ghost use Rattle.policy_rules.specs.Select.{IsControlInformation, selected_status as status_by};
 ghost use Rattle.policy_rules.specs.declared.request.Request.TheVariants.{Select};
 
+use crate::held::Held;
 use crate::reply::REPLY_LIMIT;
 use apdu_core::Status;
 use arrayvec::ArrayVec;
@@ -82,6 +85,7 @@ fn selected_status(card_life: CardLife) -> Status
 pub fn select(
     tables: &Tables,
     live: &mut Live,
+    held: &mut Held,
     channel: u8,
     partial: &[u8],
     reply: &mut ArrayVec<u8, REPLY_LIMIT>,
@@ -89,14 +93,16 @@ pub fn select(
     requires in_order { IsInOrder tables.now }
     requires channel { channel < CHANNELS }
     requires empty { reply.old.items ≡ [] }
-    ensures done { (admitted : Admitted) → Stands (record { tables = tables.now; live = live.old }) admitted.at → channel ≡ admitted.channel
+    ensures done { (all : List Held) (admitted : Admitted) → Stands (record { tables = tables.now; live = live.old; held = all }) admitted.at
+        → length all ≡ CHANNELS → channel ≡ admitted.channel → slice_index_or all channel holding.Nothing ≡ held.old
         → IsRequestOf (Select partial.entry) admitted.command
-        → CarriesOut admitted (record { tables = tables.now; live = live.new }) reply.new.items result }
-    ensures room { length reply.new.items ≤ 256 }
+        → CarriesOut admitted (record { tables = tables.now; live = live.new; held = slice_set all channel held.new }) reply.new.items result }
+    ensures room { length reply.new.items ≤ 239 }
 {
     match judge_select(tables, partial) {
         Ok(found) => {
             live.selected[usize::from(channel)] = Some(found.slot);
+            held.end();
             write_control_information(found.thing.aid.as_bytes(), reply);
             Ok(selected_status(tables.life))
         }

@@ -1,52 +1,175 @@
 //! What is done with a command.
 
-ghost use Rattle.std.specs.Prelude.{◌≡◌, ◌≤◌, [], length};
+ghost use Rattle.std.specs.Prelude.{◌≡◌, ◌<◌, ◌≤◌, ◌++◌, ◌==◌, [], length, false, None, Some, IsSome, OnOk, OnErr, IfErr, slice_index_or};
+ghost use Rattle.apdu_core.specs.Apdu.{apdu_of};
+ghost use Rattle.apdu_core.specs.Reply.{status_bytes};
+ghost use Rattle.card_core.specs.Holds.{HoldsAs, held_passed};
 ghost use Rattle.card_core.specs.Kept.{Kept, Stands};
-ghost use Rattle.card_core.specs.Serves.{Serves};
+ghost use Rattle.card_core.specs.Serves.{CarriesOut, IsOver, Serves, rule_of, word_of};
 ghost use Rattle.card_types.specs.InOrder.{IsInOrder};
+ghost use Rattle.policy_rules.specs.Admission.{Admitted as Judged};
+ghost use Rattle.policy_rules.specs.Instructions.{instruction_of};
 ghost use Rattle.policy_rules.specs.State.{State};
+ghost use Rattle.policy_rules.specs.Volatile.{Secured};
+ghost use Rattle.policy_rules.specs.declared.instruction.TheConstants.{GET_DATA};
+ghost use Rattle.scp03_card.specs.Protected.{protected};
+ghost use Rattle.scp03_card.specs.Session.{Session};
 
-use crate::admit::admit;
+use crate::admit::{Admitted, admit, is_over};
+use crate::external_authenticate::external_authenticate;
 use crate::get_data::get_data;
+use crate::held::Held;
+use crate::initialize_update::initialize_update;
 use crate::manage_channel::{close_channel, open_channel};
-use crate::reply::REPLY_LIMIT;
+use crate::reply::{REPLY_LIMIT, write_status};
+use crate::secure_messaging::{close_reply, open_command};
 use crate::select::select;
-use apdu_core::Status;
+use apdu_core::{Command, Status};
 use arrayvec::ArrayVec;
-use card_types::Tables;
-use policy_rules::{Live, Request, Rule, parse};
+use card_types::{CardLife, Tables};
+use policy_rules::{
+    CHANNELS, EXTERNAL_AUTHENTICATE, Live, Request, Rule, RuleG, is_protected, parse,
+};
 
-/// Does what a command asks for, and appends the reply's data. It answers the status word, or the rule that refused the command.
-pub fn serve(
-    tables: &Tables,
+// Checks the life cycle state of the card, and drops an offer that the command doesn't answer.
+fn pass_class(card_life: CardLife, admitted: &Admitted<'_>, held: &mut Held) -> Result<(), RuleG>
+    ensures ok { OnOk result (IsOver card_life admitted.now.class admitted.now.command.ins → ⊥) }
+    ensures kept { OnOk result (held.new ≡ held_passed (admitted.now.command.ins == EXTERNAL_AUTHENTICATE) held.old) }
+    ensures over { IfErr result (λ rule. (rule ≡ RuleG.G5) × IsOver card_life admitted.now.class admitted.now.command.ins) }
+    ensures lost { OnErr result (held.new ≡ held_passed false held.old) }
+{
+    let ins = admitted.command.ins;
+    let over = is_over(card_life, admitted.class, ins);
+    if over || ins != EXTERNAL_AUTHENTICATE {
+        held.drop_offer();
+    }
+    if over { Err(RuleG::G5) } else { Ok(()) }
+}
+
+// Does what a command asks for, and appends the reply's data.
+fn act(
+    tables: &mut Tables,
     live: &mut Live,
-    bytes: &[u8],
+    held: &mut [Held; CHANNELS],
+    admitted: &Admitted<'_>,
+    command: &Command<'_>,
     reply: &mut ArrayVec<u8, REPLY_LIMIT>,
 ) -> Result<Status, Rule>
-    requires in_order { IsInOrder tables.now }
+    requires in_order { IsInOrder tables.old }
+    requires known { IsSome (instruction_of command.now.ins) }
+    requires channel { admitted.now.channel < CHANNELS }
+    requires selected { slice_index_or live.old.selected admitted.now.channel None ≡ Some admitted.now.selected }
+    requires short { length command.now.body.now ≤ 255 }
     requires empty { reply.old.items ≡ [] }
-    ensures served { (state : State) → Stands (record { tables = tables.now; live = live.old }) state
-        → Serves state bytes.now (record { tables = tables.now; live = live.new }) reply.new.items result }
-    ensures room { length reply.new.items ≤ 256 }
+    ensures done { (judged : Judged) → Stands (record { tables = tables.old; live = live.old; held = held.old }) judged.at
+        → admitted.now.channel ≡ judged.channel → judged.command ≡ apdu_of command.now
+        → CarriesOut judged (record { tables = tables.new; live = live.new; held = held.new }) reply.new.items result }
+    ensures in_order { IsInOrder tables.new }
+    ensures kept { command.now.ins ≡ GET_DATA → held.new ≡ held.old }
+    ensures room { length reply.new.items ≤ 239 }
+{
+    let channel = admitted.channel;
+    let place = usize::from(channel);
+    // Of its rules the one on the offer comes first, before those on the form.
+    if command.ins == EXTERNAL_AUTHENTICATE {
+        return external_authenticate(&mut held[place], command);
+    }
+    match parse(command.ins, command.p1, command.p2, command.body)? {
+        Request::Select { partial } => {
+            select(tables, live, &mut held[place], channel, partial, reply)
+        }
+        Request::MoreChannel => open_channel(live, reply),
+        Request::LessChannel { number } => close_channel(live, held, number),
+        Request::Get { tag } => get_data(tables, live, channel, admitted.selected, tag, reply),
+        Request::Initialize { version, challenge } => initialize_update(
+            tables,
+            &mut held[place],
+            admitted.selected,
+            version,
+            challenge,
+            reply,
+        ),
+        Request::Authenticate { .. } => external_authenticate(&mut held[place], command),
+    }
+}
+
+// Closes a reply in plain, and answers the rule.
+fn close_plain(served: Result<Status, Rule>, reply: &mut ArrayVec<u8, REPLY_LIMIT>) -> Option<Rule>
+    requires { length reply.old.items ≤ 239 }
+    ensures closed { reply.new.items ≡ reply.old.items ++ status_bytes (word_of served) }
+    ensures rule { result ≡ rule_of served }
+{
+    match served {
+        Ok(status) => {
+            write_status(status, reply);
+            None
+        }
+        Err(rule) => {
+            write_status(rule.status(), reply);
+            Some(rule)
+        }
+    }
+}
+
+// The same of a reply to a protected command.
+fn close_protected(
+    served: Result<Status, Rule>,
+    held: &mut Held,
+    reply: &mut ArrayVec<u8, REPLY_LIMIT>,
+) -> Option<Rule>
+    requires { length reply.old.items ≤ 239 }
+    ensures closed { (session : Session) → HoldsAs held.old (Secured session) → reply.new.items ≡ protected session reply.old.items (word_of served) }
+    ensures rule { result ≡ rule_of served }
+    ensures same { held.new ≡ held.old }
+{
+    match served {
+        Ok(status) => {
+            close_reply(held, status, reply);
+            None
+        }
+        Err(rule) => {
+            close_reply(held, rule.status(), reply);
+            Some(rule)
+        }
+    }
+}
+
+/// Does what the bytes ask for, and makes the whole reply. It answers the rule that refused them, if one did.
+pub fn serve(
+    tables: &mut Tables,
+    live: &mut Live,
+    held: &mut [Held; CHANNELS],
+    bytes: &[u8],
+    reply: &mut ArrayVec<u8, REPLY_LIMIT>,
+) -> Option<Rule>
+    requires in_order { IsInOrder tables.old }
+    requires empty { reply.old.items ≡ [] }
+    ensures served { (state : State) → Stands (record { tables = tables.old; live = live.old; held = held.old }) state
+        → Serves state bytes.now (record { tables = tables.new; live = live.new; held = held.new }) reply.new.items result }
+    ensures in_order { IsInOrder tables.new }
 {
     let admitted = match admit(tables, live, bytes) {
         Ok(admitted) => admitted,
-        Err(rule) => return Err(Rule::G(rule)),
+        Err(rule) => return close_plain(Err(Rule::G(rule)), reply),
     };
-    let command = admitted.command;
-    match parse(command.ins, command.p1, command.p2, command.body)? {
-        Request::Select { partial } => select(tables, live, admitted.channel, partial, reply),
-        Request::MoreChannel => open_channel(live, reply),
-        Request::LessChannel { number } => close_channel(live, number),
-        Request::Get { tag } => {
-            get_data(
-                tables,
-                live,
-                admitted.channel,
-                admitted.selected,
-                tag,
-                reply,
-            )
+    let channel = usize::from(admitted.channel);
+    if let Err(rule) = pass_class(tables.life, &admitted, &mut held[channel]) {
+        return close_plain(Err(Rule::G(rule)), reply);
+    }
+    if !is_protected(admitted.class, admitted.command.ins) {
+        let served = act(tables, live, held, &admitted, &admitted.command, reply);
+        return close_plain(served, reply);
+    }
+    let mut plain = [0; 255];
+    match open_command(&mut held[channel], &admitted.command, &mut plain) {
+        Ok(count) => {
+            let command = Command {
+                body: &plain[..count],
+                ..admitted.command
+            };
+            let served = act(tables, live, held, &admitted, &command, reply);
+            close_protected(served, &mut held[channel], reply)
         }
+        Err(rule) => close_plain(Err(Rule::G(rule)), reply),
     }
 }

@@ -124,7 +124,7 @@ fn answers_each_line(rt: HostRuntime) -> Result<(), Fail> {
 }
 
 /// Runs of one card each: its lines, and the line that each writes, if it writes one.
-const RUNS: [&[(&[u8], &[u8])]; 10] = [
+const RUNS: [&[(&[u8], &[u8])]; 12] = [
     // Commands that are refused alike each time.
     &[
         (b"00A404", b"6700"),
@@ -135,7 +135,7 @@ const RUNS: [&[(&[u8], &[u8])]; 10] = [
         (b"00B0000000", b"6d00"),
         (b"00A4000000", b"6a86"),
         (b"80F28002024F00", b"6d00"),
-        (b"848201001000000000000000000000000000000000", b"6d00"),
+        (b"848201001000000000000000000000000000000000", b"6985"),
         (b"00A4040005D200000001", b"6a82"),
     ],
     // SELECT by a partial AID.
@@ -217,6 +217,29 @@ const RUNS: [&[(&[u8], &[u8])]; 10] = [
         (b"00B00000", b"6d00"),
         (b"00700001", b"6a86"),
         (b"00700000", b"029000"),
+    ],
+    // A session at level 33, and GET DATA in it. The values of sessions were computed apart from this project.
+    &[
+        (
+            b"80500000080001020304050607",
+            b"000000000000000000003003704d2614d48b5a55725102ce101bd723570000009000",
+        ),
+        (b"848233001076857f0738ab1422cc3a9195e19f90a3", b"9000"),
+        (
+            b"84ca00c10839888bfe9333e491",
+            b"fd75588f5a63ef6905c90d099f369ee91e85fc9247a98b7c9000",
+        ),
+    ],
+    // A reset ends it, and leaves the sequence counter.
+    &[
+        (
+            b"80500000080001020304050607",
+            b"000000000000000000003003704d2614d48b5a55725102ce101bd723570000009000",
+        ),
+        (b"848233001076857f0738ab1422cc3a9195e19f90a3", b"9000"),
+        (b"reset", b""),
+        (b"84ca00c10839888bfe9333e491", b"6982"),
+        (b"80CA00C100", b"c1030000019000"),
     ],
 ];
 

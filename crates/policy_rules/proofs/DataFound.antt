@@ -16,7 +16,8 @@ use Rattle.card_types.specs.declared.tables.Entry.{Entry}
 use Rattle.card_types.specs.declared.tables.KeyRec.{KeyRec}
 use Rattle.card_types.specs.declared.tables.Object.{Object}
 use Rattle.card_types.specs.declared.tables.Tables.{Tables}
-use Rattle.policy_rules.specs.GetData.{HasData, IsDataObject, IsSequenceCounter, counter_bytes}
+use Rattle.scp03_card.specs.Offer.{counter_bytes}
+use Rattle.policy_rules.specs.GetData.{HasData, IsDataObject, IsSequenceCounter}
 use Rattle.policy_rules.specs.KeyOrder.{follows}
 use Rattle.policy_rules.specs.KeySets.{UsesCounter}
 use Rattle.policy_rules.proofs.OwnKeys.{keys_are, keys_from_none, none_named}

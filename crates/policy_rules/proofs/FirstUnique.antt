@@ -1,5 +1,7 @@
 -- The first rule of a list that fails, by the parts of the list.
-use Rattle.std.proofs.Common.{◌≡◌, List, [], ◌∷◌, Option, None, sym, ◌∙◌, inl, inr}
+use Rattle.std.proofs.Common.{◌≡◌, List, [], ◌∷◌, Option, None, Some, sym, subst, ◌∙◌, inl, inr, arith}
+use Rattle.std.specs.Prelude.{Contains}
+use Rattle.card_types.proofs.Members.{contains_cases}
 use Rattle.policy_rules.specs.FirstFailing.{IsFirst}
 
 module _ {R : Type 0} (fails : R → Type 0) where
@@ -15,3 +17,19 @@ module _ {R : Type 0} (fails : R → Type 0) where
   pub passes : (next : R) (rules : List R) → IsFirst fails (next ∷ rules) None → (fails next → ⊥) × IsFirst fails rules None
   passes next rules (inl failed) = (let clash = failed.1 in cc)
   passes next rules (inr passed) = passed
+
+  -- so none of them
+  pub none_fails : (rules : List R) (rule : R) → Contains rules rule → IsFirst fails rules None → fails rule → ⊥
+  none_fails [] rule (k, within, is) first failed = omega arith
+  none_fails (next ∷ rules) rule there first failed =
+      let passed = passes next rules first in
+      elim (contains_cases next rules rule there) [
+        | inl same ↦ passed.0 (subst fails (sym same) failed)
+        | inr later ↦ none_fails rules rule later passed.1 failed
+      ]
+
+  -- the first that fails, fails
+  pub first_fails : (rules : List R) (found : R) → IsFirst fails rules (Some found) → fails found
+  first_fails [] found first = cc
+  first_fails (next ∷ rules) found (inl first) = (let same : next ≡ found = (let is = first.1 in cc) in subst fails same first.0)
+  first_fails (next ∷ rules) found (inr first) = first_fails rules found first.1

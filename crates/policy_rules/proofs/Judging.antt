@@ -1,13 +1,16 @@
 -- The rules of a command's own, by what was found.
-use Rattle.std.proofs.Common.{◌≡◌, ℕ, List, [], ◌∷◌, Option, None, Some, refl, sym, subst, ◌∙◌, inl, inr, arith}
+use Rattle.std.proofs.Common.{◌≡◌, ℕ, List, [], ◌∷◌, Option, None, Some, refl, sym, ap, subst, ◌∙◌, inl, inr, arith}
+use Rattle.std.specs.Prelude.{MatchOption}
 use Rattle.card_types.specs.Registry.{Entry}
 use Rattle.policy_rules.specs.Admission.{Admitted}
-use Rattle.policy_rules.specs.Commands.{HasParameters, HasDataField, Judges}
+use Rattle.policy_rules.specs.Commands.{HasParameters, HasDataField, Judges, JudgesAs, Takes, TakesField}
 use Rattle.policy_rules.specs.FirstFailing.{IsFirst}
-use Rattle.policy_rules.specs.GetData.{AsksFor, GetDataFails, GetDataField}
-use Rattle.policy_rules.specs.ManageChannel.{ManageChannelFails, ManageChannelField, ManageChannelParameters, lowest_closed}
-use Rattle.policy_rules.specs.Select.{SelectFails, SelectField, SelectParameters, least_fitting}
-use Rattle.policy_rules.specs.declared.instruction.TheConstants.{SELECT, MANAGE_CHANNEL, GET_DATA}
+use Rattle.policy_rules.specs.GetData.{AsksFor, GetDataFails}
+use Rattle.policy_rules.specs.InitializeUpdate.{InitializeUpdateFails, offer_rules}
+use Rattle.policy_rules.specs.Instructions.{GetData, InitializeUpdate, Instruction, ManageChannel, Select, instruction_of}
+use Rattle.policy_rules.specs.ManageChannel.{ManageChannelFails, lowest_closed}
+use Rattle.policy_rules.specs.Select.{SelectFails, least_fitting}
+use Rattle.policy_rules.specs.declared.instruction.TheConstants.{SELECT, MANAGE_CHANNEL, GET_DATA, INITIALIZE_UPDATE}
 use Rattle.policy_rules.specs.declared.manage_channel.RuleMC.{RuleMC}
 use Rattle.policy_rules.specs.declared.manage_channel.RuleMC.TheVariants.{MC1}
 use Rattle.policy_rules.specs.declared.rule.Rule.{Rule}
@@ -17,64 +20,58 @@ use Rattle.policy_rules.specs.declared.select.RuleSE.TheVariants.{SE1}
 use Rattle.policy_rules.specs.declared.get_data.RuleGD.{RuleGD}
 use Rattle.policy_rules.specs.declared.get_data.RuleGD.TheVariants.{GD1}
 
-clash : {P : Type 0} (ins a b : ℕ) → ins ≡ a → ins ≡ b → (a ≡ b → ⊥) → P
-clash ins a b one other differ = absurd (differ (sym one ∙ other))
+-- what an instruction takes, and how it judges
+takes : (ins p1 p2 : ℕ) (instruction : Instruction) → instruction_of ins ≡ Some instruction → HasParameters ins p1 p2 → Takes instruction p1 p2
+takes ins p1 p2 instruction is parameters = subst (λ (o : Option Instruction). MatchOption o ⊥ (λ i. Takes i p1 p2)) is parameters
 
-select_parameters : (ins p1 p2 : ℕ) → ins ≡ SELECT → HasParameters ins p1 p2 → SelectParameters p1 p2
-select_parameters ins p1 p2 is (inl select) = select.1
-select_parameters ins p1 p2 is (inr (inl manage)) = clash ins SELECT MANAGE_CHANNEL is manage.0 (λ same. absurd (omega arith))
-select_parameters ins p1 p2 is (inr (inr get)) = clash ins SELECT GET_DATA is get (λ same. absurd (omega arith))
+takes_field : (ins : ℕ) (body : List ℕ) (instruction : Instruction) → instruction_of ins ≡ Some instruction → HasDataField ins body → TakesField instruction body
+takes_field ins body instruction is field = subst (λ (o : Option Instruction). MatchOption o ⊥ (λ i. TakesField i body)) is field
 
-select_field : (ins : ℕ) (body : List ℕ) → ins ≡ SELECT → HasDataField ins body → SelectField body
-select_field ins body is (inl select) = select.1
-select_field ins body is (inr (inl manage)) = clash ins SELECT MANAGE_CHANNEL is manage.0 (λ same. absurd (omega arith))
-select_field ins body is (inr (inr get)) = clash ins SELECT GET_DATA is get.0 (λ same. absurd (omega arith))
+judges_as : (admitted : Admitted) (found : Option Rule) (instruction : Instruction) → instruction_of admitted.command.ins ≡ Some instruction
+    → JudgesAs instruction admitted found → Judges admitted found
+judges_as admitted found instruction is judged = subst (λ (o : Option Instruction). MatchOption o ⊥ (λ i. JudgesAs i admitted found)) (sym is) judged
 
-manage_parameters : (ins p1 p2 : ℕ) → ins ≡ MANAGE_CHANNEL → HasParameters ins p1 p2 → ManageChannelParameters p1 p2
-manage_parameters ins p1 p2 is (inl select) = clash ins MANAGE_CHANNEL SELECT is select.0 (λ same. absurd (omega arith))
-manage_parameters ins p1 p2 is (inr (inl manage)) = manage.1
-manage_parameters ins p1 p2 is (inr (inr get)) = clash ins MANAGE_CHANNEL GET_DATA is get (λ same. absurd (omega arith))
-
-manage_field : (ins : ℕ) (body : List ℕ) → ins ≡ MANAGE_CHANNEL → HasDataField ins body → ManageChannelField body
-manage_field ins body is (inl select) = clash ins MANAGE_CHANNEL SELECT is select.0 (λ same. absurd (omega arith))
-manage_field ins body is (inr (inl manage)) = manage.1
-manage_field ins body is (inr (inr get)) = clash ins MANAGE_CHANNEL GET_DATA is get.0 (λ same. absurd (omega arith))
-
-get_field : (ins : ℕ) (body : List ℕ) → ins ≡ GET_DATA → HasDataField ins body → GetDataField body
-get_field ins body is (inl select) = clash ins GET_DATA SELECT is select.0 (λ same. absurd (omega arith))
-get_field ins body is (inr (inl manage)) = clash ins GET_DATA MANAGE_CHANNEL is manage.0 (λ same. absurd (omega arith))
-get_field ins body is (inr (inr get)) = get.1
+-- the form of the command is right
+pub record IsFormed (admitted : Admitted) : Type 0 where
+  pub parameters : HasParameters admitted.command.ins admitted.command.p1 admitted.command.p2
+  pub field : HasDataField admitted.command.ins admitted.command.body
 
 -- behind the rules on the form, which pass
-select_judged : (admitted : Admitted) (found : Option Rule) → admitted.command.ins ≡ SELECT
-    → HasParameters admitted.command.ins admitted.command.p1 admitted.command.p2 → HasDataField admitted.command.ins admitted.command.body
+select_judged : (admitted : Admitted) (found : Option Rule) → admitted.command.ins ≡ SELECT → IsFormed admitted
     → IsFirst (SelectFails admitted) (SE SE1 ∷ []) found → Judges admitted found
-select_judged admitted found is parameters field first =
-    inl (
-      is,
-      inr (
-        (λ fails. fails (select_parameters admitted.command.ins admitted.command.p1 admitted.command.p2 is parameters)),
-        inr ((λ fails. fails (select_field admitted.command.ins admitted.command.body is field)), first),
-      ),
-    )
+select_judged admitted found is formed first =
+    let named = ap instruction_of is in
+    judges_as admitted found Select named (inr (
+      (λ fails. fails (takes admitted.command.ins admitted.command.p1 admitted.command.p2 Select named formed.parameters)),
+      inr ((λ fails. fails (takes_field admitted.command.ins admitted.command.body Select named formed.field)), first),
+    ))
 
-manage_judged : (admitted : Admitted) (found : Option Rule) → admitted.command.ins ≡ MANAGE_CHANNEL
-    → HasParameters admitted.command.ins admitted.command.p1 admitted.command.p2 → HasDataField admitted.command.ins admitted.command.body
+manage_judged : (admitted : Admitted) (found : Option Rule) → admitted.command.ins ≡ MANAGE_CHANNEL → IsFormed admitted
     → IsFirst (ManageChannelFails admitted) (MC MC1 ∷ []) found → Judges admitted found
-manage_judged admitted found is parameters field first =
-    inr (inl (
-      is,
-      inr (
-        (λ fails. fails (manage_parameters admitted.command.ins admitted.command.p1 admitted.command.p2 is parameters)),
-        inr ((λ fails. fails (manage_field admitted.command.ins admitted.command.body is field)), first),
-      ),
+manage_judged admitted found is formed first =
+    let named = ap instruction_of is in
+    judges_as admitted found ManageChannel named (inr (
+      (λ fails. fails (takes admitted.command.ins admitted.command.p1 admitted.command.p2 ManageChannel named formed.parameters)),
+      inr ((λ fails. fails (takes_field admitted.command.ins admitted.command.body ManageChannel named formed.field)), first),
     ))
 
 get_judged : (admitted : Admitted) (found : Option Rule) → admitted.command.ins ≡ GET_DATA
     → HasDataField admitted.command.ins admitted.command.body
     → IsFirst (GetDataFails admitted) (GD GD1 ∷ []) found → Judges admitted found
 get_judged admitted found is field first =
-    inr (inr (is, inr ((λ fails. fails (get_field admitted.command.ins admitted.command.body is field)), first)))
+    let named = ap instruction_of is in
+    judges_as admitted found GetData named
+    (inr ((λ fails. fails (takes_field admitted.command.ins admitted.command.body GetData named field)), first))
+
+pub offer_judged : (admitted : Admitted) (found : Option Rule) → admitted.command.ins ≡ INITIALIZE_UPDATE
+    → HasParameters admitted.command.ins admitted.command.p1 admitted.command.p2 → HasDataField admitted.command.ins admitted.command.body
+    → IsFirst (InitializeUpdateFails admitted) offer_rules found → Judges admitted found
+offer_judged admitted found is parameters field first =
+    let named = ap instruction_of is in
+    judges_as admitted found InitializeUpdate named (inr (
+      (λ fails. fails (takes admitted.command.ins admitted.command.p1 admitted.command.p2 InitializeUpdate named parameters)),
+      inr ((λ fails. fails (takes_field admitted.command.ins admitted.command.body InitializeUpdate named field)), first),
+    ))
 
 module _ (admitted : Admitted) where
   module _ (partial : List ℕ) (ins : admitted.command.ins ≡ SELECT) (body : partial ≡ admitted.command.body)
@@ -84,24 +81,24 @@ module _ (admitted : Admitted) where
         → Judges admitted None × (least_fitting admitted.at.registry admitted.command.body ≡ Some entry)
     select_passes entry found =
         let here = subst (λ (p : List ℕ). least_fitting admitted.at.registry p ≡ Some entry) body found in
-        (select_judged admitted None ins parameters field (inr ((λ none. (let other = sym none ∙ here in cc)), refl)), here)
+        (select_judged admitted None ins (record { parameters = parameters; field = field }) (inr ((λ none. (let other = sym none ∙ here in cc)), refl)), here)
 
     pub select_refused : least_fitting admitted.at.registry partial ≡ None → Judges admitted (Some (SE SE1))
     select_refused none =
-        select_judged admitted (Some (SE SE1)) ins parameters field
+        select_judged admitted (Some (SE SE1)) ins (record { parameters = parameters; field = field })
         (inl (subst (λ (p : List ℕ). least_fitting admitted.at.registry p ≡ None) body none, refl))
 
   module _ (ins : admitted.command.ins ≡ MANAGE_CHANNEL)
       (parameters : HasParameters admitted.command.ins admitted.command.p1 admitted.command.p2)
       (field : HasDataField admitted.command.ins admitted.command.body) where
     pub open_passes : (number : ℕ) → lowest_closed admitted.at.volatile.channels ≡ Some number → Judges admitted None
-    open_passes number found = manage_judged admitted None ins parameters field (inr ((λ fails. (let other = sym fails.1 ∙ found in cc)), refl))
+    open_passes number found = manage_judged admitted None ins (record { parameters = parameters; field = field }) (inr ((λ fails. (let other = sym fails.1 ∙ found in cc)), refl))
 
     pub open_refused : admitted.command.p1 ≡ 0x00 → lowest_closed admitted.at.volatile.channels ≡ None → Judges admitted (Some (MC MC1))
-    open_refused opens none = manage_judged admitted (Some (MC MC1)) ins parameters field (inl ((opens, none), refl))
+    open_refused opens none = manage_judged admitted (Some (MC MC1)) ins (record { parameters = parameters; field = field }) (inl ((opens, none), refl))
 
     pub close_passes : admitted.command.p1 ≡ 0x80 → Judges admitted None
-    close_passes closes = manage_judged admitted None ins parameters field (inr ((λ fails. (let other = fails.0 in absurd (omega arith))), refl))
+    close_passes closes = manage_judged admitted None ins (record { parameters = parameters; field = field }) (inr ((λ fails. (let other = fails.0 in absurd (omega arith))), refl))
 
   module _ (ins : admitted.command.ins ≡ GET_DATA) (field : HasDataField admitted.command.ins admitted.command.body) where
     pub get_passes : (value : List ℕ) → AsksFor admitted value → Judges admitted None

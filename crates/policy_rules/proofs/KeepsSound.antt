@@ -1,31 +1,44 @@
 -- A card that is powered on is sound, and each step keeps it so.
-use Rattle.std.proofs.Common.{◌≡◌, ℕ, zero, suc, ◌<◌, ◌≤◌, List, [], ◌∷◌, Bool, true, false, Option, None, Some, refl, sym, ap, subst, ◌∙◌, inl, inr, length, arith}
-use Rattle.std.specs.Prelude.{IsSome, MatchOption, find, cond, if◌then◌else◌, ◌==◌}
+use Rattle.std.proofs.Common.{◌≡◌, ◌≢◌, ℕ, zero, suc, ◌<◌, ◌≤◌, List, [], ◌∷◌, Bool, true, false, Option, None, Some, refl, sym, ap, subst, ◌∙◌, inl, inr, length, arith}
+use Rattle.std.specs.Prelude.{IsSome, MatchOption, find, cond, ◌==◌}
+use Rattle.std.proofs.lemmas.Bool.Decides.{eqb_tells}
 use Rattle.apdu_core.specs.Apdu.{Apdu}
 use Rattle.card_types.proofs.SameAid.{aid_same_itself}
 use Rattle.card_types.specs.AidOrder.{same_aid}
-use Rattle.card_types.specs.Registry.{Entry, Registry, entry_named}
-use Rattle.card_types.specs.Well.{IsIssuerDomain, Well}
+use Rattle.card_types.specs.Ascending.{IsAscending}
+use Rattle.card_types.specs.Counters.{raised}
+use Rattle.card_types.specs.Registry.{Counter, Entry, Registry, entry_named}
+use Rattle.card_types.specs.Well.{IsDomainNamed, IsIssuerDomain, Well}
 use Rattle.card_types.specs.declared.factory.TheConstants.{ISSUER}
-use Rattle.policy_rules.specs.Admission.{Admitted, Leaves, admitted_as, channel_passed, class_passed, offer_passed, placeless, session_passed}
+use Rattle.card_types.specs.declared.limits.TheConstants.{COUNTER_LIMIT}
+use Rattle.policy_rules.specs.Admission.{Admits, Admitted, Leaves, class_passed, placeless}
 use Rattle.policy_rules.specs.Classes.{channel_of}
-use Rattle.policy_rules.specs.Commands.{Does, Judges}
+use Rattle.policy_rules.specs.Commands.{Does, DoesAs, Judges, JudgesAs}
+use Rattle.policy_rules.specs.ExternalAuthenticate.{ExternalAuthenticateDoes}
 use Rattle.policy_rules.specs.FirstFailing.{IsFirst}
+use Rattle.policy_rules.specs.InitializeUpdate.{AsksForSet, InitializeUpdateDoes, InitializeUpdateFails, initialize_update_rules}
+use Rattle.policy_rules.specs.Instructions.{ExternalAuthenticate, GetData, InitializeUpdate, Instruction, ManageChannel, Select, instruction_of}
 use Rattle.policy_rules.specs.Laws.{StartsSound, StepsKeepSound}
 use Rattle.policy_rules.specs.ManageChannel.{IsClosed, IsClosedAlready, IsOpened, ManageChannelDoes, ManageChannelFails, ManageChannelParameters, lowest_closed, manage_channel_rules}
+use Rattle.policy_rules.specs.Management.{acting}
 use Rattle.policy_rules.specs.Select.{IsSelected, fits_select, least_fitting}
-use Rattle.policy_rules.specs.Sound.{Fits, IsSecured, IsSound, IsWellChannel, StandsWell}
+use Rattle.policy_rules.specs.Sound.{Fits, IsSecured, IsSound, IsWellChannel}
 use Rattle.policy_rules.specs.State.{Effect, State}
-use Rattle.policy_rules.specs.Step.{Outcome}
-use Rattle.policy_rules.specs.Volatile.{Channel, Nothing, Offered, Secured, Standing, Volatile, channel_at, first_volatile, fresh, without_load}
-use Rattle.policy_rules.specs.declared.instruction.TheConstants.{SELECT, MANAGE_CHANNEL, GET_DATA, EXTERNAL_AUTHENTICATE, LOAD}
-use Rattle.policy_rules.specs.declared.rule.Rule.TheVariants.{PS, MC}
+use Rattle.policy_rules.specs.Step.{Outcome, refusal_leaves}
+use Rattle.policy_rules.specs.Volatile.{Channel, Nothing, Offered, Volatile, channel_at, first_volatile, fresh, load_of_others, with_standing, without_session}
+use Rattle.policy_rules.specs.declared.initialize_update.RuleIU.TheVariants.{IU3}
+use Rattle.policy_rules.specs.declared.instruction.TheConstants.{SELECT, MANAGE_CHANNEL, INITIALIZE_UPDATE, EXTERNAL_AUTHENTICATE, LOAD}
+use Rattle.policy_rules.specs.declared.rule.Rule.TheVariants.{PS, IU}
 use Rattle.policy_rules.specs.declared.rule.RuleG.{RuleG}
-use Rattle.policy_rules.specs.declared.rule.RuleG.TheVariants.{G1, G2, G3, G4, G5}
+use Rattle.policy_rules.specs.declared.rule.RuleG.TheVariants.{G1, G2, G3, G4, G5, G6, G7, G8}
 use Rattle.policy_rules.specs.declared.rule.RulePS.TheVariants.{P, S}
-use Rattle.policy_rules.specs.declared.manage_channel.RuleMC.TheVariants.{MC1}
-use Rattle.policy_rules.proofs.FirstUnique.{passes}
-use Rattle.policy_rules.proofs.SetChannel.{ended_fits, lowest_is_closed, set_fits, without_load_fits}
+use Rattle.scp03_card.specs.Session.{answered}
+use Rattle.policy_rules.proofs.FirstUnique.{none_fails}
+use Rattle.policy_rules.proofs.Instructed.{by_instruction, initialize_update_byte}
+use Rattle.policy_rules.proofs.MakesOffer.{raised_ascending, raised_fits, set_raised_well, well_offer}
+use Rattle.policy_rules.proofs.Passing.{admitted_fits, admitted_loads, admitted_selected, channel_is_low, class_fits, domain_selected, either, placeless_fits}
+use Rattle.policy_rules.proofs.SetChannel.{ended_fits, lowest_is_closed, set_fits}
+use Rattle.policy_rules.proofs.StandingSet.{offer_stands, secured_fits, standing_fits, unloaded_fits, within}
 
 issuer_is_named : (registry : Registry) → (found : Option Entry) → MatchOption found ⊥ IsIssuerDomain → IsSome found
 issuer_is_named registry None issuer = absurd issuer
@@ -46,72 +59,38 @@ first_channels registry well (suc (suc (suc zero))) = tt
 first_channels registry well (suc (suc (suc (suc number)))) = tt
 
 pub starts_sound : StartsSound
-starts_sound registry well = record {
+starts_sound registry well ascending = record {
   well = well;
+  ascending = ascending;
   fits = record { channels = refl; basic = refl; each = first_channels registry well; load = tt };
 }
 
--- behind the check of the class
-secured_passed : (keeps : Bool) (standing : Standing) → IsSecured standing → IsSecured (offer_passed keeps standing)
-secured_passed true standing secured = secured
-secured_passed false Nothing secured = secured
-secured_passed false (Offered offer) secured = absurd secured
-secured_passed false (Secured session) secured = secured
-
-standing_passed : (registry : Registry) (aid : List ℕ) (keeps : Bool) (standing : Standing) → StandsWell registry aid standing
-    → StandsWell registry aid (offer_passed keeps standing)
-standing_passed registry aid true standing well = well
-standing_passed registry aid false Nothing well = tt
-standing_passed registry aid false (Offered offer) well = tt
-standing_passed registry aid false (Secured session) well = well
-
-well_passed : (registry : Registry) (keeps : Bool) (channel : Option Channel) → MatchOption channel (Unit {0}) (IsWellChannel registry)
-    → MatchOption (channel_passed keeps channel) (Unit {0}) (IsWellChannel registry)
-well_passed registry keeps None well = tt
-well_passed registry keeps (Some channel) well = record {
-  selected = well.selected;
-  standing = standing_passed registry channel.selected keeps channel.standing well.standing;
+-- a sound card with other channels
+sound_with : (state : State) (after : State) → IsSound state → after.registry ≡ state.registry → Fits state.registry after.volatile → IsSound after
+sound_with state after sound same fits = record {
+  well = subst Well (sym same) sound.well;
+  ascending = subst IsAscending (sym same) sound.ascending;
+  fits = subst (λ (r : Registry). Fits r after.volatile) (sym same) fits;
 }
 
-open_passed : (keeps : Bool) (channel : Option Channel) → IsSome channel → IsSome (channel_passed keeps channel)
-open_passed keeps None opened = opened
-open_passed keeps (Some channel) opened = refl
+-- what an admitted command finds
+record IsReady (admitted : Admitted) : Type 0 where
+  sound : IsSound admitted.at
+  low : admitted.channel < 4
+  loads : (admitted.command.ins == LOAD) ≡ false → load_of_others admitted.channel admitted.at.volatile.load ≡ admitted.at.volatile.load
+  domain : admitted.command.ins ≢ SELECT → admitted.command.ins ≢ MANAGE_CHANNEL → IsDomainNamed admitted.at.registry (acting admitted)
 
-session_kept : (keeps : Bool) (channel : Option Channel) → MatchOption channel ⊥ (λ opened. IsSecured opened.standing)
-    → MatchOption (channel_passed keeps channel) ⊥ (λ opened. IsSecured opened.standing)
-session_kept keeps None session = session
-session_kept keeps (Some channel) session = secured_passed keeps channel.standing session
-
-pub channel_is_low : (class : ℕ) → channel_of class < 4
-channel_is_low class = omega arith
-
-pub placeless_fits : (registry : Registry) (volatile : Volatile) (class : ℕ) (keeps : Bool) → Fits registry volatile
-    → Fits registry (placeless volatile (channel_of class) keeps)
-placeless_fits registry volatile class keeps fits =
-    let number = channel_of class in
-    let low : number < length volatile.channels = subst (λ (n : ℕ). number < n) (sym fits.channels) (channel_is_low class) in
-    set_fits registry volatile number (channel_passed keeps (channel_at volatile number)) fits low
-    (well_passed registry keeps (channel_at volatile number) (fits.each number))
-    (λ first. open_passed keeps (channel_at volatile number) (subst (λ (n : ℕ). IsSome (channel_at volatile n)) (sym first) fits.basic))
-    (session_kept keeps (channel_at volatile number))
-
-pub class_fits : (registry : Registry) (volatile : Volatile) (command : Apdu) → Fits registry volatile → Fits registry (class_passed volatile command)
-class_fits registry volatile command fits = placeless_fits registry volatile command.class (command.ins == EXTERNAL_AUTHENTICATE) fits
-
-pub either : (holds : Volatile → Type 0) (test : Bool) (a b : Volatile) → holds a → holds b → holds (if test then a else b)
-either holds true a b one other = one
-either holds false a b one other = other
-
-pub session_fits : (registry : Registry) (volatile : Volatile) (command : Apdu) → Fits registry volatile → Fits registry (session_passed volatile command)
-session_fits registry volatile command fits =
-    either (Fits registry) (command.ins == LOAD) volatile (without_load volatile (channel_of command.class)) fits
-    (without_load_fits registry volatile (channel_of command.class) fits)
-
-pub admitted_is_sound : (state : State) (command : Apdu) → IsSound state → IsSound (admitted_as state command).at
-admitted_is_sound state command sound = record {
-  well = sound.well;
-  fits = session_fits state.registry (class_passed state.volatile command) command (class_fits state.registry state.volatile command sound.fits);
-}
+admitted_is_ready : (state : State) (bytes : List ℕ) (admitted : Admitted) → IsSound state → Admits state bytes admitted → IsReady admitted
+admitted_is_ready state bytes admitted sound admits =
+    let command = admits.1.0 in
+    let taken = admits.1.2 in
+    subst IsReady (sym taken.3) (record {
+      sound = record { well = sound.well; ascending = sound.ascending; fits = admitted_fits state command sound.fits taken.0 taken.1 taken.2 };
+      low = channel_is_low command.class;
+      loads = admitted_loads state command sound.fits taken.0 taken.1;
+      domain = λ selects manages. subst (IsDomainNamed state.registry) (sym (admitted_selected state command sound.fits taken.0 taken.1))
+          (domain_selected state bytes command admits.1.1 admits.0 sound.fits selects manages);
+    })
 
 -- what passes one test is there for another
 found_for : (test other : Entry → Bool) (entries : List Entry) (entry : Entry) → find test entries ≡ Some entry → other entry ≡ true → IsSome (find other entries)
@@ -129,46 +108,37 @@ pub fitting_is_named : (registry : Registry) (partial : List ℕ) (entry : Entry
 fitting_is_named registry partial entry found =
     found_for (fits_select registry.life partial) (λ e. same_aid e.aid entry.aid) registry.entries entry found (aid_same_itself entry.aid)
 
--- a state by its parts
-pub sound_as : (state : State) (registry : Registry) (volatile : Volatile) → state.registry ≡ registry → state.volatile ≡ volatile
-    → Well registry → Fits registry volatile → IsSound state
-sound_as state registry volatile same alike well fits = record {
-  well = subst Well (sym same) well;
-  fits = subst (λ (r : Registry). Fits r state.volatile) (sym same) (subst (Fits registry) (sym alike) fits);
-}
-
-select_keeps : (admitted : Admitted) (done : Effect) (partial : List ℕ) (found : Option Entry) → IsSound admitted.at → admitted.channel < 4
+select_keeps : (admitted : Admitted) (done : Effect) (partial : List ℕ) (found : Option Entry) → IsReady admitted
     → least_fitting admitted.at.registry partial ≡ found → MatchOption found ⊥ (IsSelected admitted done) → IsSound done.state
-select_keeps admitted done partial None sound low is does = absurd does
-select_keeps admitted done partial (Some entry) sound low is does =
-    sound_as done.state _ _ does.registry does.volatile sound.well
-    (ended_fits admitted.at.registry admitted.at.volatile admitted.channel (Some (fresh entry.aid)) sound.fits
-    (subst (λ (n : ℕ). admitted.channel < n) (sym sound.fits.channels) low)
-    (fresh_is_well admitted.at.registry entry.aid (fitting_is_named admitted.at.registry partial entry is)) (λ first. refl))
+select_keeps admitted done partial None ready is does = absurd does
+select_keeps admitted done partial (Some entry) ready is does =
+    let registry = admitted.at.registry in
+    let volatile = admitted.at.volatile in
+    let fits = ended_fits registry volatile admitted.channel (Some (fresh entry.aid)) ready.sound.fits
+    (within registry volatile admitted.channel ready.sound.fits ready.low)
+    (fresh_is_well registry entry.aid (fitting_is_named registry partial entry is)) (λ first. refl) in
+    sound_with admitted.at done.state ready.sound does.registry (subst (Fits registry) (sym does.volatile) fits)
 
 opens_keeps : (admitted : Admitted) (done : Effect) (found : Option ℕ) → IsSound admitted.at → lowest_closed admitted.at.volatile.channels ≡ found
     → MatchOption found ⊥ (IsOpened admitted done) → IsSound done.state
 opens_keeps admitted done None sound is does = absurd does
 opens_keeps admitted done (Some number) sound is does =
     let closed = lowest_is_closed admitted.at.volatile.channels number is in
-    subst (λ (e : Effect). IsSound e.state) (sym does) (record {
-      well = sound.well;
-      fits = set_fits admitted.at.registry admitted.at.volatile number (Some (fresh ISSUER)) sound.fits closed.0
-          (issuer_is_well admitted.at.registry sound.well) (λ first. refl)
-          (λ session. absurd (subst (λ (c : Option Channel). MatchOption c ⊥ (λ opened. IsSecured opened.standing)) closed.1 session));
-    })
+    let fits = set_fits admitted.at.registry admitted.at.volatile number (Some (fresh ISSUER)) sound.fits closed.0
+    (issuer_is_well admitted.at.registry sound.well) (λ first. refl)
+    (λ session. absurd (subst (λ (c : Option Channel). MatchOption c ⊥ (λ opened. IsSecured opened.standing)) closed.1 session)) in
+    subst (λ (e : Effect). IsSound e.state) (sym does) (sound_with admitted.at _ sound refl fits)
 
 -- channel 0 is not closed
 closes_keeps : (admitted : Admitted) (done : Effect) (channel : Option Channel) → IsSound admitted.at → 1 ≤ admitted.command.p2 → admitted.command.p2 ≤ 3
     → MatchOption channel (IsClosedAlready admitted done) (λ c. IsClosed admitted done) → IsSound done.state
 closes_keeps admitted done None sound least most does = subst (λ (e : Effect). IsSound e.state) (sym does) sound
 closes_keeps admitted done (Some channel) sound least most does =
-    let low : admitted.command.p2 < 4 = omega arith in
-    subst (λ (e : Effect). IsSound e.state) (sym does) (record {
-      well = sound.well;
-      fits = ended_fits admitted.at.registry admitted.at.volatile admitted.command.p2 None sound.fits
-          (subst (λ (n : ℕ). admitted.command.p2 < n) (sym sound.fits.channels) low) tt (λ first. absurd (omega arith));
-    })
+    let registry = admitted.at.registry in
+    let volatile = admitted.at.volatile in
+    let fits = ended_fits registry volatile admitted.command.p2 None sound.fits (within registry volatile admitted.command.p2 sound.fits (omega arith)) tt
+    (λ first. absurd (omega arith)) in
+    subst (λ (e : Effect). IsSound e.state) (sym does) (sound_with admitted.at _ sound refl fits)
 
 -- a channel to be closed is one of 1 to 3
 close_bounds : (p1 p2 : ℕ) → ((ManageChannelParameters p1 p2 → ⊥) → ⊥) → p1 ≡ 0x80 → ((1 ≤ p2) × (p2 ≤ 3) → ⊥) → ⊥
@@ -188,21 +158,73 @@ manage_channel_keeps : (admitted : Admitted) (done : Effect) → IsSound admitte
     → IsFirst (ManageChannelFails admitted) manage_channel_rules None → ManageChannelDoes admitted done → IsSound done.state
 manage_channel_keeps admitted done sound first (inl opens) = opens_keeps admitted done _ sound refl opens.1
 manage_channel_keeps admitted done sound first (inr closes) =
-    let passed = passes (ManageChannelFails admitted) (PS P) (PS S ∷ MC MC1 ∷ []) first in
-    let bounds = decided admitted.command.p2 (close_bounds admitted.command.p1 admitted.command.p2 passed.0 closes.0) in
+    let passed = none_fails (ManageChannelFails admitted) manage_channel_rules (PS P) (0, omega arith, refl) first in
+    let bounds = decided admitted.command.p2 (close_bounds admitted.command.p1 admitted.command.p2 passed closes.0) in
     closes_keeps admitted done _ sound bounds.0 bounds.1 closes.1
 
-instruction_clash : {P : Type 0} (ins a b : ℕ) → ins ≡ a → ins ≡ b → (a ≡ b → ⊥) → P
-instruction_clash ins a b one other differ = absurd (differ (sym one ∙ other))
+not_other : (n m : ℕ) → (n ≢ m → ⊥) → n ≡ m
+not_other n m same = elim (eqb_tells n m) [
+  | inl is ↦ is.1
+  | inr differs ↦ absurd (same differs.1)
+]
 
-does_keeps : (admitted : Admitted) (done : Effect) → IsSound admitted.at → admitted.channel < 4 → Judges admitted None → Does admitted done → IsSound done.state
-does_keeps admitted done sound low judges (inl does) = select_keeps admitted done admitted.command.body _ sound low refl does.1
-does_keeps admitted done sound low (inl judges) (inr (inl does)) =
-    instruction_clash admitted.command.ins SELECT MANAGE_CHANNEL judges.0 does.0 (λ same. absurd (omega arith))
-does_keeps admitted done sound low (inr (inl judges)) (inr (inl does)) = manage_channel_keeps admitted done sound judges.1 does.1
-does_keeps admitted done sound low (inr (inr judges)) (inr (inl does)) =
-    instruction_clash admitted.command.ins GET_DATA MANAGE_CHANNEL judges.0 does.0 (λ same. absurd (omega arith))
-does_keeps admitted done sound low judges (inr (inr does)) = (let kept = does.1 in subst IsSound (sym kept.state) sound)
+module _ (admitted : Admitted) (first : IsFirst (InitializeUpdateFails admitted) initialize_update_rules None) where
+  challenge_is_long : length admitted.command.body ≡ 8
+  challenge_is_long =
+      not_other (length admitted.command.body) 8 (none_fails (InitializeUpdateFails admitted) initialize_update_rules (PS S) (1, omega arith, refl) first)
+
+  counter_goes_on : (owner : List ℕ) (counter : Counter) → AsksForSet admitted owner counter → counter.number ≢ COUNTER_LIMIT
+  counter_goes_on owner counter asked last =
+      none_fails (InitializeUpdateFails admitted) initialize_update_rules (IU IU3) (5, omega arith, refl) first (owner, counter, asked, last)
+
+-- INITIALIZE UPDATE is for a domain, and ends a load session
+initialize_update_apart : (ins : ℕ) → ins ≡ INITIALIZE_UPDATE → (ins ≢ SELECT) × (ins ≢ MANAGE_CHANNEL) × ((ins == LOAD) ≡ false)
+initialize_update_apart ins is = ((λ same. absurd (omega arith)), (λ same. absurd (omega arith)), ap (λ (n : ℕ). n == LOAD) is)
+
+-- the channel has the offer then, and the counter is one higher
+initialize_update_keeps : (admitted : Admitted) (done : Effect) → IsReady admitted → admitted.command.ins ≡ INITIALIZE_UPDATE
+    → IsFirst (InitializeUpdateFails admitted) initialize_update_rules None → InitializeUpdateDoes admitted done → IsSound done.state
+initialize_update_keeps admitted done ready ins first does =
+    let registry = admitted.at.registry in
+    let after = with_standing admitted.at.volatile admitted.channel (Offered does.offer) in
+    let apart = initialize_update_apart admitted.command.ins ins in
+    let offered = well_offer admitted does.owner does.counter does.offer ready.sound.well (challenge_is_long admitted first) does.is_offer in
+    let fits = unloaded_fits registry admitted.at.volatile admitted.channel ready.sound.fits ready.low (Offered does.offer) (ready.loads apart.2)
+    (ready.domain apart.0 apart.1, offered) in
+    let goes_on = counter_goes_on admitted first does.owner does.counter does.asked in
+    let sound : IsSound (record { registry = raised registry does.owner does.counter.version; volatile = after }) = record {
+      well = set_raised_well registry does.owner admitted.command.p1 does.counter ready.sound.well ready.sound.ascending does.asked.1 goes_on;
+      ascending = raised_ascending registry does.owner does.counter.version ready.sound.ascending;
+      fits = raised_fits registry does.owner does.counter.version after fits;
+    } in
+    subst IsSound (λ i. record { registry = sym does.registry i; volatile = sym does.volatile i }) sound
+
+external_authenticate_keeps : (admitted : Admitted) (done : Effect) → IsReady admitted → ExternalAuthenticateDoes admitted done → IsSound done.state
+external_authenticate_keeps admitted done ready does =
+    let registry = admitted.at.registry in
+    let volatile = admitted.at.volatile in
+    let stands = offer_stands registry volatile admitted.channel ready.sound.fits ready.low does.offer does.answers.0 in
+    let fits = secured_fits registry volatile admitted.channel ready.sound.fits ready.low (answered does.offer does.level) stands in
+    sound_with admitted.at done.state ready.sound does.registry (subst (Fits registry) (sym does.volatile) fits)
+
+does_as_keeps : (admitted : Admitted) (done : Effect) → IsReady admitted → (instruction : Instruction) → instruction_of admitted.command.ins ≡ Some instruction
+    → JudgesAs instruction admitted None → DoesAs instruction admitted done → IsSound done.state
+does_as_keeps admitted done ready Select is judges does = select_keeps admitted done admitted.command.body _ ready refl does
+does_as_keeps admitted done ready ManageChannel is judges does = manage_channel_keeps admitted done ready.sound judges does
+does_as_keeps admitted done ready GetData is judges does = subst IsSound (sym does.state) ready.sound
+does_as_keeps admitted done ready InitializeUpdate is judges does =
+    initialize_update_keeps admitted done ready (initialize_update_byte admitted.command.ins is) judges does
+does_as_keeps admitted done ready ExternalAuthenticate is judges does = external_authenticate_keeps admitted done ready does
+
+does_keeps : (admitted : Admitted) (done : Effect) → IsReady admitted → Judges admitted None → Does admitted done → IsSound done.state
+does_keeps admitted done ready judges does =
+    by_instruction (λ x. JudgesAs x admitted None) (λ x. DoesAs x admitted done) (instruction_of admitted.command.ins) (does_as_keeps admitted done ready) judges does
+
+-- a session ends behind the check of the class
+ends_fits : (registry : Registry) (volatile : Volatile) (command : Apdu) → Fits registry volatile
+    → Fits registry (without_session (class_passed volatile command) (channel_of command.class))
+ends_fits registry volatile command fits =
+    standing_fits registry (class_passed volatile command) (channel_of command.class) (class_fits registry volatile command fits) (channel_is_low command.class) Nothing tt
 
 leaves_fits : (state : State) (bytes : List ℕ) (rule : RuleG) (left : Volatile) → Fits state.registry state.volatile → Leaves state bytes rule left
     → Fits state.registry left
@@ -210,20 +232,30 @@ leaves_fits state bytes G1 left fits leaves = subst (Fits state.registry) (sym l
 leaves_fits state bytes G2 left fits leaves = subst (Fits state.registry) (sym leaves) fits
 leaves_fits state bytes G3 left fits leaves = subst (Fits state.registry) (sym leaves) fits
 leaves_fits state bytes G4 left fits leaves = subst (Fits state.registry) (sym leaves) fits
-leaves_fits state bytes G5 left fits leaves = (let command = leaves.0 in subst (Fits state.registry) (sym leaves.2) (placeless_fits state.registry state.volatile command.class false fits))
+leaves_fits state bytes G5 left fits leaves =
+    let class = leaves.0.class in
+    subst (Fits state.registry) (sym leaves.2) (placeless_fits state.registry state.volatile (channel_of class) false fits (channel_is_low class))
+leaves_fits state bytes G6 left fits leaves = elim leaves.2 [
+  | inl ends ↦ subst (Fits state.registry) (sym ends.1) (ends_fits state.registry state.volatile leaves.0 fits)
+  | inr stays ↦ subst (Fits state.registry) (sym stays.1) (class_fits state.registry state.volatile leaves.0 fits)
+]
+leaves_fits state bytes G7 left fits leaves = subst (Fits state.registry) (sym leaves.2) (ends_fits state.registry state.volatile leaves.0 fits)
+leaves_fits state bytes G8 left fits leaves = subst (Fits state.registry) (sym leaves.2) (ends_fits state.registry state.volatile leaves.0 fits)
+
+refusal_fits : (admitted : Admitted) → IsReady admitted → Fits admitted.at.registry (refusal_leaves admitted)
+refusal_fits admitted ready =
+    either (Fits admitted.at.registry) (admitted.command.ins == EXTERNAL_AUTHENTICATE) (placeless admitted.at.volatile admitted.channel false) admitted.at.volatile
+    (placeless_fits admitted.at.registry admitted.at.volatile admitted.channel false ready.sound.fits ready.low) ready.sound.fits
 
 pub steps_keep_sound : StepsKeepSound
 steps_keep_sound state bytes outcome sound (inl barred) =
     subst (λ (o : Outcome). IsSound o.state) (sym barred.outcome_is)
-    (record { well = sound.well; fits = leaves_fits state bytes barred.rule barred.left sound.fits barred.leaves })
+    (sound_with state _ sound refl (leaves_fits state bytes barred.rule barred.left sound.fits barred.leaves))
 steps_keep_sound state bytes outcome sound (inr (inl refuses)) =
-    let of = refuses.admits.1 in
-    let kept = admitted_is_sound state of.0 sound in
-    let at = subst (λ (a : Admitted). IsSound a.at) (sym of.2) kept in
+    let ready = admitted_is_ready state bytes refuses.admitted sound refuses.admits in
+    let same : refuses.admitted.at.registry ≡ state.registry = (let taken = refuses.admits.1.2 in ap (λ (a : Admitted). a.at.registry) taken.3) in
     subst (λ (o : Outcome). IsSound o.state) (sym refuses.outcome_is)
-    (record { well = sound.well; fits = subst (λ (a : Admitted). Fits state.registry a.at.volatile) (sym of.2) kept.fits })
+    (sound_with state _ sound refl (subst (λ (r : Registry). Fits r (refusal_leaves refuses.admitted)) same (refusal_fits refuses.admitted ready)))
 steps_keep_sound state bytes outcome sound (inr (inr accepts)) =
-    let of = accepts.admits.1 in
-    let at = subst (λ (a : Admitted). IsSound a.at) (sym of.2) (admitted_is_sound state of.0 sound) in
-    let low = subst (λ (a : Admitted). a.channel < 4) (sym of.2) (channel_is_low of.0.class) in
-    subst (λ (o : Outcome). IsSound o.state) (sym accepts.outcome_is) (does_keeps accepts.admitted accepts.done at low accepts.judges accepts.does)
+    let ready = admitted_is_ready state bytes accepts.admitted sound accepts.admits in
+    subst (λ (o : Outcome). IsSound o.state) (sym accepts.outcome_is) (does_keeps accepts.admitted accepts.done ready accepts.judges accepts.does)

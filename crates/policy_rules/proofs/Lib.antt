@@ -2,11 +2,17 @@ pub mod Channels
 pub mod DataAsked
 pub mod DataFound
 pub mod FirstUnique
+pub mod Instructed
 pub mod Judging
 pub mod KeepsSound
+pub mod MakesOffer
+pub mod OfferJudging
 pub mod Offers
 pub mod OneOutcome
+pub mod Options
 pub mod OwnKeys
+pub mod Passing
 pub mod Selected
 pub mod SessionSets
 pub mod SetChannel
+pub mod StandingSet

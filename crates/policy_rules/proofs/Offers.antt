@@ -1,20 +1,23 @@
 -- A refused command leaves no offer.
-use Rattle.std.proofs.Common.{◌≡◌, ℕ, Bool, zero, suc, List, [], ◌∷◌, false, true, Option, None, Some, sym, ap, subst, inl, inr}
-use Rattle.std.specs.Prelude.{MatchOption, slice_set, slice_index_or, ◌==◌}
+use Rattle.std.proofs.Common.{◌≡◌, ◌⊎◌, ℕ, Bool, zero, suc, List, [], ◌∷◌, false, true, Option, None, Some, refl, sym, subst, inl, inr}
+use Rattle.std.specs.Prelude.{MatchOption, slice_set, slice_index_or, if◌then◌else◌, not, ◌==◌}
+use Rattle.std.proofs.lemmas.Bool.{and_parts, false≢true, not-true}
 use Rattle.apdu_core.specs.Apdu.{Apdu}
-use Rattle.policy_rules.specs.Admission.{Admitted, Leaves, Of, channel_passed, class_passed, offer_passed, placeless, session_passed}
-use Rattle.policy_rules.specs.Classes.{channel_of}
-use Rattle.policy_rules.specs.Commands.{Judges}
+use Rattle.policy_rules.specs.Admission.{Admitted, Bars, Leaves, Of, SessionEnds, admitted_as, channel_passed, class_passed, general_rules, message_joined, offer_passed, placeless, session_passed}
+use Rattle.policy_rules.specs.Classes.{IsPlainManagement, channel_of, class_of, is_protected, is_secure, protects}
 use Rattle.policy_rules.specs.Laws.{HasNoOffer, IsOffered, RefusalsDropOffers, is_later}
 use Rattle.policy_rules.specs.State.{State}
-use Rattle.policy_rules.specs.Step.{Outcome}
-use Rattle.policy_rules.specs.Volatile.{Channel, Nothing, Offered, Secured, Standing, Volatile, channel_at, without_load}
+use Rattle.policy_rules.specs.Step.{Outcome, refusal_leaves}
+use Rattle.policy_rules.specs.Volatile.{Channel, Nothing, Offered, Secured, Standing, Volatile, channel_at, standing_so, with_standing, without_load, without_session}
+use Rattle.policy_rules.specs.declared.class.Class.{Class}
 use Rattle.policy_rules.specs.declared.instruction.TheConstants.{EXTERNAL_AUTHENTICATE, LOAD}
-use Rattle.policy_rules.specs.declared.rule.Rule.{Rule}
 use Rattle.policy_rules.specs.declared.rule.Rule.TheVariants.{G}
 use Rattle.policy_rules.specs.declared.rule.RuleG.{RuleG}
-use Rattle.policy_rules.specs.declared.rule.RuleG.TheVariants.{G1, G2, G3, G4, G5}
-use Rattle.policy_rules.proofs.KeepsSound.{either}
+use Rattle.policy_rules.specs.declared.rule.RuleG.TheVariants.{G1, G2, G3, G4, G5, G6, G7, G8}
+use Rattle.scp03_card.specs.Session.{Session}
+use Rattle.policy_rules.proofs.FirstUnique.{first_fails}
+use Rattle.policy_rules.proofs.OneOutcome.{of_one}
+use Rattle.policy_rules.proofs.Passing.{either}
 
 not_offered : (standing : Standing) → IsOffered (offer_passed false standing) → ⊥
 not_offered Nothing offered = offered
@@ -36,42 +39,104 @@ placeless_has_none : (volatile : Volatile) (number : ℕ) → HasNoOffer (channe
 placeless_has_none volatile number =
     set_has_none volatile.channels number (channel_passed false (channel_at volatile number)) (channel_has_none (channel_at volatile number))
 
-admitted_has_none : (volatile : Volatile) (command : Apdu) → (command.ins == EXTERNAL_AUTHENTICATE) ≡ false
-    → HasNoOffer (channel_at (session_passed (class_passed volatile command) command) (channel_of command.class))
-admitted_has_none volatile command other =
-    let number = channel_of command.class in
-    let none : HasNoOffer (channel_at (class_passed volatile command) number) =
-    subst (λ (keeps : Bool). HasNoOffer (channel_at (placeless volatile number keeps) number)) (sym other) (placeless_has_none volatile number) in
-    either (λ (v : Volatile). HasNoOffer (channel_at v number)) (command.ins == LOAD) (class_passed volatile command)
-    (without_load (class_passed volatile command) number) none none
+with_standing_has_none : (volatile : Volatile) (number : ℕ) (standing : Standing) → (IsOffered standing → ⊥)
+    → HasNoOffer (channel_at (with_standing volatile number standing) number)
+with_standing_has_none volatile number standing none =
+    set_has_none volatile.channels number (standing_so standing (channel_at volatile number)) (stands_so (channel_at volatile number))
+  where
+    stands_so : (channel : Option Channel) → HasNoOffer (standing_so standing channel)
+    stands_so None = tt
+    stands_so (Some channel) = none
 
--- the commands that there are
-is_other : (admitted : Admitted) (found : Option Rule) → Judges admitted found → (admitted.command.ins == EXTERNAL_AUTHENTICATE) ≡ false
-is_other admitted found (inl judges) = ap (λ (ins : ℕ). ins == EXTERNAL_AUTHENTICATE) judges.0
-is_other admitted found (inr (inl judges)) = ap (λ (ins : ℕ). ins == EXTERNAL_AUTHENTICATE) judges.0
-is_other admitted found (inr (inr judges)) = ap (λ (ins : ℕ). ins == EXTERNAL_AUTHENTICATE) judges.0
+class_has_none : (volatile : Volatile) (command : Apdu) → (command.ins == EXTERNAL_AUTHENTICATE) ≡ false
+    → HasNoOffer (channel_at (class_passed volatile command) (channel_of command.class))
+class_has_none volatile command other =
+    (let number = channel_of command.class in
+    subst (λ (keeps : Bool). HasNoOffer (channel_at (placeless volatile number keeps) number)) (sym other) (placeless_has_none volatile number))
 
-barred_has_none : (state : State) (bytes : List ℕ) (rule : RuleG) (left : Volatile) → is_later (G rule) ≡ true → Leaves state bytes rule left
+joined_has_none : (volatile : Volatile) (number : ℕ) (session : Option Session) → HasNoOffer (channel_at volatile number)
+    → HasNoOffer (channel_at (message_joined volatile number session) number)
+joined_has_none volatile number None none = none
+joined_has_none volatile number (Some session) none = with_standing_has_none volatile number (Secured session) (λ offered. offered)
+
+-- what a refusal of an admitted command leaves
+admitted_has_none : (state : State) (command : Apdu) (session : Option Session) (plain : List ℕ)
+    → HasNoOffer (channel_at (refusal_leaves (admitted_as state command session plain)) (channel_of command.class))
+admitted_has_none state command session plain = by (command.ins == EXTERNAL_AUTHENTICATE) refl
+  where
+    number : ℕ
+    number = channel_of command.class
+
+    passed : Volatile
+    passed = message_joined (class_passed state.volatile command) number session
+
+    left : Volatile
+    left = session_passed passed command
+
+    by : (answers : Bool) → (command.ins == EXTERNAL_AUTHENTICATE) ≡ answers
+        → HasNoOffer (channel_at (if answers then placeless left number false else left) number)
+    by true is = placeless_has_none left number
+    by false is =
+        let none = joined_has_none (class_passed state.volatile command) number session (class_has_none state.volatile command is) in
+        either (λ (v : Volatile). HasNoOffer (channel_at v number)) (command.ins == LOAD) passed (without_load passed number) none none
+
+-- a protected command is not EXTERNAL AUTHENTICATE
+protected_is_other : (command : Apdu) → is_protected command ≡ true → (command.ins == EXTERNAL_AUTHENTICATE) ≡ false
+protected_is_other command protected = by (class_of command.class) protected
+  where
+    by : (class : Option Class) → protects class command.ins ≡ true → (command.ins == EXTERNAL_AUTHENTICATE) ≡ false
+    by None is = absurd (false≢true is)
+    by (Some class) is =
+        not-true (command.ins == EXTERNAL_AUTHENTICATE) (and_parts (is_secure class) (not (command.ins == EXTERNAL_AUTHENTICATE)) is).1
+
+ended_has_none : (state : State) (bytes : List ℕ) (left : Volatile) → SessionEnds state bytes left
     → Of bytes (λ command. HasNoOffer (channel_at left (channel_of command.class)))
-barred_has_none state bytes G1 left later leaves = absurd cc
-barred_has_none state bytes G2 left later leaves = absurd cc
-barred_has_none state bytes G3 left later leaves = absurd cc
-barred_has_none state bytes G4 left later leaves = absurd cc
-barred_has_none state bytes G5 left later leaves =
+ended_has_none state bytes left ends =
+    let number = channel_of ends.0.class in (
+      ends.0,
+      ends.1,
+      subst (λ (v : Volatile). HasNoOffer (channel_at v number)) (sym ends.2)
+          (with_standing_has_none (class_passed state.volatile ends.0) number Nothing (λ offered. offered)),
+    )
+
+-- what is refused for its session is a command of card content management, or a protected one
+unsecured_has_none : (volatile : Volatile) (command : Apdu) (left : Volatile) (none : Type 0) → IsPlainManagement command ⊎ ((is_protected command ≡ true) × none)
+    → (IsPlainManagement command × (left ≡ without_session (class_passed volatile command) (channel_of command.class)))
+    ⊎ ((IsPlainManagement command → ⊥) × (left ≡ class_passed volatile command))
+    → HasNoOffer (channel_at left (channel_of command.class))
+unsecured_has_none volatile command left none bars (inl ends) =
+    (let number = channel_of command.class in
+    subst (λ (v : Volatile). HasNoOffer (channel_at v number)) (sym ends.1)
+    (with_standing_has_none (class_passed volatile command) number Nothing (λ offered. offered)))
+unsecured_has_none volatile command left none (inl manages) (inr stays) = absurd (stays.0 manages)
+unsecured_has_none volatile command left none (inr protected) (inr stays) =
+    subst (λ (v : Volatile). HasNoOffer (channel_at v (channel_of command.class))) (sym stays.1)
+    (class_has_none volatile command (protected_is_other command protected.0))
+
+barred_has_none : (state : State) (bytes : List ℕ) (rule : RuleG) (left : Volatile) → is_later (G rule) ≡ true → Bars state bytes rule
+    → Leaves state bytes rule left → Of bytes (λ command. HasNoOffer (channel_at left (channel_of command.class)))
+barred_has_none state bytes G1 left later bars leaves = absurd (false≢true later)
+barred_has_none state bytes G2 left later bars leaves = absurd (false≢true later)
+barred_has_none state bytes G3 left later bars leaves = absurd (false≢true later)
+barred_has_none state bytes G4 left later bars leaves = absurd (false≢true later)
+barred_has_none state bytes G5 left later bars leaves =
     let number = channel_of leaves.0.class in
     (leaves.0, leaves.1, subst (λ (v : Volatile). HasNoOffer (channel_at v number)) (sym leaves.2) (placeless_has_none state.volatile number))
+barred_has_none state bytes G6 left later bars leaves =
+    (leaves.0, leaves.1, unsecured_has_none state.volatile leaves.0 left _ (of_one bytes _ leaves.0 leaves.1 bars) leaves.2)
+barred_has_none state bytes G7 left later bars leaves = ended_has_none state bytes left leaves
+barred_has_none state bytes G8 left later bars leaves = ended_has_none state bytes left leaves
 
 pub refusals_drop_offers : RefusalsDropOffers
 refusals_drop_offers state bytes outcome (inl barred) later =
     let by : is_later (G barred.rule) ≡ true = subst (λ (o : Outcome). MatchOption o.rule ⊥ (λ rule. is_later rule ≡ true)) barred.outcome_is later in
     subst (λ (o : Outcome). Of bytes (λ command. HasNoOffer (channel_at o.state.volatile (channel_of command.class)))) (sym barred.outcome_is)
-    (barred_has_none state bytes barred.rule barred.left by barred.leaves)
+    (barred_has_none state bytes barred.rule barred.left by (first_fails (Bars state bytes) general_rules barred.rule barred.first) barred.leaves)
 refusals_drop_offers state bytes outcome (inr (inl refuses)) later =
     let of = refuses.admits.1 in
     let number = channel_of of.0.class in
-    let other = subst (λ (a : Admitted). (a.command.ins == EXTERNAL_AUTHENTICATE) ≡ false) of.2 (is_other refuses.admitted (Some refuses.rule) refuses.judges) in
-    let none = subst (λ (a : Admitted). HasNoOffer (channel_at a.at.volatile number)) (sym of.2) (admitted_has_none state.volatile of.0 other) in
+    let taken = of.2 in
     subst (λ (o : Outcome). Of bytes (λ command. HasNoOffer (channel_at o.state.volatile (channel_of command.class)))) (sym refuses.outcome_is)
-    (of.0, of.1, none)
+    (of.0, of.1, subst (λ (a : Admitted). HasNoOffer (channel_at (refusal_leaves a) number)) (sym taken.3) (admitted_has_none state of.0 taken.0 taken.1))
 refusals_drop_offers state bytes outcome (inr (inr accepts)) later =
     absurd (subst (λ (o : Outcome). MatchOption o.rule ⊥ (λ rule. is_later rule ≡ true)) accepts.outcome_is later)

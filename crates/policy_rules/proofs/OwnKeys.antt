@@ -20,7 +20,7 @@ use Rattle.card_types.specs.Well.{Well}
 use Rattle.card_types.specs.declared.tables.Entry.{Entry}
 use Rattle.card_types.specs.declared.tables.KeyRec.{KeyRec}
 use Rattle.card_types.specs.declared.tables.Tables.{Tables}
-use Rattle.policy_rules.specs.KeyOrder.{follows, is_past, keeps_counter_of, name_order, version_order}
+use Rattle.policy_rules.specs.KeyOrder.{follows, is_past, keeps_counter_of, keeps_counter_with, name_order, version_order}
 use Rattle.policy_rules.specs.KeySets.{lowest_counter}
 use Rattle.policy_rules.specs.declared.key_order.KeyName.{KeyName}
 
@@ -203,3 +203,41 @@ module _ (page : ℕ → List ℕ) (tables : Tables) (said : registry.Registry) 
   lowest_unnamed none =
       no_counter page tables said says (λ counter. same_aid counter.owner aid)
       (λ slot key here fits. none slot key here (counts_is slot key here ∙ fits))
+
+  -- the key that keeps the counter with a key version number
+  numbered_is : (version slot : ℕ) (key : KeyRec) → held tables.keys.items slot ≡ Some key
+      → keeps_counter_with owner version key
+      ≡ (keeps_counter key && (same_aid (counter_of tables.entries.items key).owner aid && (counter_of tables.entries.items key).version == version))
+  numbered_is version slot key here =
+      ap (λ (b : Bool). (keeps_counter key && b) && key.version == version) (own_is slot key here)
+      ∙ and_behind (keeps_counter key) (same_aid (counter_of tables.entries.items key).owner aid) (key.version == version)
+    where
+      and_behind : (a b c : Bool) → ((a && b) && c) ≡ (a && (b && c))
+      and_behind true b c = refl
+      and_behind false b c = refl
+
+  pub numbered_named : (version slot : ℕ) (key : KeyRec) → IsLeast (keeps_counter_with owner version) version_order tables.keys.items slot key
+      → find (λ counter. same_aid counter.owner aid && counter.version == version) said.counters ≡ Some (counter_of tables.entries.items key)
+  numbered_named version slot key least =
+      let test : registry.Counter → Bool = λ counter. same_aid counter.owner aid && counter.version == version in
+      let fits = sym (numbered_is version slot key least.at) ∙ least.fitting in
+      let own = (same_aid_decides (domain_aid tables.entries.items key.owner) aid).0
+      (and_true (same_aid (domain_aid tables.entries.items key.owner) aid) (key.version == version) (and_true (keeps_counter key) (test (counter_of tables.entries.items key)) fits).1).0 in
+      least_counter page tables said says test slot key (record {
+        at = least.at;
+        fitting = fits;
+        least = λ other another here other_fits above.
+            let other_own = (same_aid_decides (domain_aid tables.entries.items another.owner) aid).0
+            (and_true (same_aid (domain_aid tables.entries.items another.owner) aid) (another.version == version)
+            (and_true (keeps_counter another) (test (counter_of tables.entries.items another)) other_fits).1).0 in
+            let equal : aid_order (domain_aid tables.entries.items key.owner) (domain_aid tables.entries.items another.owner) ≡ Equal
+            = ap (aid_order (domain_aid tables.entries.items key.owner)) (other_own ∙ sym own) ∙ aid_equal_itself (domain_aid tables.entries.items key.owner) in
+            least.least other another here (numbered_is version other another here ∙ other_fits)
+            (sym (ap (λ (o : Ordering). ordering_then o (nat_cmp key.version another.version)) equal) ∙ above);
+      })
+
+  pub numbered_unnamed : (version : ℕ) → NoneFits (keeps_counter_with owner version) tables.keys.items
+      → find (λ counter. same_aid counter.owner aid && counter.version == version) said.counters ≡ None
+  numbered_unnamed version none =
+      no_counter page tables said says (λ counter. same_aid counter.owner aid && counter.version == version)
+      (λ slot key here fits. none slot key here (numbered_is version slot key here ∙ fits))

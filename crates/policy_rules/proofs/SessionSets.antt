@@ -21,9 +21,9 @@ use Rattle.card_types.specs.declared.tables.KeyRec.{KeyRec}
 use Rattle.card_types.specs.declared.tables.Tables.{Tables}
 use Rattle.domain_tree.proofs.OnLine.{first_on_line, none_on_line}
 use Rattle.domain_tree.specs.Above.{IsFirstAbove, NoneAbove}
-use Rattle.policy_rules.specs.KeyOrder.{has_set_in, holds_counter_of, keeps_counter_of, version_order}
-use Rattle.policy_rules.specs.KeySets.{OwnsSets, UsesCounter, has_set, lowest_counter}
-use Rattle.policy_rules.proofs.OwnKeys.{lowest_named, lowest_unnamed}
+use Rattle.policy_rules.specs.KeyOrder.{has_set_in, holds_counter_of, keeps_counter_of, keeps_counter_with, version_order}
+use Rattle.policy_rules.specs.KeySets.{OwnsSets, UsesSet, has_set, lowest_counter, set_counter}
+use Rattle.policy_rules.proofs.OwnKeys.{lowest_named, lowest_unnamed, numbered_named, numbered_unnamed}
 
 or_true : (a b : Bool) → (a || b) ≡ true → (a ≡ true → ⊥) → b ≡ true
 or_true true b is none = absurd (none refl)
@@ -65,6 +65,18 @@ module _ (owner : ℕ) where
       by true is rest = (let found = holds first is in absurd (none zero found.0 found.1 found.2))
       by false is rest = rest
 
+  pub a_set : (keys : List (Option KeyRec)) → has_set_in keys owner ≡ true
+      → (slot : ℕ) × (key : KeyRec) × (held keys slot ≡ Some key) × (keeps_counter_of owner key ≡ true)
+  a_set [] has = cc
+  a_set (None ∷ keys) has = (let rest = a_set keys has in (suc rest.0, rest.1, rest.2, rest.3))
+  a_set (Some key ∷ keys) has = by (keeps_counter_of owner key) refl has (a_set keys)
+    where
+      by : (b : Bool) → keeps_counter_of owner key ≡ b → (b || has_set_in keys owner) ≡ true
+          → (has_set_in keys owner ≡ true → (slot : ℕ) × (k : KeyRec) × (held keys slot ≡ Some k) × (keeps_counter_of owner k ≡ true))
+          → (slot : ℕ) × (k : KeyRec) × (held (Some key ∷ keys) slot ≡ Some k) × (keeps_counter_of owner k ≡ true)
+      by true is has more = (zero, key, refl, is)
+      by false is has more = (let rest = more has in (suc rest.0, rest.1, rest.2, rest.3))
+
 -- a domain with a key set has a key that keeps a counter
 pub not_none : {P : Type 0} (owner : ℕ) (keys : List (Option KeyRec)) → has_set_in keys owner ≡ true → NoneFits (keeps_counter_of owner) keys → P
 not_none owner keys some none = (let clash = sym some ∙ no_set owner keys none in cc)
@@ -85,6 +97,19 @@ second_true false b is = cc
 first_true : (a b : Bool) → (a && b) ≡ true → a ≡ true
 first_true true b is = refl
 first_true false b is = cc
+
+-- one domain owns the key sets that a domain uses
+pub owns_once : (said : registry.Registry) (domain a b : List ℕ) → OwnsSets said domain a → OwnsSets said domain b → a ≡ b
+owns_once said domain a b one other =
+    let lines = one_line (registry.domain_of said) domain one.line other.line one.is_line other.is_line in
+    some_of a b (sym one.first ∙ ap (find (has_set said)) lines ∙ other.first)
+
+set_is : (said : registry.Registry) (owner : List ℕ) (version : ℕ) → (version ≡ 0 → ⊥)
+    → set_counter said owner version ≡ find (λ counter. same_aid counter.owner owner && counter.version == version) said.counters
+set_is said owner version some = elim (eqb_tells version 0) [
+  | inl none ↦ absurd (some none.1)
+  | inr other ↦ (let is = other.0 in rw is refl)
+]
 
 module _ (page : ℕ → List ℕ) (tables : Tables) (said : registry.Registry) (says : Says page tables said) (well : Well said) where
   abbrev aid : ℕ → List ℕ
@@ -148,38 +173,76 @@ module _ (page : ℕ → List ℕ) (tables : Tables) (said : registry.Registry) 
       first = line_found domain slots line ∙ ap (option_map aid) found;
     }
 
-    uses_lowest : (owner : ℕ) (slot : ℕ) (key : KeyRec) → OwnsSets said (aid domain) (aid owner)
-        → IsLeast (keeps_counter_of owner) version_order tables.keys.items slot key → UsesCounter said (aid domain) (counter_of tables.entries.items key)
-    uses_lowest owner slot key owns least =
-        let used = key_owner_is_used page tables said says well slot key least.at in
-        let own = owner_is key.owner owner (second_true (keeps_counter key) (key.owner == owner) least.fitting) in
-        (aid owner, owns, lowest_named page tables said says well owner used.0 (subst (λ (n : ℕ). held tables.entries.items n ≡ Some used.0) own used.1) slot key least)
-
     -- the domain's own sets are used
-    pub uses_own : (slot : ℕ) (key : KeyRec) → IsLeast (keeps_counter_of domain) version_order tables.keys.items slot key
-        → UsesCounter said (aid domain) (counter_of tables.entries.items key)
-    uses_own slot key least =
+    pub owns_own : has_set_in tables.keys.items domain ≡ true → OwnsSets said (aid domain) (aid domain)
+    owns_own has =
         let line = line_in_slots page tables said says well domain entry at in
-        let has = any_held domain tables.keys.items slot key least.at least.fitting in
-        uses_lowest domain slot key (found_on line.0 domain line.1 (own_first domain line.0 line.1 has)) least
+        found_on line.0 domain line.1 (own_first domain line.0 line.1 has)
 
     -- or those of the nearest domain above
-    pub uses_above : (owner slot : ℕ) (key : KeyRec) → NoneFits (keeps_counter_of domain) tables.keys.items
-        → IsFirstAbove (domain_slot tables.entries.items) (has_set_in tables.keys.items) domain owner
-        → IsLeast (keeps_counter_of owner) version_order tables.keys.items slot key → UsesCounter said (aid domain) (counter_of tables.entries.items key)
-    uses_above owner slot key none above least =
+    pub owns_above : (owner : ℕ) → has_set_in tables.keys.items domain ≡ false
+        → IsFirstAbove (domain_slot tables.entries.items) (has_set_in tables.keys.items) domain owner → OwnsSets said (aid domain) (aid owner)
+    owns_above owner none above =
         let line = line_in_slots page tables said says well domain entry at in
-        let found = first_on_line (domain_slot tables.entries.items) (has_set_in tables.keys.items) domain line.0 owner line.1 (no_set domain tables.keys.items none) above in
-        uses_lowest owner slot key (found_on line.0 owner line.1 found) least
+        let found = first_on_line (domain_slot tables.entries.items) (has_set_in tables.keys.items) domain line.0 owner line.1 none above in
+        found_on line.0 owner line.1 found
 
     -- or there are none
-    pub uses_none : NoneFits (keeps_counter_of domain) tables.keys.items
-        → NoneAbove (domain_slot tables.entries.items) (has_set_in tables.keys.items) domain
-        → (counter : registry.Counter) → UsesCounter said (aid domain) counter → ⊥
-    uses_none none above counter uses =
+    pub owns_none : has_set_in tables.keys.items domain ≡ false → NoneAbove (domain_slot tables.entries.items) (has_set_in tables.keys.items) domain
+        → (owner : List ℕ) → OwnsSets said (aid domain) owner → ⊥
+    owns_none none above owner owns =
         let line = line_in_slots page tables said says well domain entry at in
-        let found = none_on_line (domain_slot tables.entries.items) (has_set_in tables.keys.items) domain line.0 line.1 (no_set domain tables.keys.items none) above in
+        let found = none_on_line (domain_slot tables.entries.items) (has_set_in tables.keys.items) domain line.0 line.1 none above in
         let named = line_named page tables said says domain line.0 line.1 in
-        let owns = uses.1 in
         let same = one_line (registry.domain_of said) (aid domain) (map aid line.0) owns.line named owns.is_line in
-        let clash = sym (line_found domain line.0 line.1 ∙ ap (option_map aid) found) ∙ ap (find (has_set said)) same ∙ owns.first in cc
+        let clash = sym (line_found domain line.0 line.1 ∙ ap (option_map aid) found) ∙ ap (find (has_set said)) same ∙ owns.first in
+        cc
+
+    owned_by : (owner : ℕ) (key : KeyRec) → keeps_counter_of owner key ≡ true → key.owner ≡ owner
+    owned_by owner key keeps = owner_is key.owner owner (second_true (keeps_counter key) (key.owner == owner) keeps)
+
+    -- the domain in a slot is used where a key is its
+    used_by : (owner slot : ℕ) (key : KeyRec) → held tables.keys.items slot ≡ Some key → keeps_counter_of owner key ≡ true
+        → (e : Entry) × (held tables.entries.items owner ≡ Some e)
+    used_by owner slot key here keeps =
+        let used = key_owner_is_used page tables said says well slot key here in
+        (used.0, subst (λ (n : ℕ). held tables.entries.items n ≡ Some used.0) (owned_by owner key keeps) used.1)
+
+    module _ (owner : ℕ) (owns : OwnsSets said (aid domain) (aid owner)) where
+      owns_key : (key : KeyRec) → keeps_counter_of owner key ≡ true → OwnsSets said (aid domain) (aid key.owner)
+      owns_key key keeps = subst (λ (n : ℕ). OwnsSets said (aid domain) (aid n)) (sym (owned_by owner key keeps)) owns
+
+      -- the lowest key set of the owner is the one that 00 asks for
+      pub uses_lowest : (slot : ℕ) (key : KeyRec) → IsLeast (keeps_counter_of owner) version_order tables.keys.items slot key
+          → UsesSet said (aid domain) 0 (aid key.owner) (counter_of tables.entries.items key)
+      uses_lowest slot key least =
+          let used = used_by owner slot key least.at least.fitting in
+          let own = owned_by owner key least.fitting in (
+            owns_key key least.fitting,
+            subst (λ (n : ℕ). lowest_counter said (aid n) ≡ Some (counter_of tables.entries.items key)) (sym own)
+                (lowest_named page tables said says well owner used.0 used.1 slot key least),
+          )
+
+      -- and the one with a key version number is the one that this asks for
+      pub uses_numbered : (version slot : ℕ) (key : KeyRec) → (version ≡ 0 → ⊥)
+          → IsLeast (keeps_counter_with owner version) version_order tables.keys.items slot key
+          → UsesSet said (aid domain) version (aid key.owner) (counter_of tables.entries.items key)
+      uses_numbered version slot key some least =
+          let keeps = first_true (keeps_counter_of owner key) (key.version == version) least.fitting in
+          let used = used_by owner slot key least.at keeps in
+          let own = owned_by owner key keeps in (
+            owns_key key keeps,
+            subst (λ (n : ℕ). set_counter said (aid n) version ≡ Some (counter_of tables.entries.items key)) (sym own)
+                (set_is said (aid owner) version some ∙ numbered_named page tables said says well owner used.0 used.1 version slot key least),
+          )
+
+      pub uses_no_number : (version : ℕ) → (version ≡ 0 → ⊥) → has_set_in tables.keys.items owner ≡ true
+          → NoneFits (keeps_counter_with owner version) tables.keys.items
+          → (other : List ℕ) (counter : registry.Counter) → UsesSet said (aid domain) version other counter → ⊥
+      uses_no_number version some has none other counter uses =
+          let key = a_set owner tables.keys.items has in
+          let used = used_by owner key.0 key.1 key.2 key.3 in
+          let owner_same = owns_once said (aid domain) other (aid owner) uses.0 owns in
+          let clash = sym (set_is said (aid owner) version some ∙ numbered_unnamed page tables said says well owner used.0 used.1 version none)
+          ∙ subst (λ (o : List ℕ). set_counter said o version ≡ Some counter) owner_same uses.1 in
+          cc

@@ -1,18 +1,19 @@
 -- What every command passes before the rules of its own are judged: the bytes become a command (G1), then class, channel,
--- instruction and card are checked (G2 to G5), and then the session, which no command has yet. A stage says what a refusal
--- at it leaves, and what passing it changes.
-use Rattle.std.specs.Prelude.{◌≡◌, ◌≢◌, ◌⊎◌, ℕ, List, [], ◌∷◌, Bool, true, false, ◌&&◌, not, Option, None, Some, MatchOption, if◌then◌else◌, ◌==◌}
+-- instruction and card are checked (G2 to G5), and then secure messaging (G6 to G8). A stage says what a refusal at it leaves,
+-- and what passing it changes.
+use Rattle.std.specs.Prelude.{◌≡◌, ◌≢◌, ◌⊎◌, ℕ, List, [], ◌∷◌, Bool, true, false, Option, None, Some, MatchOption, if◌then◌else◌, ◌==◌}
 use Rattle.apdu_core.specs.Apdu.{Apdu, Short}
 use Rattle.card_types.specs.Registry.{entry_named, is_domain}
 use Rattle.card_types.specs.declared.card_life.CardLife.TheVariants.{Terminated}
-use Rattle.policy_rules.specs.Classes.{class_of, channel_of, is_secure, IsKnown, IsPlainGetData}
+use Rattle.policy_rules.specs.Classes.{class_of, channel_of, is_protected, IsKnown, IsPlainGetData, IsPlainManagement}
 use Rattle.policy_rules.specs.FirstFailing.{IsFirst}
 use Rattle.policy_rules.specs.State.{State}
-use Rattle.policy_rules.specs.Volatile.{Channel, Standing, Volatile, channel_at, selected_on, with_channel, without_load, without_offer}
-use Rattle.policy_rules.specs.declared.class.Class.{Class}
+use Rattle.policy_rules.specs.Volatile.{Channel, Secured, Standing, Volatile, channel_at, selected_on, session_on, with_channel, with_standing, without_load, without_offer, without_session}
 use Rattle.policy_rules.specs.declared.instruction.TheConstants.{SELECT, MANAGE_CHANNEL, EXTERNAL_AUTHENTICATE, LOAD}
 use Rattle.policy_rules.specs.declared.rule.RuleG.{RuleG}
-use Rattle.policy_rules.specs.declared.rule.RuleG.TheVariants.{G1, G2, G3, G4, G5}
+use Rattle.policy_rules.specs.declared.rule.RuleG.TheVariants.{G1, G2, G3, G4, G5, G6, G7, G8}
+use Rattle.scp03_card.specs.Opens.{Gives, IsAuthentic, Opens, accepting, field_of}
+use Rattle.scp03_card.specs.Session.{Session}
 
 -- the bytes are a command of which this holds
 abbrev pub Of : List ℕ → (Apdu → Type 0) → Type 0
@@ -27,6 +28,14 @@ abbrev pub IsToApplication : State → Apdu → Type 0
 IsToApplication state command =
     MatchOption (entry_named state.registry (selected_on state.volatile (channel_of command.class))) ⊥ (λ entry. is_domain entry ≡ false)
 
+-- the session on the command's channel
+abbrev pub session_for : State → Apdu → Option Session
+session_for state command = session_on state.volatile (channel_of command.class)
+
+-- the command is protected, and this holds of the session of its channel
+abbrev pub InSession : State → Apdu → (Session → Type 0) → Type 0
+InSession state command holds = (is_protected command ≡ true) × MatchOption (session_for state command) ⊥ holds
+
 -- where a general rule fails
 abbrev pub Bars : State → List ℕ → RuleG → Type 0
 -- the bytes are no short command
@@ -40,10 +49,20 @@ Bars state bytes G4 = Of bytes (λ command.
     (IsKnown command.class command.ins → ⊥) ⊎ (IsToApplication state command × (command.ins ≢ SELECT) × (command.ins ≢ MANAGE_CHANNEL)))
 -- a terminated card answers GET DATA alone
 Bars state bytes G5 = Of bytes (λ command. (state.registry.life ≡ Terminated) × (IsPlainGetData command → ⊥))
+-- a command of card content management has no secure messaging, or secure messaging has no session
+Bars state bytes G6 = Of bytes (λ command. IsPlainManagement command ⊎ ((is_protected command ≡ true) × (session_for state command ≡ None)))
+-- the C-MAC is missing or wrong
+Bars state bytes G7 = Of bytes (λ command. InSession state command (λ session. IsAuthentic session command → ⊥))
+-- the data field can't be deciphered
+Bars state bytes G8 = Of bytes (λ command. InSession state command (λ session.
+    (plain : List ℕ) → Gives (accepting session command) (field_of command) plain → ⊥))
 
--- in the order in which they are judged
+-- in the order in which they are judged: those of the bytes, the class, the channel and the instruction, and then all
+abbrev pub command_rules : List RuleG
+command_rules = G1 ∷ G2 ∷ G3 ∷ G4 ∷ []
+
 abbrev pub general_rules : List RuleG
-general_rules = G1 ∷ G2 ∷ G3 ∷ G4 ∷ G5 ∷ []
+general_rules = G1 ∷ G2 ∷ G3 ∷ G4 ∷ G5 ∷ G6 ∷ G7 ∷ G8 ∷ []
 
 abbrev pub offer_passed : Bool → Standing → Standing
 offer_passed true standing = standing
@@ -62,41 +81,64 @@ placeless volatile number keeps = with_channel volatile number (channel_passed k
 abbrev pub class_passed : Volatile → Apdu → Volatile
 class_passed volatile command = placeless volatile (channel_of command.class) (command.ins == EXTERNAL_AUTHENTICATE)
 
+-- the session of a protected command has its message then
+abbrev pub message_joined : Volatile → ℕ → Option Session → Volatile
+message_joined volatile number None = volatile
+message_joined volatile number (Some session) = with_standing volatile number (Secured session)
+
 -- Behind the session's check the channel's load session ends, unless the command goes on with it.
 abbrev pub session_passed : Volatile → Apdu → Volatile
 session_passed volatile command = if command.ins == LOAD then volatile else without_load volatile (channel_of command.class)
 
--- what a refusal by a general rule leaves: nothing changes up to G4, and at G5 any offer is dropped
+-- the channel's session has ended
+abbrev pub SessionEnds : State → List ℕ → Volatile → Type 0
+SessionEnds state bytes left = Of bytes (λ command. left ≡ without_session (class_passed state.volatile command) (channel_of command.class))
+
+-- what a refusal by a general rule leaves: nothing changes up to G4, at G5 any offer is dropped, and from G6 on a session ends,
+-- unless there is none
 abbrev pub Leaves : State → List ℕ → RuleG → Volatile → Type 0
 Leaves state bytes G1 left = left ≡ state.volatile
 Leaves state bytes G2 left = left ≡ state.volatile
 Leaves state bytes G3 left = left ≡ state.volatile
 Leaves state bytes G4 left = left ≡ state.volatile
 Leaves state bytes G5 left = Of bytes (λ command. left ≡ placeless state.volatile (channel_of command.class) false)
+Leaves state bytes G6 left = Of bytes (λ command.
+    (IsPlainManagement command × (left ≡ without_session (class_passed state.volatile command) (channel_of command.class)))
+    ⊎ ((IsPlainManagement command → ⊥) × (left ≡ class_passed state.volatile command)))
+Leaves state bytes G7 left = SessionEnds state bytes left
+Leaves state bytes G8 left = SessionEnds state bytes left
 
--- a command that has passed: the card before it and the card as its own rules judge it, the channel, the command in plain,
--- and whether its reply is protected
+-- a command that has passed: the card before it and the card as its own rules judge it, the channel, the command in plain, and
+-- the session that protects its reply, with its message, where it is protected
 pub record Admitted : Type 0 where
   pub before : State
   pub at : State
   pub channel : ℕ
   pub command : Apdu
-  pub is_protected : Bool
+  pub session : Option Session
 
--- secure messaging protects the replies, but not that to EXTERNAL AUTHENTICATE
-abbrev pub protects : Option Class → ℕ → Bool
-protects None ins = false
-protects (Some class) ins = is_secure class && not (ins == EXTERNAL_AUTHENTICATE)
+-- A command is taken as it is, or where it is protected, as what it opens to in the session of its channel.
+abbrev pub IsTaken : State → Apdu → Option Session → List ℕ → Type 0
+IsTaken state command None plain = (is_protected command ≡ false) × (plain ≡ command.body)
+IsTaken state command (Some accepted) plain =
+    InSession state command (λ session. Opens session command plain × (accepted ≡ accepting session command))
 
-abbrev pub admitted_as : State → Apdu → Admitted
-admitted_as state command = record {
-  before = state;
-  at = record { registry = state.registry; volatile = session_passed (class_passed state.volatile command) command };
-  channel = channel_of command.class;
-  command = command;
-  is_protected = protects (class_of command.class) command.ins;
-}
+abbrev pub in_plain : Apdu → List ℕ → Apdu
+in_plain command plain = record { class = command.class; ins = command.ins; p1 = command.p1; p2 = command.p2; body = plain; le = command.le }
+
+abbrev pub admitted_as : State → Apdu → Option Session → List ℕ → Admitted
+admitted_as state command session plain =
+    let number = channel_of command.class in
+    record {
+      before = state;
+      at = record { registry = state.registry; volatile = session_passed (message_joined (class_passed state.volatile command) number session) command };
+      channel = number;
+      command = in_plain command plain;
+      session = session;
+    }
 
 -- the bytes pass as this command
 abbrev pub Admits : State → List ℕ → Admitted → Type 0
-Admits state bytes admitted = IsFirst (Bars state bytes) general_rules None × Of bytes (λ command. admitted ≡ admitted_as state command)
+Admits state bytes admitted =
+    IsFirst (Bars state bytes) general_rules None
+    × Of bytes (λ command. (session : Option Session) × (plain : List ℕ) × IsTaken state command session plain × (admitted ≡ admitted_as state command session plain))

@@ -1,9 +1,9 @@
 -- Class bytes and instructions (ISO/IEC 7816-4:2013, 5.4 and 5.5; GlobalPlatform Card Specification 2.3.1, 11.1.4).
-use Rattle.std.specs.Prelude.{◌≡◌, ℕ, Bool, true, false, ◌/◌, ◌%◌, List, [], ◌∷◌, Option, None, Some, if◌then◌else◌, ◌==◌, Contains, MatchOption}
+use Rattle.std.specs.Prelude.{◌≡◌, ℕ, Bool, true, false, ◌&&◌, not, ◌/◌, ◌%◌, List, [], ◌∷◌, Option, None, Some, if◌then◌else◌, ◌==◌, Contains, MatchOption}
 use Rattle.apdu_core.specs.Apdu.{Apdu}
 use Rattle.policy_rules.specs.declared.class.Class.{Class}
 use Rattle.policy_rules.specs.declared.class.Class.TheVariants.{Interindustry, Plain, Secure}
-use Rattle.policy_rules.specs.declared.instruction.TheConstants.{SELECT, MANAGE_CHANNEL, GET_DATA}
+use Rattle.policy_rules.specs.declared.instruction.TheConstants.{SELECT, MANAGE_CHANNEL, GET_DATA, INITIALIZE_UPDATE, EXTERNAL_AUTHENTICATE}
 
 -- the class of a class byte, whatever its channel
 abbrev pub class_of : ℕ → Option Class
@@ -20,8 +20,8 @@ channel_of byte = byte % 4
 -- the instructions of a class, as far as they are built
 abbrev pub instructions_of : Class → List ℕ
 instructions_of Interindustry = SELECT ∷ MANAGE_CHANNEL ∷ GET_DATA ∷ []
-instructions_of Plain = GET_DATA ∷ []
-instructions_of Secure = []
+instructions_of Plain = GET_DATA ∷ INITIALIZE_UPDATE ∷ []
+instructions_of Secure = EXTERNAL_AUTHENTICATE ∷ GET_DATA ∷ []
 
 abbrev pub IsKnown : ℕ → ℕ → Type 0
 IsKnown byte ins = MatchOption (class_of byte) ⊥ (λ class. Contains (instructions_of class) ins)
@@ -31,6 +31,22 @@ abbrev pub is_secure : Class → Bool
 is_secure Interindustry = false
 is_secure Plain = false
 is_secure Secure = true
+
+-- DELETE, INSTALL, LOAD, PUT KEY, STORE DATA, SET STATUS and GET STATUS: the instructions of card content management
+abbrev pub management : List ℕ
+management = 0xE4 ∷ 0xE6 ∷ 0xE8 ∷ 0xD8 ∷ 0xE2 ∷ 0xF0 ∷ 0xF2 ∷ []
+
+-- one of them outside of secure messaging
+abbrev pub IsPlainManagement : Apdu → Type 0
+IsPlainManagement command = (class_of command.class ≡ Some Plain) × Contains management command.ins
+
+-- in secure messaging each command is protected by the session of its channel, but for EXTERNAL AUTHENTICATE, which opens it
+abbrev pub protects : Option Class → ℕ → Bool
+protects None ins = false
+protects (Some class) ins = is_secure class && not (ins == EXTERNAL_AUTHENTICATE)
+
+abbrev pub is_protected : Apdu → Bool
+is_protected command = protects (class_of command.class) command.ins
 
 -- GET DATA outside of secure messaging
 abbrev pub IsPlainGetData : Apdu → Type 0

@@ -1,38 +1,57 @@
 -- The commands: for each instruction the rules of its own, and what it does.
-use Rattle.std.specs.Prelude.{◌≡◌, ◌⊎◌, ℕ, List, Option}
+use Rattle.std.specs.Prelude.{ℕ, List, Option, MatchOption}
 use Rattle.policy_rules.specs.Admission.{Admitted}
+use Rattle.policy_rules.specs.ExternalAuthenticate.{ExternalAuthenticateDoes, ExternalAuthenticateFails, ExternalAuthenticateField, ExternalAuthenticateParameters, external_authenticate_rules}
 use Rattle.policy_rules.specs.FirstFailing.{IsFirst}
 use Rattle.policy_rules.specs.GetData.{GetDataDoes, GetDataFails, GetDataField, get_data_rules}
+use Rattle.policy_rules.specs.InitializeUpdate.{InitializeUpdateDoes, InitializeUpdateFails, InitializeUpdateField, InitializeUpdateParameters, initialize_update_rules}
+use Rattle.policy_rules.specs.Instructions.{ExternalAuthenticate, GetData, InitializeUpdate, Instruction, ManageChannel, Select, instruction_of}
 use Rattle.policy_rules.specs.ManageChannel.{ManageChannelDoes, ManageChannelFails, ManageChannelField, ManageChannelParameters, manage_channel_rules}
 use Rattle.policy_rules.specs.Select.{SelectDoes, SelectFails, SelectField, SelectParameters, select_rules}
 use Rattle.policy_rules.specs.State.{Effect}
-use Rattle.policy_rules.specs.declared.instruction.TheConstants.{SELECT, MANAGE_CHANNEL, GET_DATA}
 use Rattle.policy_rules.specs.declared.rule.Rule.{Rule}
 
 -- the instruction takes this P1 and P2
-abbrev pub HasParameters : ℕ → ℕ → ℕ → Type 0
-HasParameters ins p1 p2 =
-    ((ins ≡ SELECT) × SelectParameters p1 p2)
-    ⊎ ((ins ≡ MANAGE_CHANNEL) × ManageChannelParameters p1 p2)
-    ⊎ (ins ≡ GET_DATA)
+abbrev pub Takes : Instruction → ℕ → ℕ → Type 0
+Takes Select p1 p2 = SelectParameters p1 p2
+Takes ManageChannel p1 p2 = ManageChannelParameters p1 p2
+Takes GetData p1 p2 = Unit {0}
+Takes InitializeUpdate p1 p2 = InitializeUpdateParameters p2
+Takes ExternalAuthenticate p1 p2 = ExternalAuthenticateParameters p1 p2
 
 -- and this data field
-abbrev pub HasDataField : ℕ → List ℕ → Type 0
-HasDataField ins body =
-    ((ins ≡ SELECT) × SelectField body)
-    ⊎ ((ins ≡ MANAGE_CHANNEL) × ManageChannelField body)
-    ⊎ ((ins ≡ GET_DATA) × GetDataField body)
+abbrev pub TakesField : Instruction → List ℕ → Type 0
+TakesField Select body = SelectField body
+TakesField ManageChannel body = ManageChannelField body
+TakesField GetData body = GetDataField body
+TakesField InitializeUpdate body = InitializeUpdateField body
+TakesField ExternalAuthenticate body = ExternalAuthenticateField body
 
 -- the first of the command's own rules that fails, or none
-abbrev pub Judges : Admitted → Option Rule → Type 0
-Judges admitted found =
-    ((admitted.command.ins ≡ SELECT) × IsFirst (SelectFails admitted) select_rules found)
-    ⊎ ((admitted.command.ins ≡ MANAGE_CHANNEL) × IsFirst (ManageChannelFails admitted) manage_channel_rules found)
-    ⊎ ((admitted.command.ins ≡ GET_DATA) × IsFirst (GetDataFails admitted) get_data_rules found)
+abbrev pub JudgesAs : Instruction → Admitted → Option Rule → Type 0
+JudgesAs Select admitted found = IsFirst (SelectFails admitted) select_rules found
+JudgesAs ManageChannel admitted found = IsFirst (ManageChannelFails admitted) manage_channel_rules found
+JudgesAs GetData admitted found = IsFirst (GetDataFails admitted) get_data_rules found
+JudgesAs InitializeUpdate admitted found = IsFirst (InitializeUpdateFails admitted) initialize_update_rules found
+JudgesAs ExternalAuthenticate admitted found = IsFirst (ExternalAuthenticateFails admitted) external_authenticate_rules found
 
 -- what it does, where none of them fails
+abbrev pub DoesAs : Instruction → Admitted → Effect → Type 0
+DoesAs Select admitted done = SelectDoes admitted done
+DoesAs ManageChannel admitted done = ManageChannelDoes admitted done
+DoesAs GetData admitted done = GetDataDoes admitted done
+DoesAs InitializeUpdate admitted done = InitializeUpdateDoes admitted done
+DoesAs ExternalAuthenticate admitted done = ExternalAuthenticateDoes admitted done
+
+-- the same of an instruction byte
+abbrev pub HasParameters : ℕ → ℕ → ℕ → Type 0
+HasParameters ins p1 p2 = MatchOption (instruction_of ins) ⊥ (λ instruction. Takes instruction p1 p2)
+
+abbrev pub HasDataField : ℕ → List ℕ → Type 0
+HasDataField ins body = MatchOption (instruction_of ins) ⊥ (λ instruction. TakesField instruction body)
+
+abbrev pub Judges : Admitted → Option Rule → Type 0
+Judges admitted found = MatchOption (instruction_of admitted.command.ins) ⊥ (λ instruction. JudgesAs instruction admitted found)
+
 abbrev pub Does : Admitted → Effect → Type 0
-Does admitted done =
-    ((admitted.command.ins ≡ SELECT) × SelectDoes admitted done)
-    ⊎ ((admitted.command.ins ≡ MANAGE_CHANNEL) × ManageChannelDoes admitted done)
-    ⊎ ((admitted.command.ins ≡ GET_DATA) × GetDataDoes admitted done)
+Does admitted done = MatchOption (instruction_of admitted.command.ins) ⊥ (λ instruction. DoesAs instruction admitted done)

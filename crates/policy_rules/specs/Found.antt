@@ -5,7 +5,8 @@ use Rattle.card_types.specs.Least.{IsLeast}
 use Rattle.card_types.specs.Registry.{Registry}
 use Rattle.card_types.specs.Says.{domain_aid}
 use Rattle.card_types.specs.declared.tables.Tables.{Tables}
-use Rattle.policy_rules.specs.GetData.{IsDataObject, IsSequenceCounter, counter_bytes}
+use Rattle.scp03_card.specs.Offer.{counter_bytes}
+use Rattle.policy_rules.specs.GetData.{IsDataObject, IsSequenceCounter}
 use Rattle.policy_rules.specs.KeyOrder.{follows, name_order}
 use Rattle.policy_rules.specs.declared.get_data.Datum.{Datum}
 use Rattle.policy_rules.specs.declared.get_data.Datum.TheVariants.{Keys, Counter, Object}

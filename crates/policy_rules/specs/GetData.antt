@@ -1,14 +1,15 @@
 -- GET DATA (ISO/IEC 7816-4:2013, chapter 11; GlobalPlatform Card Specification 2.3.1, 11.3; Amendment D, chapter 7 for the
 -- sequence counter).
-use Rattle.std.specs.Prelude.{◌≡◌, ◌≢◌, ◌⊎◌, ℕ, ◌+◌, ◌*◌, ◌/◌, ◌%◌, List, [], ◌∷◌, map, length, Some, codes}
+use Rattle.std.specs.Prelude.{◌≡◌, ◌≢◌, ◌⊎◌, ℕ, ◌+◌, ◌*◌, List, [], ◌∷◌, map, length, Some, codes}
 use Rattle.bertlv.specs.Spelling.{AreElements, Element, Spelling}
 use Rattle.card_types.specs.Registry.{Key, Counter, Object, Registry, keys_of, object_named}
+use Rattle.scp03_card.specs.Offer.{counter_bytes}
 use Rattle.policy_rules.specs.Admission.{Admitted}
 use Rattle.policy_rules.specs.KeySets.{UsesCounter}
 use Rattle.policy_rules.specs.State.{Effect}
 use Rattle.policy_rules.specs.Volatile.{selected_on}
 use Rattle.policy_rules.specs.declared.rule.Rule.{Rule}
-use Rattle.policy_rules.specs.declared.rule.Rule.TheVariants.{G, PS, SE, MC, GD}
+use Rattle.policy_rules.specs.declared.rule.Rule.TheVariants.{G, PS, M, SE, MC, GD, IU, EA}
 use Rattle.policy_rules.specs.declared.rule.RulePS.TheVariants.{P, S}
 use Rattle.policy_rules.specs.declared.get_data.RuleGD.{RuleGD}
 use Rattle.policy_rules.specs.declared.get_data.RuleGD.TheVariants.{GD1}
@@ -23,9 +24,6 @@ tag_of p1 p2 = p1 * 256 + p2
 -- what the key information template says of a key (11.3.3.1): identifier, version, AES, and length
 abbrev pub key_information : Key → Element
 key_information key = record { tag = 0xC0; value = key.identifier ∷ key.version ∷ 0x88 ∷ length key.bytes ∷ [] }
-
-abbrev pub counter_bytes : ℕ → List ℕ
-counter_bytes number = number / 0x10000 ∷ number / 0x100 % 0x100 ∷ number % 0x100 ∷ []
 
 -- the key information template, of a domain that has a key
 abbrev pub IsKeyInformation : Registry → List ℕ → List ℕ → Type 0
@@ -67,6 +65,9 @@ GetDataFails admitted (PS S) = GetDataField admitted.command.body → ⊥
 -- there is no such data
 GetDataFails admitted (GD GD1) = (value : List ℕ) → AsksFor admitted value → ⊥
 GetDataFails admitted (G rule) = ⊥
+GetDataFails admitted (M rule) = ⊥
+GetDataFails admitted (IU rule) = ⊥
+GetDataFails admitted (EA rule) = ⊥
 GetDataFails admitted (SE rule) = ⊥
 GetDataFails admitted (MC rule) = ⊥
 

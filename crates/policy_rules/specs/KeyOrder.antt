@@ -22,6 +22,10 @@ follows owner after key = (key.owner == owner) && is_past after key
 abbrev pub keeps_counter_of : ℕ → KeyRec → Bool
 keeps_counter_of owner key = (key.identifier == 1 && nat_lt key.version 0x70) && key.owner == owner
 
+-- that of the key set with this key version number
+abbrev pub keeps_counter_with : ℕ → ℕ → KeyRec → Bool
+keeps_counter_with owner version key = keeps_counter_of owner key && key.version == version
+
 abbrev pub version_order : KeyRec → KeyRec → Ordering
 version_order a b = nat_cmp a.version b.version
 

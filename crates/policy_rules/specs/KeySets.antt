@@ -1,6 +1,6 @@
 -- Which key sets a session uses: those of the domain itself, or where it has none, those of the nearest domain above it
 -- that has one. This is the profile's own choice (Amendment D, 7.1.1, leaves it open).
-use Rattle.std.specs.Prelude.{◌≡◌, ℕ, List, Bool, Option, Some, find, is_some}
+use Rattle.std.specs.Prelude.{◌≡◌, ℕ, List, Bool, Option, Some, find, is_some, ◌==◌, ◌&&◌, if◌then◌else◌}
 use Rattle.card_types.specs.AidOrder.{same_aid}
 use Rattle.card_types.specs.Hierarchy.{IsLine}
 use Rattle.card_types.specs.Registry.{Counter, Registry, domain_of}
@@ -21,3 +21,13 @@ pub record OwnsSets (registry : Registry) (domain owner : List ℕ) : Type 0 whe
 -- the counter of the key set with the lowest key version number, of those that a session of the domain would use
 abbrev pub UsesCounter : Registry → List ℕ → Counter → Type 0
 UsesCounter registry domain counter = (owner : List ℕ) × OwnsSets registry domain owner × (lowest_counter registry owner ≡ Some counter)
+
+-- the counter of a domain's key set with this key version number; 00 asks for the lowest (Amendment D, 7.1.1)
+abbrev pub set_counter : Registry → List ℕ → ℕ → Option Counter
+set_counter registry owner version =
+    if version == 0 then lowest_counter registry owner
+    else find (λ counter. same_aid counter.owner owner && counter.version == version) registry.counters
+
+-- the key set that a session of the domain would use, by its counter
+abbrev pub UsesSet : Registry → List ℕ → ℕ → List ℕ → Counter → Type 0
+UsesSet registry domain version owner counter = OwnsSets registry domain owner × (set_counter registry owner version ≡ Some counter)

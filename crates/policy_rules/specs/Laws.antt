@@ -1,5 +1,6 @@
 -- The laws of the policy machine.
 use Rattle.std.specs.Prelude.{◌≡◌, ℕ, List, Bool, true, false, Option, MatchOption}
+use Rattle.card_types.specs.Ascending.{IsAscending}
 use Rattle.card_types.specs.Registry.{Registry}
 use Rattle.card_types.specs.Well.{Well}
 use Rattle.policy_rules.specs.Admission.{Of}
@@ -10,12 +11,12 @@ use Rattle.policy_rules.specs.State.{State, powered_on}
 use Rattle.policy_rules.specs.Step.{Outcome, Step}
 use Rattle.policy_rules.specs.Volatile.{Channel, Nothing, Offered, Secured, Standing, channel_at}
 use Rattle.policy_rules.specs.declared.rule.Rule.{Rule}
-use Rattle.policy_rules.specs.declared.rule.Rule.TheVariants.{G, PS, SE, MC, GD}
-use Rattle.policy_rules.specs.declared.rule.RuleG.TheVariants.{G1, G2, G3, G4, G5}
+use Rattle.policy_rules.specs.declared.rule.Rule.TheVariants.{G, PS, M, SE, MC, GD, IU, EA}
+use Rattle.policy_rules.specs.declared.rule.RuleG.TheVariants.{G1, G2, G3, G4, G5, G6, G7, G8}
 
 -- a card that is powered on is sound
 abbrev pub StartsSound : Type 0
-StartsSound = (registry : Registry) → Well registry → IsSound (powered_on registry)
+StartsSound = (registry : Registry) → Well registry → IsAscending registry → IsSound (powered_on registry)
 
 -- each step from a sound state leads to a sound one
 abbrev pub StepsKeepSound : Type 0
@@ -38,10 +39,16 @@ is_later (G G2) = false
 is_later (G G3) = false
 is_later (G G4) = false
 is_later (G G5) = true
+is_later (G G6) = true
+is_later (G G7) = true
+is_later (G G8) = true
 is_later (PS rule) = true
 is_later (SE rule) = true
 is_later (MC rule) = true
 is_later (GD rule) = true
+is_later (M rule) = true
+is_later (IU rule) = true
+is_later (EA rule) = true
 
 abbrev pub IsOffered : Standing → Type 0
 IsOffered Nothing = ⊥

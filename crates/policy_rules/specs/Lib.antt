@@ -1,13 +1,17 @@
 pub mod Admission
 pub mod Classes
 pub mod Commands
+pub mod ExternalAuthenticate
 pub mod FirstFailing
 pub mod Found
 pub mod GetData
+pub mod InitializeUpdate
+pub mod Instructions
 pub mod KeyOrder
 pub mod KeySets
 pub mod Laws
 pub mod ManageChannel
+pub mod Management
 pub mod Means
 pub mod Rules
 pub mod Run

@@ -6,7 +6,7 @@ use Rattle.policy_rules.specs.Admission.{Admitted}
 use Rattle.policy_rules.specs.State.{Effect}
 use Rattle.policy_rules.specs.Volatile.{Channel, channel_at, fresh, with_channel, without_channel}
 use Rattle.policy_rules.specs.declared.rule.Rule.{Rule}
-use Rattle.policy_rules.specs.declared.rule.Rule.TheVariants.{G, PS, SE, MC, GD}
+use Rattle.policy_rules.specs.declared.rule.Rule.TheVariants.{G, PS, M, SE, MC, GD, IU, EA}
 use Rattle.policy_rules.specs.declared.rule.RulePS.TheVariants.{P, S}
 use Rattle.policy_rules.specs.declared.manage_channel.RuleMC.{RuleMC}
 use Rattle.policy_rules.specs.declared.manage_channel.RuleMC.TheVariants.{MC1}
@@ -40,6 +40,9 @@ ManageChannelFails admitted (PS S) = ManageChannelField admitted.command.body �
 -- a channel is to be opened, and none is closed
 ManageChannelFails admitted (MC MC1) = (admitted.command.p1 ≡ 0x00) × (lowest_closed admitted.at.volatile.channels ≡ None)
 ManageChannelFails admitted (G rule) = ⊥
+ManageChannelFails admitted (M rule) = ⊥
+ManageChannelFails admitted (IU rule) = ⊥
+ManageChannelFails admitted (EA rule) = ⊥
 ManageChannelFails admitted (SE rule) = ⊥
 ManageChannelFails admitted (GD rule) = ⊥
 

@@ -1,6 +1,7 @@
 -- What a request of the code stands for, and how what the code keeps says the state of the card.
 use Rattle.std.specs.Prelude.{◌≡◌, ◌⊎◌, ℕ, ◌<◌, ◌≤◌, List, Option, None, Some, Result, Ok, Err, slice_index_or}
 use Rattle.apdu_core.specs.Apdu.{Apdu}
+use Rattle.card_types.specs.Level.{code_of}
 use Rattle.card_types.specs.Says.{Says as SaysRegistry}
 use Rattle.card_types.specs.Slots.{held}
 use Rattle.card_types.specs.declared.tables.Entry.{Entry}
@@ -9,11 +10,11 @@ use Rattle.policy_rules.specs.Commands.{HasParameters, HasDataField}
 use Rattle.policy_rules.specs.GetData.{tag_of}
 use Rattle.policy_rules.specs.State.{State}
 use Rattle.policy_rules.specs.Volatile.{Channel, channel_at}
-use Rattle.policy_rules.specs.declared.instruction.TheConstants.{SELECT, MANAGE_CHANNEL, GET_DATA}
+use Rattle.policy_rules.specs.declared.instruction.TheConstants.{SELECT, MANAGE_CHANNEL, GET_DATA, INITIALIZE_UPDATE, EXTERNAL_AUTHENTICATE}
 use Rattle.policy_rules.specs.declared.live.Live.{Live}
 use Rattle.policy_rules.specs.declared.live.TheConstants.{CHANNELS}
 use Rattle.policy_rules.specs.declared.request.Request.{Request}
-use Rattle.policy_rules.specs.declared.request.Request.TheVariants.{Select, MoreChannel, LessChannel, Get}
+use Rattle.policy_rules.specs.declared.request.Request.TheVariants.{Select, MoreChannel, LessChannel, Get, Initialize, Authenticate}
 use Rattle.policy_rules.specs.declared.rule.Rule.{Rule}
 use Rattle.policy_rules.specs.declared.rule.Rule.TheVariants.{PS}
 use Rattle.policy_rules.specs.declared.rule.RulePS.TheVariants.{P, S}
@@ -24,6 +25,8 @@ Means (Select partial) ins p1 p2 body = (ins ≡ SELECT) × (partial.now ≡ bod
 Means MoreChannel ins p1 p2 body = (ins ≡ MANAGE_CHANNEL) × (p1 ≡ 0x00)
 Means (LessChannel number) ins p1 p2 body = (ins ≡ MANAGE_CHANNEL) × (p1 ≡ 0x80) × (p2 ≡ number) × (1 ≤ number) × (number ≤ 3)
 Means (Get tag) ins p1 p2 body = (ins ≡ GET_DATA) × (tag ≡ tag_of p1 p2)
+Means (Initialize version challenge) ins p1 p2 body = (ins ≡ INITIALIZE_UPDATE) × (version ≡ p1) × (challenge.now ≡ body)
+Means (Authenticate level proof) ins p1 p2 body = (ins ≡ EXTERNAL_AUTHENTICATE) × (code_of level ≡ p1) × (proof.now ≡ body)
 
 -- the rule on its form that a command breaks: P1 and P2 are judged before the data field
 abbrev pub IsMalformed : ℕ → ℕ → ℕ → List ℕ → Rule → Type 0

@@ -14,7 +14,7 @@ use Rattle.policy_rules.specs.Admission.{Admitted}
 use Rattle.policy_rules.specs.State.{Effect}
 use Rattle.policy_rules.specs.Volatile.{with_selected}
 use Rattle.policy_rules.specs.declared.rule.Rule.{Rule}
-use Rattle.policy_rules.specs.declared.rule.Rule.TheVariants.{G, PS, SE, MC, GD}
+use Rattle.policy_rules.specs.declared.rule.Rule.TheVariants.{G, PS, M, SE, MC, GD, IU, EA}
 use Rattle.policy_rules.specs.declared.rule.RulePS.TheVariants.{P, S}
 use Rattle.policy_rules.specs.declared.select.RuleSE.{RuleSE}
 use Rattle.policy_rules.specs.declared.select.RuleSE.TheVariants.{SE1}
@@ -70,6 +70,9 @@ SelectFails admitted (PS S) = SelectField admitted.command.body → ⊥
 -- no entry fits
 SelectFails admitted (SE SE1) = least_fitting admitted.at.registry admitted.command.body ≡ None
 SelectFails admitted (G rule) = ⊥
+SelectFails admitted (M rule) = ⊥
+SelectFails admitted (IU rule) = ⊥
+SelectFails admitted (EA rule) = ⊥
 SelectFails admitted (MC rule) = ⊥
 SelectFails admitted (GD rule) = ⊥
 

@@ -1,12 +1,14 @@
--- What is so of a card in each state that it comes to: its registry is one that a card may have, and what it holds while it
--- has power goes with it.
+-- What is so of a card in each state that it comes to: its registry is one that a card may have, with its lists in order, and
+-- what it holds while it has power goes with it.
 use Rattle.std.specs.Prelude.{◌≡◌, ◌≢◌, ◌⊎◌, ℕ, ◌+◌, ◌<◌, ◌≤◌, List, length, Option, None, Some, MatchOption, IsSome}
 use Rattle.std.specs.List.{sum_by}
+use Rattle.card_types.specs.Ascending.{IsAscending}
 use Rattle.card_types.specs.Registry.{Registry, entry_named, file_named}
 use Rattle.card_types.specs.Well.{IsDomainNamed, IsKeyLength, Well, pages_of}
 use Rattle.card_types.specs.declared.limits.TheConstants.{FILES, FILE_LIMIT, LOAD_PAGES}
 use Rattle.policy_rules.specs.State.{State}
-use Rattle.policy_rules.specs.Volatile.{Channel, LoadSession, Offer, Standing, Nothing, Offered, Secured, Volatile, channel_at}
+use Rattle.scp03_card.specs.Offer.{Offer}
+use Rattle.policy_rules.specs.Volatile.{Channel, LoadSession, Standing, Nothing, Offered, Secured, Volatile, channel_at}
 use Rattle.policy_rules.specs.declared.live.TheConstants.{CHANNELS}
 
 -- three static keys of one length, and challenges of 8 bytes
@@ -64,4 +66,5 @@ pub record Fits (registry : Registry) (volatile : Volatile) : Type 0 where
 
 pub record IsSound (state : State) : Type 0 where
   pub well : Well state.registry
+  pub ascending : IsAscending state.registry
   pub fits : Fits state.registry state.volatile

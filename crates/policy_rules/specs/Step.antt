@@ -1,12 +1,15 @@
 -- One step of the policy machine.
-use Rattle.std.specs.Prelude.{◌≡◌, ◌⊎◌, ℕ, List, ◌++◌, false, Option, None, Some}
+use Rattle.std.specs.Prelude.{◌≡◌, ◌⊎◌, ℕ, List, [], ◌++◌, Option, None, Some, if◌then◌else◌, ◌==◌, false}
 use Rattle.apdu_core.specs.Reply.{status_bytes}
-use Rattle.policy_rules.specs.Admission.{Admits, Admitted, Bars, Leaves, general_rules}
+use Rattle.scp03_card.specs.Protected.{protected}
+use Rattle.scp03_card.specs.Session.{Session}
+use Rattle.policy_rules.specs.Admission.{Admits, Admitted, Bars, Leaves, general_rules, placeless}
 use Rattle.policy_rules.specs.Commands.{Does, Judges}
 use Rattle.policy_rules.specs.FirstFailing.{IsFirst}
 use Rattle.policy_rules.specs.Rules.{status_of}
 use Rattle.policy_rules.specs.State.{Effect, State}
 use Rattle.policy_rules.specs.Volatile.{Volatile}
+use Rattle.policy_rules.specs.declared.instruction.TheConstants.{EXTERNAL_AUTHENTICATE}
 use Rattle.policy_rules.specs.declared.rule.Rule.{Rule}
 use Rattle.policy_rules.specs.declared.rule.Rule.TheVariants.{G}
 use Rattle.policy_rules.specs.declared.rule.RuleG.{RuleG}
@@ -17,16 +20,26 @@ pub record Outcome : Type 0 where
   pub reply : List ℕ
   pub rule : Option Rule
 
+-- a reply in plain, or protected by a session
+abbrev pub sent : Option Session → List ℕ → ℕ → List ℕ
+sent None body status = body ++ status_bytes status
+sent (Some session) body status = protected session body status
+
 -- A refusal leaves the registry, and its reply is the rule's status word alone.
-abbrev pub refused : State → Volatile → Rule → Outcome
-refused state left found = record {
+abbrev pub refused : State → Volatile → Option Session → Rule → Outcome
+refused state left session found = record {
   state = record { registry = state.registry; volatile = left };
-  reply = status_bytes (status_of found);
+  reply = sent session [] (status_of found);
   rule = Some found;
 }
 
-abbrev pub accepted : Effect → Outcome
-accepted done = record { state = done.state; reply = done.body ++ status_bytes done.status; rule = None }
+-- what a refusal by a rule of the command's own leaves: EXTERNAL AUTHENTICATE loses the offer that it answers
+abbrev pub refusal_leaves : Admitted → Volatile
+refusal_leaves admitted =
+    if admitted.command.ins == EXTERNAL_AUTHENTICATE then placeless admitted.at.volatile admitted.channel false else admitted.at.volatile
+
+abbrev pub accepted : Admitted → Effect → Outcome
+accepted admitted done = record { state = done.state; reply = sent admitted.session done.body done.status; rule = None }
 
 -- a general rule bars the bytes
 pub record IsBarred (state : State) (bytes : List ℕ) (outcome : Outcome) : Type 0 where
@@ -34,7 +47,7 @@ pub record IsBarred (state : State) (bytes : List ℕ) (outcome : Outcome) : Typ
   pub left : Volatile
   pub first : IsFirst (Bars state bytes) general_rules (Some rule)
   pub leaves : Leaves state bytes rule left
-  pub outcome_is : outcome ≡ refused state left (G rule)
+  pub outcome_is : outcome ≡ refused state left None (G rule)
 
 -- the bytes are a command that passes, and a rule of its own refuses it
 pub record IsRefused (state : State) (bytes : List ℕ) (outcome : Outcome) : Type 0 where
@@ -42,17 +55,16 @@ pub record IsRefused (state : State) (bytes : List ℕ) (outcome : Outcome) : Ty
   pub rule : Rule
   pub admits : Admits state bytes admitted
   pub judges : Judges admitted (Some rule)
-  pub outcome_is : outcome ≡ refused state admitted.at.volatile rule
+  pub outcome_is : outcome ≡ refused state (refusal_leaves admitted) admitted.session rule
 
--- no rule refuses it: it does what it does, and is answered in plain
+-- no rule refuses it: it does what it does
 pub record IsAccepted (state : State) (bytes : List ℕ) (outcome : Outcome) : Type 0 where
   pub admitted : Admitted
   pub done : Effect
   pub admits : Admits state bytes admitted
   pub judges : Judges admitted None
   pub does : Does admitted done
-  pub plain : admitted.is_protected ≡ false
-  pub outcome_is : outcome ≡ accepted done
+  pub outcome_is : outcome ≡ accepted admitted done
 
 -- The card makes this outcome of these bytes.
 abbrev pub Step : State → List ℕ → Outcome → Type 0

@@ -3,21 +3,8 @@
 use Rattle.std.specs.Prelude.{ℕ, List, [], ◌∷◌, Option, None, Some, slice_set, if◌then◌else◌, ◌==◌}
 use Rattle.std.specs.List.{slice_index_or}
 use Rattle.card_types.specs.declared.factory.TheConstants.{ISSUER}
-use Rattle.card_types.specs.declared.level.Level.{Level}
-
--- the three static keys of a key set, and the challenges of host and card
-pub record Offer : Type 0 where
-  pub enc : List ℕ
-  pub mac : List ℕ
-  pub dek : List ℕ
-  pub host : List ℕ
-  pub card : List ℕ
-
--- an offer that the host has answered, and the protected messages since
-pub record Session : Type 0 where
-  pub offer : Offer
-  pub level : Level
-  pub messages : List (List ℕ)
+use Rattle.scp03_card.specs.Offer.{Offer}
+use Rattle.scp03_card.specs.Session.{Session}
 
 -- what an open channel holds besides its selection
 pub data Standing : Type 0 where
@@ -74,6 +61,35 @@ selected_of (Some channel) = channel.selected
 abbrev pub selected_on : Volatile → ℕ → List ℕ
 selected_on volatile number = selected_of (channel_at volatile number)
 
+-- the offer and the session that a channel has
+abbrev pub offer_in : Standing → Option Offer
+offer_in Nothing = None
+offer_in (Offered offer) = Some offer
+offer_in (Secured session) = None
+
+abbrev pub session_in : Standing → Option Session
+session_in Nothing = None
+session_in (Offered offer) = None
+session_in (Secured session) = Some session
+
+abbrev pub standing_of : Option Channel → Standing
+standing_of None = Nothing
+standing_of (Some channel) = channel.standing
+
+abbrev pub offer_on : Volatile → ℕ → Option Offer
+offer_on volatile number = offer_in (standing_of (channel_at volatile number))
+
+abbrev pub session_on : Volatile → ℕ → Option Session
+session_on volatile number = session_in (standing_of (channel_at volatile number))
+
+-- an open channel holds this then
+abbrev pub standing_so : Standing → Option Channel → Option Channel
+standing_so standing None = None
+standing_so standing (Some channel) = Some (record { selected = channel.selected; standing = standing; place = channel.place })
+
+abbrev pub with_standing : Volatile → ℕ → Standing → Volatile
+with_standing volatile number standing = with_channel volatile number (standing_so standing (channel_at volatile number))
+
 -- an offer is dropped, and anything else stays
 abbrev pub without_offer : Standing → Standing
 without_offer Nothing = Nothing
@@ -88,6 +104,10 @@ load_of_others number (Some load) = if load.channel == number then None else Som
 -- the channel's load session ends
 abbrev pub without_load : Volatile → ℕ → Volatile
 without_load volatile number = record { channels = volatile.channels; load = load_of_others number volatile.load }
+
+-- the channel's session ends, and its load session with it
+abbrev pub without_session : Volatile → ℕ → Volatile
+without_session volatile number = without_load (with_standing volatile number Nothing) number
 
 -- an entry is selected, and all that the channel had ends
 abbrev pub with_selected : Volatile → ℕ → List ℕ → Volatile

@@ -1,9 +1,11 @@
 //! Class bytes (ISO/IEC 7816-4:2013, 5.4; GlobalPlatform Card Specification 2.3.1, 11.1.4).
 
-ghost use Rattle.std.specs.Prelude.{◌≡◌, ◌↔◌, IsTrue, Contains};
-ghost use Rattle.policy_rules.specs.Classes.{class_of as class_of_byte, channel_of as channel_of_byte, instructions_of, is_secure};
+ghost use Rattle.std.specs.Prelude.{◌≡◌, ◌↔◌, IsTrue, Contains, Some};
+ghost use Rattle.policy_rules.specs.Classes.{class_of as class_of_byte, channel_of as channel_of_byte, instructions_of, is_secure, protects};
 
-use crate::instruction::{GET_DATA, MANAGE_CHANNEL, SELECT};
+use crate::instruction::{
+    EXTERNAL_AUTHENTICATE, GET_DATA, INITIALIZE_UPDATE, MANAGE_CHANNEL, SELECT,
+};
 
 /// The classes that a card takes.
 #[derive(Clone, Copy, Debug, PartialEq, Eq)]
@@ -35,10 +37,17 @@ impl Class {
     {
         match self {
             Class::Interindustry => ins == SELECT || ins == MANAGE_CHANNEL || ins == GET_DATA,
-            Class::Plain => ins == GET_DATA,
-            Class::Secure => false,
+            Class::Plain => ins == GET_DATA || ins == INITIALIZE_UPDATE,
+            Class::Secure => ins == EXTERNAL_AUTHENTICATE || ins == GET_DATA,
         }
     }
+}
+
+/// Whether a command of this class and instruction is protected by the session of its channel.
+pub fn is_protected(class: Class, ins: u8) -> bool
+    ensures { result ≡ protects (Some class) ins }
+{
+    class == Class::Secure && ins != EXTERNAL_AUTHENTICATE
 }
 
 /// The logical channel that a class byte names.

@@ -120,7 +120,7 @@ fn find_datum<'a>(tables: &'a Tables, domain: u8, tag: u16) -> Option<Datum<'a>>
     }
     if tag == SEQUENCE_COUNTER {
         return Some(Datum::Counter {
-            number: session_set(tables, domain)?.counter,
+            number: session_set(tables, domain, 0)?.thing.counter,
         });
     }
     Some(Datum::Object {

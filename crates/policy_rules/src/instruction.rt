@@ -1,4 +1,4 @@
-//! Instruction bytes (ISO/IEC 7816-4:2013, 5.5; GlobalPlatform Card Specification 2.3.1, 11.1.5).
+//! Instruction bytes (ISO/IEC 7816-4:2013, 5.5; GlobalPlatform Card Specification 2.3.1, 11.1.5; Amendment D, 7.1).
 
 pub const SELECT: u8 = 0xA4;
 
@@ -6,7 +6,8 @@ pub const MANAGE_CHANNEL: u8 = 0x70;
 
 pub const GET_DATA: u8 = 0xCA;
 
-/// No class has it yet.
+pub const INITIALIZE_UPDATE: u8 = 0x50;
+
 pub const EXTERNAL_AUTHENTICATE: u8 = 0x82;
 
 /// No class has it yet.

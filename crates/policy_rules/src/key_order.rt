@@ -4,9 +4,9 @@ ghost use Rattle.std.specs.Prelude.{◌≡◌, ◌≤◌, ℕ, IfSome, IfNone, l
 ghost use Rattle.std.specs.Ordering.{nat_cmp, ordering_then};
 ghost use Rattle.std.proofs.lemmas.Cmp.{nat_cmp_total, on_total, then_total};
 ghost use Rattle.card_types.specs.Least.{IsLeast, NoneFits};
-ghost use Rattle.policy_rules.specs.KeyOrder.{follows, is_past as is_past_name, keeps_counter_of, name_order, version_order};
+ghost use Rattle.policy_rules.specs.KeyOrder.{follows, is_past as is_past_name, keeps_counter_of, keeps_counter_with, name_order, version_order};
 
-use card_types::{KEYS, KeyRec, Search, least};
+use card_types::{InSlot, KEYS, KeyRec, Search, least};
 
 /// A key version number and a key identifier.
 #[derive(Clone, Copy, Debug, PartialEq, Eq)]
@@ -112,13 +112,46 @@ impl Search<KeyRec> for Counting {
 }
 
 /// The key that keeps the counter of the key set with the lowest key version number, of the domain in the slot `owner`.
-pub fn lowest_set<'a>(keys: &'a [Option<KeyRec>], owner: u8) -> Option<&'a KeyRec>
+pub fn lowest_set<'a>(keys: &'a [Option<KeyRec>], owner: u8) -> Option<InSlot<'a, KeyRec>>
     requires { length keys.now ≤ KEYS }
-    ensures some { IfSome result (λ key. (slot : ℕ) × IsLeast (keeps_counter_of owner) version_order keys.now slot key.now) }
+    ensures some { IfSome result (λ found. IsLeast (keeps_counter_of owner) version_order keys.now found.slot found.thing.now) }
     ensures none { IfNone result (NoneFits (keeps_counter_of owner) keys.now) }
 {
-    match least(keys, &Counting { owner }) {
-        Some(found) => Some(found.thing),
-        None => None,
+    least(keys, &Counting { owner })
+}
+
+// The key that keeps the counter of the key set with this key version number, of the domain in a slot.
+#[derive(Drop)]
+struct Numbered {
+    owner: u8,
+    version: u8,
+}
+
+impl Search<KeyRec> for Numbered {
+    ghost fits = { λ numbered key. keeps_counter_with numbered.owner numbered.version key };
+
+    ghost order = { λ _ a b. version_order a b };
+
+    fn fits(&self, thing: &KeyRec) -> bool {
+        keeps_counter(thing, self.owner) && thing.version == self.version
     }
+
+    fn is_below(&self, a: &KeyRec, b: &KeyRec) -> bool {
+        a.version < b.version
+    }
+
+    ghost total = { λ _. on_total (λ key. key.version) nat_cmp_total };
+}
+
+/// The key that keeps the counter of the key set with this key version number, of the domain in the slot `owner`.
+pub fn numbered_set<'a>(
+    keys: &'a [Option<KeyRec>],
+    owner: u8,
+    version: u8,
+) -> Option<InSlot<'a, KeyRec>>
+    requires { length keys.now ≤ KEYS }
+    ensures some { IfSome result (λ found. IsLeast (keeps_counter_with owner version) version_order keys.now found.slot found.thing.now) }
+    ensures none { IfNone result (NoneFits (keeps_counter_with owner version) keys.now) }
+{
+    least(keys, &Numbered { owner, version })
 }

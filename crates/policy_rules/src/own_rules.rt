@@ -1,13 +1,15 @@
 //! The first of a command's own rules that fails.
 
-ghost use Rattle.std.specs.Prelude.{◌≡◌, ◌<◌, None, IsSome, slice_index_or};
+ghost use Rattle.std.specs.Prelude.{◌≡◌, ◌≢◌, ◌<◌, None, IsSome, slice_index_or};
 ghost use Rattle.card_types.specs.InOrder.{IsInOrder};
 ghost use Rattle.policy_rules.specs.Admission.{Admitted};
 ghost use Rattle.policy_rules.specs.Commands.{Judges};
 ghost use Rattle.policy_rules.specs.Means.{IsMeant, IsRequestOf, Says};
 ghost use Rattle.policy_rules.specs.Sound.{IsSound};
+ghost use Rattle.policy_rules.specs.declared.instruction.TheConstants.{EXTERNAL_AUTHENTICATE};
 
 use crate::get_data::judge_get_data;
+use crate::initialize_update::judge_initialize_update;
 use crate::live::{CHANNELS, Live};
 use crate::manage_channel::judge_more_channel;
 use crate::request::Request;
@@ -16,6 +18,7 @@ use crate::select::judge_select;
 use card_types::Tables;
 
 /// The first of a well-formed command's own rules that fails, or none. Whether check values of keys fit is not read yet.
+/// EXTERNAL AUTHENTICATE is not judged here, since its rules need the keys of the offer.
 pub fn judge(
     tables: &Tables,
     live: &Live,
@@ -28,7 +31,7 @@ pub fn judge(
     requires opened { IsSome (slice_index_or live.now.selected channel None) }
     requires meant { IsMeant request.now }
     ensures { (admitted : Admitted) → Says tables.now live.now admitted.at → IsSound admitted.at → channel ≡ admitted.channel
-        → IsRequestOf request.now admitted.command → Judges admitted result }
+        → IsRequestOf request.now admitted.command → admitted.command.ins ≢ EXTERNAL_AUTHENTICATE → Judges admitted result }
 {
     match request {
         Request::Select { partial } => match judge_select(tables, partial) {
@@ -47,5 +50,13 @@ pub fn judge(
                 Err(rule) => Some(Rule::GD(rule)),
             }
         }
+        Request::Initialize { version, .. } => {
+            let domain = live.selected[usize::from(channel)].unwrap();
+            match judge_initialize_update(tables, domain, *version) {
+                Ok(_) => None,
+                Err(rule) => Some(rule),
+            }
+        }
+        Request::Authenticate { .. } => None,
     }
 }

@@ -6,11 +6,14 @@ ghost use Rattle.policy_rules.specs.Admission.{general_rules};
 ghost use Rattle.policy_rules.specs.Classes.{class_of, instructions_of};
 ghost use Rattle.policy_rules.specs.Rules.{status_of};
 ghost use Rattle.policy_rules.specs.declared.class.Class.TheVariants.{Interindustry, Plain, Secure};
+ghost use Rattle.policy_rules.specs.declared.external_authenticate.RuleEA.TheVariants.{EA1, EA2, EA3};
 ghost use Rattle.policy_rules.specs.declared.get_data.RuleGD.TheVariants.{GD1};
-ghost use Rattle.policy_rules.specs.declared.instruction.TheConstants.{SELECT, MANAGE_CHANNEL, GET_DATA, EXTERNAL_AUTHENTICATE, LOAD};
+ghost use Rattle.policy_rules.specs.declared.initialize_update.RuleIU.TheVariants.{IU1, IU2, IU3};
+ghost use Rattle.policy_rules.specs.declared.instruction.TheConstants.{SELECT, MANAGE_CHANNEL, GET_DATA, INITIALIZE_UPDATE, EXTERNAL_AUTHENTICATE, LOAD};
 ghost use Rattle.policy_rules.specs.declared.live.TheConstants.{CHANNELS};
 ghost use Rattle.policy_rules.specs.declared.manage_channel.RuleMC.TheVariants.{MC1};
-ghost use Rattle.policy_rules.specs.declared.rule.Rule.TheVariants.{G, PS, SE, MC, GD};
+ghost use Rattle.policy_rules.specs.declared.management.RuleM.TheVariants.{M2};
+ghost use Rattle.policy_rules.specs.declared.rule.Rule.TheVariants.{G, PS, M, SE, MC, GD, IU, EA};
 ghost use Rattle.policy_rules.specs.declared.rule.RulePS.TheVariants.{P, S};
 ghost use Rattle.policy_rules.specs.declared.select.RuleSE.TheVariants.{SE1};
 
@@ -19,6 +22,7 @@ pub fn constants()
     ensures select { SELECT ≡ 0xA4 }
     ensures manage_channel { MANAGE_CHANNEL ≡ 0x70 }
     ensures get_data { GET_DATA ≡ 0xCA }
+    ensures initialize_update { INITIALIZE_UPDATE ≡ 0x50 }
     ensures external_authenticate { EXTERNAL_AUTHENTICATE ≡ 0x82 }
     ensures load { LOAD ≡ 0xE8 }
     ensures channels { CHANNELS ≡ 4 }
@@ -29,13 +33,15 @@ pub fn classes()
     ensures class_bytes { map class_of (range_with_len 0 256)
         ≡ replicate 4 (Some Interindustry) ++ replicate 124 None ++ replicate 4 (Some Plain) ++ replicate 4 (Some Secure) ++ replicate 120 None }
     ensures interindustry { instructions_of Interindustry ≡ 0xA4 ∷ 0x70 ∷ 0xCA ∷ [] }
-    ensures plain { instructions_of Plain ≡ 0xCA ∷ [] }
-    ensures secure { instructions_of Secure ≡ [] }
+    ensures plain { instructions_of Plain ≡ 0xCA ∷ 0x50 ∷ [] }
+    ensures secure { instructions_of Secure ≡ 0x82 ∷ 0xCA ∷ [] }
 {}
 
 /// The status word of each rule.
 pub fn status_words()
-    ensures general { map (λ rule. status_of (G rule)) general_rules ≡ 0x6700 ∷ 0x6E00 ∷ 0x6881 ∷ 0x6D00 ∷ 0x6985 ∷ [] }
+    ensures general { map (λ rule. status_of (G rule)) general_rules ≡ 0x6700 ∷ 0x6E00 ∷ 0x6881 ∷ 0x6D00 ∷ 0x6985 ∷ 0x6982 ∷ 0x6982 ∷ 0x6982 ∷ [] }
     ensures form { map status_of (PS P ∷ PS S ∷ []) ≡ 0x6A86 ∷ 0x6A80 ∷ [] }
-    ensures own { map status_of (SE SE1 ∷ MC MC1 ∷ GD GD1 ∷ []) ≡ 0x6A82 ∷ 0x6A81 ∷ 0x6A88 ∷ [] }
+    ensures own { map status_of (M M2 ∷ SE SE1 ∷ MC MC1 ∷ GD GD1 ∷ []) ≡ 0x6985 ∷ 0x6A82 ∷ 0x6A81 ∷ 0x6A88 ∷ [] }
+    ensures initialize_update { map (λ rule. status_of (IU rule)) (IU1 ∷ IU2 ∷ IU3 ∷ []) ≡ 0x6985 ∷ 0x6A88 ∷ 0x6985 ∷ [] }
+    ensures external_authenticate { map (λ rule. status_of (EA rule)) (EA1 ∷ EA2 ∷ EA3 ∷ []) ≡ 0x6985 ∷ 0x6300 ∷ 0x6982 ∷ [] }
 {}

@@ -1,14 +1,18 @@
 //! What a command asks for.
 
-ghost use Rattle.std.specs.Prelude.{◌≡◌, ◌⊎◌, IfOk, IfErr};
+ghost use Rattle.std.specs.Prelude.{IsSome, IfOk, IfErr};
+ghost use Rattle.policy_rules.specs.Instructions.{instruction_of};
 ghost use Rattle.policy_rules.specs.Commands.{HasParameters, HasDataField};
 ghost use Rattle.policy_rules.specs.Means.{IsMalformed, Means};
 
+use crate::external_authenticate::parse_external_authenticate;
 use crate::get_data::parse_get_data;
-use crate::instruction::{GET_DATA, MANAGE_CHANNEL, SELECT};
+use crate::initialize_update::parse_initialize_update;
+use crate::instruction::{GET_DATA, INITIALIZE_UPDATE, MANAGE_CHANNEL, SELECT};
 use crate::manage_channel::parse_manage_channel;
 use crate::rule::Rule;
 use crate::select::parse_select;
+use card_types::Level;
 
 /// The fields of a well-formed command.
 #[derive(Clone, Copy, Debug)]
@@ -21,11 +25,15 @@ pub enum Request<'a> {
     LessChannel { number: u8 },
     /// GET DATA of a tag.
     Get { tag: u16 },
+    /// INITIALIZE UPDATE with the key set of this key version number, or with any for 00.
+    Initialize { version: u8, challenge: &'a [u8] },
+    /// EXTERNAL AUTHENTICATE at a security level: the host cryptogram and the C-MAC.
+    Authenticate { level: Level, proof: &'a [u8] },
 }
 
 /// The request of a command, or the first of the rules on its form that fails.
 pub fn parse(ins: u8, p1: u8, p2: u8, body: &[u8]) -> Result<Request<'_>, Rule>
-    requires { (ins ≡ SELECT) ⊎ (ins ≡ MANAGE_CHANNEL) ⊎ (ins ≡ GET_DATA) }
+    requires { IsSome (instruction_of ins) }
     ensures parameters { IfOk result (λ request. HasParameters ins p1 p2) }
     ensures data_field { IfOk result (λ request. HasDataField ins body.now) }
     ensures means { IfOk result (λ request. Means request ins p1 p2 body.now) }
@@ -34,6 +42,8 @@ pub fn parse(ins: u8, p1: u8, p2: u8, body: &[u8]) -> Result<Request<'_>, Rule>
     match ins {
         SELECT => parse_select(p1, p2, body),
         MANAGE_CHANNEL => parse_manage_channel(p1, p2, body),
-        _ => parse_get_data(p1, p2, body),
+        GET_DATA => parse_get_data(p1, p2, body),
+        INITIALIZE_UPDATE => parse_initialize_update(p1, p2, body),
+        _ => parse_external_authenticate(p1, p2, body),
     }
 }

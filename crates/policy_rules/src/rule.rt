@@ -3,8 +3,11 @@
 ghost use Rattle.std.specs.Prelude.{◌≡◌};
 ghost use Rattle.policy_rules.specs.Rules.{name_of, status_of};
 
+use crate::external_authenticate::RuleEA;
 use crate::get_data::RuleGD;
+use crate::initialize_update::RuleIU;
 use crate::manage_channel::RuleMC;
+use crate::management::RuleM;
 use crate::select::RuleSE;
 use apdu_core::Status;
 
@@ -13,9 +16,12 @@ use apdu_core::Status;
 pub enum Rule {
     G(RuleG),
     PS(RulePS),
+    M(RuleM),
     SE(RuleSE),
     MC(RuleMC),
     GD(RuleGD),
+    IU(RuleIU),
+    EA(RuleEA),
 }
 
 /// The rules that every command passes first.
@@ -31,6 +37,12 @@ pub enum RuleG {
     G4,
     /// The card is terminated.
     G5,
+    /// Card content management has no secure messaging, or secure messaging no session.
+    G6,
+    /// The C-MAC is missing or wrong.
+    G7,
+    /// The data field can't be deciphered.
+    G8,
 }
 
 /// The rules on the form of a command.
@@ -53,11 +65,17 @@ impl Rule {
             Rule::G(RuleG::G3) => Status(0x6881),
             Rule::G(RuleG::G4) => Status(0x6D00),
             Rule::G(RuleG::G5) => Status(0x6985),
+            Rule::G(RuleG::G6) => Status(0x6982),
+            Rule::G(RuleG::G7) => Status(0x6982),
+            Rule::G(RuleG::G8) => Status(0x6982),
             Rule::PS(RulePS::P) => Status(0x6A86),
             Rule::PS(RulePS::S) => Status(0x6A80),
+            Rule::M(rule) => rule.status(),
             Rule::SE(rule) => rule.status(),
             Rule::MC(rule) => rule.status(),
             Rule::GD(rule) => rule.status(),
+            Rule::IU(rule) => rule.status(),
+            Rule::EA(rule) => rule.status(),
         }
     }
 
@@ -71,11 +89,17 @@ impl Rule {
             Rule::G(RuleG::G3) => "G3",
             Rule::G(RuleG::G4) => "G4",
             Rule::G(RuleG::G5) => "G5",
+            Rule::G(RuleG::G6) => "G6",
+            Rule::G(RuleG::G7) => "G7",
+            Rule::G(RuleG::G8) => "G8",
             Rule::PS(RulePS::P) => "P",
             Rule::PS(RulePS::S) => "S",
+            Rule::M(rule) => rule.name(),
             Rule::SE(rule) => rule.name(),
             Rule::MC(rule) => rule.name(),
             Rule::GD(rule) => rule.name(),
+            Rule::IU(rule) => rule.name(),
+            Rule::EA(rule) => rule.name(),
         }
     }
 }

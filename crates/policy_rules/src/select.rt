@@ -57,7 +57,8 @@ pub(crate) fn parse_select(p1: u8, p2: u8, body: &[u8]) -> Result<Request<'_>, R
     Ok(Request::Select { partial: body })
 }
 
-fn is_issuer(aid: &Aid) -> bool
+/// Whether the AID is that of the Issuer Security Domain.
+pub(crate) fn is_issuer(aid: &Aid) -> bool
     ensures { result ≡ same_aid aid.now ISSUER }
 {
     aid.as_bytes() == ISSUER.as_slice()

@@ -1,6 +1,6 @@
 use Rattle.std.proofs.Common.{sym, ◌∙◌}
 use Rattle.apdu_core.specs.Apdu.{apdu_of}
-use Rattle.card_core.proofs.Admitting.{all_passed, for_no_application, no_channel, no_class, over, unknown}
+use Rattle.card_core.proofs.Admitting.{all_passed, for_no_application, no_channel, no_class, unknown}
 use Rattle.card_core.proofs.admit.admit.Goals as goal
 
 pub returns-in_default-of-clause-refused : goal.returns-in_default-of-clause-refused
@@ -29,17 +29,6 @@ returns-then-is_not_for-clause-refused c state says =
     c.in-Some-selected.selected (rw (c.from.ensures, c.channel_of-channel.ensures) at c.in-Some-selected.is)
     (c.is_not_for.ensures.0 c.if-is_not_for.true)
 
-pub returns-then-is_over-clause-refused : goal.returns-then-is_over-clause-refused
-returns-then-is_over-clause-refused c state says =
-    let is = sym c.of.ensures ∙ c.in-Some.is in
-    let ended = c.is_over.ensures.0 c.if-is_over.true in
-    over c.args.tables.now c.args.live.now state c.args.bytes.now (apdu_of c.in-Ok.command) says c.in-Ok.ensures.ok
-    c.in-Some.class is
-    c.in-Some-selected.selected (rw (c.from.ensures, c.channel_of-channel.ensures) at c.in-Some-selected.is)
-    (rw is (c.has.ensures.0 c.if-not-has.false))
-    (λ fails. (let for = c.is_not_for.ensures.1 fails in let none = c.if-is_not_for.false in cc))
-    (sym says.registry.life ∙ ended.0) ended.1
-
 pub returns-clause-passed : goal.returns-clause-passed
 returns-clause-passed c state says =
     let is = sym c.of.ensures ∙ c.in-Some.is in
@@ -48,4 +37,3 @@ returns-clause-passed c state says =
     c.in-Some-selected.selected (rw (c.from.ensures, c.channel_of-channel.ensures) at c.in-Some-selected.is)
     (rw is (c.has.ensures.0 c.if-not-has.false))
     (λ fails. (let for = c.is_not_for.ensures.1 fails in let none = c.if-is_not_for.false in cc))
-    (λ ended. (let over = c.is_over.ensures.1 (says.registry.life ∙ ended.0, ended.1) in let none = c.if-is_over.false in cc))

@@ -1,43 +1,44 @@
-use Rattle.std.proofs.Common.{ℕ, refl, sym, ap, subst, ◌∙◌, inr}
+use Rattle.std.proofs.Common.{ℕ, refl, sym, ap, subst, ◌∙◌}
+use Rattle.std.specs.Prelude.{◌==◌}
 use Rattle.bertlv.specs.Spelling.{Spelling}
 use Rattle.policy_rules.proofs.DataAsked.{asked_for, asks}
 use Rattle.policy_rules.proofs.Judging.{get_passes, get_refused, only_get}
 use Rattle.policy_rules.proofs.Selected.{selected_entry}
 use Rattle.policy_rules.specs.Volatile.{selected_on}
+use Rattle.policy_rules.specs.Instructions.{GetData, instruction_of}
+use Rattle.policy_rules.specs.declared.instruction.TheConstants.{EXTERNAL_AUTHENTICATE}
+use Rattle.card_core.proofs.Carrying.{does_as, refusal_shows}
 use Rattle.card_core.proofs.get_data.get_data.Goals as goal
 
 pub returns-in-Ok-clause-done : goal.returns-in-Ok-clause-done
-returns-in-Ok-clause-done c admitted stands here request =
-    let says = stands.says in
+returns-in-Ok-clause-done c all admitted stands here request =
+    let says = stands.shows.says in
     let means = request.means in
     let on = selected_entry c.args.tables.now c.args.live.now admitted.at c.args.channel c.args.domain says c.requires.channel c.requires.selected in
     let found = c.in-Ok.ensures.found says.page admitted.at.registry on.0 says.registry stands.sound.well on.1 in
     let written = c.write_datum.ensures.written c.args.domain says.page admitted.at.registry on.0 says.registry stands.sound.well on.1 found in
     let asked = asks admitted _ c.args.tag written.0 (ap (selected_on admitted.at.volatile) (sym here) ∙ on.2) means.1 written.1 in (
       record { state = admitted.at; body = c.write_datum.new.reply.items; status = 0x9000 },
-      stands,
+      stands.shows,
       get_passes admitted means.0 request.data_field written.0 asked,
-      inr (inr (
-        means.0,
-        record {
-          value = written.0;
-          asked = asked;
-          state = refl;
-          body = subst (λ (tag : ℕ). Spelling tag written.0 c.write_datum.new.reply.items) means.1 written.2;
-          status = refl;
-        },
-      )),
+      does_as admitted _ GetData (ap instruction_of means.0) (record {
+        value = written.0;
+        asked = asked;
+        state = refl;
+        body = subst (λ (tag : ℕ). Spelling tag written.0 c.write_datum.new.reply.items) means.1 written.2;
+        status = refl;
+      }),
       refl,
       refl,
     )
 
 pub returns-in-Err-clause-done : goal.returns-in-Err-clause-done
-returns-in-Err-clause-done c admitted stands here request =
-    let says = stands.says in
+returns-in-Err-clause-done c all admitted stands here request =
+    let says = stands.shows.says in
     let means = request.means in
     let on = selected_entry c.args.tables.now c.args.live.now admitted.at c.args.channel c.args.domain says c.requires.channel c.requires.selected in
     let none = c.in-Err.ensures.none says.page admitted.at.registry on.0 says.registry stands.sound.well on.1 in (
-      stands,
+      refusal_shows (record { tables = c.args.tables.now; live = c.args.live.now; held = all }) admitted (ap (λ (ins : ℕ). ins == EXTERNAL_AUTHENTICATE) means.0) stands.shows,
       only_get admitted c.in-Err.rule (get_refused admitted means.0 request.data_field
           (λ value asked. none value (asked_for admitted _ c.args.tag value (ap (selected_on admitted.at.volatile) (sym here) ∙ on.2) means.1 asked))),
       c.requires.empty,

@@ -1,24 +1,24 @@
-use Rattle.std.proofs.Common.{rules, ◌≡◌, ◌≢◌, ℕ, ◌≤◌, [], true, false, None, length, refl, inl, inr, arith}
+use Rattle.std.proofs.Common.{rules, ◌≡◌, [], true, false, None, length, refl, inr, ap}
 use Rattle.std.specs.Prelude.{is_none, slice_index_or}
 use Rattle.policy_rules.proofs.Judging.{close_passes}
-use Rattle.policy_rules.specs.Volatile.{without_channel}
+use Rattle.policy_rules.specs.Instructions.{ManageChannel, instruction_of}
+use Rattle.policy_rules.specs.Volatile.{load_of_others, without_channel}
 use Rattle.policy_rules.specs.declared.live.TheConstants.{CHANNELS}
-use Rattle.card_core.proofs.Standing.{closed_stands, none_selected, some_selected}
+use Rattle.card_core.specs.declared.held.Held.TheVariants as holding
+use Rattle.card_core.proofs.Carrying.{does_as}
+use Rattle.card_core.proofs.Standing.{channel_shows, none_selected, some_selected}
 use Rattle.card_core.proofs.manage_channel.close_channel.Goals as goal
-
-not_zero : (n : ℕ) → 1 ≤ n → n ≢ 0
-not_zero n low zero = omega arith
 
 pub returns-then-is_none : goal.returns-then-is_none
 returns-then-is_none c = record {
   done = λ tables admitted stands request.
       (let means = request.means in
       let test : is_none (slice_index_or c.args.live.now.selected c.args.number None) ≡ true = search rules in
-      let none = none_selected tables.entries.items _ _ (stands.says.selected c.args.number c.requires.high) test in (
+      let none = none_selected tables.entries.items _ _ (stands.shows.says.selected c.args.number c.requires.high) test in (
         record { state = admitted.at; body = []; status = 0x6200 },
-        stands,
+        stands.shows,
         close_passes admitted means.0 request.parameters request.data_field means.1,
-        inr (inl (means.0, inr (means.1, rw (means.2, none) refl))),
+        does_as admitted _ ManageChannel (ap instruction_of means.0) (inr (means.1, rw (means.2, none) refl)),
         refl,
         refl,
       ));
@@ -30,15 +30,19 @@ returns c = record {
       (let means = request.means in
       let test : is_none (slice_index_or c.args.live.now.selected c.args.number None) ≡ false = search rules in
       let four : length c.args.live.now.selected ≡ CHANNELS = search rules in
-      let some = some_selected tables.entries.items _ _ (stands.says.selected c.args.number c.requires.high) test in (
+      let held_four : length c.args.held.now ≡ CHANNELS = search rules in
+      let some = some_selected tables.entries.items _ _ (stands.shows.says.selected c.args.number c.requires.high) test in (
         record {
           state = record { registry = admitted.at.registry; volatile = without_channel admitted.at.volatile c.args.number };
           body = [];
           status = 0x9000;
         },
-        rw c.from-place.ensures (closed_stands tables c.args.live.now admitted.at c.args.number stands c.requires.high (not_zero c.args.number c.requires.low) four),
+        rw (c.from-place.ensures, c.end.ensures) (channel_shows tables c.args.live.now c.args.held.now admitted.at stands.shows
+            (record { held = held_four; channels = stands.sound.fits.channels })
+            c.args.number c.requires.high four None holding.Nothing None (without_channel admitted.at.volatile c.args.number) tt tt tt refl
+            (ap (load_of_others c.args.number) stands.shows.holds.load)),
         close_passes admitted means.0 request.parameters request.data_field means.1,
-        inr (inl (means.0, inr (means.1, rw (means.2, some.1) refl))),
+        does_as admitted _ ManageChannel (ap instruction_of means.0) (inr (means.1, rw (means.2, some.1) refl)),
         refl,
         refl,
       ));

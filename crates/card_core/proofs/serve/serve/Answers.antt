@@ -1,83 +1,130 @@
-use Rattle.std.proofs.Common.{◌≡◌, ℕ, List, [], Some, Result, Ok, Err, sym, subst}
-use Rattle.std.specs.Prelude.{IsErrAnd}
-use Rattle.apdu_core.specs.Apdu.{apdu_of}
-use Rattle.apdu_core.specs.declared.reply.Status.{Status}
-use Rattle.policy_rules.specs.Admission.{Admitted, admitted_as}
-use Rattle.policy_rules.specs.Commands.{Judges}
-use Rattle.policy_rules.specs.declared.rule.Rule.{Rule}
-use Rattle.card_core.specs.Kept.{Kept, Stands}
-use Rattle.card_core.specs.Serves.{CarriesOut}
-use Rattle.card_core.proofs.Serving.{barred, carried_out, is_built, malformed}
-use Rattle.card_core.proofs.Standing.{admitted_stands}
+use Rattle.std.proofs.Common.{◌≡◌, ℕ, List, true, false, None, Some, Err, refl, sym, ap, subst, ◌∙◌}
+use Rattle.std.specs.Prelude.{slice_index_or, slice_set, take}
+use Rattle.std.proofs.lemmas.List.{length-set, set-get_or}
+use Rattle.scp03_card.specs.Opens.{Opens, accepting}
+use Rattle.scp03_card.specs.Session.{Session}
+use Rattle.apdu_core.proofs.Octets.{length-body}
+use Rattle.apdu_core.specs.Apdu.{Apdu, apdu_of}
+use Rattle.card_types.specs.declared.card_life.CardLife.{CardLife}
+use Rattle.policy_rules.specs.Admission.{Admitted, admitted_as, class_passed}
+use Rattle.policy_rules.proofs.Passing.{channel_is_low}
+use Rattle.policy_rules.specs.Classes.{channel_of, class_of}
+use Rattle.policy_rules.specs.Volatile.{Secured, Standing, channel_at, standing_of}
+use Rattle.card_core.proofs.Passed.{goes_on, holds_passed, opened_so, opened_stands, over_served, passed_as, passed_held, passed_there, placed, plain_stands, protects_so, read_at, refused_served, session_of, written_at}
+use Rattle.card_core.proofs.Serving.{admits_opened, admits_plain, barred, carried_out, protected_gets}
+use Rattle.card_core.specs.Holds.{HoldsAs, without_offer_held}
+use Rattle.card_core.specs.Secured.{OpensAs}
+use Rattle.card_core.specs.Serves.{IsOver, Serves}
+use Rattle.card_core.specs.declared.held.Held.{Held}
+use Rattle.card_core.specs.declared.held.Held.TheVariants as held
 use Rattle.card_core.proofs.serve.serve.Goals as goal
 
+-- a rule on class, channel or instruction refuses the bytes
 pub returns-in-Err-clause-served : goal.returns-in-Err-clause-served
-returns-in-Err-clause-served c state stands =
-    barred (record { tables = c.args.tables.now; live = c.args.live.now }) state c.args.bytes.now c.args.reply.now.items c.in-Err.rule stands
-    (c.in-Err.ensures.refused state stands.says) c.requires.empty
+returns-in-Err-clause-served c = λ state stands.
+    rw c.close_plain.ensures.rule (
+    barred (record { tables = c.args.tables.now; live = c.args.live.now; held = c.args.held.now }) state c.args.bytes.now c.close_plain.new.reply.items c.in-Err.rule
+    state.volatile stands.sound (c.in-Err.ensures.refused state stands.shows.says) (c.in-Err.ensures.leaves state) stands.shows
+    (c.close_plain.ensures.closed ∙ rw c.requires.empty refl))
 
--- a refusal that is handed on
-handed : (admitted : Admitted) (card : Kept) (body : List ℕ) (result : Result Status Rule) (found : Rule)
-    → IsErrAnd result (λ rule. rule ≡ found) → Stands card admitted.at → Judges admitted (Some found) → body ≡ [] → CarriesOut admitted card body result
-handed admitted card body (Ok status) found given stands judges empty = absurd given
-handed admitted card body (Err rule) found given stands judges empty =
-    (stands, subst (λ (r : Rule). Judges admitted (Some r)) (sym given) judges, empty)
+-- the card is terminated
+pub returns-in-Err-pass_class-clause-served : goal.returns-in-Err-pass_class-clause-served
+returns-in-Err-pass_class-clause-served c = λ state stands.
+    let over = c.in-Err-pass_class.ensures.over in
+    let lost : c.pass_class.new.held ≡ without_offer_held (slice_index_or c.args.held.now (channel_of c.in-Ok.admitted.command.class) held.Nothing) = c.in-Err-pass_class.ensures.lost ∙ ap without_offer_held
+    (read_at c.args.held.now c.from-channel.result (channel_of c.in-Ok.admitted.command.class) c.index-held-channel.result c.told-held (channel_is_low c.in-Ok.admitted.command.class)
+    (c.from-channel.ensures ∙ c.in-Ok.ensures.channel)) in
+    let served = over_served c.args.tables.now c.args.live.now c.args.held.now state stands c.told-held (apdu_of c.in-Ok.admitted.command) c.args.bytes.now c.close_plain-in-Err-pass_class.new.reply.items
+    c.in-Ok.ensures.spelled c.in-Ok.admitted.class c.in-Ok.ensures.class c.in-Ok.ensures.known (c.in-Ok.ensures.passed state stands.shows.says)
+    (subst (λ (life : CardLife). IsOver life c.in-Ok.admitted.class c.in-Ok.admitted.command.ins) stands.shows.says.registry.life over.1)
+    (c.close_plain-in-Err-pass_class.ensures.closed ∙ rw (c.requires.empty, over.0) refl) in
+    rw (c.close_plain-in-Err-pass_class.ensures.rule, over.0, lost, c.from-channel.ensures, c.in-Ok.ensures.channel) served
 
-pub returns-in_err-partial-clause-served : goal.returns-in_err-partial-clause-served
-returns-in_err-partial-clause-served c state stands =
-    let command = apdu_of c.in-Ok.admitted.command in
-    let card : Kept = record { tables = c.args.tables.now; live = c.args.live.now } in
-    let built = is_built state c.args.bytes.now command (c.in-Ok.ensures.passed state stands.says) c.in-Ok.ensures.spelled c.in-Ok.ensures.known in
-    carried_out state c.args.bytes.now command (c.in-Ok.ensures.passed state stands.says) c.in-Ok.ensures.spelled c.in-Ok.ensures.known card
-    c.args.reply.now.items c.from_residual.result
-    (handed (admitted_as state command) card c.args.reply.now.items c.from_residual.result c.in_err-partial.field-0.0 c.from_residual.ensures.1
-    (admitted_stands card state command stands) (malformed (admitted_as state command) c.in_err-partial.field-0.0 built c.in_err-partial.ensures.refused)
-    c.requires.empty)
+-- a command in plain
+pub act-served-requires-clause-short : goal.act-served-requires-clause-short
+act-served-requires-clause-short c = length-body (apdu_of c.in-Ok.admitted.command) c.args.bytes.now c.in-Ok.ensures.spelled
 
-pub returns-in-Select-clause-served : goal.returns-in-Select-clause-served
-returns-in-Select-clause-served c state stands =
-    let command = apdu_of c.in-Ok.admitted.command in
-    let card : Kept = record { tables = c.args.tables.now; live = c.args.live.now } in
-    carried_out state c.args.bytes.now command (c.in-Ok.ensures.passed state stands.says) c.in-Ok.ensures.spelled c.in-Ok.ensures.known
-    (record { tables = c.args.tables.now; live = c.select.new.live }) c.select.new.reply.items c.select.result
-    (c.select.ensures.done (admitted_as state command) (admitted_stands card state command stands) c.in-Ok.ensures.channel (record {
-      parameters = c.in_ok-partial.ensures.parameters;
-      data_field = c.in_ok-partial.ensures.data_field;
-      means = rw c.in-Select.is at c.in_ok-partial.ensures.means;
-    }))
+pub returns-then-not-is_protected-clause-served : goal.returns-then-not-is_protected-clause-served
+returns-then-not-is_protected-clause-served c = λ state stands.
+    let command : Apdu = apdu_of c.in-Ok.admitted.command in
+    let here = c.from-channel.ensures ∙ c.in-Ok.ensures.channel in
+    let passed = passed_as c.args.held.now c.told-held command c.from-channel.result c.index-held-channel.result c.pass_class.new.held here c.in_default.ensures.kept in
+    let front = c.in-Ok.ensures.passed state stands.shows.says in
+    let not_over = goes_on c.args.tables.now c.args.live.now c.args.held.now state stands c.told-held command c.in-Ok.admitted.class c.in_default.ensures.ok in
+    let plain = protects_so command c.in-Ok.admitted.class c.is_protected.result false c.in-Ok.ensures.class c.is_protected.ensures c.if-not-is_protected.true in
+    let at = plain_stands c.args.tables.now c.args.live.now c.args.held.now state stands c.told-held command plain in
+    let done = c.act-served.ensures.done (admitted_as state command None command.body) (rw (passed, here) at) c.in-Ok.ensures.channel refl in
+    rw c.close_plain-then-not-is_protected.ensures.rule (
+    carried_out state c.args.bytes.now command None command.body
+    (record { tables = c.act-served.new.tables; live = c.act-served.new.live; held = c.act-served.new.held }) c.act-served.new.reply.items
+    c.close_plain-then-not-is_protected.new.reply.items c.act-served.result stands.sound
+    (admits_plain state c.args.bytes.now command c.in-Ok.ensures.spelled c.in-Ok.ensures.known c.in-Ok.admitted.class c.in-Ok.ensures.class front not_over plain)
+    done c.close_plain-then-not-is_protected.ensures.closed)
 
-pub returns-in-MoreChannel-clause-served : goal.returns-in-MoreChannel-clause-served
-returns-in-MoreChannel-clause-served c state stands =
-    let command = apdu_of c.in-Ok.admitted.command in
-    let card : Kept = record { tables = c.args.tables.now; live = c.args.live.now } in
-    carried_out state c.args.bytes.now command (c.in-Ok.ensures.passed state stands.says) c.in-Ok.ensures.spelled c.in-Ok.ensures.known
-    (record { tables = c.args.tables.now; live = c.open_channel.new.live }) c.open_channel.new.reply.items c.open_channel.result
-    (c.open_channel.ensures.done c.args.tables.now (admitted_as state command) c.requires.in_order.layout (admitted_stands card state command stands) (record {
-      parameters = c.in_ok-partial.ensures.parameters;
-      data_field = c.in_ok-partial.ensures.data_field;
-      means = rw c.in-MoreChannel.is at c.in_ok-partial.ensures.means;
-    }))
+-- a protected command
+pub open_command-requires : goal.open_command-requires
+open_command-requires c = length-body (apdu_of c.in-Ok.admitted.command) c.args.bytes.now c.in-Ok.ensures.spelled
 
-pub returns-in-LessChannel-clause-served : goal.returns-in-LessChannel-clause-served
-returns-in-LessChannel-clause-served c state stands =
-    let command = apdu_of c.in-Ok.admitted.command in
-    let card : Kept = record { tables = c.args.tables.now; live = c.args.live.now } in
-    carried_out state c.args.bytes.now command (c.in-Ok.ensures.passed state stands.says) c.in-Ok.ensures.spelled c.in-Ok.ensures.known
-    (record { tables = c.args.tables.now; live = c.close_channel.new.live }) c.args.reply.now.items c.close_channel.result
-    (rw c.requires.empty (c.close_channel.ensures.done c.args.tables.now (admitted_as state command) (admitted_stands card state command stands) (record {
-      parameters = c.in_ok-partial.ensures.parameters;
-      data_field = c.in_ok-partial.ensures.data_field;
-      means = rw c.in-LessChannel.is at c.in_ok-partial.ensures.means;
-    })))
+-- that opens
+pub returns-in-Ok-open_command-clause-served : goal.returns-in-Ok-open_command-clause-served
+returns-in-Ok-open_command-clause-served c = λ state stands.
+    let command : Apdu = apdu_of c.in-Ok.admitted.command in
+    let here = c.from-channel.ensures ∙ c.in-Ok.ensures.channel in
+    let passed = passed_as c.args.held.now c.told-held command c.from-channel.result c.index-held-channel.result c.pass_class.new.held here c.in_default.ensures.kept in
+    let front = c.in-Ok.ensures.passed state stands.shows.says in
+    let not_over = goes_on c.args.tables.now c.args.live.now c.args.held.now state stands c.told-held command c.in-Ok.admitted.class c.in_default.ensures.ok in
+    let protected = protects_so command c.in-Ok.admitted.class c.is_protected.result true c.in-Ok.ensures.class c.is_protected.ensures c.if-not-is_protected.false in
+    let opened = opened_so c.args.live.now command c.in-Ok.admitted.channel c.in-Ok.admitted.selected c.in-Ok.ensures.channel c.in-Ok.ensures.selected in
+    let old = passed_there c.args.held.now c.told-held command c.from-channel.result c.pass_class.new.held c.index-held-channel-2.result here passed in
+    let standing : Standing = standing_of (channel_at (class_passed state.volatile command) (channel_of command.class)) in
+    let holds = subst (λ (h : Held). HoldsAs h standing) (sym old)
+    (holds_passed c.args.tables.now c.args.live.now c.args.held.now state stands c.told-held command) in
+    let plain : List ℕ = take c.in-Ok-open_command.count c.open_command.new.plain in
+    let found = session_of c.args.tables.now c.args.live.now c.args.held.now state stands c.told-held command
+    (λ session. Opens session command plain × HoldsAs c.open_command.new.held (Secured (accepting session command)))
+    (c.in-Ok-open_command.ensures.opens standing holds) in
+    let session : Session = found.0 in
+    let admitted : Admitted = admitted_as state command (Some (accepting session command)) plain in
+    let at = opened_stands c.args.tables.now c.args.live.now c.args.held.now state stands c.told-held command c.in-Ok.admitted.selected
+    opened protected session found.1 c.open_command.new.held plain found.2.0 found.2.1 in
+    let done = c.act-served-in-Ok-open_command.ensures.done admitted
+    (placed c.args.tables.now c.args.live.now c.args.held.now admitted.at c.from-channel.result (channel_of command.class) c.pass_class.new.held
+    (passed_held c.args.held.now c.told-held command) c.open_command.new.held here passed at) c.in-Ok.ensures.channel refl in
+    let same = c.act-served-in-Ok-open_command.ensures.kept (protected_gets (class_of command.class) command.ins c.in-Ok.ensures.known protected) in
+    let there = ap (λ (all : List Held). slice_index_or all c.from-channel.result c.index-held-channel-in-Ok-open_command.result) same
+    ∙ written_at (slice_set c.args.held.now c.from-channel.result c.pass_class.new.held) c.from-channel.result (channel_of command.class) c.open_command.new.held
+    c.index-held-channel-in-Ok-open_command.result (length-set c.args.held.now c.from-channel.result c.pass_class.new.held ∙ c.told-held)
+    (channel_is_low command.class) here in
+    let closed = c.close_protected.ensures.closed (accepting session command)
+    (subst (λ (h : Held). HoldsAs h (Secured (accepting session command))) (sym there) found.2.1) in
+    let kept = ap (slice_set c.act-served-in-Ok-open_command.new.held c.from-channel.result) c.close_protected.ensures.same
+    ∙ set-get_or c.act-served-in-Ok-open_command.new.held c.from-channel.result c.index-held-channel-in-Ok-open_command.result in
+    subst (λ (all : List Held). Serves state c.args.bytes.now (record { tables = c.act-served-in-Ok-open_command.new.tables; live = c.act-served-in-Ok-open_command.new.live; held = all })
+    c.close_protected.new.reply.items c.close_protected.result) (sym kept)
+    (rw c.close_protected.ensures.rule (
+    carried_out state c.args.bytes.now command (Some (accepting session command)) plain
+    (record { tables = c.act-served-in-Ok-open_command.new.tables; live = c.act-served-in-Ok-open_command.new.live; held = c.act-served-in-Ok-open_command.new.held }) c.act-served-in-Ok-open_command.new.reply.items c.close_protected.new.reply.items c.act-served-in-Ok-open_command.result stands.sound
+    (admits_opened state c.args.bytes.now command c.in-Ok.ensures.spelled c.in-Ok.ensures.known c.in-Ok.admitted.class c.in-Ok.ensures.class front not_over
+    protected session found.1 plain found.2.0) done closed))
 
-pub returns-in-Get-clause-served : goal.returns-in-Get-clause-served
-returns-in-Get-clause-served c state stands =
-    let command = apdu_of c.in-Ok.admitted.command in
-    let card : Kept = record { tables = c.args.tables.now; live = c.args.live.now } in
-    carried_out state c.args.bytes.now command (c.in-Ok.ensures.passed state stands.says) c.in-Ok.ensures.spelled c.in-Ok.ensures.known
-    card c.get_data.new.reply.items c.get_data.result
-    (c.get_data.ensures.done (admitted_as state command) (admitted_stands card state command stands) c.in-Ok.ensures.channel (record {
-      parameters = c.in_ok-partial.ensures.parameters;
-      data_field = c.in_ok-partial.ensures.data_field;
-      means = rw c.in-Get.is at c.in_ok-partial.ensures.means;
-    }))
+-- that a rule on secure messaging refuses
+pub returns-in-Err-open_command-clause-served : goal.returns-in-Err-open_command-clause-served
+returns-in-Err-open_command-clause-served c = λ state stands.
+    let command : Apdu = apdu_of c.in-Ok.admitted.command in
+    let here = c.from-channel.ensures ∙ c.in-Ok.ensures.channel in
+    let passed = passed_as c.args.held.now c.told-held command c.from-channel.result c.index-held-channel.result c.pass_class.new.held here c.in_default.ensures.kept in
+    let front = c.in-Ok.ensures.passed state stands.shows.says in
+    let not_over = goes_on c.args.tables.now c.args.live.now c.args.held.now state stands c.told-held command c.in-Ok.admitted.class c.in_default.ensures.ok in
+    let protected = protects_so command c.in-Ok.admitted.class c.is_protected.result true c.in-Ok.ensures.class c.is_protected.ensures c.if-not-is_protected.false in
+    let opened = opened_so c.args.live.now command c.in-Ok.admitted.channel c.in-Ok.admitted.selected c.in-Ok.ensures.channel c.in-Ok.ensures.selected in
+    let old = passed_there c.args.held.now c.told-held command c.from-channel.result c.pass_class.new.held c.index-held-channel-2.result here passed in
+    let standing : Standing = standing_of (channel_at (class_passed state.volatile command) (channel_of command.class)) in
+    let holds = subst (λ (h : Held). HoldsAs h standing) (sym old)
+    (holds_passed c.args.tables.now c.args.live.now c.args.held.now state stands c.told-held command) in
+    let opens = c.in-Err-open_command.ensures.opens standing holds in
+    let served = refused_served c.args.tables.now c.args.live.now c.args.held.now state stands c.told-held command c.in-Ok.admitted.selected
+    opened protected c.args.bytes.now c.in-Ok.ensures.spelled c.in-Ok.ensures.known c.in-Ok.admitted.class c.in-Ok.ensures.class
+    front not_over c.open_command.new.held c.open_command.new.plain c.close_plain-in-Err-open_command.new.reply.items c.in-Err-open_command.rule
+    (subst (λ (h : Held). OpensAs command standing h c.open_command.new.held c.open_command.new.plain (Err c.in-Err-open_command.rule)) old opens)
+    (c.close_plain-in-Err-open_command.ensures.closed ∙ rw c.requires.empty refl) in
+    rw (c.close_plain-in-Err-open_command.ensures.rule, passed, here) served

@@ -1,3 +1,4 @@
+use Rattle.card_types.specs.Says.{domain_aid}
 use Rattle.policy_rules.proofs.DataFound.{counter_data, counter_tag, keys_tag, object_tag, no_counter_data, no_keys, no_object_data, object_data}
 use Rattle.policy_rules.proofs.get_data.find_datum.Goals as goal
 
@@ -10,7 +11,8 @@ pub returns-in_err-session_set-clause-none : goal.returns-in_err-session_set-cla
 returns-in_err-session_set-clause-none c page said entry says well at =
     let none = c.in_err-session_set.ensures.none page said entry says well at in
     rw c.from_residual-in_err-session_set.ensures
-    (no_counter_data page c.args.tables.now said says well c.args.domain entry at c.args.tag c.if-tag-eq-SEQUENCE_COUNTER.true none)
+    (no_counter_data page c.args.tables.now said says well c.args.domain entry at c.args.tag c.if-tag-eq-SEQUENCE_COUNTER.true
+    (λ counter uses. none uses.0 counter (uses.1, uses.2)))
 
 pub returns-in_err-least-clause-none : goal.returns-in_err-least-clause-none
 returns-in_err-least-clause-none c page said entry says well at =
@@ -21,7 +23,8 @@ returns-in_err-least-clause-none c page said entry says well at =
 pub returns-then-tag-eq-SEQUENCE_COUNTER-clause-some : goal.returns-then-tag-eq-SEQUENCE_COUNTER-clause-some
 returns-then-tag-eq-SEQUENCE_COUNTER-clause-some c page said entry says well at =
     let uses = c.in_ok-session_set.ensures.some page said entry says well at in
-    let found = counter_data page c.args.tables.now said says well c.args.domain entry at c.in_ok-session_set.field-0.now uses in
+    let key = c.in_ok-session_set.field-0.thing.now in
+    let found = counter_data page c.args.tables.now said says well c.args.domain entry at key (domain_aid c.args.tables.now.entries.items key.owner, uses.0, uses.1) in
     (c.if-tag-eq-SEQUENCE_COUNTER.true, found.0, found.1)
 
 pub returns-clause-some : goal.returns-clause-some

@@ -1,0 +1,75 @@
+-- The reply to INITIALIZE UPDATE, and the offer that is made.
+use Rattle.std.proofs.Common.{◌≡◌, ℕ, List, [], ◌∷◌, ◌++◌, Option, None, Some, Result, Ok, Err, refl, sym, ap, subst, ◌∙◌, inr, arith}
+use Rattle.std.specs.Prelude.{Contains, IsErrAnd}
+use Rattle.std.proofs.lemmas.List.{append_assoc}
+use Rattle.apdu_core.specs.declared.reply.Status.{Status}
+use Rattle.card_core.specs.Offers.{OffersAs}
+use Rattle.card_core.specs.declared.held.Held.{Held}
+use Rattle.card_types.proofs.DrawnCounter.{drawn_next}
+use Rattle.card_types.proofs.KeyNames.{counters_shown}
+use Rattle.card_types.specs.Counters.{HasNextCounter}
+use Rattle.card_types.specs.Registry.{Counter, Object, Registry, object_named}
+use Rattle.card_types.specs.Says.{Says, counter_of}
+use Rattle.card_types.specs.Slots.{held}
+use Rattle.card_types.specs.declared.tables.KeyRec.{KeyRec}
+use Rattle.card_types.specs.declared.tables.Tables.{Tables}
+use Rattle.policy_rules.specs.Admission.{Admitted}
+use Rattle.policy_rules.specs.Commands.{Judges}
+use Rattle.policy_rules.specs.GetData.{HasData, IsDataObject}
+use Rattle.policy_rules.specs.InitializeUpdate.{AsksForSet, diversification_of, offer_body}
+use Rattle.policy_rules.specs.KeySets.{UsesSet}
+use Rattle.policy_rules.specs.Management.{acting}
+use Rattle.policy_rules.specs.declared.rule.Rule.{Rule}
+use Rattle.scp03_card.specs.Kept.{KeptOffer, StandsForOffer}
+use Rattle.scp03_card.specs.Offer.{Offer, card_cryptogram, counter_bytes, offered}
+
+-- the key diversification data where there is such a data object
+pub object_diversifies : (said : Registry) (owner value : List ℕ) → IsDataObject said owner 0xCF value
+    → value ≡ diversification_of (object_named said owner 0xCF)
+object_diversifies said owner value is = is.2 ∙ ap diversification_of (sym is.1)
+
+-- and there is none where GET DATA finds nothing
+pub none_named : (said : Registry) (owner : List ℕ) → ((value : List ℕ) → HasData said owner 0xCF value → ⊥) → object_named said owner 0xCF ≡ None
+none_named said owner none = by (object_named said owner 0xCF) refl
+  where
+    by : (o : Option Object) → object_named said owner 0xCF ≡ o → o ≡ None
+    by None is = refl
+    by (Some object) is =
+        absurd (none object.value (inr (inr ((λ same. omega (arith, same)), (λ same. omega (arith, same)), (object, is, refl)))))
+
+-- a refusal that is handed on
+pub refusal_handed : (admitted : Admitted) (page : ℕ → List ℕ) (tables : Tables) (held : Held) (body : List ℕ) (result : Result Status Rule) (found : Rule)
+    → IsErrAnd result (λ rule. rule ≡ found) → Judges admitted (Some found) → body ≡ [] → OffersAs admitted page tables tables held held body result
+refusal_handed admitted page tables held body (Ok status) found given judges empty = absurd given
+refusal_handed admitted page tables held body (Err rule) found given judges empty =
+    (subst (λ (r : Rule). Judges admitted (Some r)) (sym given) judges, refl, refl, empty)
+
+-- the body of the reply, written part by part
+pub body_is : (said : Registry) (owner : List ℕ) (counter : Counter) (made : Offer) (zeroth first second third fourth fifth card cryptogram last : List ℕ)
+    → zeroth ≡ diversification_of (object_named said owner 0xCF) → first ≡ zeroth ++ counter.version ∷ [] → second ≡ first ++ 0x03 ∷ 0x70 ∷ []
+    → third ≡ second ++ card → fourth ≡ third ++ cryptogram → fifth ≡ fourth ++ last
+    → card ≡ made.card → cryptogram ≡ card_cryptogram made → last ≡ counter_bytes counter.number
+    → fifth ≡ offer_body said owner counter made
+body_is said owner counter made zeroth first second third fourth fifth card cryptogram last e0 e1 e2 e3 e4 e5 is_card is_cryptogram is_last =
+    rw (e5, e4, e3, e2, e1, e0, is_card, is_cryptogram, is_last) (simp append_assoc)
+
+-- an offer for the AID and the host challenge in the code is one for those of the command
+pub offer_stands : (kept : KeptOffer) (enc mac dek : List ℕ) (counter : ℕ) (aid selected host body : List ℕ)
+    → StandsForOffer kept (offered enc mac dek counter aid host) → aid ≡ selected → host ≡ body
+    → StandsForOffer kept (offered enc mac dek counter selected body)
+offer_stands kept enc mac dek counter aid selected host body stands same_aid same_host =
+    subst (λ (h : List ℕ). StandsForOffer kept (offered enc mac dek counter selected h)) same_host
+    (subst (λ (a : List ℕ). StandsForOffer kept (offered enc mac dek counter a host)) same_aid stands)
+
+-- the key set of the domain in a slot is the one that the command asks for
+pub set_asked : (admitted : Admitted) (domain : List ℕ) (version : ℕ) (owner : List ℕ) (counter : Counter) → acting admitted ≡ domain
+    → version ≡ admitted.command.p1 → UsesSet admitted.at.registry domain version owner counter → AsksForSet admitted owner counter
+set_asked admitted domain version owner counter on asked uses =
+    subst (λ (n : ℕ). UsesSet admitted.at.registry (acting admitted) n owner counter) asked
+    (subst (λ (aid : List ℕ). UsesSet admitted.at.registry aid version owner counter) (sym on) uses)
+
+module _ (page : ℕ → List ℕ) (tables : Tables) (said : Registry) (says : Says page tables said) where
+  -- the counter that a key in a slot keeps is the registry's
+  pub counter_there : (slot : ℕ) (key : KeyRec) → held tables.keys.items slot ≡ Some key → HasNextCounter tables.keys.items slot
+      → Contains said.counters (counter_of tables.entries.items key)
+  counter_there slot key at next = (counters_shown page tables said says).there slot key at (drawn_next tables.keys.items slot key at next).0

@@ -1,0 +1,214 @@
+-- What a card keeps behind the check of the class, and behind secure messaging.
+use Rattle.std.proofs.Common.{◌≡◌, ℕ, ◌<◌, List, Bool, true, false, Option, None, Some, Err, refl, sym, ap, subst, ◌∙◌, inr, length}
+use Rattle.std.specs.Prelude.{MatchOption, slice_index_or, slice_set, ◌==◌}
+use Rattle.std.proofs.lemmas.List.{get_or-set_same, get_or_default, length-set}
+use Rattle.apdu_core.specs.Apdu.{Apdu, Short}
+use Rattle.apdu_core.specs.Reply.{status_bytes}
+use Rattle.card_types.specs.declared.card_life.CardLife.{CardLife}
+use Rattle.card_types.specs.declared.tables.Tables.{Tables}
+use Rattle.scp03_card.specs.Opens.{Gives, IsAuthentic, Opens, accepting, field_of}
+use Rattle.scp03_card.specs.Session.{Session}
+use Rattle.policy_rules.proofs.Passing.{admitted_fits, channel_is_low, class_fits, passed_session}
+use Rattle.policy_rules.specs.Admission.{Bars, IsTaken, admitted_as, class_passed, command_rules, placeless, session_for, session_passed}
+use Rattle.policy_rules.specs.Classes.{IsKnown, channel_of, class_of, is_protected, protects}
+use Rattle.policy_rules.specs.FirstFailing.{IsFirst}
+use Rattle.policy_rules.specs.Rules.{status_of}
+use Rattle.policy_rules.specs.Sound.{IsSound}
+use Rattle.policy_rules.specs.State.{State}
+use Rattle.policy_rules.specs.Volatile.{Nothing, Secured, Volatile, channel_at, session_in, standing_of, with_standing, without_session}
+use Rattle.policy_rules.specs.declared.class.Class.{Class}
+use Rattle.policy_rules.specs.declared.instruction.TheConstants.{EXTERNAL_AUTHENTICATE}
+use Rattle.policy_rules.specs.declared.live.Live.{Live}
+use Rattle.policy_rules.specs.declared.live.TheConstants.{CHANNELS}
+use Rattle.policy_rules.specs.declared.rule.Rule.TheVariants.{G}
+use Rattle.policy_rules.specs.declared.rule.RuleG.{RuleG}
+use Rattle.policy_rules.specs.declared.rule.RuleG.TheVariants.{G1, G2, G3, G4, G5, G6, G7, G8}
+use Rattle.card_core.specs.Holds.{HoldsAs, held_passed}
+use Rattle.card_core.specs.Kept.{Shows, Stands}
+use Rattle.card_core.specs.Secured.{OpensAs}
+use Rattle.card_core.specs.Serves.{IsOver, Serves}
+use Rattle.card_core.specs.declared.held.Held.{Held}
+use Rattle.card_core.specs.declared.held.Held.TheVariants as held
+use Rattle.card_core.proofs.Serving.{barred, no_plain_management, no_session_first, over_first, wrong_mac_first, wrong_padding_first}
+use Rattle.card_core.proofs.Standing.{HasFour, held_same, load_same, passed_shows, session_same, shows_same, standing_shows}
+
+within : (all : List Held) (number : ℕ) → length all ≡ CHANNELS → number < CHANNELS → number < length all
+within all number four low = subst (λ (n : ℕ). number < n) (sym four) low
+
+-- what is read of a channel
+pub read_at : (all : List Held) (place number : ℕ) (other : Held) → length all ≡ CHANNELS → number < CHANNELS → place ≡ number
+    → slice_index_or all place other ≡ slice_index_or all number held.Nothing
+read_at all place number other four low is =
+    ap (λ (n : ℕ). slice_index_or all n other) is ∙ get_or_default all number other held.Nothing (within all number four low)
+
+-- and when something was written to it
+pub written_at : (all : List Held) (place number : ℕ) (now other : Held) → length all ≡ CHANNELS → number < CHANNELS → place ≡ number
+    → slice_index_or (slice_set all place now) place other ≡ now
+written_at all place number now other four low is = get_or-set_same all place now other (subst (λ (n : ℕ). n < length all) (sym is) (within all number four low))
+
+-- the place is the channel's number
+pub placed : (tables : Tables) (live : Live) (all : List Held) (state : State) (place number : ℕ) (passed other now : Held) → place ≡ number → passed ≡ other
+    → Stands (record { tables = tables; live = live; held = slice_set (slice_set all number other) number now }) state
+    → Stands (record { tables = tables; live = live; held = slice_set (slice_set all place passed) place now }) state
+placed tables live all state place number passed other now is same stands =
+    subst (λ (n : ℕ). Stands (record { tables = tables; live = live; held = slice_set (slice_set all n passed) n now }) state) (sym is)
+    (subst (λ (h : Held). Stands (record { tables = tables; live = live; held = slice_set (slice_set all number h) number now }) state) (sym same) stands)
+
+pub protects_so : (command : Apdu) (class : Class) (answer test : Bool) → class_of command.class ≡ Some class → answer ≡ protects (Some class) command.ins
+    → answer ≡ test → is_protected command ≡ test
+protects_so command class answer test is_class answers is = ap (λ (c : Option Class). protects c command.ins) is_class ∙ sym answers ∙ is
+
+pub opened_so : (live : Live) (command : Apdu) (channel selected : ℕ) → channel ≡ channel_of command.class → slice_index_or live.selected channel None ≡ Some selected
+    → slice_index_or live.selected (channel_of command.class) None ≡ Some selected
+opened_so live command channel selected is opened = subst (λ (n : ℕ). slice_index_or live.selected n None ≡ Some selected) is opened
+
+module _ (all : List Held) (held_four : length all ≡ CHANNELS) (command : Apdu) where
+  -- what the command's channel holds behind the check of the class
+  abbrev pub passed_held : Held
+  passed_held = held_passed (command.ins == EXTERNAL_AUTHENTICATE) (slice_index_or all (channel_of command.class) held.Nothing)
+
+  pub passed_as : (place : ℕ) (other now : Held) → place ≡ channel_of command.class
+      → now ≡ held_passed (command.ins == EXTERNAL_AUTHENTICATE) (slice_index_or all place other) → now ≡ passed_held
+  passed_as place other now is passed =
+      passed ∙ ap (held_passed (command.ins == EXTERNAL_AUTHENTICATE)) (read_at all place (channel_of command.class) other held_four (channel_is_low command.class) is)
+
+  pub passed_there : (place : ℕ) (now other : Held) → place ≡ channel_of command.class → now ≡ passed_held
+      → slice_index_or (slice_set all place now) place other ≡ slice_index_or (slice_set all (channel_of command.class) passed_held) (channel_of command.class) held.Nothing
+  passed_there place now other is passed =
+      written_at all place (channel_of command.class) now other held_four (channel_is_low command.class) is
+      ∙ passed
+      ∙ sym (written_at all (channel_of command.class) (channel_of command.class) passed_held held.Nothing held_four (channel_is_low command.class) refl)
+
+module _ (tables : Tables) (live : Live) (all : List Held) (state : State) (stands : Stands (record { tables = tables; live = live; held = all }) state)
+    (held_four : length all ≡ CHANNELS) (command : Apdu) where
+  abbrev number : ℕ
+  number = channel_of command.class
+
+  low : number < CHANNELS
+  low = channel_is_low command.class
+
+  four : HasFour (record { tables = tables; live = live; held = all }) state
+  four = record { held = held_four; channels = stands.sound.fits.channels }
+
+  -- what is held behind the check of the class
+  abbrev pub all_passed : List Held
+  all_passed = slice_set all number (passed_held all held_four command)
+
+  abbrev passed : Volatile
+  passed = class_passed state.volatile command
+
+  shows_passed : Shows (record { tables = tables; live = live; held = all_passed }) (record { registry = state.registry; volatile = passed })
+  shows_passed = passed_shows tables live all state stands.shows four number low (command.ins == EXTERNAL_AUTHENTICATE)
+
+  four_passed : HasFour (record { tables = tables; live = live; held = all_passed }) (record { registry = state.registry; volatile = passed })
+  four_passed = record {
+    held = length-set all number (passed_held all held_four command) ∙ held_four;
+    channels = (class_fits state.registry state.volatile command stands.sound.fits).channels;
+  }
+
+  pub length_passed : length all_passed ≡ CHANNELS
+  length_passed = four_passed.held
+
+  sound_at : (session : Option Session) (plain : List ℕ) → IsTaken state command session plain → IsSound (admitted_as state command session plain).at
+  sound_at session plain taken = record {
+    well = stands.sound.well;
+    ascending = stands.sound.ascending;
+    fits = admitted_fits state command stands.sound.fits session plain taken;
+  }
+
+  -- the card goes on
+  pub goes_on : (class : Class) → (IsOver tables.life class command.ins → ⊥) → IsOver state.registry.life class command.ins → ⊥
+  goes_on class not_over over = not_over (subst (λ (life : CardLife). IsOver life class command.ins) (sym stands.shows.says.registry.life) over)
+
+  -- a command in plain
+  pub plain_stands : is_protected command ≡ false
+      → Stands (record { tables = tables; live = live; held = all_passed }) (admitted_as state command None command.body).at
+  plain_stands plain = record {
+    shows = shows_same (record { tables = tables; live = live; held = all_passed }) state.registry passed (session_passed passed command)
+        (sym (session_same passed command shows_passed.holds.load)) shows_passed;
+    sound = sound_at None command.body (plain, refl);
+  }
+
+  -- what the channel holds then stands for what it holds in the model
+  pub holds_passed : HoldsAs (slice_index_or all_passed number held.Nothing) (standing_of (channel_at passed number))
+  holds_passed = shows_passed.holds.channels number low
+
+  -- the session on the channel
+  pub session_of : (holds : Session → Type 0) → MatchOption (session_in (standing_of (channel_at passed number))) ⊥ holds
+      → (session : Session) × (session_for state command ≡ Some session) × holds session
+  session_of holds found =
+      by (session_for state command) refl (subst (λ (o : Option Session). MatchOption o ⊥ holds) (passed_session state command stands.sound.fits) found)
+    where
+      by : (o : Option Session) → session_for state command ≡ o → MatchOption o ⊥ holds → (session : Session) × (session_for state command ≡ Some session) × holds session
+      by None at none = absurd none
+      by (Some session) at is = (session, at, is)
+
+  module _ (slot : ℕ) (opened : slice_index_or live.selected number None ≡ Some slot) (protected : is_protected command ≡ true) where
+    -- a protected command that opens
+    pub opened_stands : (session : Session) → session_for state command ≡ Some session → (now : Held) (plain : List ℕ) → Opens session command plain
+        → HoldsAs now (Secured (accepting session command))
+        → Stands (record { tables = tables; live = live; held = slice_set all_passed number now })
+        (admitted_as state command (Some (accepting session command)) plain).at
+    opened_stands session is now plain opens holds =
+        let joined = with_standing passed number (Secured (accepting session command)) in
+        let shows = standing_shows tables live all_passed (record { registry = state.registry; volatile = passed }) shows_passed four_passed number low slot now
+        (Secured (accepting session command)) opened holds in
+        record {
+          shows = shows_same (record { tables = tables; live = live; held = slice_set all_passed number now }) state.registry joined (session_passed joined command)
+              (sym (session_same joined command shows.holds.load)) shows;
+          sound = sound_at (Some (accepting session command)) plain (
+            protected,
+            subst (λ (o : Option Session). MatchOption o ⊥ (λ s. Opens s command plain × (accepting session command ≡ accepting s command))) (sym is) (opens, refl),
+          );
+        }
+
+    -- its session has ended
+    ended_shows : (now : Held) → now ≡ held.Nothing
+        → Shows (record { tables = tables; live = live; held = slice_set all_passed number now })
+        (record { registry = state.registry; volatile = without_session passed number })
+    ended_shows now gone =
+        let ended = with_standing passed number Nothing in
+        let shows = standing_shows tables live all_passed (record { registry = state.registry; volatile = passed }) shows_passed four_passed number low slot now
+        Nothing opened (subst (λ (h : Held). HoldsAs h Nothing) (sym gone) tt) in
+        shows_same (record { tables = tables; live = live; held = slice_set all_passed number now }) state.registry ended (without_session passed number)
+        (sym (load_same ended number shows.holds.load)) shows
+
+    module _ (bytes : List ℕ) (short : Short command bytes) (known : IsKnown command.class command.ins)
+        (class : Class) (is_class : class_of command.class ≡ Some class) (front : IsFirst (Bars state bytes) command_rules None)
+        (not_over : IsOver state.registry.life class command.ins → ⊥) where
+      -- a rule on secure messaging refuses it
+      pub refused_served : (now : Held) (plain reply : List ℕ) (rule : RuleG)
+          → OpensAs command (standing_of (channel_at passed number)) (slice_index_or all_passed number held.Nothing) now plain (Err rule)
+          → reply ≡ status_bytes (status_of (G rule))
+          → Serves state bytes (record { tables = tables; live = live; held = slice_set all_passed number now }) reply (Some (G rule))
+      refused_served now plain reply G6 (none, same) is =
+          barred (record { tables = tables; live = live; held = slice_set all_passed number now }) state bytes reply G6 passed stands.sound
+          (no_session_first state bytes command short known class is_class front not_over protected (sym (passed_session state command stands.sound.fits) ∙ none))
+          (command, short, inr (no_plain_management command known, refl))
+          (held_same (record { tables = tables; live = live; held = all_passed }) (record { registry = state.registry; volatile = passed }) number now (sym same) shows_passed)
+          is
+      refused_served now plain reply G7 (gone, wrong) is =
+          let found = session_of (λ session. IsAuthentic session command → ⊥) wrong in
+          barred (record { tables = tables; live = live; held = slice_set all_passed number now }) state bytes reply G7 (without_session passed number) stands.sound
+          (wrong_mac_first state bytes command short known class is_class front not_over protected found.0 found.1 found.2)
+          (command, short, refl) (ended_shows now gone) is
+      refused_served now plain reply G8 (gone, wrong) is =
+          let found = session_of (λ session. IsAuthentic session command × ((b : List ℕ) → Gives (accepting session command) (field_of command) b → ⊥)) wrong in
+          barred (record { tables = tables; live = live; held = slice_set all_passed number now }) state bytes reply G8 (without_session passed number) stands.sound
+          (wrong_padding_first state bytes command short known class is_class front not_over protected found.0 found.1 found.2.0 found.2.1)
+          (command, short, refl) (ended_shows now gone) is
+      refused_served now plain reply G1 opens is = absurd opens
+      refused_served now plain reply G2 opens is = absurd opens
+      refused_served now plain reply G3 opens is = absurd opens
+      refused_served now plain reply G4 opens is = absurd opens
+      refused_served now plain reply G5 opens is = absurd opens
+
+  -- the card is terminated
+  pub over_served : (bytes reply : List ℕ) → Short command bytes → (class : Class) → class_of command.class ≡ Some class
+      → IsKnown command.class command.ins → IsFirst (Bars state bytes) command_rules None → IsOver state.registry.life class command.ins
+      → reply ≡ status_bytes (status_of (G G5))
+      → Serves state bytes (record { tables = tables; live = live; held = slice_set all number (held_passed false (slice_index_or all number held.Nothing)) }) reply (Some (G G5))
+  over_served bytes reply short class is_class known front over is =
+      barred (record { tables = tables; live = live; held = slice_set all number (held_passed false (slice_index_or all number held.Nothing)) }) state bytes reply G5
+      (placeless state.volatile number false) stands.sound (over_first state bytes command short known class is_class front over)
+      (command, short, refl) (passed_shows tables live all state stands.shows four number low false) is

@@ -1,0 +1,43 @@
+//! What an open channel holds besides its selection.
+
+ghost use Rattle.std.specs.Prelude.{◌≡◌, ◌↔◌, IsTrue};
+ghost use Rattle.card_core.specs.Holds.{IsOffered, without_offer_held};
+ghost use Rattle.card_core.specs.declared.held.Held.TheVariants as holding;
+
+use aes_block::Aes128;
+use scp03_card::{Offer, Session};
+
+/// Nothing, an offer that the host has still to answer, or a session.
+#[derive(Drop)]
+pub enum Held {
+    Nothing,
+    Offered(Offer<Aes128>),
+    Secured(Session<Aes128>),
+}
+
+impl Held {
+    pub fn is_offered(&self) -> bool
+        ensures { IsTrue result ↔ IsOffered self.now }
+    {
+        matches!(self, Held::Offered(_))
+    }
+
+    /// Ends what is held. Where nothing is, nothing is written.
+    pub fn end(&mut self)
+        ensures { self.new ≡ holding.Nothing }
+    {
+        match self {
+            Held::Nothing => {}
+            _ => *self = Held::Nothing,
+        }
+    }
+
+    /// Drops an offer. Anything else stays.
+    pub fn drop_offer(&mut self)
+        ensures { self.new ≡ without_offer_held self.old }
+    {
+        if self.is_offered() {
+            *self = Held::Nothing;
+        }
+    }
+}

@@ -1,0 +1,152 @@
+//! INITIALIZE UPDATE: a session is offered.
+
+ghost use Rattle.std.specs.Prelude.{◌≡◌, ◌≤◌, ℕ, List, [], length, None, Some, IfSome, IfNone};
+ghost use Rattle.card_core.specs.Domains.{HasSelected};
+ghost use Rattle.card_core.specs.Offers.{OffersAs};
+ghost use Rattle.card_types.specs.Ascending.{IsAscending};
+ghost use Rattle.card_types.specs.InOrder.{IsInOrder};
+ghost use Rattle.card_types.specs.NamedKeys.{HaveKeyLength};
+ghost use Rattle.card_types.specs.Registry.{Registry, object_named};
+ghost use Rattle.card_types.specs.Says.{Says, domain_aid};
+ghost use Rattle.card_types.specs.Slots.{held as held_in};
+ghost use Rattle.card_types.specs.Well.{Well};
+ghost use Rattle.card_types.specs.declared.limits.TheConstants.{COUNTER_LIMIT};
+ghost use Rattle.card_types.specs.declared.tables.Entry.{Entry};
+ghost use Rattle.policy_rules.specs.Admission.{Admitted};
+ghost use Rattle.policy_rules.specs.GetData.{IsDataObject};
+ghost use Rattle.policy_rules.specs.InitializeUpdate.{diversification_of, offer_body};
+ghost use Rattle.policy_rules.specs.Means.{IsRequestOf};
+ghost use Rattle.policy_rules.specs.declared.request.Request.TheVariants.{Initialize};
+ghost use Rattle.scp03_card.specs.Kept.{StandsForOffer};
+ghost use Rattle.scp03_card.specs.Offer as model;
+ghost use Rattle.scp03_card.specs.Offer.{offered};
+
+use crate::held::Held;
+use crate::reply::REPLY_LIMIT;
+use aes_block::{Aes128, BlockKey};
+use apdu_core::Status;
+use arrayvec::ArrayVec;
+use card_types::{Aid, KeySet, Object, Tables, in_slot, keys_of_set};
+use policy_rules::{Datum, Rule, RuleIU, judge_get_data, judge_initialize_update};
+use scp03_card::{Offer, StaticKeys, offer};
+
+/// The tag of key diversification data.
+const DIVERSIFICATION: u16 = 0x00CF;
+
+/// SCP03, and its i parameter: a pseudo-random challenge, R-MAC and R-ENCRYPTION.
+const PROTOCOL: [u8; 2] = [0x03, 0x70];
+
+// The offer that the keys of a key set make.
+fn offer_of(set: &KeySet<'_>, counter: u32, aid: &Aid, host: &[u8; 8]) -> Offer<Aes128>
+    requires lengths { HaveKeyLength set.now }
+    requires counter { counter ≤ COUNTER_LIMIT }
+    ensures made { StandsForOffer result (offered set.now.enc.now.bytes.items set.now.mac.now.bytes.items set.now.dek.now.bytes.items counter aid.now host.now) }
+{
+    let keys = StaticKeys {
+        enc: Aes128::from_key(&set.enc.bytes),
+        mac: Aes128::from_key(&set.mac.bytes),
+        dek: Aes128::from_key(&set.dek.bytes),
+    };
+    offer(keys, counter, aid, host)
+}
+
+// The key diversification data of a domain, where it has such a data object.
+fn diversification(tables: &Tables, owner: u8) -> Option<&Object>
+    requires in_order { IsInOrder tables.now }
+    ensures some { (page : ℕ → List ℕ) (said : Registry) (entry : Entry) → Says page tables.now said → Well said
+        → held_in tables.now.entries.items owner ≡ Some entry
+        → IfSome result (λ object. IsDataObject said (domain_aid tables.now.entries.items owner) 0xCF object.now.value.items) }
+    ensures none { (page : ℕ → List ℕ) (said : Registry) (entry : Entry) → Says page tables.now said → Well said
+        → held_in tables.now.entries.items owner ≡ Some entry
+        → IfNone result (object_named said (domain_aid tables.now.entries.items owner) 0xCF ≡ None) }
+{
+    match judge_get_data(tables, owner, DIVERSIFICATION) {
+        Ok(Datum::Object { object }) => Some(object),
+        Ok(Datum::Keys { .. }) => None,
+        Ok(Datum::Counter { .. }) => None,
+        Err(_) => None,
+    }
+}
+
+// The key diversification data of a domain, or ten 00.
+fn write_diversification(tables: &Tables, owner: u8, reply: &mut ArrayVec<u8, REPLY_LIMIT>)
+    requires in_order { IsInOrder tables.now }
+    requires empty { reply.old.items ≡ [] }
+    ensures written { (page : ℕ → List ℕ) (said : Registry) (entry : Entry) → Says page tables.now said → Well said
+        → held_in tables.now.entries.items owner ≡ Some entry
+        → reply.new.items ≡ diversification_of (object_named said (domain_aid tables.now.entries.items owner) 0xCF) }
+    ensures size { length reply.new.items ≤ 120 }
+{
+    match diversification(tables, owner) {
+        Some(object) => reply.try_extend_from_slice(&object.value).unwrap(),
+        None => reply.try_extend_from_slice(&[0; 10]).unwrap(),
+    }
+}
+
+// The body of the reply.
+fn write_offer(
+    tables: &Tables,
+    owner: u8,
+    version: u8,
+    counter: u32,
+    offer: &Offer<Aes128>,
+    reply: &mut ArrayVec<u8, REPLY_LIMIT>,
+)
+    requires in_order { IsInOrder tables.now }
+    requires counter { counter ≤ COUNTER_LIMIT }
+    requires empty { reply.old.items ≡ [] }
+    ensures written { (page : ℕ → List ℕ) (said : Registry) (entry : Entry) (made : model.Offer) → Says page tables.now said → Well said
+        → held_in tables.now.entries.items owner ≡ Some entry → StandsForOffer offer.now made
+        → reply.new.items ≡ offer_body said (domain_aid tables.now.entries.items owner)
+        (record { owner = domain_aid tables.now.entries.items owner; version = version; number = counter }) made }
+    ensures size { length reply.new.items ≤ 142 }
+{
+    let [_, high, middle, low] = counter.to_be_bytes();
+    write_diversification(tables, owner, reply);
+    reply.push(version);
+    reply.try_extend_from_slice(&PROTOCOL).unwrap();
+    reply.try_extend_from_slice(&offer.challenge()).unwrap();
+    reply.try_extend_from_slice(&offer.cryptogram()).unwrap();
+    reply.try_extend_from_slice(&[high, middle, low]).unwrap();
+}
+
+/// Offers a session for the domain in a slot, and draws the counter of the key set.
+pub fn initialize_update(
+    tables: &mut Tables,
+    held: &mut Held,
+    domain: u8,
+    version: u8,
+    challenge: &[u8],
+    reply: &mut ArrayVec<u8, REPLY_LIMIT>,
+) -> Result<Status, Rule>
+    requires in_order { IsInOrder tables.old }
+    requires challenge { length challenge.now ≡ 8 }
+    requires empty { reply.old.items ≡ [] }
+    ensures done { (page : ℕ → List ℕ) (admitted : Admitted) (entry : Entry) → Says page tables.old admitted.at.registry → Well admitted.at.registry
+        → IsAscending admitted.at.registry → HasSelected tables.old domain entry admitted
+        → IsRequestOf (Initialize version challenge.entry) admitted.command
+        → OffersAs admitted page tables.old tables.new held.old held.new reply.new.items result }
+    ensures in_order { IsInOrder tables.new }
+    ensures entries { tables.new.entries ≡ tables.old.entries }
+    ensures life { tables.new.life ≡ tables.old.life }
+    ensures room { length reply.new.items ≤ 239 }
+{
+    let found = judge_initialize_update(tables, domain, version)?;
+    let slot = found.slot;
+    let owner = found.thing.owner;
+    let version = found.thing.version;
+    let counter = found.thing.counter;
+    let Some(entry) = in_slot(&tables.entries, domain) else {
+        return Err(Rule::IU(RuleIU::IU2));
+    };
+    let Some(set) = keys_of_set(tables, owner, version) else {
+        return Err(Rule::IU(RuleIU::IU2));
+    };
+    let mut host = [0; 8];
+    host.copy_from_slice(challenge);
+    let offer = offer_of(&set, counter, &entry.aid, &host);
+    write_offer(tables, owner, version, counter, &offer, reply);
+    tables.draw_counter(slot);
+    *held = Held::Offered(offer);
+    Ok(Status(0x9000))
+}

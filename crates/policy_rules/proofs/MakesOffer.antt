@@ -1,0 +1,104 @@
+-- The offer that INITIALIZE UPDATE makes, and the registry with the counter one higher.
+use Rattle.std.proofs.Common.{◌≡◌, ◌≢◌, ℕ, ◌<◌, ◌≤◌, List, Bool, true, false, ◌==◌, ◌&&◌, Option, None, Some, refl, sym, subst, ◌∙◌, length, arith}
+use Rattle.std.specs.Prelude.{Contains, MatchOption, find, if◌then◌else◌}
+use Rattle.std.proofs.lemmas.Bool.{and_parts}
+use Rattle.std.proofs.lemmas.List.Elements.{All-contains}
+use Rattle.card_types.proofs.LeastOfList.{found_fits, names_sorted}
+use Rattle.card_types.proofs.RaisedCounter.{counter_found, raised_found_well}
+use Rattle.card_types.proofs.SameAid.{same_aid_decides}
+use Rattle.card_types.specs.AidOrder.{same_aid}
+use Rattle.card_types.specs.Ascending.{IsAscending, counter_order}
+use Rattle.card_types.specs.Counters.{raised, raised_counter}
+use Rattle.card_types.specs.Registry.{Counter, Key, Registry, key_named}
+use Rattle.card_types.specs.Well.{IsKeyLength, IsWellCounter, IsWellKey, Well}
+use Rattle.card_types.specs.declared.limits.TheConstants.{COUNTER_LIMIT}
+use Rattle.policy_rules.specs.Admission.{Admitted}
+use Rattle.policy_rules.specs.InitializeUpdate.{IsOfferOf}
+use Rattle.policy_rules.specs.KeySets.{set_counter}
+use Rattle.policy_rules.specs.Management.{acting}
+use Rattle.policy_rules.specs.Sound.{Fits, IsWellChannel, IsWellLoad, IsWellOffer}
+use Rattle.policy_rules.specs.Volatile.{Channel, LoadSession, Volatile, channel_at}
+use Rattle.scp03_card.proofs.Lengths.{length-card_challenge}
+use Rattle.scp03_card.specs.Offer.{Offer}
+
+-- a key of the registry has the length of one
+key_length : (registry : Registry) (owner : List ℕ) (version identifier : ℕ) (key : Key) → Well registry → key_named registry owner version identifier ≡ Some key
+    → IsKeyLength (length key.bytes)
+key_length registry owner version identifier key well named =
+    let found = found_fits (λ (k : Key). same_aid k.owner owner && k.version == version && k.identifier == identifier) registry.keys key named in
+    let is = All-contains (IsWellKey registry) registry.keys key well.keys found.0 in
+    is.size
+
+pub well_offer : (admitted : Admitted) (owner : List ℕ) (counter : Counter) (offer : Offer) → Well admitted.at.registry → length admitted.command.body ≡ 8
+    → IsOfferOf admitted owner counter offer → IsWellOffer offer
+well_offer admitted owner counter offer well long makes =
+    let enc = key_length admitted.at.registry owner counter.version 1 makes.enc well makes.key_enc in
+    let mac = key_length admitted.at.registry owner counter.version 2 makes.mac well makes.key_mac in
+    let dek = key_length admitted.at.registry owner counter.version 3 makes.dek well makes.key_dek in
+    subst IsWellOffer (sym makes.is)
+    (record { enc = enc; mac = mac ∙ sym enc; dek = dek ∙ sym enc; host = long; card = length-card_challenge makes.enc.bytes counter.number (acting admitted) })
+
+-- the counter of a key set is one of the domain
+counter_of_set : (registry : Registry) (owner : List ℕ) (version : ℕ) (counter : Counter) → set_counter registry owner version ≡ Some counter
+    → Contains registry.counters counter × (same_aid counter.owner owner ≡ true)
+counter_of_set registry owner version counter found = by (version == 0) found
+  where
+    by : (any : Bool)
+        → (if any then find (λ c. same_aid c.owner owner) registry.counters else find (λ c. same_aid c.owner owner && c.version == version) registry.counters) ≡ Some counter
+        → Contains registry.counters counter × (same_aid counter.owner owner ≡ true)
+    by true found = found_fits (λ (c : Counter). same_aid c.owner owner) registry.counters counter found
+    by false found =
+        let fits = found_fits (λ (c : Counter). same_aid c.owner owner && c.version == version) registry.counters counter found in
+        (fits.0, (and_parts (same_aid counter.owner owner) (counter.version == version) fits.1).0)
+
+below_limit : (n : ℕ) → n ≤ COUNTER_LIMIT → n ≢ COUNTER_LIMIT → n < COUNTER_LIMIT
+below_limit n most other = omega arith
+
+module _ (registry : Registry) (owner : List ℕ) where
+  pub set_raised_well : (version : ℕ) (counter : Counter) → Well registry → IsAscending registry → set_counter registry owner version ≡ Some counter
+      → counter.number ≢ COUNTER_LIMIT → Well (raised registry owner counter.version)
+  set_raised_well version counter well ascending found other =
+      let of = counter_of_set registry owner version counter found in
+      let owned = (same_aid_decides counter.owner owner).0 of.1 in
+      let is = All-contains (IsWellCounter registry) registry.counters counter well.counters of.0 in
+      raised_found_well registry owner counter.version ascending.counters counter
+      (counter_found registry owner counter.version ascending.counters counter of.0 owned refl) (below_limit counter.number is.number other) well
+
+  module _ (version : ℕ) where
+    pub raised_ascending : IsAscending registry → IsAscending (raised registry owner version)
+    raised_ascending ascending = record {
+      entries = ascending.entries;
+      files = ascending.files;
+      keys = ascending.keys;
+      counters = names_sorted counter_order (raised_counter owner version) registry.counters ascending.counters;
+      objects = ascending.objects;
+    }
+
+    channel_still : (channel : Option Channel) → MatchOption channel (Unit {0}) (IsWellChannel registry)
+        → MatchOption channel (Unit {0}) (IsWellChannel (raised registry owner version))
+    channel_still None well = tt
+    channel_still (Some channel) well = record { selected = well.selected; standing = well.standing }
+
+    load_still : (volatile : Volatile) (load : Option LoadSession) → MatchOption load (Unit {0}) (IsWellLoad registry volatile)
+        → MatchOption load (Unit {0}) (IsWellLoad (raised registry owner version) volatile)
+    load_still volatile None well = tt
+    load_still volatile (Some load) well = record {
+      session = well.session;
+      no_entry = well.no_entry;
+      no_file = well.no_file;
+      domain = well.domain;
+      hash = well.hash;
+      few_files = well.few_files;
+      few_blocks = well.few_blocks;
+      announced = well.announced;
+      within = well.within;
+      few_pages = well.few_pages;
+    }
+
+    pub raised_fits : (volatile : Volatile) → Fits registry volatile → Fits (raised registry owner version) volatile
+    raised_fits volatile fits = record {
+      channels = fits.channels;
+      basic = fits.basic;
+      each = λ number. channel_still (channel_at volatile number) (fits.each number);
+      load = load_still volatile volatile.load fits.load;
+    }

@@ -1,0 +1,70 @@
+use Rattle.std.proofs.Common.{◌≡◌, ◌≤◌, ℕ, Some, refl, sym, ◌∙◌, inl, inr, arith}
+use Rattle.std.proofs.lemmas.List.Elements.{All-contains}
+use Rattle.card_types.proofs.KeyNames.{keys_shown}
+use Rattle.card_types.specs.InOrder.{IsInOrder}
+use Rattle.card_types.specs.Says.{key_of}
+use Rattle.card_types.specs.Slots.{held}
+use Rattle.card_types.specs.Well.{IsKeyName, IsWellKey}
+use Rattle.card_types.specs.declared.tables.KeyRec.{KeyRec}
+use Rattle.card_types.specs.declared.tables.Tables.{Tables}
+use Rattle.policy_rules.proofs.OfferJudging.{has_next, locked_first, none_first, shut_first, spent_first, unset_first}
+use Rattle.policy_rules.proofs.initialize_update.judge_initialize_update.Goals as goal
+
+pub returns-then-entry-clause-refused : goal.returns-then-entry-clause-refused
+returns-then-entry-clause-refused c page admitted entry says well at on asked =
+    let here = rw c.deref.ensures.value at c.in-Some.ensures in
+    locked_first page c.args.tables.now admitted says well c.args.domain c.in-Some.entry.now here on c.args.version asked c.if-entry.true
+
+pub returns-then-is_shut_out-clause-refused : goal.returns-then-is_shut_out-clause-refused
+returns-then-is_shut_out-clause-refused c page admitted entry says well at on asked =
+    let here = rw c.deref.ensures.value at c.in-Some.ensures in
+    shut_first page c.args.tables.now admitted says well c.args.domain c.in-Some.entry.now here on c.args.version asked c.if-entry.false
+    (sym c.is_shut_out.ensures ∙ c.if-is_shut_out.true)
+
+pub returns-in_default-clause-refused : goal.returns-in_default-clause-refused
+returns-in_default-clause-refused c page admitted entry says well at on asked =
+    let none = rw c.deref.ensures.value at c.in_default.ensures in
+    (let clash = sym none ∙ at in cc)
+
+pub returns-in_default-session_set-clause-refused : goal.returns-in_default-session_set-clause-refused
+returns-in_default-session_set-clause-refused c page admitted entry says well at on asked =
+    let here = rw c.deref.ensures.value at c.in-Some.ensures in
+    unset_first page c.args.tables.now admitted says well c.args.domain c.in-Some.entry.now here on c.args.version asked c.if-entry.false
+    (sym c.is_shut_out.ensures ∙ c.if-is_shut_out.false)
+    (c.in_default-session_set.ensures.none page admitted.at.registry c.in-Some.entry.now says well here)
+
+pub returns-then-found-eq-COUNTER_LIMIT-clause-refused : goal.returns-then-found-eq-COUNTER_LIMIT-clause-refused
+returns-then-found-eq-COUNTER_LIMIT-clause-refused c page admitted entry says well at on asked =
+    let here = rw c.deref.ensures.value at c.in-Some.ensures in
+    spent_first page c.args.tables.now admitted says well c.args.domain c.in-Some.entry.now here on c.args.version asked c.if-entry.false
+    (sym c.is_shut_out.ensures ∙ c.if-is_shut_out.false) _ _
+    (c.in-Some-session_set.ensures.some page admitted.at.registry c.in-Some.entry.now says well here) c.if-found-eq-COUNTER_LIMIT.true
+
+pub returns-clause-next : goal.returns-clause-next
+returns-clause-next c =
+    has_next c.args.tables.now c.requires.in_order c.in-Some-session_set.found.slot c.in-Some-session_set.found.thing.now c.in-Some-session_set.ensures.held c.in-Some-session_set.ensures.counts
+    c.if-found-eq-COUNTER_LIMIT.false
+
+-- a key version number is 01 at least
+least_version : (version identifier : ℕ) → IsKeyName version identifier → 1 ≤ version
+least_version version identifier (inl set) = set.0
+least_version version identifier (inr (inl token, first)) = omega arith
+least_version version identifier (inr (inr receipt, first)) = omega arith
+
+least_in_slot : (tables : Tables) → IsInOrder tables → (slot : ℕ) (key : KeyRec) → held tables.keys.items slot ≡ Some key → 1 ≤ key.version
+least_in_slot tables order slot key here =
+    let among = (keys_shown order.page tables order.said order.says).there slot key here refl in
+    least_version key.version key.identifier
+    (All-contains (IsWellKey order.said) order.said.keys (key_of tables.entries.items key) order.well.keys among).name
+
+pub returns-clause-version : goal.returns-clause-version
+returns-clause-version c =
+    least_in_slot c.args.tables.now c.requires.in_order c.in-Some-session_set.found.slot c.in-Some-session_set.found.thing.now
+    c.in-Some-session_set.ensures.held
+
+pub returns-clause-passed : goal.returns-clause-passed
+returns-clause-passed c page admitted entry says well at on asked =
+    let here = rw c.deref.ensures.value at c.in-Some.ensures in
+    none_first page c.args.tables.now admitted says well c.args.domain c.in-Some.entry.now here on c.args.version asked c.if-entry.false
+    (sym c.is_shut_out.ensures ∙ c.if-is_shut_out.false) _ _
+    (c.in-Some-session_set.ensures.some page admitted.at.registry c.in-Some.entry.now says well here) c.if-found-eq-COUNTER_LIMIT.false

@@ -1,0 +1,21 @@
+-- The rules that the commands of card content management and INITIALIZE UPDATE have in common.
+use Rattle.std.specs.Prelude.{◌≡◌, ℕ, List, true, MatchOption, codes}
+use Rattle.card_types.specs.Registry.{entry_named}
+use Rattle.policy_rules.specs.Admission.{Admitted}
+use Rattle.policy_rules.specs.Volatile.{selected_on}
+use Rattle.policy_rules.specs.declared.management.RuleM.{RuleM}
+use Rattle.policy_rules.specs.declared.management.RuleM.TheVariants.{M2}
+
+abbrev pub management_rule_name : RuleM → List ℕ
+management_rule_name M2 = codes "M2"
+
+abbrev pub management_rule_status : RuleM → ℕ
+management_rule_status M2 = 0x6985
+
+-- the security domain that the command acts for: the one that is selected on its channel
+abbrev pub acting : Admitted → List ℕ
+acting admitted = selected_on admitted.at.volatile admitted.channel
+
+abbrev pub ManagementFails : Admitted → RuleM → Type 0
+-- the domain is locked
+ManagementFails admitted M2 = MatchOption (entry_named admitted.at.registry (acting admitted)) ⊥ (λ entry. entry.life.locked ≡ true)

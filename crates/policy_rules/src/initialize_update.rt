@@ -1,0 +1,127 @@
+//! INITIALIZE UPDATE (GlobalPlatform Amendment D, 7.1.1).
+
+ghost use Rattle.std.specs.Prelude.{◌≡◌, ◌≤◌, ◌&&◌, not, ℕ, List, None, Some, IfOk, IfErr};
+ghost use Rattle.card_types.specs.AidOrder.{same_aid};
+ghost use Rattle.card_types.specs.Counters.{HasNextCounter};
+ghost use Rattle.card_types.specs.InOrder.{IsInOrder};
+ghost use Rattle.card_types.specs.Registry.{Registry};
+ghost use Rattle.card_types.specs.Says.{Says, counter_of, domain_aid};
+ghost use Rattle.card_types.specs.Slots.{held};
+ghost use Rattle.card_types.specs.Well.{Well};
+ghost use Rattle.card_types.specs.declared.factory.TheConstants.{ISSUER};
+ghost use Rattle.card_types.specs.declared.tables.Entry.{Entry};
+ghost use Rattle.policy_rules.specs.Admission.{Admitted};
+ghost use Rattle.policy_rules.specs.FirstFailing.{IsFirst};
+ghost use Rattle.policy_rules.specs.InitializeUpdate.{InitializeUpdateFails, offer_rules, initialize_update_rule_name, initialize_update_rule_status};
+ghost use Rattle.policy_rules.specs.KeySets.{UsesSet};
+ghost use Rattle.policy_rules.specs.Management.{acting};
+ghost use Rattle.policy_rules.specs.Means.{Parses};
+ghost use Rattle.policy_rules.specs.Select.{is_card_locked};
+ghost use Rattle.policy_rules.specs.declared.instruction.TheConstants.{INITIALIZE_UPDATE};
+
+use crate::key_sets::session_set;
+use crate::management::RuleM;
+use crate::request::Request;
+use crate::rule::{Rule, RulePS};
+use crate::select::is_issuer;
+use apdu_core::Status;
+use card_types::{Aid, COUNTER_LIMIT, CardLife, InSlot, KeyRec, Tables, in_slot};
+
+/// The rules of INITIALIZE UPDATE.
+#[derive(Clone, Copy, Debug, PartialEq, Eq)]
+pub enum RuleIU {
+    /// The card is locked, and another domain than the Issuer Security Domain is selected.
+    IU1,
+    /// There is no such key set.
+    IU2,
+    /// Its sequence counter has come to its end.
+    IU3,
+}
+
+impl RuleIU {
+    /// The status word of an INITIALIZE UPDATE that the rule refuses.
+    pub fn status(&self) -> Status
+        ensures { result.0 ≡ initialize_update_rule_status self.now }
+    {
+        match self {
+            RuleIU::IU1 => Status(0x6985),
+            RuleIU::IU2 => Status(0x6A88),
+            RuleIU::IU3 => Status(0x6985),
+        }
+    }
+
+    /// The rule's name.
+    pub fn name(&self) -> &'static str
+        ensures { result.now ≡ initialize_update_rule_name self.now }
+    {
+        match self {
+            RuleIU::IU1 => "IU1",
+            RuleIU::IU2 => "IU2",
+            RuleIU::IU3 => "IU3",
+        }
+    }
+}
+
+/// Reads P2 and the data field: P1 is the key version number, and the data field the host challenge.
+pub(crate) fn parse_initialize_update(p1: u8, p2: u8, body: &[u8]) -> Result<Request<'_>, Rule>
+    ensures { Parses INITIALIZE_UPDATE p1 p2 body.now result }
+{
+    if p2 != 0x00 {
+        return Err(Rule::PS(RulePS::P));
+    }
+    if body.len() != 8 {
+        return Err(Rule::PS(RulePS::S));
+    }
+    Ok(Request::Initialize {
+        version: p1,
+        challenge: body,
+    })
+}
+
+// Whether the card is locked for a domain with this AID: all but the Issuer Security Domain are shut out then.
+fn is_shut_out(card_life: CardLife, aid: &Aid) -> bool
+    ensures { result ≡ (is_card_locked card_life && not (same_aid aid.now ISSUER)) }
+{
+    card_life == CardLife::Locked && !is_issuer(aid)
+}
+
+/// The key set that INITIALIZE UPDATE offers a session with, for the domain in a slot: the key that keeps its counter.
+pub fn judge_initialize_update(
+    tables: &Tables,
+    domain: u8,
+    version: u8,
+) -> Result<InSlot<'_, KeyRec>, Rule>
+    requires in_order { IsInOrder tables.now }
+    ensures at { IfOk result (λ found. held tables.now.keys.items found.slot ≡ Some found.thing.now) }
+    ensures next { IfOk result (λ found. HasNextCounter tables.now.keys.items found.slot) }
+    ensures version { IfOk result (λ found. 1 ≤ found.thing.now.version) }
+    ensures found { (page : ℕ → List ℕ) (said : Registry) (entry : Entry) → Says page tables.now said → Well said
+        → held tables.now.entries.items domain ≡ Some entry
+        → IfOk result (λ found. UsesSet said (domain_aid tables.now.entries.items domain) version
+        (domain_aid tables.now.entries.items found.thing.now.owner) (counter_of tables.now.entries.items found.thing.now)) }
+    ensures passed { (page : ℕ → List ℕ) (admitted : Admitted) (entry : Entry) → Says page tables.now admitted.at.registry → Well admitted.at.registry
+        → held tables.now.entries.items domain ≡ Some entry
+        → acting admitted ≡ domain_aid tables.now.entries.items domain → version ≡ admitted.command.p1
+        → IfOk result (λ found. IsFirst (InitializeUpdateFails admitted) offer_rules None) }
+    ensures refused { (page : ℕ → List ℕ) (admitted : Admitted) (entry : Entry) → Says page tables.now admitted.at.registry → Well admitted.at.registry
+        → held tables.now.entries.items domain ≡ Some entry
+        → acting admitted ≡ domain_aid tables.now.entries.items domain → version ≡ admitted.command.p1
+        → IfErr result (λ rule. IsFirst (InitializeUpdateFails admitted) offer_rules (Some rule)) }
+{
+    let Some(entry) = in_slot(&tables.entries, domain) else {
+        return Err(Rule::IU(RuleIU::IU2));
+    };
+    if entry.life.locked {
+        return Err(Rule::M(RuleM::M2));
+    }
+    if is_shut_out(tables.life, &entry.aid) {
+        return Err(Rule::IU(RuleIU::IU1));
+    }
+    let Some(found) = session_set(tables, domain, version) else {
+        return Err(Rule::IU(RuleIU::IU2));
+    };
+    if found.thing.counter == COUNTER_LIMIT {
+        return Err(Rule::IU(RuleIU::IU3));
+    }
+    Ok(found)
+}
