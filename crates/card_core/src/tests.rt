@@ -3,6 +3,9 @@ use arrayvec::ArrayVec;
 use policy_rules::Rule;
 use std::test::Fail;
 
+mod endings;
+mod sessions;
+
 /// In the place of a rule: the command is accepted.
 const DONE: &str = "accepted";
 
