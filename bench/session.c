@@ -1,0 +1,373 @@
+/* The yardstick of session.sh: the card's end of SCP03 sessions at level 33 over the AES of
+   OpenSSL, and the lines of their host.
+
+     session lines COUNT GETS    writes the lines of COUNT sessions, each of INITIALIZE UPDATE,
+                                 EXTERNAL AUTHENTICATE and GETS times GET DATA, of the sequence
+                                 counter and of the keys in turns
+     session answers             reads lines and answers each by one call of write
+
+   It knows these commands alone, and the factory card. Each session makes the key schedules and
+   the CMAC subkeys of its static keys and of its session keys once, as gp does, but no schedules
+   for deciphering and none of Key-DEK: these commands need neither. CMAC is written out over
+   AES_encrypt. This and AES_cbc_encrypt of a few blocks work by a table of 256 bytes in OpenSSL
+   3.0 for x86-64, and use no AES instructions whatever the processor has. */
+#define OPENSSL_SUPPRESS_DEPRECATED
+#include <openssl/aes.h>
+#include <stdint.h>
+#include <stdio.h>
+#include <stdlib.h>
+#include <string.h>
+#include <unistd.h>
+
+enum { LEVEL = 0x33, MOST = 261, ACCEPTED = 0x9000, REFUSED = 0x6982 };
+
+/* The derivation constants. */
+enum { CARD_CRYPTOGRAM, HOST_CRYPTOGRAM, CARD_CHALLENGE, S_ENC = 4, S_MAC = 6, S_RMAC = 7 };
+
+typedef uint8_t block[16];
+
+struct code_key {
+    AES_KEY key;
+    block whole, padded;
+};
+
+static const uint8_t aid[] = { 0xa0, 0, 0, 1, 0x51, 0, 0, 0 };
+static const uint8_t keys[] = {
+    0xe0, 0x12, 0xc0, 4, 1, 0x30, 0x88, 0x10, 0xc0, 4, 2, 0x30, 0x88, 0x10, 0xc0, 4, 3, 0x30, 0x88, 0x10,
+};
+/* Key-ENC and Key-MAC are alike. */
+static const block static_key = {
+    0x40, 0x41, 0x42, 0x43, 0x44, 0x45, 0x46, 0x47, 0x48, 0x49, 0x4a, 0x4b, 0x4c, 0x4d, 0x4e, 0x4f,
+};
+
+/* The sequence counter of the next session. */
+static uint32_t counter;
+
+/* What both ends know of the session. The challenges are the host's and then the card's. */
+static block challenges;
+static AES_KEY enc;
+static struct code_key mac, rmac;
+static block chain;
+static uint64_t number;
+
+static void exclusive_or(block to, const block other)
+{
+    uint64_t some[2], others[2];
+
+    memcpy(some, to, 16);
+    memcpy(others, other, 16);
+    some[0] ^= others[0];
+    some[1] ^= others[1];
+    memcpy(to, some, 16);
+}
+
+static void doubled(const block from, block to)
+{
+    uint8_t top = from[0] >> 7;
+
+    for (int i = 0; i < 15; i++)
+        to[i] = (uint8_t)(from[i] << 1 | from[i + 1] >> 7);
+    to[15] = (uint8_t)(from[15] << 1 ^ (top ? 0x87 : 0));
+}
+
+static void set_code(struct code_key *of, const block bytes)
+{
+    block zero = { 0 };
+
+    AES_set_encrypt_key(bytes, 128, &of->key);
+    AES_encrypt(zero, zero, &of->key);
+    doubled(zero, of->whole);
+    doubled(of->whole, of->padded);
+}
+
+/* CMAC. The message has one byte at least. */
+static void code(const struct code_key *of, const uint8_t *message, size_t size, block out)
+{
+    block last = { 0 };
+
+    memset(out, 0, 16);
+    for (; size > 16; message += 16, size -= 16) {
+        exclusive_or(out, message);
+        AES_encrypt(out, out, &of->key);
+    }
+    memcpy(last, message, size);
+    if (size < 16)
+        last[size] = 0x80;
+    exclusive_or(last, size < 16 ? of->padded : of->whole);
+    exclusive_or(out, last);
+    AES_encrypt(out, out, &of->key);
+}
+
+/* The context has 16 bytes at most. */
+static void derive(const struct code_key *of, uint8_t constant, uint8_t bits, const uint8_t *context, size_t size, block out)
+{
+    uint8_t input[32] = { 0 };
+
+    input[11] = constant;
+    input[14] = bits;
+    input[15] = 1;
+    memcpy(input + 16, context, size);
+    code(of, input, 16 + size, out);
+}
+
+static void put_counter(uint8_t *to)
+{
+    to[0] = (uint8_t)(counter >> 16);
+    to[1] = (uint8_t)(counter >> 8);
+    to[2] = (uint8_t)counter;
+}
+
+static void make_card_challenge(const struct code_key *key)
+{
+    uint8_t context[3 + sizeof aid];
+    block out;
+
+    put_counter(context);
+    memcpy(context + 3, aid, sizeof aid);
+    derive(key, CARD_CHALLENGE, 64, context, sizeof context, out);
+    memcpy(challenges + 8, out, 8);
+}
+
+static void make_session_keys(const struct code_key *of_enc, const struct code_key *of_mac)
+{
+    block key;
+
+    derive(of_enc, S_ENC, 128, challenges, 16, key);
+    AES_set_encrypt_key(key, 128, &enc);
+    derive(of_mac, S_MAC, 128, challenges, 16, key);
+    set_code(&mac, key);
+    derive(of_mac, S_RMAC, 128, challenges, 16, key);
+    set_code(&rmac, key);
+}
+
+static void begin(const uint8_t *host_challenge)
+{
+    struct code_key of_enc, of_mac;
+
+    set_code(&of_enc, static_key);
+    set_code(&of_mac, static_key);
+    memcpy(challenges, host_challenge, 8);
+    make_card_challenge(&of_enc);
+    make_session_keys(&of_enc, &of_mac);
+    memset(chain, 0, 16);
+    number = 0;
+}
+
+static void put_cryptogram(uint8_t constant, uint8_t *to)
+{
+    block out;
+
+    derive(&mac, constant, 64, challenges, 16, out);
+    memcpy(to, out, 8);
+}
+
+/* The chaining value after a command with this header and data field. */
+static void chain_on(const uint8_t *header, const uint8_t *field, size_t size)
+{
+    uint8_t message[16 + MOST];
+
+    memcpy(message, chain, 16);
+    memcpy(message + 16, header, 4);
+    message[20] = (uint8_t)(size + 8);
+    memcpy(message + 21, field, size);
+    code(&mac, message, 21 + size, chain);
+}
+
+static size_t put_status(uint8_t *reply, size_t size, uint16_t status)
+{
+    reply[size] = (uint8_t)(status >> 8);
+    reply[size + 1] = (uint8_t)status;
+    return size + 2;
+}
+
+static size_t initialize_update(const uint8_t *host_challenge, uint8_t *reply)
+{
+    begin(host_challenge);
+    memset(reply, 0, 10);
+    memcpy(reply + 10, "\x30\x03\x70", 3);
+    memcpy(reply + 13, challenges + 8, 8);
+    put_cryptogram(CARD_CRYPTOGRAM, reply + 21);
+    put_counter(reply + 29);
+    counter++;
+    return put_status(reply, 32, ACCEPTED);
+}
+
+static size_t external_authenticate(const uint8_t *command, uint8_t *reply)
+{
+    uint8_t cryptogram[8];
+
+    put_cryptogram(HOST_CRYPTOGRAM, cryptogram);
+    chain_on(command, cryptogram, 8);
+    if (memcmp(command + 5, cryptogram, 8) != 0 || memcmp(command + 13, chain, 8) != 0)
+        return put_status(reply, 0, REFUSED);
+    return put_status(reply, 0, ACCEPTED);
+}
+
+static size_t put_data(uint8_t tag, uint8_t *reply)
+{
+    if (tag == 0xe0) {
+        memcpy(reply, keys, sizeof keys);
+        return sizeof keys;
+    }
+    reply[0] = 0xc1;
+    reply[1] = 3;
+    put_counter(reply + 2);
+    return 5;
+}
+
+/* Pads and enciphers a reply's data. */
+static size_t seal(uint8_t *data, size_t size)
+{
+    block vector = { 0x80 };
+    size_t padded = (size / 16 + 1) * 16;
+
+    memset(data + size, 0, padded - size);
+    data[size] = 0x80;
+    for (int i = 0; i < 8; i++)
+        vector[15 - i] = (uint8_t)(number >> 8 * i);
+    AES_encrypt(vector, vector, &enc);
+    AES_cbc_encrypt(data, data, padded, &enc, vector, AES_ENCRYPT);
+    return padded;
+}
+
+static size_t get_data(const uint8_t *command, uint8_t *reply)
+{
+    uint8_t message[16 + MOST];
+    block sum;
+    size_t size;
+
+    chain_on(command, command + 5, 0);
+    if (memcmp(command + 5, chain, 8) != 0)
+        return put_status(reply, 0, REFUSED);
+    number++;
+    size = seal(reply, put_data(command[3], reply));
+    memcpy(message, chain, 16);
+    memcpy(message + 16, reply, size);
+    code(&rmac, message, put_status(message, 16 + size, ACCEPTED), sum);
+    memcpy(reply + size, sum, 8);
+    return put_status(reply, size + 8, ACCEPTED);
+}
+
+static size_t answer(const uint8_t *command, size_t size, uint8_t *reply)
+{
+    if (size == 13 && command[0] == 0x80 && command[1] == 0x50)
+        return initialize_update(command + 5, reply);
+    if (size == 21 && command[0] == 0x84 && command[1] == 0x82)
+        return external_authenticate(command, reply);
+    if (size == 13 && command[0] == 0x84 && command[1] == 0xca)
+        return get_data(command, reply);
+    return put_status(reply, 0, REFUSED);
+}
+
+static int digit(char c)
+{
+    return c <= '9' ? c - '0' : (c | 0x20) - 'a' + 10;
+}
+
+static size_t spell(const uint8_t *bytes, size_t size, char *text)
+{
+    static const char digits[] = "0123456789abcdef";
+
+    for (size_t i = 0; i < size; i++) {
+        text[2 * i] = digits[bytes[i] >> 4];
+        text[2 * i + 1] = digits[bytes[i] & 15];
+    }
+    text[2 * size] = '\n';
+    return 2 * size + 1;
+}
+
+static int answer_line(const char *line, size_t length)
+{
+    uint8_t command[MOST], reply[MOST];
+    char text[2 * MOST + 1];
+    size_t size = length / 2;
+
+    if (size > MOST)
+        return 0;
+    for (size_t i = 0; i < size; i++)
+        command[i] = (uint8_t)(digit(line[2 * i]) << 4 | digit(line[2 * i + 1]));
+    length = spell(reply, answer(command, size, reply), text);
+    return write(STDOUT_FILENO, text, length) == (ssize_t)length;
+}
+
+static int answers(void)
+{
+    static char buffer[65536];
+    size_t held = 0;
+    ssize_t got;
+
+    while ((got = read(STDIN_FILENO, buffer + held, sizeof buffer - held)) > 0) {
+        const char *at = buffer;
+        const char *end = buffer + held + got;
+        const char *newline;
+
+        while ((newline = memchr(at, '\n', (size_t)(end - at))) != NULL) {
+            if (!answer_line(at, (size_t)(newline - at)))
+                return 6;
+            at = newline + 1;
+        }
+        /* The front of a line waits for the rest of it. */
+        held = (size_t)(end - at);
+        memmove(buffer, at, held);
+    }
+    return got < 0 ? 5 : 0;
+}
+
+static void put_line(const uint8_t *command, size_t size)
+{
+    char text[2 * MOST + 1];
+
+    fwrite(text, 1, spell(command, size, text), stdout);
+}
+
+/* The host challenge of the first session is 00 to 07, and each one after it is higher by one. */
+static void put_initialize_update(void)
+{
+    uint8_t line[13] = { 0x80, 0x50, 0, 0, 8 };
+    uint64_t challenge = 0x0001020304050607 + counter;
+
+    for (int i = 0; i < 8; i++)
+        line[12 - i] = (uint8_t)(challenge >> 8 * i);
+    begin(line + 5);
+    counter++;
+    put_line(line, sizeof line);
+}
+
+static void put_external_authenticate(void)
+{
+    uint8_t line[21] = { 0x84, 0x82, LEVEL, 0, 16 };
+
+    put_cryptogram(HOST_CRYPTOGRAM, line + 5);
+    chain_on(line, line + 5, 8);
+    memcpy(line + 13, chain, 8);
+    put_line(line, sizeof line);
+}
+
+static void put_get_data(uint8_t tag)
+{
+    uint8_t line[13] = { 0x84, 0xca, 0, tag, 8 };
+
+    chain_on(line, line + 5, 0);
+    memcpy(line + 5, chain, 8);
+    put_line(line, sizeof line);
+}
+
+static int lines(unsigned long count, unsigned long gets)
+{
+    for (unsigned long i = 0; i < count; i++) {
+        put_initialize_update();
+        put_external_authenticate();
+        for (unsigned long j = 0; j < gets; j++)
+            put_get_data(j % 2 == 0 ? 0xc1 : 0xe0);
+    }
+    return fflush(stdout) == 0 ? 0 : 6;
+}
+
+int main(int argc, char **argv)
+{
+    if (argc == 4 && strcmp(argv[1], "lines") == 0)
+        return lines(strtoul(argv[2], NULL, 10), strtoul(argv[3], NULL, 10));
+    if (argc == 2 && strcmp(argv[1], "answers") == 0)
+        return answers();
+    return 2;
+}
