@@ -1,4 +1,4 @@
--- What is kept of an offer gives the values of the offer.
+-- The session keys of an offer give its values.
 use Rattle.std.proofs.Common.{◌≡◌, ℕ, ◌*◌, ◌/◌, ◌%◌, ◌^◌, ◌≤◌, List, [], ◌∷◌, ◌++◌, length, sym, ap, ◌∙◌, get_or, arith}
 use Rattle.std.specs.Int.{w32, to_be_bytes}
 use Rattle.card_types.specs.Level.{code_of}
@@ -8,22 +8,22 @@ use Rattle.cmac_kdf.specs.Cmac.{cmac}
 use Rattle.cmac_kdf.specs.Derivation.{kdf}
 use Rattle.scp03_card.specs.Offer.{Offer, context, s_enc, s_mac, s_rmac, card_cryptogram, counter_bytes, host_cryptogram}
 use Rattle.scp03_card.specs.Session.{answered, chain, chain_of}
-use Rattle.scp03_card.specs.Kept.{KeptOffer, StandsForOffer}
+use Rattle.scp03_card.specs.Kept.{HasSessionKeys, Keys}
 
-module _ (kept : KeptOffer) (offer : Offer) (stands : StandsForOffer kept offer) where
-  pub kept_card_cryptogram : kdf kept.keys.mac 0x00 64 (kept.host ++ kept.card) ≡ card_cryptogram offer
+module _ (keys : Keys) (offer : Offer) (has : HasSessionKeys keys offer) where
+  pub kept_card_cryptogram : (host card : List ℕ) → host ≡ offer.host → card ≡ offer.card → kdf keys.mac 0x00 64 (host ++ card) ≡ card_cryptogram offer
   unfolding card_cryptogram
-  kept_card_cryptogram = (λ i. kdf (stands.keys.mac i) 0x00 64 (stands.host i ++ stands.card i))
+  kept_card_cryptogram host card eh ec = (λ i. kdf (has.mac i) 0x00 64 (eh i ++ ec i))
 
-  pub kept_host_cryptogram : kdf kept.keys.mac 0x01 64 (kept.host ++ kept.card) ≡ host_cryptogram offer
+  pub kept_host_cryptogram : (host card : List ℕ) → host ≡ offer.host → card ≡ offer.card → kdf keys.mac 0x01 64 (host ++ card) ≡ host_cryptogram offer
   unfolding host_cryptogram
-  kept_host_cryptogram = (λ i. kdf (stands.keys.mac i) 0x01 64 (stands.host i ++ stands.card i))
+  kept_host_cryptogram host card eh ec = (λ i. kdf (has.mac i) 0x01 64 (eh i ++ ec i))
 
   -- the chaining value after EXTERNAL AUTHENTICATE
   pub kept_first_chain : (level : Level) (c x : List ℕ) → x ≡ host_cryptogram offer → c ≡ code_of level ∷ []
-      → cmac kept.keys.mac (zero_block ++ (0x84 ∷ 0x82 ∷ c ++ 0x00 ∷ 0x10 ∷ []) ++ x) ≡ chain_of (answered offer level)
+      → cmac keys.mac (zero_block ++ (0x84 ∷ 0x82 ∷ c ++ 0x00 ∷ 0x10 ∷ []) ++ x) ≡ chain_of (answered offer level)
   unfolding chain
-  kept_first_chain level c x ex ec = (λ i. cmac (stands.keys.mac i) (zero_block ++ (0x84 ∷ 0x82 ∷ ec i ++ 0x00 ∷ 0x10 ∷ []) ++ ex i))
+  kept_first_chain level c x ex ec = (λ i. cmac (has.mac i) (zero_block ++ (0x84 ∷ 0x82 ∷ ec i ++ 0x00 ∷ 0x10 ∷ []) ++ ex i))
 
 -- a session key, of the length of its static key
 module _ (offer : Offer) (n : ℕ) (c : List ℕ) (ec : c ≡ context offer) where

@@ -14,7 +14,7 @@ use Rattle.scp03_card.specs.Offer.{s_mac}
 use Rattle.scp03_card.specs.Session.{Session, chain, chain_of, message, number, with_message}
 use Rattle.scp03_card.specs.Opens.{command_icv}
 use Rattle.scp03_card.specs.Protected.{is_success_or_warning, protected, r_mac, reply_field, reply_icv, with_r_mac}
-use Rattle.scp03_card.specs.Kept.{HasKeys, Keys, KeptSession, StandsFor}
+use Rattle.scp03_card.specs.Kept.{HasSessionKeys, Keys, KeptSession, StandsFor}
 
 -- the chaining value after one more message
 pub chain_more : (session : Session) (m : List ℕ) → chain_of (with_message session m) ≡ cmac (s_mac session.offer) (chain_of session ++ m)
@@ -45,7 +45,7 @@ module _ (kept : KeptSession) (session : Session) (stands : StandsFor kept sessi
       omega (arith, stands.begun, stands.number, length-append session.messages (m ∷ []))
 
 -- the initial chaining vector of a command
-pub command_icv_of : (keys : Keys) (session : Session) (n : ℕ) → HasKeys keys session.offer → n ≡ number session
+pub command_icv_of : (keys : Keys) (session : Session) (n : ℕ) → HasSessionKeys keys session.offer → n ≡ number session
     → cipher keys.enc (to_be_bytes w128 n) ≡ command_icv session
 unfolding command_icv
 command_icv_of keys session n has en = (λ i. cipher (has.enc i) (to_be_bytes w128 (en i)))

@@ -12,7 +12,7 @@ pub record Keys : Type 0 where
   pub rmac : List ℕ
   pub dek : List ℕ
 
-pub record HasKeys (keys : Keys) (offer : Offer) : Type 0 where
+pub record HasSessionKeys (keys : Keys) (offer : Offer) : Type 0 where
   pub enc : keys.enc ≡ s_enc offer
   pub mac : keys.mac ≡ s_mac offer
   pub rmac : keys.rmac ≡ s_rmac offer
@@ -25,7 +25,7 @@ pub record KeptOffer : Type 0 where
 
 -- what is kept is this offer
 pub record StandsForOffer (kept : KeptOffer) (offer : Offer) : Type 0 where
-  pub keys : HasKeys kept.keys offer
+  pub keys : HasSessionKeys kept.keys offer
   pub host : kept.host ≡ offer.host
   pub card : kept.card ≡ offer.card
 
@@ -37,7 +37,7 @@ pub record KeptSession : Type 0 where
 
 -- what is kept is this session, which has a first message
 pub record StandsFor (kept : KeptSession) (session : Session) : Type 0 where
-  pub keys : HasKeys kept.keys session.offer
+  pub keys : HasSessionKeys kept.keys session.offer
   pub level : kept.level ≡ session.level
   pub begun : 0 < length session.messages
   pub chain : kept.chain ≡ chain_of session

@@ -9,8 +9,6 @@ use crate::session_keys::SessionKeys;
 use aes_block::BlockKey;
 use std::marker::Model;
 
-const CARD_CRYPTOGRAM: u8 = 0x00;
-
 /// The session keys and the challenges of a session that the host has still to answer.
 #[derive(Drop)]
 pub struct Offer<K: BlockKey> {
@@ -39,7 +37,6 @@ impl<K: BlockKey> Offer<K> {
     pub fn cryptogram(&self) -> [u8; 8]
         ensures { (offer : model.Offer) → StandsForOffer self.now offer → result ≡ card_cryptogram offer }
     {
-        self.keys
-            .cryptogram(CARD_CRYPTOGRAM, &self.host, &self.card)
+        self.keys.card_cryptogram(&self.host, &self.card)
     }
 }

@@ -6,12 +6,13 @@ ghost use Rattle.arrayvec.specs.ArrayVec.{array_vec_len};
 ghost use Rattle.apdu_core.specs.Reply.{status_bytes};
 ghost use Rattle.cmac_kdf.specs.Cbc.{sealed};
 ghost use Rattle.scp03_card.specs.Kept.{StandsFor};
-ghost use Rattle.scp03_card.specs.Protected.{is_success_or_warning, protected, reply_field};
+ghost use Rattle.scp03_card.specs.Protected.{protected, reply_field};
 ghost use Rattle.scp03_card.specs.Session as model;
 
 use crate::levels::{has_r_encryption, has_r_mac};
 use crate::session::Session;
 use crate::session_keys::SessionKeys;
+use crate::status::is_success_or_warning;
 use aes_block::BlockKey;
 use apdu_core::Status;
 use arrayvec::ArrayVec;
@@ -30,7 +31,7 @@ impl<K: BlockKey> Session<K> {
             append(reply, &sw);
             return;
         }
-        if !is_no_error(status) {
+        if !is_success_or_warning(status) {
             reply.clear();
             append(reply, &sw);
             return;
@@ -80,10 +81,4 @@ fn sw_bytes(status: Status) -> [u8; 2]
     ensures { result ≡ status_bytes status.0 }
 {
     status.0.to_be_bytes()
-}
-
-fn is_no_error(status: Status) -> bool
-    ensures { result ≡ is_success_or_warning status.0 }
-{
-    status.0 == 0x9000 || status.0 / 0x100 == 0x62 || status.0 / 0x100 == 0x63
 }

@@ -3,8 +3,7 @@
 ghost use Rattle.std.specs.Prelude.{◌≡◌, IfOk, IsOk, OnOk};
 ghost use Rattle.scp03_card.specs.Kept.{StandsFor, StandsForOffer};
 ghost use Rattle.scp03_card.specs.Offer as model;
-ghost use Rattle.scp03_card.specs.Offer.{host_cryptogram};
-ghost use Rattle.scp03_card.specs.Session.{HasCryptogram, HasMac, answered, chain_of};
+ghost use Rattle.scp03_card.specs.Session.{HasCryptogram, HasMac, answered};
 
 use crate::card_offer::Offer;
 use crate::eight_bytes::same;
@@ -12,9 +11,6 @@ use crate::refusals::AuthRefusal;
 use crate::session::Session;
 use aes_block::BlockKey;
 use card_types::Level;
-
-// The derivation constant of the host cryptogram (4.1.5).
-const HOST_CRYPTOGRAM: u8 = 0x01;
 
 impl<K: BlockKey> Offer<K> {
     /// Judges the host's answer at this level: `body` is that of EXTERNAL AUTHENTICATE. The offer is
@@ -28,11 +24,11 @@ impl<K: BlockKey> Offer<K> {
         ensures mac { (offer : model.Offer) → StandsForOffer self offer → result ≡ Err AuthRefusal.Mac → HasMac offer level body.now → ⊥ }
         ensures mac_alone { (offer : model.Offer) → StandsForOffer self offer → result ≡ Err AuthRefusal.Mac → HasCryptogram offer body.now }
     {
-        let cryptogram = self.host_cryptogram();
+        let cryptogram = self.keys.host_cryptogram(&self.host, &self.card);
         if !same(&body[..8], &cryptogram) {
             return Err(AuthRefusal::Cryptogram);
         }
-        let chain = self.first_chain(level, &cryptogram);
+        let chain = self.keys.first_chain(level, &cryptogram);
         if !same(&body[8..], &chain[..8]) {
             return Err(AuthRefusal::Mac);
         }
@@ -42,20 +38,5 @@ impl<K: BlockKey> Offer<K> {
             chain,
             number: 0,
         })
-    }
-
-    fn host_cryptogram(&self) -> [u8; 8]
-        ensures { (offer : model.Offer) → StandsForOffer self.now offer → result ≡ host_cryptogram offer }
-    {
-        self.keys
-            .cryptogram(HOST_CRYPTOGRAM, &self.host, &self.card)
-    }
-
-    // The chaining value after the message of EXTERNAL AUTHENTICATE.
-    fn first_chain(&self, level: Level, cryptogram: &[u8; 8]) -> [u8; 16]
-        ensures { (offer : model.Offer) → StandsForOffer self.now offer → cryptogram.now ≡ host_cryptogram offer → result ≡ chain_of (answered offer level) }
-    {
-        let header = [0x84, 0x82, level.code(), 0x00, 0x10];
-        self.keys.chain_after(&[0; 16], &header, cryptogram)
     }
 }

@@ -6,21 +6,15 @@ ghost use Rattle.scp03_card.specs.Offer.{offered};
 ghost use Rattle.scp03_card.specs.Offer as standard;
 
 use crate::card_offer::Offer;
-use crate::eight_bytes::{derived_eight, joined};
-use crate::session_keys::{SessionKeys, session_key};
+use crate::eight_bytes::derived_eight;
+use crate::session_keys::SessionKeys;
 use crate::static_keys::StaticKeys;
 use aes_block::BlockKey;
 use card_types::Aid;
 use cmac_kdf::CmacKey;
 
-// The derivation constants (4.1.5).
+// The derivation constant of the card challenge (4.1.5).
 const CARD_CHALLENGE: u8 = 0x02;
-
-const S_ENC: u8 = 0x04;
-
-const S_MAC: u8 = 0x06;
-
-const S_RMAC: u8 = 0x07;
 
 /// Offers a session to the host that sent this challenge. `counter` is the sequence counter of the
 /// key set, and `aid` is selected.
@@ -32,15 +26,8 @@ pub fn offer<K: BlockKey>(keys: StaticKeys<K>, counter: u32, aid: &Aid, host: &[
     let enc = CmacKey::new(enc);
     let mac = CmacKey::new(mac);
     let card = card_challenge(&enc, counter, aid);
-    let context = joined(host, &card);
-    let keys = SessionKeys {
-        enc: session_key(&enc, S_ENC, &context),
-        mac: CmacKey::new(session_key(&mac, S_MAC, &context)),
-        rmac: CmacKey::new(session_key(&mac, S_RMAC, &context)),
-        dek,
-    };
     Offer {
-        keys,
+        keys: SessionKeys::derive(&enc, &mac, dek, host, &card),
         host: *host,
         card,
     }

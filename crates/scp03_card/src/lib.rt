@@ -43,6 +43,9 @@
 //! }
 //! ```
 //!
+//! What the host computes alike is public too: `SessionKeys`, what a level has, and which status words
+//! carry a MAC.
+//!
 //! What ends a session, and which commands it is needed for, is the caller's. How long a call takes
 //! may depend on the keys and on the bytes.
 #![tactic(auto)]
@@ -56,16 +59,21 @@ mod laws;
 mod levels;
 mod open;
 mod refusals;
+mod secure_messaging;
 mod session;
 mod session_keys;
 mod static_keys;
+mod status;
 
 pub use card_offer::Offer;
 pub use initialize_update::offer;
 pub use laws::{first_message, one_plain};
+pub use levels::{has_c_decryption, has_r_encryption, has_r_mac};
 pub use refusals::{AuthRefusal, OpenRefusal};
 pub use session::Session;
+pub use session_keys::SessionKeys;
 pub use static_keys::StaticKeys;
+pub use status::is_success_or_warning;
 
 #[cfg(test)]
 mod tests;

@@ -2,7 +2,7 @@
 
 ghost use Rattle.std.specs.Prelude.{◌≡◌, ℕ, ◌+◌, ◌≤◌, List, length, take, IfOk, OnOk, OnErr, IfSome, IfNone};
 ghost use Rattle.apdu_core.specs.Apdu.{apdu_of};
-ghost use Rattle.scp03_card.specs.Kept.{HasKeys, StandsFor};
+ghost use Rattle.scp03_card.specs.Kept.{HasSessionKeys, StandsFor};
 ghost use Rattle.scp03_card.specs.Opens.{Gives, IsAuthentic, Opens, accepting, field_of};
 ghost use Rattle.scp03_card.specs.Session as model;
 ghost use Rattle.scp03_card.specs.Session.{chain_of, message, with_message};
@@ -85,9 +85,9 @@ fn plain_field<K: BlockKey>(
     plain: &mut [u8; 255],
 ) -> Option<usize>
     requires { length field.now ≤ 255 }
-    ensures some { (session : model.Session) → HasKeys keys.now session.offer → level ≡ session.level → number ≡ model.number session
+    ensures some { (session : model.Session) → HasSessionKeys keys.now session.offer → level ≡ session.level → number ≡ model.number session
         → IfSome result (λ n. Gives session field.now (take n plain.new)) }
-    ensures none { (session : model.Session) → HasKeys keys.now session.offer → level ≡ session.level → number ≡ model.number session
+    ensures none { (session : model.Session) → HasSessionKeys keys.now session.offer → level ≡ session.level → number ≡ model.number session
         → IfNone result ((p : List ℕ) → Gives session field.now p → ⊥) }
     ensures length { IfSome result (λ n. n ≤ length field.now) }
 {
@@ -103,9 +103,9 @@ fn decipher<K: BlockKey>(
     number: u128,
     field: &mut [u8],
 ) -> Option<usize>
-    ensures some { (session : model.Session) → HasKeys keys.now session.offer → level ≡ session.level → number ≡ model.number session
+    ensures some { (session : model.Session) → HasSessionKeys keys.now session.offer → level ≡ session.level → number ≡ model.number session
         → IfSome result (λ n. Gives session field.old (take n field.new)) }
-    ensures none { (session : model.Session) → HasKeys keys.now session.offer → level ≡ session.level → number ≡ model.number session
+    ensures none { (session : model.Session) → HasSessionKeys keys.now session.offer → level ≡ session.level → number ≡ model.number session
         → IfNone result ((p : List ℕ) → Gives session field.old p → ⊥) }
     ensures length { IfSome result (λ n. n ≤ length field.old) }
 {

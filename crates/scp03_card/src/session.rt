@@ -39,7 +39,7 @@ impl<K: BlockKey> Session<K> {
     pub fn dek(&self) -> &K
         ensures { (session : model.Session) → StandsFor self.now session → K.key_bytes result.now ≡ session.offer.dek }
     {
-        &self.keys.dek
+        self.keys.dek()
     }
 
     /// Its security level.

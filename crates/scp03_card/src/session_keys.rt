@@ -1,24 +1,34 @@
-// The keys that a session works with, and what is computed under each (GlobalPlatform Amendment D, 6.2).
+//! The keys of a session, and the cryptograms (GlobalPlatform Amendment D, 6.2.1, 6.2.2).
 
-ghost use Rattle.std.specs.Prelude.{◌≡◌, ℕ, ◌*◌, ◌≤◌, List, ◌++◌, length, take, drop, IfOk, OnErr};
-ghost use Rattle.aes_block.specs.Cipher.{cipher};
-ghost use Rattle.cmac_kdf.specs.Blocks.{IsBytes, padded_length};
-ghost use Rattle.cmac_kdf.specs.Cbc.{sealed};
-ghost use Rattle.cmac_kdf.specs.Cmac.{cmac};
+ghost use Rattle.std.specs.Prelude.{◌≡◌, ◌*◌, length};
 ghost use Rattle.cmac_kdf.specs.Derivation.{kdf};
+ghost use Rattle.scp03_card.specs.Kept.{HasSessionKeys};
+ghost use Rattle.scp03_card.specs.Offer as standard;
 
 use crate::eight_bytes::{derived_eight, joined};
 use aes_block::BlockKey;
-use cmac_kdf::{BadPadding, CmacKey, cbc_seal, cbc_unseal};
+use cmac_kdf::CmacKey;
 use std::marker::Model;
 
-/// S-ENC, S-MAC and S-RMAC, and the static Key-DEK. Contracts see their bytes.
+// The derivation constants (4.1.5).
+const CARD_CRYPTOGRAM: u8 = 0x00;
+
+const HOST_CRYPTOGRAM: u8 = 0x01;
+
+const S_ENC: u8 = 0x04;
+
+const S_MAC: u8 = 0x06;
+
+const S_RMAC: u8 = 0x07;
+
+/// S-ENC, S-MAC and S-RMAC, and the static Key-DEK: what card and host compute alike is computed under
+/// these. Contracts see their bytes.
 #[derive(Drop)]
 pub struct SessionKeys<K: BlockKey> {
-    pub enc: K,
-    pub mac: CmacKey<K>,
-    pub rmac: CmacKey<K>,
-    pub dek: K,
+    pub(crate) enc: K,
+    pub(crate) mac: CmacKey<K>,
+    pub(crate) rmac: CmacKey<K>,
+    pub(crate) dek: K,
 }
 
 impl<K: BlockKey> Model for SessionKeys<K> {
@@ -35,63 +45,53 @@ impl<K: BlockKey> Model for SessionKeys<K> {
 }
 
 impl<K: BlockKey> SessionKeys<K> {
-    /// The cryptogram with this derivation constant, under S-MAC (6.2.2).
-    pub fn cryptogram(&self, constant: u8, host: &[u8; 8], card: &[u8; 8]) -> [u8; 8]
-        ensures { result ≡ kdf self.now.mac constant 64 (host.now ++ card.now) }
+    /// The keys of the session between these challenges, from the static Key-ENC, Key-MAC and Key-DEK.
+    pub fn derive(
+        enc: &CmacKey<K>,
+        mac: &CmacKey<K>,
+        dek: K,
+        host: &[u8; 8],
+        card: &[u8; 8],
+    ) -> SessionKeys<K>
+        requires enc { length enc.now ≡ K.LEN }
+        requires mac { length mac.now ≡ K.LEN }
+        ensures { HasSessionKeys result (record { enc = enc.now; mac = mac.now; dek = K.key_bytes dek; host = host.now; card = card.now }) }
     {
-        derived_eight(&self.mac, constant, &joined(host, card))
+        let context = joined(host, card);
+        SessionKeys {
+            enc: session_key(enc, S_ENC, &context),
+            mac: CmacKey::new(session_key(mac, S_MAC, &context)),
+            rmac: CmacKey::new(session_key(mac, S_RMAC, &context)),
+            dek,
+        }
     }
 
-    /// The MAC chaining value after a message: under S-MAC, of the value before, of the header with
-    /// Lc, and of the data field as sent (6.2.4).
-    pub fn chain_after(&self, chain: &[u8; 16], header: &[u8; 5], field: &[u8]) -> [u8; 16]
-        ensures { result ≡ cmac self.now.mac (chain.now ++ header.now ++ field.now) }
+    /// The card cryptogram between these challenges.
+    pub fn card_cryptogram(&self, host: &[u8; 8], card: &[u8; 8]) -> [u8; 8]
+        ensures { (offer : standard.Offer) → HasSessionKeys self.now offer → host.now ≡ offer.host → card.now ≡ offer.card
+            → result ≡ standard.card_cryptogram offer }
     {
-        let mut state = self.mac.start();
-        self.mac.feed(&mut state, chain);
-        self.mac.feed(&mut state, header);
-        self.mac.feed(&mut state, field);
-        self.mac.finish(&state)
+        derived_eight(&self.mac, CARD_CRYPTOGRAM, &joined(host, card))
     }
 
-    /// The MAC of a reply, at its full length: under S-RMAC, of the chaining value, of the data field
-    /// as sent, and of the status (6.2.5).
-    pub fn reply_mac(&self, chain: &[u8; 16], field: &[u8], status: &[u8; 2]) -> [u8; 16]
-        ensures { result ≡ cmac self.now.rmac (chain.now ++ field.now ++ status.now) }
+    /// The host cryptogram between these challenges.
+    pub fn host_cryptogram(&self, host: &[u8; 8], card: &[u8; 8]) -> [u8; 8]
+        ensures { (offer : standard.Offer) → HasSessionKeys self.now offer → host.now ≡ offer.host → card.now ≡ offer.card
+            → result ≡ standard.host_cryptogram offer }
     {
-        let mut state = self.rmac.start();
-        self.rmac.feed(&mut state, chain);
-        self.rmac.feed(&mut state, field);
-        self.rmac.feed(&mut state, status);
-        self.rmac.finish(&state)
+        derived_eight(&self.mac, HOST_CRYPTOGRAM, &joined(host, card))
     }
 
-    /// Enciphers the buffer's first `len` bytes, with the encrypted counter block as the initial
-    /// chaining vector.
-    pub fn seal(&self, counter: &[u8; 16], buf: &mut [u8], len: usize) -> usize
-        requires { padded_length len ≤ length buf.old }
-        ensures length { result ≡ padded_length len }
-        ensures sealed { take result buf.new ≡ sealed self.now.enc (cipher self.now.enc counter.now) (take len buf.old) }
+    /// The static key for sensitive data, Key-DEK.
+    pub fn dek(&self) -> &K
+        ensures { K.key_bytes result.now ≡ self.now.dek }
     {
-        let mut icv = *counter;
-        self.enc.seal(&mut icv);
-        cbc_seal(&self.enc, &icv, buf, len)
-    }
-
-    /// Deciphers the buffer in the same way, and answers how many bytes the plain ones are.
-    pub fn unseal(&self, counter: &[u8; 16], buf: &mut [u8]) -> Result<usize, BadPadding>
-        ensures ok { IfOk result (λ n. sealed self.now.enc (cipher self.now.enc counter.now) (take n buf.new) ≡ buf.old) }
-        ensures length { IfOk result (λ n. padded_length n ≡ length buf.old) }
-        ensures refused { OnErr result ((p : List ℕ) → IsBytes p → sealed self.now.enc (cipher self.now.enc counter.now) p ≡ buf.old → ⊥) }
-    {
-        let mut icv = *counter;
-        self.enc.seal(&mut icv);
-        cbc_unseal(&self.enc, &icv, buf)
+        &self.dek
     }
 }
 
-/// The key for the derivation constant and the context, of the length of its type (6.2.1).
-pub fn session_key<K: BlockKey>(key: &CmacKey<K>, constant: u8, context: &[u8; 16]) -> K
+// The key for the derivation constant and the context, of the length of its type.
+fn session_key<K: BlockKey>(key: &CmacKey<K>, constant: u8, context: &[u8; 16]) -> K
     ensures { K.key_bytes result ≡ kdf key.now constant (8 * K.LEN) context.now }
 {
     let mut bytes = [0; 32];

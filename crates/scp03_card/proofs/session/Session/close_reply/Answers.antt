@@ -24,4 +24,4 @@ returns-clause-protected g c = λ session stands.
     c.append-3.ensures.items
     ∙ (λ i. c.append-2.ensures.items i ++ sw i)
     ∙ (λ i. field i ++ mac i ++ status_bytes status)
-    ∙ protected_whole session c.args.reply.now.items status protects (sym c.is_no_error.ensures ∙ c.if-not-is_no_error.false)
+    ∙ protected_whole session c.args.reply.now.items status protects (sym c.is_success_or_warning.ensures ∙ c.if-not-is_success_or_warning.false)
