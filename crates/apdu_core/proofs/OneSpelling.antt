@@ -47,12 +47,16 @@ one_command c d bytes s t =
 pub one_spelling : OneSpelling
 one_spelling c bytes others s t = s.spelling ∙ sym t.spelling
 
-pub one_reply : OneReply
-one_reply body other status another bytes s t =
-    let same : body ++ status_bytes status ≡ other ++ status_bytes another = sym s.spelling ∙ t.spelling in
+-- a body and a status are told by what they are joined to
+pub same_reply : (body other : List ℕ) (status another : ℕ) → body ++ status_bytes status ≡ other ++ status_bytes another
+    → (body ≡ other) × (status ≡ another)
+same_reply body other status another same =
     let joined =
     append_snoc body (status / 256) (status % 256 ∷ [])
     ∙ same ∙ sym (append_snoc other (another / 256) (another % 256 ∷ [])) in
     let low = same_from_push (body ++ status / 256 ∷ []) (other ++ another / 256 ∷ []) _ _ joined in
     let high = same_from_push body other _ _ low.0 in
     (high.0, omega (arith, high.1, low.1))
+
+pub one_reply : OneReply
+one_reply body other status another bytes s t = same_reply body other status another (sym s.spelling ∙ t.spelling)

@@ -1,12 +1,21 @@
 //! Response APDUs (ISO/IEC 7816-3:2006, 12.1).
-ghost use Rattle.std.specs.Prelude.{◌<◌, ◌⊎◌, length, IfOk, OnErr};
-ghost use Rattle.apdu_core.specs.Reply.{ShortReply};
+ghost use Rattle.std.specs.Prelude.{◌≡◌, ◌<◌, ◌⊎◌, length, IfOk, OnErr};
+ghost use Rattle.apdu_core.specs.Reply.{ShortReply, status_bytes};
 
 use crate::NotShort;
 
 /// The status bytes SW1 and SW2, the first in the high half.
 #[derive(Clone, Copy, Debug, PartialEq, Eq)]
 pub struct Status(pub u16);
+
+impl Status {
+    /// SW1 and SW2.
+    pub fn to_bytes(self) -> [u8; 2]
+        ensures { result ≡ status_bytes self.0 }
+    {
+        self.0.to_be_bytes()
+    }
+}
 
 /// A response APDU, whose body lies in the bytes that it was read from.
 #[derive(Clone, Copy, Debug, PartialEq, Eq)]

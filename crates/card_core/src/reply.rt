@@ -15,7 +15,5 @@ pub fn write_status(status: Status, reply: &mut ArrayVec<u8, REPLY_LIMIT>)
     requires room { array_vec_len reply.old + 2 ≤ REPLY_LIMIT }
     ensures written { reply.new.items ≡ reply.old.items ++ status_bytes status.0 }
 {
-    reply
-        .try_extend_from_slice(&status.0.to_be_bytes())
-        .unwrap();
+    reply.try_extend_from_slice(&status.to_bytes()).unwrap();
 }

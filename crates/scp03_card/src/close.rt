@@ -3,7 +3,6 @@
 ghost use Rattle.std.specs.Prelude.{◌≡◌, ℕ, ◌+◌, ◌≤◌, List, ◌++◌, length};
 ghost use Rattle.aes_block.specs.Cipher.{cipher};
 ghost use Rattle.arrayvec.specs.ArrayVec.{array_vec_len};
-ghost use Rattle.apdu_core.specs.Reply.{status_bytes};
 ghost use Rattle.cmac_kdf.specs.Cbc.{sealed};
 ghost use Rattle.scp03_card.specs.Kept.{StandsFor};
 ghost use Rattle.scp03_card.specs.Protected.{protected, reply_field};
@@ -26,7 +25,7 @@ impl<K: BlockKey> Session<K> {
         ensures protected { (session : model.Session) → StandsFor self.old session → reply.new.items ≡ protected session reply.old.items status.0 }
         ensures unchanged { self.new ≡ self.old }
     {
-        let sw = sw_bytes(status);
+        let sw = status.to_bytes();
         if !has_r_mac(self.level) {
             append(reply, &sw);
             return;
@@ -75,10 +74,4 @@ fn append(reply: &mut ArrayVec<u8, 258>, bytes: &[u8])
     ensures length { array_vec_len reply.new ≡ array_vec_len reply.old + length bytes.now }
 {
     reply.try_extend_from_slice(bytes).unwrap();
-}
-
-fn sw_bytes(status: Status) -> [u8; 2]
-    ensures { result ≡ status_bytes status.0 }
-{
-    status.0.to_be_bytes()
 }

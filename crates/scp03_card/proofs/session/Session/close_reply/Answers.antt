@@ -12,7 +12,7 @@ returns-clause-protected g c = λ session stands.
     let status : ℕ = c.args.status.0 in
     let x : List ℕ = reply_field session c.args.reply.now.items in
     let field : c.encipher.new.reply.items ≡ x = c.encipher.ensures.field session stands in
-    let sw = c.sw_bytes-sw.ensures in
+    let sw = c.to_bytes-sw.ensures in
     let mac : take 8 c.reply_mac-mac.result ≡ r_mac session x status =
     ap (take 8)
     (c.reply_mac-mac.ensures
