@@ -1,0 +1,3 @@
+pub mod AgreementLemmas
+pub mod ReplyLemmas
+pub mod SentLemmas

@@ -1,0 +1,4 @@
+pub mod Begin
+pub mod Wrapped
+pub mod Unwrapped
+pub mod Agreement

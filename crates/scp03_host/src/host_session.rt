@@ -1,0 +1,51 @@
+//! The host's end of a session.
+
+ghost use Rattle.std.specs.Prelude.{◌≡◌};
+ghost use Rattle.scp03_card.specs.Kept.{StandsFor};
+ghost use Rattle.scp03_card.specs.Session as model;
+
+use aes_block::BlockKey;
+use card_types::Level;
+use scp03_card::SessionKeys;
+use std::marker::Model;
+
+/// A session that the host has begun.
+///
+/// As at the card's end, the MAC chaining value of the messages sent is kept, and the number of the last
+/// one.
+#[derive(Drop)]
+pub struct HostSession<K: BlockKey> {
+    pub(crate) keys: SessionKeys<K>,
+    pub(crate) level: Level,
+    pub(crate) chain: [u8; 16],
+    pub(crate) number: u128,
+}
+
+impl<K: BlockKey> Model for HostSession<K> {
+    ghost use Rattle.scp03_card.specs.Kept.{KeptSession};
+
+    ghost Value = { KeptSession };
+
+    ghost view = { λ s. record {
+      keys = s.keys;
+      level = s.level;
+      chain = s.chain;
+      number = s.number;
+    } };
+}
+
+impl<K: BlockKey> HostSession<K> {
+    /// The static key for sensitive data, Key-DEK.
+    pub fn dek(&self) -> &K
+        ensures { (session : model.Session) → StandsFor self.now session → K.key_bytes result.now ≡ session.offer.dek }
+    {
+        self.keys.dek()
+    }
+
+    /// Its security level.
+    pub fn level(&self) -> Level
+        ensures { (session : model.Session) → StandsFor self.now session → result ≡ session.level }
+    {
+        self.level
+    }
+}
