@@ -12,3 +12,6 @@ pub use external_authenticate::begin;
 pub use host_session::HostSession;
 pub use laws::{agreement, one_plain_reply};
 pub use refusals::{BeginRefusal, ReplyRefusal, TooLong};
+
+#[cfg(test)]
+mod tests;
