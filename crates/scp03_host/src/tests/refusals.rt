@@ -119,7 +119,7 @@ fn replies_at_level_33(rt: HostRuntime) -> Result<(), Fail> {
     for (digits, expected) in AT_LEVEL_33 {
         let reply = bytes(digits);
         assert!(rt; reply.len() <= 258);
-        field.push(0);
+        let _fits = field.try_push(0);
         assert_eq!(rt;
             session.unwrap(&reply, &mut field),
             expected.map(Status),
