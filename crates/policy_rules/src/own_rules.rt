@@ -1,6 +1,7 @@
 //! The first of a command's own rules that fails.
 
 ghost use Rattle.std.specs.Prelude.{◌≡◌, ◌≢◌, ◌<◌, None, IsSome, slice_index_or};
+ghost use Rattle.apdu_core.specs.Apdu.{Apdu};
 ghost use Rattle.card_types.specs.InOrder.{IsInOrder};
 ghost use Rattle.policy_rules.specs.Admission.{Admitted};
 ghost use Rattle.policy_rules.specs.Commands.{Judges};
@@ -18,7 +19,7 @@ use crate::select::judge_select;
 use card_types::Tables;
 
 /// The first of a well-formed command's own rules that fails, or none. Whether check values of keys fit is not read yet.
-/// EXTERNAL AUTHENTICATE is not judged here, since its rules need the keys of the offer.
+/// Of EXTERNAL AUTHENTICATE the answer is none, since its rules need the keys of the offer.
 pub fn judge(
     tables: &Tables,
     live: &Live,
@@ -30,8 +31,9 @@ pub fn judge(
     requires channel { channel < CHANNELS }
     requires opened { IsSome (slice_index_or live.now.selected channel None) }
     requires meant { IsMeant request.now }
-    ensures { (admitted : Admitted) → Says tables.now live.now admitted.at → IsSound admitted.at → channel ≡ admitted.channel
+    ensures judged { (admitted : Admitted) → Says tables.now live.now admitted.at → IsSound admitted.at → channel ≡ admitted.channel
         → IsRequestOf request.now admitted.command → admitted.command.ins ≢ EXTERNAL_AUTHENTICATE → Judges admitted result }
+    ensures elsewhere { (command : Apdu) → IsRequestOf request.now command → command.ins ≡ EXTERNAL_AUTHENTICATE → result ≡ None }
 {
     match request {
         Request::Select { partial } => match judge_select(tables, partial) {
