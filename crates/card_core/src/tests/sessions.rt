@@ -1,20 +1,19 @@
 // Sessions with the factory keys, the host challenge 00 to 07 and the selected AID A000000151000000. All values were
 // computed apart from this project, by a script over the CMAC and the AES of OpenSSL.
 
-ghost use Rattle.std.specs.Prelude.{◌<◌};
-
 use super::{DONE, name};
 use crate::Card;
 use arrayvec::ArrayVec;
 use std::test::Fail;
 
 /// A command in digits, the rule that refuses it or DONE, and its whole reply in digits.
-pub type Turn = (&'static [u8], &'static str, &'static [u8]);
+pub(super) type Turn = (&'static [u8], &'static str, &'static [u8]);
 
 /// INITIALIZE UPDATE, and what a new card offers.
-pub const UPDATE: &[u8] = b"80500000080001020304050607";
+pub(super) const UPDATE: &[u8] = b"80500000080001020304050607";
 
-pub const OFFERED: &[u8] = b"000000000000000000003003704d2614d48b5a55725102ce101bd723570000009000";
+pub(super) const OFFERED: &[u8] =
+    b"000000000000000000003003704d2614d48b5a55725102ce101bd723570000009000";
 
 /// For each level: EXTERNAL AUTHENTICATE, and GET DATA with right C-MACs, of which one has a data field, one asks for
 /// what isn't there and one has Le. Then a wrong C-MAC, and the right one too late.
@@ -229,27 +228,16 @@ const OFFERS: &[Turn] = &[
     (b"80ca00c1", DONE, b"c1030000049000"),
 ];
 
-fn digit(digit: u8) -> u8
-    ensures { result < 16 }
-{
-    match digit {
-        b'0'..=b'9' => digit - b'0',
-        b'a'..=b'f' => digit - b'a' + 10,
-        _ => 0,
-    }
-}
-
 /// The bytes that these hexadecimal digits write.
 fn bytes(digits: &[u8]) -> ArrayVec<u8, 261> {
-    let mut bytes = ArrayVec::new();
-    for i in 0..digits.len() / 2 {
-        let _fits = bytes.try_push(16 * digit(digits[2 * i]) + digit(digits[2 * i + 1]));
-    }
+    let mut bytes = ArrayVec::from([0; 261]);
+    bytes.truncate(digits.len() / 2);
+    let _ = hex::decode_to_slice(digits, bytes.as_mut_slice());
     bytes
 }
 
 /// Gives commands to a card, up to the first that it doesn't answer so: the number of that one.
-pub fn miss(card: &mut Card, turns: &[Turn]) -> Option<usize> {
+pub(super) fn miss(card: &mut Card, turns: &[Turn]) -> Option<usize> {
     let mut reply = ArrayVec::new();
     for (number, (command, rule, wanted)) in turns.iter().enumerate() {
         let found = card.process(&bytes(command), &mut reply);
