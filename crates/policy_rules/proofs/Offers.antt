@@ -5,10 +5,10 @@ use Rattle.std.proofs.lemmas.Bool.{and_parts, false≢true, not-true}
 use Rattle.apdu_core.specs.Apdu.{Apdu}
 use Rattle.policy_rules.specs.Admission.{Admitted, Bars, Leaves, Of, SessionEnds, admitted_as, channel_passed, class_passed, general_rules, message_joined, offer_passed, placeless, session_passed}
 use Rattle.policy_rules.specs.Classes.{IsPlainManagement, channel_of, class_of, is_protected, is_secure, protects}
-use Rattle.policy_rules.specs.Laws.{HasNoOffer, IsOffered, RefusalsDropOffers, is_later}
+use Rattle.policy_rules.specs.Laws.{RefusalsDropOffers, is_later}
 use Rattle.policy_rules.specs.State.{State}
 use Rattle.policy_rules.specs.Step.{Outcome, refusal_leaves}
-use Rattle.policy_rules.specs.Volatile.{Channel, Nothing, Offered, Secured, Standing, Volatile, channel_at, standing_so, with_standing, without_load, without_session}
+use Rattle.policy_rules.specs.Volatile.{Channel, Nothing, Offered, Secured, Standing, Volatile, channel_at, offer_in, standing_of, standing_so, with_standing, without_load, without_session}
 use Rattle.policy_rules.specs.declared.class.Class.{Class}
 use Rattle.policy_rules.specs.declared.instruction.TheConstants.{EXTERNAL_AUTHENTICATE, LOAD}
 use Rattle.policy_rules.specs.declared.rule.Rule.TheVariants.{G}
@@ -19,19 +19,22 @@ use Rattle.policy_rules.proofs.FirstUnique.{first_fails}
 use Rattle.policy_rules.proofs.OneOutcome.{of_one}
 use Rattle.policy_rules.proofs.Passing.{either}
 
-not_offered : (standing : Standing) → IsOffered (offer_passed false standing) → ⊥
-not_offered Nothing offered = offered
-not_offered (Offered offer) offered = offered
-not_offered (Secured session) offered = offered
+abbrev HasNoOffer : Option Channel → Type 0
+HasNoOffer channel = offer_in (standing_of channel) ≡ None
+
+not_offered : (standing : Standing) → offer_in (offer_passed false standing) ≡ None
+not_offered Nothing = refl
+not_offered (Offered offer) = refl
+not_offered (Secured session) = refl
 
 channel_has_none : (channel : Option Channel) → HasNoOffer (channel_passed false channel)
-channel_has_none None = tt
+channel_has_none None = refl
 channel_has_none (Some channel) = not_offered channel.standing
 
 set_has_none : (channels : List (Option Channel)) (number : ℕ) (channel : Option Channel) → HasNoOffer channel
     → HasNoOffer (slice_index_or (slice_set channels number channel) number None)
-set_has_none [] zero channel none = tt
-set_has_none [] (suc number) channel none = tt
+set_has_none [] zero channel none = refl
+set_has_none [] (suc number) channel none = refl
 set_has_none (first ∷ channels) zero channel none = none
 set_has_none (first ∷ channels) (suc number) channel none = set_has_none channels number channel none
 
@@ -39,13 +42,13 @@ placeless_has_none : (volatile : Volatile) (number : ℕ) → HasNoOffer (channe
 placeless_has_none volatile number =
     set_has_none volatile.channels number (channel_passed false (channel_at volatile number)) (channel_has_none (channel_at volatile number))
 
-with_standing_has_none : (volatile : Volatile) (number : ℕ) (standing : Standing) → (IsOffered standing → ⊥)
+with_standing_has_none : (volatile : Volatile) (number : ℕ) (standing : Standing) → offer_in standing ≡ None
     → HasNoOffer (channel_at (with_standing volatile number standing) number)
 with_standing_has_none volatile number standing none =
     set_has_none volatile.channels number (standing_so standing (channel_at volatile number)) (stands_so (channel_at volatile number))
   where
     stands_so : (channel : Option Channel) → HasNoOffer (standing_so standing channel)
-    stands_so None = tt
+    stands_so None = refl
     stands_so (Some channel) = none
 
 class_has_none : (volatile : Volatile) (command : Apdu) → (command.ins == EXTERNAL_AUTHENTICATE) ≡ false
@@ -57,7 +60,7 @@ class_has_none volatile command other =
 joined_has_none : (volatile : Volatile) (number : ℕ) (session : Option Session) → HasNoOffer (channel_at volatile number)
     → HasNoOffer (channel_at (message_joined volatile number session) number)
 joined_has_none volatile number None none = none
-joined_has_none volatile number (Some session) none = with_standing_has_none volatile number (Secured session) (λ offered. offered)
+joined_has_none volatile number (Some session) none = with_standing_has_none volatile number (Secured session) refl
 
 -- what a refusal of an admitted command leaves
 admitted_has_none : (state : State) (command : Apdu) (session : Option Session) (plain : List ℕ)
@@ -96,7 +99,7 @@ ended_has_none state bytes left ends =
       ends.0,
       ends.1,
       subst (λ (v : Volatile). HasNoOffer (channel_at v number)) (sym ends.2)
-          (with_standing_has_none (class_passed state.volatile ends.0) number Nothing (λ offered. offered)),
+          (with_standing_has_none (class_passed state.volatile ends.0) number Nothing refl),
     )
 
 -- what is refused for its session is a command of card content management, or a protected one
@@ -107,7 +110,7 @@ unsecured_has_none : (volatile : Volatile) (command : Apdu) (left : Volatile) (n
 unsecured_has_none volatile command left none bars (inl ends) =
     (let number = channel_of command.class in
     subst (λ (v : Volatile). HasNoOffer (channel_at v number)) (sym ends.1)
-    (with_standing_has_none (class_passed volatile command) number Nothing (λ offered. offered)))
+    (with_standing_has_none (class_passed volatile command) number Nothing refl))
 unsecured_has_none volatile command left none (inl manages) (inr stays) = absurd (stays.0 manages)
 unsecured_has_none volatile command left none (inr protected) (inr stays) =
     subst (λ (v : Volatile). HasNoOffer (channel_at v (channel_of command.class))) (sym stays.1)

@@ -1,5 +1,5 @@
 -- The laws of the policy machine.
-use Rattle.std.specs.Prelude.{◌≡◌, ℕ, List, Bool, true, false, Option, MatchOption}
+use Rattle.std.specs.Prelude.{◌≡◌, ℕ, List, Bool, true, false, None, MatchOption}
 use Rattle.card_types.specs.Ascending.{IsAscending}
 use Rattle.card_types.specs.Registry.{Registry}
 use Rattle.card_types.specs.Well.{Well}
@@ -9,7 +9,7 @@ use Rattle.policy_rules.specs.Run.{Input, Run}
 use Rattle.policy_rules.specs.Sound.{IsSound}
 use Rattle.policy_rules.specs.State.{State, powered_on}
 use Rattle.policy_rules.specs.Step.{Outcome, Step}
-use Rattle.policy_rules.specs.Volatile.{Channel, Nothing, Offered, Secured, Standing, channel_at}
+use Rattle.policy_rules.specs.Volatile.{offer_on}
 use Rattle.policy_rules.specs.declared.rule.Rule.{Rule}
 use Rattle.policy_rules.specs.declared.rule.Rule.TheVariants.{G, PS, M, SE, MC, GD, IU, EA}
 use Rattle.policy_rules.specs.declared.rule.RuleG.TheVariants.{G1, G2, G3, G4, G5, G6, G7, G8}
@@ -50,16 +50,8 @@ is_later (M rule) = true
 is_later (IU rule) = true
 is_later (EA rule) = true
 
-abbrev pub IsOffered : Standing → Type 0
-IsOffered Nothing = ⊥
-IsOffered (Offered offer) = Unit {0}
-IsOffered (Secured session) = ⊥
-
-abbrev pub HasNoOffer : Option Channel → Type 0
-HasNoOffer channel = MatchOption channel (Unit {0}) (λ opened. IsOffered opened.standing → ⊥)
-
 -- a command that a later rule refuses leaves no offer on its channel
 abbrev pub RefusalsDropOffers : Type 0
 RefusalsDropOffers =
     (state : State) (bytes : List ℕ) (outcome : Outcome) → Step state bytes outcome → MatchOption outcome.rule ⊥ (λ rule. is_later rule ≡ true)
-    → Of bytes (λ command. HasNoOffer (channel_at outcome.state.volatile (channel_of command.class)))
+    → Of bytes (λ command. offer_on outcome.state.volatile (channel_of command.class) ≡ None)
