@@ -4,7 +4,7 @@ use Rattle.std.proofs.lemmas.Option.{slice_get_read, slice_get_within}
 use Rattle.flash_core.specs.declared.page.Page.{Page}
 use Rattle.frame_pool.specs.Staged.{staged}
 use Rattle.frame_pool.specs.Entries.{entries}
-use Rattle.frame_pool.proofs.Places.{NoneBefore, NoneHas, found_staged, none_staged, length_entries, get_take, entry_of}
+use Rattle.frame_pool.proofs.Places.{NoneHas, found_staged, none_staged, length_entries, get_take, entry_of}
 use Rattle.frame_pool.proofs.pool.FramePool.get.Goals as goal
 
 pub returns-in-None : goal.returns-in-None

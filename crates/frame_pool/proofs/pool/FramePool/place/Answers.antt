@@ -1,10 +1,10 @@
-use Rattle.std.proofs.Common.{◌≡◌, ◌≢◌, ◌⊎◌, ◌+◌, ◌<◌, ◌≤◌, ◌++◌, inl, inr, Bool, true, false, ℕ, List, [], ◌∷◌, length, Option, None, Some, IsSome, unwrap_or, slice_get, get_or, set, take, refl, ap, ◌∙◌, sym, subst, arith, get_or-set_same, get_or-set_other}
+use Rattle.std.proofs.Common.{◌≡◌, ◌⊎◌, ◌+◌, ◌<◌, ◌≤◌, ◌++◌, inl, inr, Bool, true, false, ℕ, List, [], ◌∷◌, length, Option, None, Some, IsSome, unwrap_or, slice_get, get_or, set, take, refl, ap, ◌∙◌, sym, subst, arith, get_or-set_same, get_or-set_other}
 use Rattle.std.proofs.lemmas.Bool.{cases_eq}
 use Rattle.std.proofs.lemmas.List.{length-take}
 use Rattle.flash_core.specs.declared.page.Page.{Page}
 use Rattle.flash_core.specs.Memory.{filled}
 use Rattle.frame_pool.specs.declared.pool.Frame.{Frame}
-use Rattle.frame_pool.specs.Staged.{staged, with_page, with_bytes_at, AreDistinct}
+use Rattle.frame_pool.specs.Staged.{staged, with_bytes_at, AreDistinct}
 use Rattle.frame_pool.specs.Entries.{entries, AreLinked}
 use Rattle.frame_pool.proofs.Places.{NoneBefore, NoneHas, none_staged, none_with, last_get, last_with, found_staged, found_with, distinct_push, entries_push, length_entries, take_push, linked_put}
 use Rattle.frame_pool.proofs.pool.FramePool.place.Goals as goal
