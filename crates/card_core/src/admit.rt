@@ -5,7 +5,7 @@ ghost use Rattle.apdu_core.specs.Apdu.{Short, apdu_of};
 ghost use Rattle.card_core.specs.Domains.{is_domain_in};
 ghost use Rattle.card_core.specs.Serves.{IsOver};
 ghost use Rattle.policy_rules.specs.Admission.{Bars, Leaves, command_rules, general_rules};
-ghost use Rattle.policy_rules.specs.Classes.{IsKnown, channel_of as channel_of_byte, class_of, is_secure};
+ghost use Rattle.policy_rules.specs.Classes.{IsKnown, channel_of as channel_of_byte, class_of};
 ghost use Rattle.policy_rules.specs.FirstFailing.{IsFirst};
 ghost use Rattle.policy_rules.specs.Means.{Says};
 ghost use Rattle.policy_rules.specs.State.{State};

@@ -4,7 +4,7 @@ ghost use Rattle.std.specs.Prelude.{◌≡◌, ◌≤◌, ◌<◌, ◌+◌, ◌+
 ghost use Rattle.arrayvec.specs.ArrayVec.{array_vec_len};
 ghost use Rattle.bertlv.specs.Spelling.{Spelling};
 ghost use Rattle.bertlv.specs.Tag.{IsTag};
-ghost use Rattle.card_core.specs.Kept.{Kept, Stands};
+ghost use Rattle.card_core.specs.Kept.{Stands};
 ghost use Rattle.card_core.specs.Serves.{CarriesOut};
 ghost use Rattle.card_core.specs.declared.held.Held.{Held};
 ghost use Rattle.card_types.specs.InOrder.{IsInOrder};
@@ -16,7 +16,6 @@ ghost use Rattle.card_types.specs.Well.{Well};
 ghost use Rattle.card_types.specs.declared.tables.Entry.{Entry};
 ghost use Rattle.policy_rules.specs.Admission.{Admitted};
 ghost use Rattle.policy_rules.specs.Found.{IsFor};
-ghost use Rattle.scp03_card.specs.Offer.{counter_bytes};
 ghost use Rattle.policy_rules.specs.GetData.{HasData, IsKeyInformation};
 ghost use Rattle.policy_rules.specs.KeyOrder.{follows, name_order};
 ghost use Rattle.policy_rules.specs.Means.{IsRequestOf};

@@ -1,7 +1,7 @@
 //! MANAGE CHANNEL: a channel is opened or closed.
 
-ghost use Rattle.std.specs.Prelude.{◌≡◌, ◌≤◌, ◌<◌, ℕ, List, [], length};
-ghost use Rattle.card_core.specs.Kept.{Kept, Stands};
+ghost use Rattle.std.specs.Prelude.{◌≡◌, ◌≤◌, ◌<◌, List, [], length};
+ghost use Rattle.card_core.specs.Kept.{Stands};
 ghost use Rattle.card_core.specs.Serves.{CarriesOut};
 ghost use Rattle.card_core.specs.declared.held.Held.{Held};
 ghost use Rattle.card_types.specs.Layout.{HasLayout};

@@ -1,9 +1,8 @@
 //! SELECT: an entry is selected on a channel.
 
-ghost use Rattle.std.specs.Prelude.{◌≡◌, ◌≤◌, ◌<◌, ℕ, List, [], length, slice_index_or, slice_set};
-ghost use Rattle.arrayvec.specs.ArrayVec.{array_vec_len};
+ghost use Rattle.std.specs.Prelude.{◌≡◌, ◌≤◌, ◌<◌, List, [], length, slice_index_or, slice_set};
 ghost use Rattle.card_types.specs.InOrder.{IsInOrder};
-ghost use Rattle.card_core.specs.Kept.{Kept, Stands};
+ghost use Rattle.card_core.specs.Kept.{Stands};
 ghost use Rattle.card_core.specs.Serves.{CarriesOut};
 ghost use Rattle.card_core.specs.declared.held.Held.{Held};
 ghost use Rattle.card_core.specs.declared.held.Held.TheVariants as holding;

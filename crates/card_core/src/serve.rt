@@ -4,7 +4,7 @@ ghost use Rattle.std.specs.Prelude.{◌≡◌, ◌<◌, ◌≤◌, ◌++◌, ◌
 ghost use Rattle.apdu_core.specs.Apdu.{apdu_of};
 ghost use Rattle.apdu_core.specs.Reply.{status_bytes};
 ghost use Rattle.card_core.specs.Holds.{HoldsAs, held_passed};
-ghost use Rattle.card_core.specs.Kept.{Kept, Stands};
+ghost use Rattle.card_core.specs.Kept.{Stands};
 ghost use Rattle.card_core.specs.Serves.{CarriesOut, IsOver, Serves, rule_of, word_of};
 ghost use Rattle.card_types.specs.InOrder.{IsInOrder};
 ghost use Rattle.policy_rules.specs.Admission.{Admitted as Judged};

@@ -1,7 +1,7 @@
 //! Class bytes (ISO/IEC 7816-4:2013, 5.4; GlobalPlatform Card Specification 2.3.1, 11.1.4).
 
 ghost use Rattle.std.specs.Prelude.{◌≡◌, ◌↔◌, IsTrue, Contains, Some};
-ghost use Rattle.policy_rules.specs.Classes.{class_of as class_of_byte, channel_of as channel_of_byte, instructions_of, is_secure, protects};
+ghost use Rattle.policy_rules.specs.Classes.{class_of as class_of_byte, channel_of as channel_of_byte, instructions_of, protects};
 
 use crate::instruction::{
     EXTERNAL_AUTHENTICATE, GET_DATA, INITIALIZE_UPDATE, MANAGE_CHANNEL, SELECT,

@@ -1,7 +1,6 @@
 //! The keys of a domain, in ascending order of key version number and key identifier.
 
 ghost use Rattle.std.specs.Prelude.{◌≡◌, ◌≤◌, ℕ, IfSome, IfNone, length};
-ghost use Rattle.std.specs.Ordering.{nat_cmp, ordering_then};
 ghost use Rattle.std.proofs.lemmas.Cmp.{nat_cmp_total, on_total, then_total};
 ghost use Rattle.card_types.specs.Least.{IsLeast, NoneFits};
 ghost use Rattle.policy_rules.specs.KeyOrder.{follows, is_past as is_past_name, keeps_counter_of, keeps_counter_with, name_order, version_order};
