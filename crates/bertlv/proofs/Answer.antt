@@ -4,7 +4,7 @@ use Rattle.std.proofs.Math.Seq.{take-append_seam, drop-append_seam}
 use Rattle.std.proofs.lemmas.Bool.Decides.{nat_tests}
 use Rattle.bertlv.specs.declared.element.TlvError.{TlvError}
 use Rattle.bertlv.specs.declared.element.TlvError.TheVariants.{Short, Tag, Length}
-use Rattle.bertlv.specs.Tag.{GoesOn}
+use Rattle.bertlv.specs.Tag.{TagGoesOn}
 use Rattle.bertlv.specs.Spelling.{BeginsWith}
 use Rattle.bertlv.specs.Refusal.{AfterTag, AfterLength, EndsInTag, BadTagAt, EndsInLength, BadLength, Refused}
 
@@ -31,8 +31,8 @@ length_field (a ∷ b ∷ c ∷ more) = cond (ltb a 128) (whole a (a ∷ []) (b 
     (cond (eqb a 129) (cond (ltb b 128) (bad 0) (whole b (a ∷ b ∷ []) (c ∷ more)))
     (cond (eqb a 130) (cond (ltb (256 * b + c) 256) (bad 0) (whole (256 * b + c) (a ∷ b ∷ c ∷ []) more)) (bad 0)))
 
-goes_on_nonzero : (b : ℕ) → GoesOn b → b ≢ 0
-goes_on_nonzero b on zero = let none : GoesOn 0 = subst GoesOn zero on in cc
+goes_on_nonzero : (b : ℕ) → TagGoesOn b → b ≢ 0
+goes_on_nonzero b on zero = let none : TagGoesOn 0 = subst TagGoesOn zero on in cc
 
 whole_tag : (t : ℕ) (field rest bytes : List ℕ) → AfterTag t field rest bytes →
     tag_field bytes ≡ whole t field rest

@@ -2,12 +2,12 @@
 use Rattle.std.proofs.Common.{◌≡◌, ◌≢◌, ℕ, ◌+◌, ◌-◌, ◌*◌, ◌<◌, ◌≤◌, List, [], ◌∷◌, ◌++◌, arith, subst, refl, get_or, take, drop, length, ◌/◌, ◌%◌, inl, inr, Bool, true, false, not, IsTrue, ◌↔◌, sym}
 use Rattle.std.proofs.lemmas.Bool.{false≢true}
 use Rattle.std.proofs.lemmas.Grind.{common_steps}
-use Rattle.bertlv.specs.Tag.{GoesOn, EndsTag, TagBytes, IsTag}
+use Rattle.bertlv.specs.Tag.{TagGoesOn, EndsTag, TagBytes, IsTag}
 use Rattle.bertlv.specs.Refusal.{AfterTag}
 
 -- a first byte that doesn't go on is a whole field
 pub after_one : (bytes : List ℕ) (tag : ℕ) → 1 ≤ length bytes → tag ≡ get_or bytes 0 0 →
-    get_or bytes 0 0 < 256 → get_or bytes 0 0 ≢ 0 → ¬ GoesOn (get_or bytes 0 0) →
+    get_or bytes 0 0 < 256 → get_or bytes 0 0 ≢ 0 → ¬ TagGoesOn (get_or bytes 0 0) →
     (field : List ℕ) × AfterTag tag field (take (length bytes - 1) (drop 1 bytes)) bytes
 after_one [] tag some is fits nonzero ends = absurd (omega arith)
 after_one (b ∷ more) tag some is fits nonzero ends =
@@ -16,7 +16,7 @@ after_one (b ∷ more) tag some is fits nonzero ends =
 -- a first byte that goes on and a second that ends the field are a whole field
 pub after_two : (bytes : List ℕ) (tag : ℕ) → 2 ≤ length bytes →
     tag ≡ get_or bytes 0 0 * 256 + get_or bytes 1 0 → get_or bytes 0 0 < 256 →
-    GoesOn (get_or bytes 0 0) → EndsTag (get_or bytes 1 0) →
+    TagGoesOn (get_or bytes 0 0) → EndsTag (get_or bytes 1 0) →
     (field : List ℕ) × AfterTag tag field (take (length bytes - 2) (drop 2 bytes)) bytes
 after_two [] tag two is fits on ends = absurd (omega arith)
 after_two (b ∷ []) tag two is fits on ends = absurd (omega arith)
@@ -41,7 +41,7 @@ tag_front t u (p ∷ r ∷ w ∷ a) b x y h k e = absurd h
 small_first : (tag b c : ℕ) → tag < 256 → TagBytes tag (b ∷ c ∷ []) → ⊥
 small_first tag b c small h =
     let zero_first : b ≡ 0 = omega arith in
-    let on : GoesOn 0 = subst GoesOn zero_first h.2 in
+    let on : TagGoesOn 0 = subst TagGoesOn zero_first h.2 in
     cc
 
 -- a field of one byte and one of two have different tags
@@ -64,17 +64,17 @@ one_tag_field tag (p ∷ r ∷ []) (q ∷ s ∷ z ∷ b) h k = absurd k
 one_tag_field tag (p ∷ r ∷ w ∷ a) b h k = absurd h
 
 -- a tag below 256 doesn't go on
-ends_of : (tag : ℕ) → tag < 256 → IsTag tag → ¬ GoesOn tag
+ends_of : (tag : ℕ) → tag < 256 → IsTag tag → ¬ TagGoesOn tag
 ends_of tag small (inl h) = h.3
 ends_of tag small (inr h) = absurd (small_first tag (tag / 256) (tag % 256) small h)
 
 -- below 256 a number is a tag exactly where it doesn't go on
 pub one_byte_test : (tag second : ℕ) (on : Bool) → second ≡ tag → tag < 256 → second ≢ 0 →
-    (IsTrue on ↔ GoesOn second) → IsTrue (not on) ↔ IsTag tag
+    (IsTrue on ↔ TagGoesOn second) → IsTrue (not on) ↔ IsTag tag
 one_byte_test tag second true is small nonzero on =
-    (λ off. absurd cc, λ t. absurd (ends_of tag small t (subst GoesOn is (on.0 refl))))
+    (λ off. absurd cc, λ t. absurd (ends_of tag small t (subst TagGoesOn is (on.0 refl))))
 one_byte_test tag second false is small nonzero on =
-    (λ _. inl (refl, small, omega arith, λ goes. absurd (false≢true (on.1 (subst GoesOn (sym is) goes)))), λ _. refl)
+    (λ _. inl (refl, small, omega arith, λ goes. absurd (false≢true (on.1 (subst TagGoesOn (sym is) goes)))), λ _. refl)
 
 -- what a field spells is a tag
 pub spelled_is_tag : (tag : ℕ) (field : List ℕ) → TagBytes tag field → IsTag tag

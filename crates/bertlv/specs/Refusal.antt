@@ -2,7 +2,7 @@
 use Rattle.std.specs.Prelude.{◌≡◌, ℕ, ◌+◌, ◌*◌, ◌<◌, ◌≤◌, ◌⊎◌, List, [], ◌∷◌, ◌++◌, length}
 use Rattle.bertlv.specs.declared.element.TlvError.{TlvError}
 use Rattle.bertlv.specs.declared.element.TlvError.TheVariants.{Short, Tag, Length}
-use Rattle.bertlv.specs.Tag.{GoesOn, TagBytes}
+use Rattle.bertlv.specs.Tag.{TagGoesOn, TagBytes}
 use Rattle.bertlv.specs.Length.{LengthBytes}
 
 -- the bytes are a tag field, and then rest
@@ -16,14 +16,14 @@ AfterLength n field rest bytes = LengthBytes n field × (bytes ≡ field ++ rest
 -- the bytes end before their tag field does
 abbrev pub EndsInTag : List ℕ → Type 0
 EndsInTag [] = Unit {0}
-EndsInTag (b ∷ []) = GoesOn b
+EndsInTag (b ∷ []) = TagGoesOn b
 EndsInTag (b ∷ c ∷ more) = ⊥
 
 -- byte n can't stand in a tag field there
 abbrev pub BadTagAt : ℕ → List ℕ → Type 0
 BadTagAt n [] = ⊥
 BadTagAt n (b ∷ []) = (n ≡ 0) × (b ≡ 0)
-BadTagAt n (b ∷ c ∷ more) = ((n ≡ 0) × (b ≡ 0)) ⊎ ((n ≡ 1) × GoesOn b × ((c < 0x1F) ⊎ (0x7F < c)))
+BadTagAt n (b ∷ c ∷ more) = ((n ≡ 0) × (b ≡ 0)) ⊎ ((n ≡ 1) × TagGoesOn b × ((c < 0x1F) ⊎ (0x7F < c)))
 
 -- the bytes end before their length field does
 abbrev pub EndsInLength : List ℕ → Type 0

@@ -1,7 +1,7 @@
 //! Tag fields (ISO/IEC 7816-4:2013, chapter 6).
 ghost use Rattle.std.specs.Prelude.{◌≡◌, ◌↔◌, ◌≤◌, ◌+◌, ◌++◌, ℕ, List, IsTrue, IfOk, IfErr, length};
 ghost use Rattle.arrayvec.specs.ArrayVec.{array_vec_len};
-ghost use Rattle.bertlv.specs.Tag.{GoesOn, EndsTag, TagBytes, IsTag};
+ghost use Rattle.bertlv.specs.Tag.{TagGoesOn, EndsTag, TagBytes, IsTag};
 ghost use Rattle.bertlv.specs.Refusal.{AfterTag, Refused};
 
 use crate::TlvError;
@@ -64,7 +64,7 @@ pub(crate) fn tag_field(tag: u16) -> ArrayVec<u8, 2>
 
 /// Whether a first byte says that a second follows.
 fn goes_on(first: u8) -> bool
-    ensures { IsTrue result ↔ GoesOn first }
+    ensures { IsTrue result ↔ TagGoesOn first }
 {
     first & 0x1F == 0x1F
 }

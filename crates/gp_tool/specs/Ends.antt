@@ -141,9 +141,9 @@ EndCause BadLine reads reads' writes writes' = (reads' ≡ reads) × (writes' �
 EndCause InputTooLong reads reads' writes writes' = (reads' ≡ reads) × (writes' ≡ writes)
 
 -- the status of a program that ends so
-abbrev pub status_of : Ending → ℕ
-status_of Finished = 0
-status_of BadLine = 2
-status_of ReadFault = 5
-status_of WriteFault = 6
-status_of InputTooLong = 9
+abbrev pub exit_status : Ending → ℕ
+exit_status Finished = 0
+exit_status BadLine = 2
+exit_status ReadFault = 5
+exit_status WriteFault = 6
+exit_status InputTooLong = 9

@@ -11,7 +11,7 @@ inputs_of form.Reset bytes = Reset ∷ []
 inputs_of (form.Command count) bytes = Command (take count bytes) ∷ []
 
 -- a command is no longer than the room for it
-abbrev pub Fits : Form → Type 0
-Fits form.Nothing = Unit {0}
-Fits form.Reset = Unit {0}
-Fits (form.Command count) = count ≤ COMMAND_LIMIT
+abbrev pub FitsRoom : Form → Type 0
+FitsRoom form.Nothing = Unit {0}
+FitsRoom form.Reset = Unit {0}
+FitsRoom (form.Command count) = count ≤ COMMAND_LIMIT

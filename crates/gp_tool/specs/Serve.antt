@@ -17,12 +17,12 @@ pub record PlaysLine (line : List ℕ) (card : Kept) (state : State) : Type 0 wh
   pub stands : Stands card last
 
 -- how the card stands after a line, and what has been written where the sink tells it
-abbrev pub Serves : Type 0 → List ℕ → Kept → Kept → List ℕ → List ℕ → Served → Type 0
-Serves writes line card card' old new Done =
+abbrev pub ServesLine : Type 0 → List ℕ → Kept → Kept → List ℕ → List ℕ → Served → Type 0
+ServesLine writes line card card' old new Done =
     (state : State) → Stands card state
     → (played : PlaysLine line card' state) × (writes → new ≡ old ++ text_of played.outcomes)
-Serves writes line card card' old new NoForm = HasNoForm line × (writes → new ≡ old)
-Serves writes line card card' old new WriteFault =
+ServesLine writes line card card' old new NoForm = HasNoForm line × (writes → new ≡ old)
+ServesLine writes line card card' old new WriteFault =
     (state : State) → Stands card state
     → (played : PlaysLine line card' state) × (writes → (n : ℕ) × (new ≡ old ++ take n (text_of played.outcomes)))
 

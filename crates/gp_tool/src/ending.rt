@@ -1,7 +1,7 @@
 //! How a run ends.
 
 ghost use Rattle.std.specs.Prelude.{◌≡◌};
-ghost use Rattle.gp_tool.specs.Ends.{status_of};
+ghost use Rattle.gp_tool.specs.Ends.{exit_status};
 
 /// How a run over the lines of a source ends.
 #[derive(Clone, Copy, Debug, PartialEq, Eq)]
@@ -21,7 +21,7 @@ pub enum Ending {
 impl Ending {
     /// The status of a program that ends so.
     pub fn status(self) -> u8
-        ensures { result ≡ status_of self }
+        ensures { result ≡ exit_status self }
     {
         match self {
             Ending::Finished => 0,

@@ -1,7 +1,7 @@
 //! What is done with one line.
 
 ghost use Rattle.std.specs.Prelude.{◌≡◌, ◌≤◌, length};
-ghost use Rattle.gp_tool.specs.Serve.{Serves, ServeCause};
+ghost use Rattle.gp_tool.specs.Serve.{ServesLine, ServeCause};
 
 use crate::form::{COMMAND_LIMIT, Form, read_form};
 use crate::reply::{REPLY_LINE_LIMIT, write_reply};
@@ -36,7 +36,7 @@ pub fn serve_line<K: Sink>(
     sink: &mut K,
 ) -> Served
     requires { length line.now ≤ LINE_LIMIT }
-    ensures served { Serves K.tells line.now card.old card.new (K.written sink.old) (K.written sink.new) result }
+    ensures served { ServesLine K.tells line.now card.old card.new (K.written sink.old) (K.written sink.new) result }
     ensures flushes { K.flushes sink.new ≡ K.flushes sink.old }
     ensures cause { ServeCause (K.faults sink.old) (K.faults sink.new) result }
 {

@@ -6,7 +6,7 @@ ghost use Rattle.card_types.specs.Factory.{factory_registry};
 ghost use Rattle.policy_rules.specs.State.{powered_on};
 ghost use Rattle.io_edge.specs.Faults.{HasCause, Rose};
 ghost use Rattle.io_edge.specs.declared.line.TheConstants.{INPUT_LIMIT};
-ghost use Rattle.gp_tool.specs.Ends.{Ends, EndCause, Flushes, outside, status_of};
+ghost use Rattle.gp_tool.specs.Ends.{Ends, EndCause, Flushes, outside, exit_status};
 ghost use Rattle.gp_tool.specs.Flush.{FlushesLast, IsHandedOn};
 ghost use Rattle.gp_tool.specs.Good.{AreGood};
 ghost use Rattle.gp_tool.specs.Words.{AreRun, usage_line};
@@ -82,7 +82,7 @@ pub fn gp<S: Source, K: Sink>(alloc: Global, words: &[String], source: &mut S, s
     ensures memory { AreRun words.now → result ≡ 7 → (source.new ≡ source.old) × (sink.new ≡ sink.old) }
 
     // `run`: the status is that of an ending, which says what was read, written and handed on.
-    ensures run { AreRun words.now → result ≢ 7 → (ending : Ending) × (result ≡ status_of ending)
+    ensures run { AreRun words.now → result ≢ 7 → (ending : Ending) × (result ≡ exit_status ending)
         × EndCause ending (S.faults source.old) (S.faults source.new) (K.faults sink.old) (K.faults sink.new)
         × Flushes K.tells ending
         (outside S.left K.written K.handed_on K.flushes source.old sink.old) (outside S.left K.written K.handed_on K.flushes source.new sink.new)

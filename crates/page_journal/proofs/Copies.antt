@@ -6,7 +6,7 @@ use Rattle.flash_core.specs.Device.{SameBut}
 use Rattle.frame_pool.specs.Staged.{staged, AreDistinct}
 use Rattle.frame_pool.proofs.Places.{found_staged}
 use Rattle.page_journal.specs.Journal.{IsValid}
-use Rattle.page_journal.specs.Phases.{CopiesOf, HomesOf, CopiesHome, IsNamed, IsStaged}
+use Rattle.page_journal.specs.Phases.{CopiesOf, HomesOf, CopiesHome, IsInDescriptor, IsStaged}
 
 abbrev Pages : Type 0
 Pages = List (ℕ × Page)
@@ -48,5 +48,5 @@ named_more index bytes x start old new valid within homes is torn written i lt =
     by_place i lt (inr other) = torn.others _ (valid.distinct i index (omega (arith, lt, other)) within) ∙ homes i (omega (arith, lt, other))
 
 -- a copy is no home
-pub copy_unnamed : (bytes : List ℕ) (i : ℕ) → IsValid bytes → IsNamed bytes (47 + i) → ⊥
+pub copy_unnamed : (bytes : List ℕ) (i : ℕ) → IsValid bytes → IsInDescriptor bytes (47 + i) → ⊥
 copy_unnamed bytes i valid named = omega (arith, valid.homes named.0 named.1, named.2)

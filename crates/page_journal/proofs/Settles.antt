@@ -4,7 +4,7 @@ use Rattle.flash_core.specs.declared.page.Page.{Page}
 use Rattle.flash_core.specs.Device.{Only}
 use Rattle.page_journal.specs.Journal.{is_open, descriptor, IsValid, copied_place, stored}
 use Rattle.page_journal.specs.Moments.{Always, LeavesOnly, Leaves}
-use Rattle.page_journal.specs.Phases.{IsNamed, CopiesHome}
+use Rattle.page_journal.specs.Phases.{IsInDescriptor, CopiesHome}
 use Rattle.page_journal.specs.Store.{SameBelow, IsListed}
 use Rattle.page_journal.specs.Touches.{SameOutside, IsTorn, Touches}
 use Rattle.page_journal.proofs.Runs.{only_torn}
@@ -13,7 +13,7 @@ use Rattle.page_journal.proofs.Lists.{IsPage, gate_same, descriptor_same, stored
 use Rattle.page_journal.proofs.Commits.{is_or_not}
 
 -- where a page stands, it is named for no copy
-unnamed_place : (bytes : List ℕ) (p : ℕ) → IsValid bytes → IsNamed bytes (copied_place bytes p) → ⊥
+unnamed_place : (bytes : List ℕ) (p : ℕ) → IsValid bytes → IsInDescriptor bytes (copied_place bytes p) → ⊥
 unnamed_place bytes p valid named = ⊎_elim
     (λ (f : (at : ℕ) × (0 ≤ at) × (at < 0 + get_or bytes 0 0) × (get_or bytes (at + 1) 0 ≡ p) × (copied_place bytes p ≡ 47 + at)). absurd (omega (arith, f.4, named.2, valid.homes named.0 named.1)))
     (λ (m : ((k : ℕ) → 0 ≤ k → k < 0 + get_or bytes 0 0 → get_or bytes (k + 1) 0 ≢ p) × (copied_place bytes p ≡ p)). absurd (m.0 named.0 (omega arith) (omega (arith, named.1)) (named.2 ∙ m.1)))
@@ -37,14 +37,14 @@ same_list a b p gate at45 at46 at =
 module _ {F T : Type 0} (pages : F → List Page) (moment : F → ℕ) (may_leave : F → List Page → Type 0) (left_since : F → ℕ → List Page → Type 0) (only : (f : F) (c : List Page) → T → left_since f (moment f) c → may_leave f c) (told : T)
     (bytes : List ℕ) (valid : IsValid bytes) (f0 : F) (gate : is_open (pages f0) ≡ true) (named : descriptor (pages f0) ≡ bytes) where
   -- The copies are written in place behind the open gate.
-  pub copied : (loose : List ℕ) (f1 : F) → Always (may_leave f0) (SameBelow (pages f0)) → Always (may_leave f0) (Leaves (stored (pages f0)) loose) → Touches pages moment may_leave left_since (IsNamed bytes) f0 f1
+  pub copied : (loose : List ℕ) (f1 : F) → Always (may_leave f0) (SameBelow (pages f0)) → Always (may_leave f0) (Leaves (stored (pages f0)) loose) → Touches pages moment may_leave left_since (IsInDescriptor bytes) f0 f1
       → LeavesOnly moment left_since f0 f1 (Leaves (stored (pages f0)) loose)
-  copied loose f1 calm before run = only_torn pages moment may_leave left_since only told (IsNamed bytes) f0 f1 (Leaves (stored (pages f0)) loose) run here
+  copied loose f1 calm before run = only_torn pages moment may_leave left_since only told (IsInDescriptor bytes) f0 f1 (Leaves (stored (pages f0)) loose) run here
     where
-      high : (p : ℕ) → 45 ≤ p → IsNamed bytes p → ⊥
+      high : (p : ℕ) → 45 ≤ p → IsInDescriptor bytes p → ⊥
       high p le n = omega (arith, le, n.2, valid.homes n.0 n.1)
 
-      here : (c : List Page) → IsTorn (IsNamed bytes) (may_leave f0) c → Leaves (stored (pages f0)) loose c
+      here : (c : List Page) → IsTorn (IsInDescriptor bytes) (may_leave f0) c → Leaves (stored (pages f0)) loose c
       here c torn =
           let d = torn.0 in
           let below = calm d torn.1 in
@@ -53,15 +53,15 @@ module _ {F T : Type 0} (pages : F → List Page) (moment : F → ℕ) (may_leav
           let named_d : descriptor d ≡ bytes = descriptor_same d (pages f0) (below 46 (omega arith)) ∙ named in
           let at45 = torn.2 45 (high 45 (omega arith)) in
           let at46 = torn.2 46 (high 46 (omega arith)) in
-          let same : (p : ℕ) → stored c p ≡ stored d p = λ p. same_list d c p gate_d at45 at46 (torn.2 (copied_place (descriptor d) p) (λ n. unnamed_place bytes p valid (subst (λ b. IsNamed bytes (copied_place b p)) named_d n))) in
+          let same : (p : ℕ) → stored c p ≡ stored d p = λ p. same_list d c p gate_d at45 at46 (torn.2 (copied_place (descriptor d) p) (λ n. unnamed_place bytes p valid (subst (λ b. IsInDescriptor bytes (copied_place b p)) named_d n))) in
           record {
             sound = λ _. subst IsValid (sym (descriptor_same c d at46 ∙ named_d)) valid;
             store = λ p lt. same p ∙ was.store p lt;
             load = λ p le tight. same p ∙ was.load p le tight;
           }
 
-  module _ (f1 : F) (c : List Page) (run : Touches pages moment may_leave left_since (IsNamed bytes) f0 f1) (put : CopiesHome (get_or bytes 0 0) bytes (pages f0) (pages f1)) (same : SameOutside (λ p. p ≡ 45) (pages f1) c) where
-    high1 : (p : ℕ) → 45 ≤ p → IsNamed bytes p → ⊥
+  module _ (f1 : F) (c : List Page) (run : Touches pages moment may_leave left_since (IsInDescriptor bytes) f0 f1) (put : CopiesHome (get_or bytes 0 0) bytes (pages f0) (pages f1)) (same : SameOutside (λ p. p ≡ 45) (pages f1) c) where
+    high1 : (p : ℕ) → 45 ≤ p → IsInDescriptor bytes p → ⊥
     high1 p le n = omega (arith, le, n.2, valid.homes n.0 n.1)
 
     desc : slice_get c 46 ≡ slice_get (pages f0) 46
@@ -104,7 +104,7 @@ module _ {F T : Type 0} (pages : F → List Page) (moment : F → ℕ) (may_leav
     settled closed p page = stored_shut c p closed ∙ at_home p page
 
   -- Then the gate is closed.
-  pub closing : (loose : List ℕ) (f1 f2 : F) → Touches pages moment may_leave left_since (IsNamed bytes) f0 f1 → CopiesHome (get_or bytes 0 0) bytes (pages f0) (pages f1) → Only (pages f1) (may_leave f1) → Touches pages moment may_leave left_since (λ p. p ≡ 45) f1 f2
+  pub closing : (loose : List ℕ) (f1 f2 : F) → Touches pages moment may_leave left_since (IsInDescriptor bytes) f0 f1 → CopiesHome (get_or bytes 0 0) bytes (pages f0) (pages f1) → Only (pages f1) (may_leave f1) → Touches pages moment may_leave left_since (λ p. p ≡ 45) f1 f2
       → LeavesOnly moment left_since f1 f2 (Leaves (stored (pages f0)) loose)
   closing loose f1 f2 wrote put synced run =
       only_torn pages moment may_leave left_since only told (λ p. p ≡ 45) f1 f2 (Leaves (stored (pages f0)) loose) run (λ c torn. leaves f1 c wrote put (subst (λ d. SameOutside (λ p. p ≡ 45) d c) (synced torn.0 torn.1) torn.2) loose)

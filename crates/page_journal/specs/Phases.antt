@@ -29,8 +29,8 @@ abbrev pub HomesOf : ℕ → List (ℕ × Page) → List Page → Type 0
 HomesOf count pages device = (i : ℕ) (entry : ℕ × Page) → i < count → slice_get pages i ≡ Some entry → slice_get device entry.0 ≡ Some entry.1
 
 -- a page that the descriptor names
-abbrev pub IsNamed : List ℕ → ℕ → Type 0
-IsNamed bytes page = (i : ℕ) × (i < slice_index bytes 0) × (slice_index bytes (i + 1) ≡ page)
+abbrev pub IsInDescriptor : List ℕ → ℕ → Type 0
+IsInDescriptor bytes page = (i : ℕ) × (i < slice_index bytes 0) × (slice_index bytes (i + 1) ≡ page)
 
 -- the first so many copies stand at home
 abbrev pub CopiesHome : ℕ → List ℕ → List Page → List Page → Type 0

@@ -24,7 +24,7 @@ pub record HasJournal (pages : List Page) (journal : Option Page) : Type 0 where
   pub named : IfSome journal (λ page. slice_get pages 46 ≡ Some page)
 
 -- Between two calls nothing below the load pages is pending, and the journal is as it was read.
-pub record Stands (pages : List Page) (may_leave : List Page → Type 0) (journal : Option Page) : Type 0 where
+pub record IsCalm (pages : List Page) (may_leave : List Page → Type 0) (journal : Option Page) : Type 0 where
   pub calm : Always may_leave (SameBelow pages)
   pub as_read : HasJournal pages journal
 

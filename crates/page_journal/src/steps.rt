@@ -5,7 +5,7 @@ ghost use Rattle.flash_core.specs.declared.page.Page.{Page as PageOf};
 ghost use Rattle.flash_core.specs.Device.{Only};
 ghost use Rattle.flash_core.specs.Faults.{HasCause};
 ghost use Rattle.page_journal.specs.Journal.{IsValid};
-ghost use Rattle.page_journal.specs.Phases.{IsCopy, IsRecord, IsStaged, IsNamed, CopiesOf, Names, HomesOf, CopiesHome};
+ghost use Rattle.page_journal.specs.Phases.{IsCopy, IsRecord, IsStaged, IsInDescriptor, CopiesOf, Names, HomesOf, CopiesHome};
 ghost use Rattle.page_journal.specs.Store.{AreStorePages};
 ghost use Rattle.page_journal.specs.Touches.{Touches};
 
@@ -90,7 +90,7 @@ pub fn put_in_place<F: Flash>(flash: &mut F, pool: &FramePool) -> Result<(), Fla
 /// Writes the copies that a descriptor names in place, and syncs.
 pub fn copy_in_place<F: Flash>(flash: &mut F, descriptor: &Page) -> Result<(), FlashFailed>
     requires { IsValid descriptor.now.bytes }
-    ensures touches { F.tells → Touches F.pages F.moment F.may_leave F.left_since (IsNamed descriptor.now.bytes) flash.old flash.new }
+    ensures touches { F.tells → Touches F.pages F.moment F.may_leave F.left_since (IsInDescriptor descriptor.now.bytes) flash.old flash.new }
     ensures homes { F.tells → OnOk result (CopiesHome (slice_index descriptor.now.bytes 0) descriptor.now.bytes (F.pages flash.old) (F.pages flash.new)) }
     ensures only { F.tells → OnOk result (Only (F.pages flash.new) (F.may_leave flash.new)) }
     ensures cause { HasCause (F.faults flash.old) (F.faults flash.new) result }

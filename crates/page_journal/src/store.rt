@@ -32,13 +32,13 @@ pub struct PageStore<F: Flash> {
 impl<F: Flash> Model for PageStore<F> {
     ghost use Rattle.std.specs.Prelude.{◌≡◌, true, is_none, IfSome};
     ghost use Rattle.page_journal.specs.Journal.{IsValid};
-    ghost use Rattle.page_journal.specs.Store.{Store, Stands, AreStorePages};
+    ghost use Rattle.page_journal.specs.Store.{Store, IsCalm, AreStorePages};
 
     ghost Value = { Store F };
 
     ghost view = { λ s. record { flash = s.flash; staged = s.pool; settled = is_none s.journal; live = s.live } };
 
-    ghost invariant = { λ s. AreStorePages s.pool × IfSome s.journal (λ page. IsValid page.bytes) × (F.tells → s.live ≡ true → Stands (F.pages s.flash) (F.may_leave s.flash) s.journal) };
+    ghost invariant = { λ s. AreStorePages s.pool × IfSome s.journal (λ page. IsValid page.bytes) × (F.tells → s.live ≡ true → IsCalm (F.pages s.flash) (F.may_leave s.flash) s.journal) };
 }
 
 impl<F: Flash> PageStore<F> {

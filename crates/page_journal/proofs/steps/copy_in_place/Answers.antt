@@ -1,7 +1,7 @@
 use Rattle.std.proofs.Common.{rules, ◌≡◌, ◌+◌, List, Some, slice_get, get_or, sym, ◌∙◌, subst, arith}
 use Rattle.flash_core.specs.declared.page.Page.{Page}
 use Rattle.flash_core.specs.Device.{SameBut}
-use Rattle.page_journal.specs.Phases.{IsNamed}
+use Rattle.page_journal.specs.Phases.{IsInDescriptor}
 use Rattle.page_journal.proofs.Runs.{by_write, quiet, goes_on, wider}
 use Rattle.page_journal.proofs.Copies.{named_more, copy_unnamed}
 use Rattle.page_journal.proofs.steps.copy_in_place.Goals as goal
@@ -12,7 +12,7 @@ returns-in_err-write-clause-touches g c told =
     let e = c.in_err-write.ensures in
     let r = c.in_ok-read.ensures in
     let home : c.from.result ≡ get_or c.args.descriptor.now.bytes (c.loop-index.index + 1) 0 = search rules in
-    let inside = IsNamed c.args.descriptor.now.bytes in
+    let inside = IsInDescriptor c.args.descriptor.now.bytes in
     goes_on F.pages F.moment F.may_leave F.left_since g.met.F.Flash.only_now told inside _ _ _ (c.loop-index.invariant.touched told)
     (goes_on F.pages F.moment F.may_leave F.left_since g.met.F.Flash.only_now told inside _ _ _
     (quiet F.pages F.moment F.may_leave F.left_since g.met.F.Flash.only_now told inside _ _ (r.torn told) (r.loss told) (r.time told))
@@ -28,7 +28,7 @@ loop-index-preserved g c =
     let index = c.loop-index.index in
     let bytes = c.args.descriptor.now.bytes in
     let home : c.from.result ≡ get_or bytes (index + 1) 0 = search rules in
-    let inside = IsNamed bytes in
+    let inside = IsInDescriptor bytes in
     record {
       touched = λ told.
           goes_on F.pages F.moment F.may_leave F.left_since g.met.F.Flash.only_now told inside _ _ _ (i.touched told)

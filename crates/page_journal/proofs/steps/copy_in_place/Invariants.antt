@@ -1,5 +1,5 @@
 use Rattle.std.proofs.Common.{◌≤◌}
-use Rattle.page_journal.specs.Phases.{IsNamed, CopiesHome}
+use Rattle.page_journal.specs.Phases.{IsInDescriptor, CopiesHome}
 use Rattle.page_journal.specs.Touches.{Touches}
 use Rattle.page_journal.proofs.steps.copy_in_place.Given as goal
 
@@ -7,7 +7,7 @@ abbrev pub invariant-loop-index : goal.invariant-loop-index
 invariant-loop-index g l =
     let F = g.F.Flash in
     record {
-      touched : F.tells → Touches F.pages F.moment F.may_leave F.left_since (IsNamed l.descriptor.bytes) l.fn.flash l.flash;
+      touched : F.tells → Touches F.pages F.moment F.may_leave F.left_since (IsInDescriptor l.descriptor.bytes) l.fn.flash l.flash;
       homes : F.tells → CopiesHome l.index l.descriptor.bytes (F.pages l.fn.flash) (F.pages l.flash);
       later : F.faults l.fn.flash ≤ F.faults l.flash;
     }
