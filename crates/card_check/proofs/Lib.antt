@@ -1,0 +1,2 @@
+pub mod IssuerLines
+pub mod LoadPagesNamed

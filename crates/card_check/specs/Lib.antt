@@ -1,1 +1,4 @@
 pub mod IsCard
+pub mod EachSlot
+pub mod LoadPages
+pub mod CardSlots

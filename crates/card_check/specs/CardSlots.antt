@@ -1,0 +1,125 @@
+-- What the slots of a card hold, by the numbers of the slots.
+use Rattle.std.specs.Prelude.{◌≡◌, ℕ, ◌<◌, ◌≤◌, ◌==◌, ◌&&◌, ◌||◌, Bool, true, false, List, Option, None, Some, MatchOption, IsSome, length}
+use Rattle.std.specs.List.{count_by}
+use Rattle.card_types.specs.Aid.{IsAid}
+use Rattle.card_types.specs.Found.{aid_of}
+use Rattle.card_types.specs.Hierarchy.{EndsAt, IsLine}
+use Rattle.card_types.specs.KeySets.{HasKey, HasKeys}
+use Rattle.card_types.specs.Privileges.{IsNamed, authorized_management, delegated_management, has, receipt_generation, security_domain, token_verification}
+use Rattle.card_types.specs.Says.{domain_slot, keeps_counter}
+use Rattle.card_types.specs.Slots.{held}
+use Rattle.card_types.specs.Well.{IsKeyLength, IsKeyName, IsObject, has_life}
+use Rattle.card_types.specs.declared.factory.TheConstants.{ISSUER, FACTORY_FILE, FACTORY_MODULE}
+use Rattle.card_types.specs.declared.found.Found.{Found}
+use Rattle.card_types.specs.declared.found.Found.TheVariants as found
+use Rattle.card_types.specs.declared.life.Life.TheVariants.{Personalized}
+use Rattle.card_types.specs.declared.limits.TheConstants.{COUNTER_LIMIT, DOMAIN_KEYS, ENTRIES, FILES, FILE_LIMIT, KEYS, OBJECTS, RECEIPT_LIMIT}
+use Rattle.card_types.specs.declared.privileges.Privileges.{Privileges}
+use Rattle.card_types.specs.declared.tables.Entry.{Entry}
+use Rattle.card_types.specs.declared.tables.KeyRec.{KeyRec}
+use Rattle.card_types.specs.declared.tables.LoadFile.{LoadFile}
+use Rattle.card_types.specs.declared.tables.Object.{Object}
+use Rattle.card_types.specs.declared.tables.Tables.{Tables}
+use Rattle.card_check.specs.EachSlot.{EachSlot}
+use Rattle.card_check.specs.LoadPages.{HaveLoadPages}
+
+-- there are as many slots as a card has
+pub record HasRoom (tables : Tables) : Type 0 where
+  pub entries : length tables.entries.items ≡ ENTRIES
+  pub files : length tables.files.items ≡ FILES
+  pub keys : length tables.keys.items ≡ KEYS
+  pub objects : length tables.objects.items ≡ OBJECTS
+
+-- the slot holds a security domain
+abbrev pub IsDomainSlot : List (Option Entry) → ℕ → Type 0
+IsDomainSlot entries slot = MatchOption (held entries slot) ⊥ (λ entry. has security_domain entry.privileges ≡ true)
+
+-- nothing in another slot has this AID
+abbrev pub IsAlone : Tables → Found → List ℕ → Type 0
+IsAlone tables this aid = (other : Found) → aid_of tables other ≡ Some aid → other ≡ this
+
+-- steps to the domain lead from the slot to that of the Issuer Security Domain
+abbrev pub LeadsToIssuer : List (Option Entry) → ℕ → Type 0
+LeadsToIssuer entries slot = (line : List ℕ) × IsLine (domain_slot entries) slot line × EndsAt 0 line
+
+-- a security domain is set apart by its Executable Load File, its Module and its life cycle states
+pub record HasKind (entry : Entry) : Type 0 where
+  pub module_ : IsAid entry.«module»
+  pub kind : has security_domain entry.privileges ≡ (entry.file == 0)
+  pub domain_module : has security_domain entry.privileges ≡ true → entry.«module» ≡ FACTORY_MODULE
+  pub life : has_life (has security_domain entry.privileges) entry.life.life ≡ true
+
+-- a privilege that a security domain alone may hold
+abbrev pub has_domain_right : Privileges → Bool
+has_domain_right privileges =
+    has authorized_management privileges || has delegated_management privileges
+    || has token_verification privileges || has receipt_generation privileges
+
+pub record HasRights (privileges : Privileges) : Type 0 where
+  pub named : IsNamed privileges
+  pub domain_rights : has_domain_right privileges ≡ true → has security_domain privileges ≡ true
+  pub one_management : (has authorized_management privileges && has delegated_management privileges) ≡ false
+
+pub record IsCardEntry (tables : Tables) (slot : ℕ) (entry : Entry) : Type 0 where
+  pub aid : IsAid entry.aid
+  pub alone : IsAlone tables (found.Entry slot) entry.aid
+  pub domain : IsDomainSlot tables.entries.items entry.domain
+  pub leads : LeadsToIssuer tables.entries.items slot
+  pub loaded : IsSome (held tables.files.items entry.file)
+  pub kind : HasKind entry
+  pub rights : HasRights entry.privileges
+  pub receipts : entry.receipts ≤ RECEIPT_LIMIT
+
+pub record IsCardFile (tables : Tables) (slot : ℕ) (file : LoadFile) : Type 0 where
+  pub aid : IsAid file.aid
+  pub alone : IsAlone tables (found.File slot) file.aid
+  pub domain : IsDomainSlot tables.entries.items file.domain
+  pub bytes : 0 < slot → 1 ≤ file.len
+
+-- the keys of the domain in a slot
+abbrev pub is_key_of : ℕ → Option KeyRec → Bool
+is_key_of owner None = false
+is_key_of owner (Some key) = key.owner == owner
+
+pub record IsCardKey (tables : Tables) (slot : ℕ) (key : KeyRec) : Type 0 where
+  pub owner : IsDomainSlot tables.entries.items key.owner
+  pub size : IsKeyLength (length key.bytes.items)
+  pub name : IsKeyName key.version key.identifier
+  pub alone : (other : ℕ) → HasKey tables.keys.items key.owner key.version key.identifier other → other ≡ slot
+  pub whole : key.version < 0x70 → (slots : List ℕ) × HasKeys tables.keys.items key.owner key.version slots
+  pub counter : keeps_counter key ≡ true → key.counter ≤ COUNTER_LIMIT
+  pub few : count_by (is_key_of key.owner) tables.keys.items ≤ DOMAIN_KEYS
+
+-- the slot holds a data object of this owner with this tag
+abbrev pub HasObject : List (Option Object) → ℕ → ℕ → ℕ → Type 0
+HasObject objects owner tag slot = MatchOption (held objects slot) ⊥ (λ object. (object.owner ≡ owner) × (object.tag ≡ tag))
+
+pub record IsCardObject (tables : Tables) (slot : ℕ) (object : Object) : Type 0 where
+  pub owner : IsDomainSlot tables.entries.items object.owner
+  pub form : IsObject object.tag (length object.value.items)
+  pub alone : (other : ℕ) → HasObject tables.objects.items object.owner object.tag other → other ≡ slot
+
+-- the entry of the Issuer Security Domain
+pub record IsIssuerEntry (entry : Entry) : Type 0 where
+  pub aid : entry.aid ≡ ISSUER
+  pub domain : entry.domain ≡ 0
+  pub file : entry.file ≡ 0
+  pub module_ : entry.«module» ≡ FACTORY_MODULE
+  pub life : entry.life.life ≡ Personalized
+  pub unlocked : entry.life.locked ≡ false
+
+-- the factory's Executable Load File
+pub record IsFactoryFileHere (file : LoadFile) : Type 0 where
+  pub aid : file.aid ≡ FACTORY_FILE
+  pub domain : file.domain ≡ 0
+  pub len : file.len ≡ 0
+
+pub record HasCardSlots (tables : Tables) : Type 0 where
+  pub room : HasRoom tables
+  pub issuer : MatchOption (held tables.entries.items 0) ⊥ IsIssuerEntry
+  pub factory_file : MatchOption (held tables.files.items 0) ⊥ IsFactoryFileHere
+  pub entries : EachSlot tables.entries.items (IsCardEntry tables)
+  pub files : EachSlot tables.files.items (IsCardFile tables)
+  pub pages : HaveLoadPages tables.files.items
+  pub keys : EachSlot tables.keys.items (IsCardKey tables)
+  pub objects : EachSlot tables.objects.items (IsCardObject tables)

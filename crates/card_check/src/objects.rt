@@ -1,0 +1,67 @@
+//! What is asked of a data object.
+
+ghost use Rattle.std.specs.Prelude.{◌≡◌, ◌↔◌, ℕ, IsTrue, length};
+ghost use Rattle.card_check.specs.CardSlots.{HasObject, HasRoom, IsCardObject};
+ghost use Rattle.card_types.specs.Well.{IsObject};
+ghost use Rattle.card_types.specs.declared.limits.TheConstants.{OBJECTS};
+
+use crate::domains::is_domain;
+use crate::slots::Admits;
+use card_types::{OBJECTS, Object, Tables, in_slot};
+
+/// Tags of data objects: Issuer Identification Number, Card Image Number, key diversification data, card data and
+/// card-specific data.
+const ISSUER_NUMBER: u16 = 0x42;
+
+const IMAGE_NUMBER: u16 = 0x45;
+
+const DIVERSIFICATION: u16 = 0xCF;
+
+const CARD_DATA: u16 = 0x66;
+
+const CARD_SPECIFIC: u16 = 0x5F50;
+
+impl Admits<Object> for Tables {
+    ghost ready = { HasRoom };
+
+    ghost admits = { IsCardObject };
+
+    fn admits(&self, slot: u8, object: &Object) -> bool {
+        is_domain(&self.entries, object.owner)
+            && is_form(object.tag, object.value.len())
+            && is_only(&self.objects, slot, object)
+    }
+}
+
+fn is_form(tag: u16, len: usize) -> bool
+    ensures { IsTrue result ↔ IsObject tag len }
+{
+    match tag {
+        ISSUER_NUMBER | IMAGE_NUMBER => 1 <= len && len <= 10,
+        DIVERSIFICATION => len == 10,
+        CARD_DATA | CARD_SPECIFIC => 1 <= len && len <= 120,
+        _ => false,
+    }
+}
+
+// Whether no other slot has an object of this owner and tag.
+fn is_only(objects: &[Option<Object>], slot: u8, object: &Object) -> bool
+    requires { length objects.now ≡ OBJECTS }
+    ensures { IsTrue result ↔ ((other : ℕ) → HasObject objects.now object.now.owner object.now.tag other → other ≡ slot) }
+{
+    for other in 0..OBJECTS as u8 {
+        if other != slot && has_name_of(objects, other, object) {
+            return false;
+        }
+    }
+    true
+}
+
+fn has_name_of(objects: &[Option<Object>], slot: u8, object: &Object) -> bool
+    ensures { IsTrue result ↔ HasObject objects.now object.now.owner object.now.tag slot }
+{
+    match in_slot(objects, slot) {
+        Some(held) => held.owner == object.owner && held.tag == object.tag,
+        None => false,
+    }
+}
