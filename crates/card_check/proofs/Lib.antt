@@ -1,2 +1,3 @@
 pub mod IssuerLines
 pub mod LoadPagesNamed
+pub mod LoadFilesNamed

@@ -1,6 +1,6 @@
 -- Load pages that are named one after the other, and the marks at them.
 use Rattle.std.proofs.Common.{◌≡◌, ◌≢◌, ◌⊎◌, inl, inr, ℕ, zero, suc, ◌+◌, ◌-◌, ◌<◌, ◌≤◌, Bool, true, false, List, [], ◌∷◌, ◌++◌, length, take, drop, get_or, replicate, Option, None, Some, refl, ap, sym, subst, ◌∙◌, append_assoc, add-one, drop-cons, get_or-set_other, get_or-set_same, arith}
-use Rattle.std.proofs.lemmas.List.{append-nil, take-all, take-append-drop, take_more}
+use Rattle.std.proofs.lemmas.List.{append-nil, take-append-drop, take_all, take_more}
 use Rattle.std.proofs.Math.ListN.{length-set, set}
 use Rattle.std.specs.Prelude.{All, Contains, map, nat_eq, slice_index_or, slice_set}
 use Rattle.std.specs.List.{AllByRecursion, IsDistinct, concat, filter_map}
@@ -33,8 +33,8 @@ unfolding IsDistinct
 distinct_push [] p apart other = (tt, tt)
 distinct_push (x ∷ xs) p apart other = (
   recursion_from_All (λ y. nat_eq x y ≡ false) (xs ++ p ∷ [])
-  (All-push (λ y. nat_eq x y ≡ false) xs p (All-from_recursion (λ y. nat_eq x y ≡ false) xs apart.0)
-  (ne_eqb x p (λ same. other (subst (Contains (x ∷ xs)) same (contains_first x xs))))),
+      (All-push (λ y. nat_eq x y ≡ false) xs p (All-from_recursion (λ y. nat_eq x y ≡ false) xs apart.0)
+      (ne_eqb x p (λ same. other (subst (Contains (x ∷ xs)) same (contains_first x xs))))),
   distinct_push xs p apart.1 (λ there. other (contains_later x xs p there)),
 )
 
@@ -125,7 +125,7 @@ module _ (before pages : List ℕ) where
       subst (AreMarked marks) on (record { marked = has; are = are_push (before ++ take i pages) page are new })
 
   pub marking_ends : (marks : List Bool) (i : ℕ) → length pages ≤ i → AreMarked marks (before ++ take i pages) → AreMarked marks (before ++ pages)
-  marking_ends marks i past marked = subst (λ (ps : List ℕ). AreMarked marks (before ++ ps)) (take-all i pages past) marked
+  marking_ends marks i past marked = subst (λ (ps : List ℕ). AreMarked marks (before ++ ps)) (take_all i pages past) marked
 
   -- each page is new where the pages are load pages
   pub new_page : (i page : ℕ) → i < length pages → page ≡ get_or pages i 0 → AreLoadPages (before ++ pages) → IsNewPage (before ++ take i pages) page

@@ -2,5 +2,5 @@
 use Rattle.std.specs.Prelude.{◌≡◌, ℕ, List, Option, Some}
 use Rattle.card_types.specs.Slots.{held}
 
-abbrev pub EachSlot : {T : Type 0} → List (Option T) → (ℕ → T → Type 0) → Type 0
-EachSlot slots Is = (slot : ℕ) (thing : _) → held slots slot ≡ Some thing → Is slot thing
+pub record EachSlot {T : Type 0} (slots : List (Option T)) (Is : ℕ → T → Type 0) : Type 0 where
+  pub at : (slot : ℕ) (thing : T) → held slots slot ≡ Some thing → Is slot thing

@@ -2,14 +2,23 @@
 
 ghost use Rattle.std.specs.Prelude.{◌≡◌, ◌↔◌, IsTrue};
 ghost use Rattle.card_check.specs.CardSlots.{HasKind, HasRights, HasRoom, IsCardEntry, has_domain_right as has_domain_right_of};
+ghost use Rattle.card_check.specs.EachSlot.{EachSlot};
 ghost use Rattle.card_types.specs.Privileges.{IsNamed};
 
 use crate::domains::{is_domain, leads_to_issuer};
 use crate::names::is_alone;
 use crate::room::FACTORY_SLOT;
-use crate::slots::Admits;
+use crate::slots::{Admits, all_admitted};
 use bitflags::Flags;
 use card_types::{Entry, FACTORY_MODULE, Found, Life, Privileges, RECEIPT_LIMIT, Tables, in_slot};
+
+/// Whether each entry is as a card has them.
+pub fn has_card_entries(tables: &Tables) -> bool
+    requires { HasRoom tables.now }
+    ensures { IsTrue result ↔ EachSlot tables.now.entries.items (IsCardEntry tables.now) }
+{
+    all_admitted(&tables.entries, tables)
+}
 
 impl Admits<Entry> for Tables {
     ghost ready = { HasRoom };

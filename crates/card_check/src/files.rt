@@ -1,12 +1,22 @@
 //! What is asked of an Executable Load File.
 
+ghost use Rattle.std.specs.Prelude.{◌↔◌, IsTrue};
 ghost use Rattle.card_check.specs.CardSlots.{HasRoom, IsCardFile};
+ghost use Rattle.card_check.specs.EachSlot.{EachSlot};
 
 use crate::domains::is_domain;
 use crate::names::is_alone;
 use crate::room::FACTORY_SLOT;
-use crate::slots::Admits;
+use crate::slots::{Admits, all_admitted};
 use card_types::{Found, LoadFile, Tables};
+
+/// Whether each Executable Load File is as a card has them.
+pub fn has_card_files(tables: &Tables) -> bool
+    requires { HasRoom tables.now }
+    ensures { IsTrue result ↔ EachSlot tables.now.files.items (IsCardFile tables.now) }
+{
+    all_admitted(&tables.files, tables)
+}
 
 impl Admits<LoadFile> for Tables {
     ghost ready = { HasRoom };

@@ -3,13 +3,14 @@
 ghost use Rattle.std.specs.Prelude.{◌≡◌, ◌↔◌, ℕ, ◌<◌, ◌≤◌, List, IsTrue, true, length};
 ghost use Rattle.std.specs.List.{count_by};
 ghost use Rattle.card_check.specs.CardSlots.{HasRoom, IsCardKey, is_key_of as is_key_by};
+ghost use Rattle.card_check.specs.EachSlot.{EachSlot};
 ghost use Rattle.card_types.specs.KeySets.{HasKey, HasKeys};
 ghost use Rattle.card_types.specs.Well.{IsKeyName};
 ghost use Rattle.card_types.specs.Says.{keeps_counter};
 ghost use Rattle.card_types.specs.declared.limits.TheConstants.{COUNTER_LIMIT, KEYS};
 
 use crate::domains::is_domain;
-use crate::slots::Admits;
+use crate::slots::{Admits, all_admitted};
 use card_types::{COUNTER_LIMIT, DOMAIN_KEYS, KEYS, KeyRec, Tables, in_slot, set_of};
 
 /// The length of a key.
@@ -22,6 +23,14 @@ const LAST_VERSION: u8 = 0x6F;
 const TOKEN_KEY: u8 = 0x70;
 
 const RECEIPT_KEY: u8 = 0x71;
+
+/// Whether each key is as a card has them.
+pub fn has_card_keys(tables: &Tables) -> bool
+    requires { HasRoom tables.now }
+    ensures { IsTrue result ↔ EachSlot tables.now.keys.items (IsCardKey tables.now) }
+{
+    all_admitted(&tables.keys, tables)
+}
 
 impl Admits<KeyRec> for Tables {
     ghost ready = { HasRoom };

@@ -2,11 +2,12 @@
 
 ghost use Rattle.std.specs.Prelude.{◌≡◌, ◌↔◌, ℕ, IsTrue, length};
 ghost use Rattle.card_check.specs.CardSlots.{HasObject, HasRoom, IsCardObject};
+ghost use Rattle.card_check.specs.EachSlot.{EachSlot};
 ghost use Rattle.card_types.specs.Well.{IsObject};
 ghost use Rattle.card_types.specs.declared.limits.TheConstants.{OBJECTS};
 
 use crate::domains::is_domain;
-use crate::slots::Admits;
+use crate::slots::{Admits, all_admitted};
 use card_types::{OBJECTS, Object, Tables, in_slot};
 
 /// Tags of data objects: Issuer Identification Number, Card Image Number, key diversification data, card data and
@@ -20,6 +21,14 @@ const DIVERSIFICATION: u16 = 0xCF;
 const CARD_DATA: u16 = 0x66;
 
 const CARD_SPECIFIC: u16 = 0x5F50;
+
+/// Whether each data object is as a card has them.
+pub fn has_card_objects(tables: &Tables) -> bool
+    requires { HasRoom tables.now }
+    ensures { IsTrue result ↔ EachSlot tables.now.objects.items (IsCardObject tables.now) }
+{
+    all_admitted(&tables.objects, tables)
+}
 
 impl Admits<Object> for Tables {
     ghost ready = { HasRoom };
