@@ -10,7 +10,7 @@ use Rattle.card_types.specs.declared.limits.TheConstants.{FILE_LIMIT, LOAD_PAGES
 use Rattle.card_types.specs.declared.tables.LoadFile.{LoadFile}
 use Rattle.card_types.proofs.Members.{contains_first}
 use Rattle.card_check.specs.IsCard.{pages_named}
-use Rattle.card_check.specs.LoadPages.{AreLoadPages, HasMarks, HaveLoadPages, all_pages}
+use Rattle.card_check.specs.LoadPages.{AreLoadPages, HasMarks, HasPageNumbers, HaveLoadPages, all_pages}
 use Rattle.card_check.proofs.LoadPagesNamed.{AreMarked, are_front, are_none, no_marks}
 
 abbrev IsShort : LoadFile → Type 0
@@ -18,6 +18,7 @@ IsShort file = file.len ≤ FILE_LIMIT
 
 -- so far the files are short, and their pages are named and marked
 pub record HaveMarks (marks : List Bool) (files : List (Option LoadFile)) : Type 0 where
+  pub arrays : All HasPageNumbers (used files)
   pub lengths : All (λ file. file.len ≤ FILE_LIMIT) (used files)
   pub marked : AreMarked marks (all_pages files)
 
@@ -33,15 +34,16 @@ pages_free : (files : List (Option LoadFile)) → all_pages (files ++ None ∷ [
 pages_free files = pages_append files (None ∷ []) ∙ append-nil (all_pages files)
 
 pub have_none : HaveMarks (replicate LOAD_PAGES false) []
-have_none = record { lengths = All-nil IsShort; marked = record { marked = no_marks; are = are_none } }
+have_none = record { arrays = All-nil HasPageNumbers; lengths = All-nil IsShort; marked = record { marked = no_marks; are = are_none } }
 
 module _ (files : List (Option LoadFile)) where
   pub files_go_on : (marks before : List Bool) (i : ℕ) (file : LoadFile) → i < length files → get_or files i None ≡ Some file → HaveMarks before (take i files)
-      → file.len ≤ FILE_LIMIT → AreLoadPages (all_pages (take i files) ++ pages_named file) → HasMarks marks (all_pages (take i files) ++ pages_named file)
+      → HasPageNumbers file → file.len ≤ FILE_LIMIT → AreLoadPages (all_pages (take i files) ++ pages_named file) → HasMarks marks (all_pages (take i files) ++ pages_named file)
       → HaveMarks marks (take (i + 1) files)
-  files_go_on marks before i file within at have short are has =
+  files_go_on marks before i file within at have array short are has =
       let more : take i files ++ Some file ∷ [] ≡ take (i + 1) files = sym (take_more files i None within ∙ ap (λ (slot : Option LoadFile). take i files ++ slot ∷ []) at) in
       subst (HaveMarks marks) more (record {
+        arrays = subst (All HasPageNumbers) (sym (filter_map-append (λ file. file) (take i files) (Some file ∷ []))) (All-push HasPageNumbers (used (take i files)) file have.arrays array);
         lengths = subst (All IsShort) (sym (filter_map-append (λ file. file) (take i files) (Some file ∷ []))) (All-push IsShort (used (take i files)) file have.lengths short);
         marked = subst (AreMarked marks) (sym (pages_file (take i files) file)) (record { marked = has; are = are });
       })
@@ -50,14 +52,13 @@ module _ (files : List (Option LoadFile)) where
   files_pass marks i within free have =
       let more : take i files ++ None ∷ [] ≡ take (i + 1) files = sym (take_more files i None within ∙ ap (λ (slot : Option LoadFile). take i files ++ slot ∷ []) free) in
       subst (HaveMarks marks) more (record {
+        arrays = subst (All HasPageNumbers) (sym (filter_map-append (λ file. file) (take i files) (None ∷ []) ∙ append-nil (used (take i files)))) have.arrays;
         lengths = subst (All IsShort) (sym (filter_map-append (λ file. file) (take i files) (None ∷ []) ∙ append-nil (used (take i files)))) have.lengths;
         marked = subst (AreMarked marks) (sym (pages_free (take i files))) have.marked;
       })
 
-  pub files_end : (marks : List Bool) (i : ℕ) → length files ≤ i → HaveMarks marks (take i files) → HaveLoadPages files
-  files_end marks i past have =
-      let all = subst (HaveMarks marks) (take_all i files past) have in
-      record { lengths = all.lengths; pages = all.marked.are }
+  pub files_end : (marks : List Bool) (i : ℕ) → length files ≤ i → HaveMarks marks (take i files) → HaveMarks marks files
+  files_end marks i past have = subst (HaveMarks marks) (take_all i files past) have
 
   -- where the files have load pages, so have those up to one of them
   pub file_has : (i : ℕ) (file : LoadFile) → i < length files → get_or files i None ≡ Some file → HaveLoadPages files

@@ -108,7 +108,7 @@ pub record IsIssuerEntry (entry : Entry) : Type 0 where
   pub life : entry.life.life ≡ Personalized
   pub unlocked : entry.life.locked ≡ false
 
--- the factory's Executable Load File
+-- the factory's Executable Load File, without bytes
 pub record IsFactoryFileHere (file : LoadFile) : Type 0 where
   pub aid : file.aid ≡ FACTORY_FILE
   pub domain : file.domain ≡ 0

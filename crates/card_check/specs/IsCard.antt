@@ -28,7 +28,7 @@ HasPages page = (number : ℕ) → length (page number) ≡ 256
 -- are in the first slots, and no load page is named twice
 pub record IsCard (page : ℕ → List ℕ) (tables : Tables) : Type 0 where
   pub layout : HasLayout tables
-  pub factory_file : MatchOption (held tables.files.items 0) ⊥ (λ file. file.aid ≡ FACTORY_FILE)
+  pub factory_file : MatchOption (held tables.files.items 0) ⊥ (λ file. (file.aid ≡ FACTORY_FILE) × (file.len ≡ 0))
   pub files : All IsInLoadPages (used tables.files.items)
   pub apart : IsDistinct nat_eq (concat (map pages_named (used tables.files.items)))
   pub said : Registry

@@ -24,6 +24,10 @@ pub record IsNewPage (before : List ℕ) (page : ℕ) : Type 0 where
   pub is : IsLoadPage page
   pub other : Contains before page → ⊥
 
+-- there is room for 128 page numbers, as an array has it
+abbrev pub HasPageNumbers : LoadFile → Type 0
+HasPageNumbers file = length file.pages ≡ 128
+
 -- the pages of some Executable Load Files
 abbrev pub all_pages : List (Option LoadFile) → List ℕ
 all_pages files = concat (map pages_named (used files))

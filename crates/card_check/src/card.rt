@@ -1,8 +1,10 @@
 //! All that is asked of tables.
 
-ghost use Rattle.std.specs.Prelude.{◌↔◌, ℕ, List, IsTrue};
+ghost use Rattle.std.specs.Prelude.{◌↔◌, ℕ, List, IsTrue, All};
 ghost use Rattle.card_check.specs.CardSlots.{HasCardSlots};
 ghost use Rattle.card_check.specs.IsCard.{HasPages, IsCard};
+ghost use Rattle.card_check.specs.LoadPages.{HasPageNumbers};
+ghost use Rattle.card_types.specs.Says.{used};
 
 use crate::entries::has_card_entries;
 use crate::files::has_card_files;
@@ -21,7 +23,8 @@ pub fn is_card(tables: &Tables) -> bool
 
 // By the numbers of the slots.
 fn has_card_slots(tables: &Tables) -> bool
-    ensures { IsTrue result ↔ HasCardSlots tables.now }
+    ensures is { IsTrue result ↔ HasCardSlots tables.now }
+    ensures arrays { IsTrue result → All HasPageNumbers (used tables.now.files.items) }
 {
     has_room(tables)
         && has_issuer(tables)

@@ -1,8 +1,9 @@
 //! Load pages, which the Executable Load Files name.
 
-ghost use Rattle.std.specs.Prelude.{◌≡◌, ◌↔◌, ◌≤◌, ℕ, [], ◌∷◌, ◌++◌, List, true, false, IsTrue, OnSome, IfSome, IfNone, length};
+ghost use Rattle.std.specs.Prelude.{◌≡◌, ◌↔◌, ◌≤◌, ℕ, [], ◌∷◌, ◌++◌, List, true, false, IsTrue, OnSome, IfSome, IfNone, All, length};
+ghost use Rattle.card_types.specs.Says.{used};
 ghost use Rattle.card_check.specs.IsCard.{pages_named};
-ghost use Rattle.card_check.specs.LoadPages.{AreLoadPages, HasMarks, HaveLoadPages, IsNewPage};
+ghost use Rattle.card_check.specs.LoadPages.{AreLoadPages, HasMarks, HasPageNumbers, HaveLoadPages, IsNewPage};
 ghost use Rattle.card_types.specs.declared.limits.TheConstants.{FILE_LIMIT, LOAD_PAGES};
 
 use card_types::{LOAD_PAGES, LoadFile};
@@ -12,7 +13,8 @@ const FIRST: u16 = 96;
 
 /// Whether no file is longer than one may be, and the files name load pages, none of them twice.
 pub fn have_load_pages(files: &[Option<LoadFile>]) -> bool
-    ensures { IsTrue result ↔ HaveLoadPages files.now }
+    ensures is { IsTrue result ↔ HaveLoadPages files.now }
+    ensures arrays { IsTrue result → All HasPageNumbers (used files.now) }
 {
     let mut marks = [false; LOAD_PAGES];
     for slot in files {
@@ -27,6 +29,7 @@ pub fn have_load_pages(files: &[Option<LoadFile>]) -> bool
 
 fn mark_file(marks: &mut [bool], file: &LoadFile) -> bool
     requires { length marks.old ≡ LOAD_PAGES }
+    ensures array { HasPageNumbers file.now }
     ensures length { IsTrue result → file.now.len ≤ FILE_LIMIT }
     ensures apart { (before : List ℕ) → HasMarks marks.old before → AreLoadPages before → file.now.len ≤ FILE_LIMIT
         → (IsTrue result ↔ AreLoadPages (before ++ pages_named file.now)) }
@@ -40,6 +43,7 @@ fn mark_file(marks: &mut [bool], file: &LoadFile) -> bool
 
 // The pages that the file names.
 fn named(file: &LoadFile) -> Option<&[u16]>
+    ensures array { HasPageNumbers file.now }
     ensures some { IfSome result (λ pages. pages.now ≡ pages_named file.now) }
     ensures within { OnSome result (file.now.len ≤ FILE_LIMIT) }
     ensures none { IfNone result (file.now.len ≤ FILE_LIMIT → ⊥) }
