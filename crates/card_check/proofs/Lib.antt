@@ -6,3 +6,5 @@ pub mod CardNames
 pub mod CardSays
 pub mod CardWell
 pub mod CardNeeds
+pub mod CardFromSlots
+pub mod Counting
