@@ -1,8 +1,258 @@
 -- What the tables of a card have in their slots.
-use Rattle.std.proofs.Common.{ℕ, List}
+use Rattle.std.proofs.Common.{◌≡◌, ◌≢◌, inl, inr, ℕ, ◌<◌, ◌≤◌, min, Bool, true, false, ◌==◌, cond, List, [], ◌∷◌, length, take, Option, None, Some, refl, ap, sym, subst, ◌∙◌, arith}
+use Rattle.std.specs.Prelude.{All, Contains, MatchOption, map}
+use Rattle.std.specs.Option.{option_map}
+use Rattle.std.specs.List.{concat}
+use Rattle.std.proofs.lemmas.Bool.{eqb-true}
+use Rattle.std.proofs.lemmas.List.{length-take}
+use Rattle.std.proofs.lemmas.List.Elements.{All-append, All-contains, All-head, All-nil, All-tail}
+use Rattle.std.proofs.lemmas.List.Sorted.{sum_by-IsPermutation}
+use Rattle.std.proofs.lemmas.List.Sums.{length-filter}
+use Rattle.std.proofs.lemmas.Option.{MatchOption-at_some}
+use Rattle.card_types.specs.AidOrder.{same_aid}
+use Rattle.card_types.specs.Found.{aid_of}
+use Rattle.card_types.specs.Hierarchy.{EndsAt, IsLine}
+use Rattle.card_types.specs.KeySets.{HasKey, HasKeys, IsKey}
+use Rattle.card_types.specs.Privileges.{has, security_domain}
+use Rattle.card_types.specs.Registry as registry
+use Rattle.card_types.specs.Registry.{domain_of, entry_named, file_named, keys_of}
+use Rattle.card_types.specs.Says.{Says, counter_of, domain_aid, domain_slot, entry_of, file_aid, file_of, keeps_counter, key_of, object_of, used}
+use Rattle.card_types.specs.Slots.{held}
+use Rattle.card_types.specs.Well.{IsFactoryFile, IsIssuerDomain, IsWellCounter, IsWellFile, IsWellKey, IsWellObject, Well}
+use Rattle.card_types.specs.declared.factory.TheConstants.{ISSUER, FACTORY_FILE}
+use Rattle.card_types.specs.declared.found.Found.{Found}
+use Rattle.card_types.specs.declared.found.Found.TheVariants as found
+use Rattle.card_types.specs.declared.limits.TheConstants.{DOMAIN_KEYS}
+use Rattle.card_types.specs.declared.tables.Entry.{Entry}
+use Rattle.card_types.specs.declared.tables.KeyRec.{KeyRec}
+use Rattle.card_types.specs.declared.tables.LoadFile.{LoadFile}
+use Rattle.card_types.specs.declared.tables.Object.{Object}
 use Rattle.card_types.specs.declared.tables.Tables.{Tables}
-use Rattle.card_check.specs.CardSlots.{HasCardSlots}
-use Rattle.card_check.specs.IsCard.{HasPages, IsCard}
+use Rattle.card_types.proofs.DomainLines.{line_in_slots, line_named}
+use Rattle.card_types.proofs.Domains.{domain_aid_is, domain_is_used, file_domain_is_used, key_owner_is_used, loaded_file_is_used, object_owner_is_used, same_domain, used_from_step, well_entry}
+use Rattle.card_types.proofs.EntryNames.{entry_in_slot, one_entry_slot}
+use Rattle.card_types.proofs.FileNames.{file_in_slot, one_file_slot}
+use Rattle.card_types.proofs.KeyNames.{counters_shown, keys_shown, one_key_slot}
+use Rattle.card_types.proofs.Lines.{line_steps, one_line}
+use Rattle.card_types.proofs.ObjectNames.{objects_shown, one_object_slot}
+use Rattle.card_types.proofs.SameAid.{same_aid_decides}
+use Rattle.card_types.proofs.SetNames.{set_of_counter}
+use Rattle.card_types.proofs.Shows.{shows_used}
+use Rattle.card_check.specs.CardSlots.{HasCardSlots, IsAlone, IsCardEntry, IsCardFile, IsCardKey, IsCardObject, IsDomainSlot, IsFactoryFileHere, IsIssuerEntry, LeadsToIssuer, is_key_of}
+use Rattle.card_check.specs.IsCard.{IsCard, IsInLoadPages, pages_named}
+use Rattle.card_check.specs.LoadPages.{HaveLoadPages, IsLoadPage}
+use Rattle.card_check.proofs.CardNames.{file_aid_is, in_used, is_factory_slot, some_from, used_from}
+use Rattle.card_check.proofs.Counting.{count_of_slots}
+use Rattle.card_check.proofs.LoadPagesNamed.{all_of_members}
 
-pub slots_of_card : (page : ℕ → List ℕ) (tables : Tables) → IsCard page tables → HasCardSlots tables
-slots_of_card page tables card = ?
+-- the entry or the file that a slot has, by its AID
+held_with : {T : Type 0} (aid : T → List ℕ) (o : Option T) (name : List ℕ) → option_map aid o ≡ Some name → (thing : T) × (o ≡ Some thing) × (aid thing ≡ name)
+held_with aid None name is = cc
+held_with aid (Some thing) name is = (thing, refl, cc)
+
+module _ (page : ℕ → List ℕ) (tables : Tables) (card : IsCard page tables) where
+  abbrev entries : List (Option Entry)
+  entries = tables.entries.items
+
+  abbrev files : List (Option LoadFile)
+  files = tables.files.items
+
+  abbrev said : registry.Registry
+  said = card.said
+
+  abbrev says : Says page tables said
+  says = card.says
+
+  abbrev well : Well said
+  well = card.well
+
+  first_entry : (entry : Entry) × (held entries 0 ≡ Some entry) × (entry.aid ≡ ISSUER)
+  first_entry = in_used (λ (entry : Entry). entry.aid ≡ ISSUER) (held entries 0) card.layout.issuer
+
+  first_file : (file : LoadFile) × (held files 0 ≡ Some file) × ((file.aid ≡ FACTORY_FILE) × (file.len ≡ 0))
+  first_file = in_used (λ (file : LoadFile). (file.aid ≡ FACTORY_FILE) × (file.len ≡ 0)) (held files 0) card.factory_file
+
+  issuer_aid : domain_aid entries 0 ≡ ISSUER
+  issuer_aid = domain_aid_is entries 0 first_entry.0 first_entry.1 ∙ first_entry.2
+
+  -- a slot that is named by the AID of the Issuer Security Domain is its slot
+  issuer_slot : (slot : ℕ) (entry : Entry) → held entries slot ≡ Some entry → domain_aid entries slot ≡ ISSUER → slot ≡ 0
+  issuer_slot slot entry at named = same_domain page tables said says slot 0 entry first_entry.0 at first_entry.1 (named ∙ sym issuer_aid)
+
+  issuer_is : IsIssuerEntry first_entry.0
+  issuer_is =
+      let entry = first_entry.0 in
+      let at = first_entry.1 in
+      let named : entry_named said ISSUER ≡ Some (entry_of entries files entry) =
+      subst (λ (aid : List ℕ). entry_named said aid ≡ Some (entry_of entries files entry)) first_entry.2 (entry_in_slot page tables said says 0 entry at) in
+      let is : IsIssuerDomain (entry_of entries files entry) = MatchOption-at_some ⊥ IsIssuerDomain _ named well.issuer in
+      let domain = domain_is_used page tables said says well 0 entry at in
+      let file = loaded_file_is_used page tables said says well 0 entry at in
+      record {
+        aid = first_entry.2;
+        domain = issuer_slot entry.domain domain.0 domain.1 is.domain;
+        file = one_file_slot page tables said says entry.file 0 file.0 first_file.0 file.1 first_file.1
+            (sym (file_aid_is files entry.file file.0 file.1) ∙ is.file ∙ sym first_file.2.0);
+        module_ = is.module_;
+        life = is.life;
+        unlocked = is.unlocked;
+      }
+
+  factory_is : IsFactoryFileHere first_file.0
+  factory_is =
+      let file = first_file.0 in
+      let at = first_file.1 in
+      let named : file_named said FACTORY_FILE ≡ Some (file_of page entries file) =
+      subst (λ (aid : List ℕ). file_named said aid ≡ Some (file_of page entries file)) first_file.2.0 (file_in_slot page tables said says 0 file at) in
+      let is : IsFactoryFile (file_of page entries file) = MatchOption-at_some ⊥ IsFactoryFile _ named well.factory_file in
+      let domain = file_domain_is_used page tables said says well 0 file at in
+      record { aid = first_file.2.0; domain = issuer_slot file.domain domain.0 domain.1 is.domain; len = first_file.2.1 }
+
+  is_domain_slot : (slot : ℕ) → (domain : Entry) × (held entries slot ≡ Some domain) × (has security_domain domain.privileges ≡ true) → IsDomainSlot entries slot
+  is_domain_slot slot domain = used_from (λ (e : Entry). has security_domain e.privileges ≡ true) (held entries slot) domain.0 domain.1 domain.2
+
+  well_file : (slot : ℕ) (file : LoadFile) → held files slot ≡ Some file → IsWellFile said (file_of page entries file)
+  well_file slot file at = All-contains (IsWellFile said) said.files _ well.files ((shows_used (file_of page entries) files said.files says.files).there slot file at refl)
+
+  -- no entry has the AID of a file
+  apart : (a b : ℕ) (x : Entry) (y : LoadFile) → held entries a ≡ Some x → held files b ≡ Some y → x.aid ≢ y.aid
+  apart a b x y at_a at_b alike =
+      let none = (well_file b y at_b).apart in
+      let found = entry_in_slot page tables said says a x at_a in
+      let here : entry_named said y.aid ≡ Some (entry_of entries files x) = subst (λ (aid : List ℕ). entry_named said aid ≡ Some (entry_of entries files x)) alike found in
+      cc
+
+  entry_alone : (slot : ℕ) (entry : Entry) → held entries slot ≡ Some entry → IsAlone tables (found.Entry slot) entry.aid
+  entry_alone slot entry at (found.Entry other) named =
+      let there = held_with (λ (e : Entry). e.aid) (held entries other) entry.aid named in
+      ap found.Entry (one_entry_slot page tables said says other slot there.0 entry there.1 at there.2)
+  entry_alone slot entry at (found.File other) named =
+      let there = held_with (λ (f : LoadFile). f.aid) (held files other) entry.aid named in
+      absurd (apart slot other entry there.0 at there.1 (sym there.2))
+
+  file_alone : (slot : ℕ) (file : LoadFile) → held files slot ≡ Some file → IsAlone tables (found.File slot) file.aid
+  file_alone slot file at (found.Entry other) named =
+      let there = held_with (λ (e : Entry). e.aid) (held entries other) file.aid named in
+      absurd (apart other slot there.0 file there.1 at there.2)
+  file_alone slot file at (found.File other) named =
+      let there = held_with (λ (f : LoadFile). f.aid) (held files other) file.aid named in
+      ap found.File (one_file_slot page tables said says other slot there.0 file there.1 at there.2)
+
+  -- a line of slots whose AIDs end at the Issuer Security Domain ends at its slot
+  ends_back : (from : ℕ) (line : List ℕ) → IsLine (domain_slot entries) from line → EndsAt ISSUER (map (domain_aid entries) line) → EndsAt 0 line
+  ends_back from [] is ends = ends
+  ends_back from (last ∷ []) is ends =
+      let entry = used_from_step entries from from is.1 in
+      is.0 ∙ issuer_slot from entry.0 entry.1 (ap (domain_aid entries) (sym is.0) ∙ ends)
+  ends_back from (first ∷ next ∷ line) is ends = ends_back next (next ∷ line) is.3 ends
+
+  leads : (slot : ℕ) (entry : Entry) → held entries slot ≡ Some entry → LeadsToIssuer entries slot
+  leads slot entry at =
+      let line = line_in_slots page tables said says well slot entry at in
+      let named = line_named page tables said says slot line.0 line.1 in
+      let root = (well_entry page tables said says well slot entry at).line in
+      let same : root.1 ≡ map (domain_aid entries) line.0 =
+      one_line (domain_of said) (domain_aid entries slot) root.1 (map (domain_aid entries) line.0)
+      (subst (λ (aid : List ℕ). IsLine (domain_of said) aid root.1) (sym (domain_aid_is entries slot entry at)) root.3) named in
+      let issuer : root.0 ≡ ISSUER = root.2 in
+      let ends : EndsAt ISSUER (map (domain_aid entries) line.0) = subst (EndsAt ISSUER) same (subst (λ (aid : List ℕ). EndsAt aid root.1) issuer root.4) in
+      (line.0, line.1, ends_back slot line.0 line.1 ends)
+
+  entry_is : (slot : ℕ) (entry : Entry) → held entries slot ≡ Some entry → IsCardEntry tables slot entry
+  entry_is slot entry at =
+      let is = well_entry page tables said says well slot entry at in
+      let file = loaded_file_is_used page tables said says well slot entry at in
+      record {
+        aid = is.aid;
+        alone = entry_alone slot entry at;
+        domain = is_domain_slot entry.domain (domain_is_used page tables said says well slot entry at);
+        leads = leads slot entry at;
+        loaded = some_from (held files entry.file) file.0 file.1;
+        kind = record {
+          module_ = is.module_;
+          kind = is.kind ∙ sym (is_factory_slot files first_file.0 first_file.1 first_file.2.0 (one_file_slot page tables said says) entry.file file.0 file.1);
+          domain_module = is.domain_module;
+          life = is.life;
+        };
+        rights = record { named = is.named_privileges; domain_rights = is.domain_privileges; one_management = is.one_management };
+        receipts = is.receipts;
+      }
+
+  file_is : (slot : ℕ) (file : LoadFile) → held files slot ≡ Some file → IsCardFile tables slot file
+  file_is slot file at =
+      let is = well_file slot file at in
+      record {
+        aid = is.aid;
+        alone = file_alone slot file at;
+        domain = is_domain_slot file.domain (file_domain_is_used page tables said says well slot file at);
+        bytes = λ later. elim is.size [
+          | inl named ↦
+              (let first : slot ≡ 0 = one_file_slot page tables said says slot 0 file first_file.0 at first_file.1 (named ∙ sym first_file.2.0) in
+              absurd (omega (arith, first, later)))
+          | inr some ↦ omega (arith, some.0, length-take file.len (concat (map page (pages_named file))))
+        ];
+      }
+
+  pages_each : (fs : List LoadFile) → All IsInLoadPages fs → All IsLoadPage (concat (map pages_named fs))
+  pages_each [] all = All-nil IsLoadPage
+  pages_each (file ∷ fs) all =
+      All-append IsLoadPage (pages_named file) (concat (map pages_named fs)) (All-head IsInLoadPages file fs all).pages (pages_each fs (All-tail IsInLoadPages file fs all))
+
+  pages_are : HaveLoadPages files
+  pages_are = record {
+    lengths = all_of_members (λ (f : LoadFile). f.len ≤ 32768) (used files) (λ file there. (All-contains IsInLoadPages (used files) file card.files there).size);
+    pages = record { each = pages_each (used files) card.files; apart = card.apart };
+  }
+
+  key_is : (slot : ℕ) (key : KeyRec) → held tables.keys.items slot ≡ Some key → IsCardKey tables slot key
+  key_is slot key at =
+      let is : IsWellKey said (key_of entries key) = All-contains (IsWellKey said) said.keys _ well.keys ((keys_shown page tables said says).there slot key at refl) in
+      let owner = key_owner_is_used page tables said says well slot key at in
+      let mine : registry.Key → Bool = λ other. same_aid other.owner (domain_aid entries key.owner) in
+      record {
+        owner = is_domain_slot key.owner owner;
+        size = is.size;
+        name = is.name;
+        alone = λ other has.
+            (let another = in_used (IsKey key.owner key.version key.identifier) (held tables.keys.items other) has in
+            one_key_slot page tables said says other slot another.0 key another.1 at another.2.same_owner another.2.same_version another.2.same_identifier);
+        whole = λ low.
+            (let counter = (is.whole low).counter in
+            let set = set_of_counter page tables said says well key.owner owner.0 counter.counter owner.1 counter.is_there counter.owner_is in
+            subst (λ (version : ℕ). (slots : List ℕ) × HasKeys tables.keys.items key.owner version slots) counter.version_is set.1);
+        counter = λ keeps.
+            (let there = (counters_shown page tables said says).there slot key at keeps in
+            let counts : IsWellCounter said (counter_of entries key) = All-contains (IsWellCounter said) said.counters _ well.counters there in
+            counts.number);
+        few = omega (
+          arith,
+          count_of_slots (key_of entries) mine (is_key_of key.owner) tables.keys.items refl (λ other another here same.
+              (same_aid_decides (domain_aid entries another.owner) (domain_aid entries key.owner)).1 (ap (domain_aid entries) (eqb-true another.owner key.owner same))),
+          length-filter mine said.keys,
+          sum_by-IsPermutation (λ (k : registry.Key). cond (mine k) 1 0) _ said.keys says.keys,
+          well.few_keys_each (domain_aid entries key.owner),
+        );
+      }
+
+  object_is : (slot : ℕ) (object : Object) → held tables.objects.items slot ≡ Some object → IsCardObject tables slot object
+  object_is slot object at =
+      let is : IsWellObject said (object_of entries object) = All-contains (IsWellObject said) said.objects _ well.objects ((objects_shown page tables said says).there slot object at refl) in
+      record {
+        owner = is_domain_slot object.owner (object_owner_is_used page tables said says well slot object at);
+        form = is.form;
+        alone = λ other has.
+            (let another = in_used (λ (o : Object). (o.owner ≡ object.owner) × (o.tag ≡ object.tag)) (held tables.objects.items other) has in
+            one_object_slot page tables said says other slot another.0 object another.1 at another.2.0 another.2.1);
+      }
+
+  pub slots_of_card : HasCardSlots tables
+  slots_of_card = record {
+    room = record { entries = card.layout.entries; files = card.layout.files; keys = card.layout.keys; objects = card.layout.objects };
+    issuer = used_from IsIssuerEntry (held entries 0) first_entry.0 first_entry.1 issuer_is;
+    factory_file = used_from IsFactoryFileHere (held files 0) first_file.0 first_file.1 factory_is;
+    entries = record { at = entry_is };
+    files = record { at = file_is };
+    pages = pages_are;
+    keys = record { at = key_is };
+    objects = record { at = object_is };
+  }

@@ -1,9 +1,9 @@
 -- What the slots of a card lay out is as a registry always is.
-use Rattle.std.proofs.Common.{◌≡◌, ◌≢◌, inl, inr, ℕ, ◌+◌, ◌*◌, ◌/◌, ◌<◌, ◌≤◌, min, Bool, true, false, cond, ◌==◌, ◌&&◌, List, [], ◌∷◌, length, take, Option, None, Some, refl, ap, sym, subst, ◌∙◌, arith}
+use Rattle.std.proofs.Common.{◌≡◌, ◌≢◌, inl, inr, ℕ, ◌+◌, ◌*◌, ◌/◌, ◌<◌, ◌≤◌, min, Bool, true, false, cond, ◌==◌, ◌&&◌, List, [], ◌∷◌, length, take, Option, None, Some, refl, ap, sym, subst, ◌∙◌, length-append, arith}
 use Rattle.std.specs.Prelude.{All, Contains, IsSome, MatchOption, filter, map, nat_lt}
 use Rattle.std.specs.List.{concat, count_by, sum_by}
 use Rattle.std.specs.List.Sorted.{IsPermutation}
-use Rattle.std.proofs.lemmas.Bool.{and_from, and_parts, cases_eq, eq-eqb, eqb-true, lt-ltb, ltb-lt}
+use Rattle.std.proofs.lemmas.Bool.{and_from, and_parts, cases_eq, eq-eqb, eqb-true, lt-ltb, ltb-true}
 use Rattle.std.proofs.lemmas.List.{length-map, length-take}
 use Rattle.std.proofs.lemmas.List.Elements.{All-contains}
 use Rattle.std.proofs.lemmas.List.Sorted.{length_permutation, sum_by-IsPermutation}
@@ -18,7 +18,7 @@ use Rattle.card_types.specs.Says.{Says, counter_of, domain_aid, entry_of, file_a
 use Rattle.card_types.specs.Slots.{held}
 use Rattle.card_types.specs.Well.{HasCounterOf, HasKeyNamed, IsDomainNamed, IsFactoryFile, IsIssuerDomain, IsWellCounter, IsWellEntry, IsWellFile, IsWellKey, IsWellObject, IsWholeSet, LeadsToRoot, Well, pages_of}
 use Rattle.card_types.specs.declared.factory.TheConstants.{ISSUER, FACTORY_FILE}
-use Rattle.card_types.specs.declared.limits.TheConstants.{DOMAIN_KEYS, FILE_LIMIT, LOAD_PAGES}
+use Rattle.card_types.specs.declared.limits.TheConstants.{DOMAIN_KEYS, ENTRIES, FILES, FILE_LIMIT, KEYS, LOAD_PAGES, OBJECTS}
 use Rattle.card_types.specs.declared.tables.Entry.{Entry}
 use Rattle.card_types.specs.declared.tables.KeyRec.{KeyRec}
 use Rattle.card_types.specs.declared.tables.LoadFile.{LoadFile}
@@ -29,7 +29,7 @@ use Rattle.card_types.proofs.Domains.{domain_aid_is}
 use Rattle.card_types.proofs.EntryNames.{entry_in_slot, entry_unnamed}
 use Rattle.card_types.proofs.FileNames.{file_in_slot}
 use Rattle.card_types.proofs.KeyNames.{counters_shown, keys_shown}
-use Rattle.card_types.proofs.Members.{filtered}
+use Rattle.card_types.proofs.Members.{contains_first, filtered}
 use Rattle.card_types.proofs.ObjectNames.{objects_shown}
 use Rattle.card_types.proofs.SameAid.{aid_same_itself, same_aid_decides}
 use Rattle.card_types.proofs.SetNames.{is_key_held}
@@ -112,7 +112,14 @@ module _ (page : ℕ → List ℕ) (whole : HasPages page) (tables : Tables) (ca
 
   pages_summed : (fs : List LoadFile) → sum_by (λ (file : registry.LoadFile). pages_of (length file.bytes)) (map (file_of page entries) fs) ≤ length (concat (map pages_named fs))
   pages_summed [] = omega arith
-  pages_summed (file ∷ fs) = ?
+  pages_summed (file ∷ fs) =
+      let rest = pages_summed fs in
+      omega (
+        arith,
+        pages_taken file,
+        sum_by-cons (λ (file : registry.LoadFile). pages_of (length file.bytes)) (file_of page entries file) (map (file_of page entries) fs),
+        length-append (pages_named file) (concat (map pages_named fs)),
+      )
 
   module _ (arrays : All HasPageNumbers (used files)) where
     well_file : (slot : ℕ) (file : LoadFile) → held files slot ≡ Some file → IsWellFile said (file_of page entries file)
@@ -126,8 +133,8 @@ module _ (page : ℕ → List ℕ) (whole : HasPages page) (tables : Tables) (ca
           domain = domain_named file.domain is.domain;
           size = elim (cases_eq slot 0) [
             | inl first ↦ inl (let here : held files 0 ≡ Some file = subst (λ (s : ℕ). held files s ≡ Some file) first at in
-              let same : file ≡ factory.0 = (let there = factory.1 in cc) in
-              ap (λ (f : LoadFile). f.aid) same ∙ factory.2.aid)
+                let same : file ≡ factory.0 = (let there = factory.1 in cc) in
+                ap (λ (f : LoadFile). f.aid) same ∙ factory.2.aid)
             | inr later ↦
                 (let among = used_from_held files slot file at in
                 let short : file.len ≤ FILE_LIMIT = All-contains (λ f. f.len ≤ FILE_LIMIT) (used files) file card.pages.lengths among in
@@ -177,7 +184,7 @@ module _ (page : ℕ → List ℕ) (whole : HasPages page) (tables : Tables) (ca
   well_counter : (slot : ℕ) (key : KeyRec) → held tables.keys.items slot ≡ Some key → keeps_counter key ≡ true → IsWellCounter said (counter_of entries key)
   well_counter slot key at keeps =
       let is = card.keys.at slot key at in
-      let low : key.version < 0x70 = ltb-lt key.version 0x70 (and_parts (key.identifier == 1) (nat_lt key.version 0x70) keeps).1 in
+      let low : key.version < 0x70 = ltb-true key.version 0x70 (and_parts (key.identifier == 1) (nat_lt key.version 0x70) keeps).1 in
       let set = is.whole low in
       record { set = whole_set key.owner key.version set.0 low set.1; version = low; number = is.counter keeps }
 
@@ -192,10 +199,61 @@ module _ (page : ℕ → List ℕ) (whole : HasPages page) (tables : Tables) (ca
     where
       by : (keys : List registry.Key) → keys_of said owner ≡ keys → length (keys_of said owner) ≤ DOMAIN_KEYS
       by [] none = omega (arith, ap length none)
-      by (key ∷ keys) some = ?
+      by (key ∷ keys) some =
+          (let mine : registry.Key → Bool = λ other. same_aid other.owner owner in
+          let fits = filtered mine said.keys key (subst (λ (ks : List registry.Key). Contains ks key) (sym some) (contains_first key keys)) in
+          let from = (keys_shown page tables said says).from key fits.0 in
+          let named : domain_aid entries from.1.owner ≡ owner = ap (λ (k : registry.Key). k.owner) from.4 ∙ (same_aid_decides key.owner owner).0 fits.1 in
+          let is = card.keys.at from.0 from.1 from.2 in
+          let same = count_of_views (key_of entries) mine (is_key_of from.1.owner) tables.keys.items (λ slot other at mine_too.
+          (let alike : domain_aid entries other.owner ≡ domain_aid entries from.1.owner = (same_aid_decides (domain_aid entries other.owner) owner).0 mine_too ∙ sym named in
+          eq-eqb other.owner from.1.owner (one_domain tables card other.owner from.1.owner (card.keys.at slot other at).owner is.owner alike))) in
+          omega (arith, is.few, same, length-filter mine said.keys, sum_by-IsPermutation (λ (k : registry.Key). cond (mine k) 1 0) _ said.keys says.keys))
 
   few : {T X : Type 0} (view : T → X) (slots : List (Option T)) (shown : List X) (n : ℕ) → IsPermutation (map view (used slots)) shown → length slots ≡ n → length shown ≤ n
   few view slots shown n same is = omega (arith, length_permutation _ shown same, length-map (used slots) view, used_at_most slots, is)
 
   pub card_is_well : All HasPageNumbers (used files) → Well said
-  card_is_well arrays = ?
+  card_is_well arrays =
+      let issuer = issuer_entry tables card in
+      let factory = factory_load_file tables card in
+      let issuer_domain : domain_aid entries 0 ≡ ISSUER = issuer_aid in
+      let factory_aid : file_aid files 0 ≡ FACTORY_FILE = file_aid_is files 0 factory.0 factory.1 ∙ factory.2.aid in
+      record {
+        few_entries = few (entry_of entries files) entries said.entries ENTRIES says.entries card.room.entries;
+        few_files = few (file_of page entries) files said.files FILES says.files card.room.files;
+        few_keys = few (key_of entries) tables.keys.items said.keys KEYS says.keys card.room.keys;
+        few_objects = few (object_of entries) tables.objects.items said.objects OBJECTS says.objects card.room.objects;
+        few_pages = omega (arith, sum_by-IsPermutation (λ (file : registry.LoadFile). pages_of (length file.bytes)) _ said.files says.files, pages_summed (used files), few_load_pages (all_pages files) card.pages.pages);
+        few_keys_each = few_keys;
+        issuer = used_from IsIssuerDomain (entry_named said ISSUER) (entry_of entries files issuer.0)
+            (subst (λ (aid : List ℕ). entry_named said aid ≡ Some (entry_of entries files issuer.0)) issuer.2.aid (entry_in_slot page tables said says 0 issuer.0 issuer.1))
+            (record {
+              domain = ap (domain_aid entries) issuer.2.domain ∙ issuer_domain;
+              file = ap (file_aid files) issuer.2.file ∙ factory_aid;
+              module_ = issuer.2.module_;
+              life = issuer.2.life;
+              unlocked = issuer.2.unlocked;
+            });
+        factory_file = used_from IsFactoryFile (file_named said FACTORY_FILE) (file_of page entries factory.0)
+            (subst (λ (aid : List ℕ). file_named said aid ≡ Some (file_of page entries factory.0)) factory.2.aid (file_in_slot page tables said says 0 factory.0 factory.1))
+            (record {
+              domain = ap (domain_aid entries) factory.2.domain ∙ issuer_domain;
+              bytes = ap (λ (n : ℕ). take n (concat (map page (pages_named factory.0)))) factory.2.len;
+            });
+        entries = all_of_members (IsWellEntry said) said.entries (λ x there.
+            (let from = (shows_used (entry_of entries files) entries said.entries says.entries).from x there in
+            subst (IsWellEntry said) from.4 (well_entry from.0 from.1 from.2)));
+        files = all_of_members (IsWellFile said) said.files (λ x there.
+            (let from = (shows_used (file_of page entries) files said.files says.files).from x there in
+            subst (IsWellFile said) from.4 (well_file arrays from.0 from.1 from.2)));
+        keys = all_of_members (IsWellKey said) said.keys (λ x there.
+            (let from = (keys_shown page tables said says).from x there in
+            subst (IsWellKey said) from.4 (well_key from.0 from.1 from.2)));
+        counters = all_of_members (IsWellCounter said) said.counters (λ x there.
+            (let from = (counters_shown page tables said says).from x there in
+            subst (IsWellCounter said) from.4 (well_counter from.0 from.1 from.2 from.3)));
+        objects = all_of_members (IsWellObject said) said.objects (λ x there.
+            (let from = (objects_shown page tables said says).from x there in
+            subst (IsWellObject said) from.4 (well_object from.0 from.1 from.2)));
+      }

@@ -48,7 +48,7 @@ module _ {T X : Type 0} (view : T → X) (p : X → Bool) (q : Option T → Bool
   count_of_slots [] free follows = omega arith
   count_of_slots (None ∷ slots) free follows =
       let rest = count_of_slots slots free (λ slot thing at. follows (suc slot) thing at) in
-      let none : cond (q None) 1 0 ≡ 0 = rw free refl in
+      let none : ◌≡◌ {A = ℕ} (cond (q None) 1 0) 0 = rw free refl in
       omega (arith, sum_by-cons (λ (o : Option T). cond (q o) 1 0) None slots)
   count_of_slots (Some thing ∷ slots) free follows =
       let rest = count_of_slots slots free (λ slot other at. follows (suc slot) other at) in
@@ -69,9 +69,9 @@ places_differ x [] is all differ = tt
 places_differ x (y ∷ pages) is all differ =
     let other : IsLoadPage y = All-contains IsLoadPage (y ∷ pages) y all (contains_first y pages) in (
       ne_eqb (x - 96) (y - 96) (λ same.
-      (let alike : x ≡ y = omega (arith, is.0, other.0, same) in
-      let itself : nat_eq x y ≡ true = eq-eqb x y alike in
-      let unlike = differ.0 in cc)),
+          (let alike : x ≡ y = omega (arith, is.0, other.0, same) in
+          let itself : nat_eq x y ≡ true = eq-eqb x y alike in
+          let unlike = differ.0 in cc)),
       places_differ x pages is (All-tail IsLoadPage y pages all) differ.1,
     )
 
