@@ -241,7 +241,7 @@ fn knows_cards(rt: HostRuntime) -> Result<(), Fail> {
 
 #[test]
 fn judges_entries(rt: HostRuntime) -> Result<(), Fail> {
-    let tables = card(rt.alloc())?;
+    let tables = Tables::factory(rt.alloc())?;
     let issuer = tables.entries[0].ok_or("the Issuer Security Domain")?;
     let bank = domain(1, 0, Life::Personalized, SECURITY_DOMAIN)?;
     let shop = domain(2, BANK, Life::Installed, SECURITY_DOMAIN)?;
@@ -480,7 +480,7 @@ fn judges_entries(rt: HostRuntime) -> Result<(), Fail> {
 
 #[test]
 fn judges_load_files(rt: HostRuntime) -> Result<(), Fail> {
-    let tables = card(rt.alloc())?;
+    let tables = Tables::factory(rt.alloc())?;
     let factory = tables.files[0].ok_or("the factory's file")?;
     let purses = load_file(5, BANK, 513, [96, 607, 200])?;
     let tickets = load_file(6, 0, 256, [201, 0, 0])?;
