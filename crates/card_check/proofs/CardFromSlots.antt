@@ -1,6 +1,6 @@
 -- The tables with the slots of a card are a card's.
-use Rattle.std.proofs.Common.{◌≡◌, inl, inr, ℕ, ◌≤◌, List, [], ◌∷◌, Some, sym, subst, arith}
-use Rattle.std.specs.Prelude.{All, Contains, MatchOption, map}
+use Rattle.std.proofs.Common.{◌≡◌, inl, inr, ℕ, ◌≤◌, List, [], ◌∷◌, sym, subst, arith}
+use Rattle.std.specs.Prelude.{All, Contains, map}
 use Rattle.std.specs.List.{concat}
 use Rattle.std.proofs.lemmas.List.Elements.{All-contains, Contains-append_left, Contains-append_right}
 use Rattle.card_types.specs.Says.{used}

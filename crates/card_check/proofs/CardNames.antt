@@ -1,16 +1,13 @@
 -- The names of what is in the slots of a card: which are the same, and what a slot that is named holds.
-use Rattle.std.proofs.Common.{◌≡◌, ◌≢◌, inl, inr, ℕ, ◌==◌, Bool, true, false, List, [], Option, None, Some, refl, ap, sym, subst, ◌∙◌, arith}
+use Rattle.std.proofs.Common.{◌≡◌, ◌≢◌, inl, inr, ℕ, ◌==◌, true, List, [], Option, None, Some, refl, ap, sym, subst, ◌∙◌}
 use Rattle.std.specs.Prelude.{IsSome, MatchOption, unwrap_or}
 use Rattle.std.specs.Option.{option_map}
-use Rattle.std.proofs.lemmas.Bool.{cases_Bool, cases_eq, eq-eqb, ne_eqb}
-use Rattle.std.proofs.lemmas.Option.{MatchOption-at_some}
+use Rattle.std.proofs.lemmas.Bool.{cases_Bool, eq-eqb, ne_eqb}
 use Rattle.card_types.specs.AidOrder.{same_aid}
-use Rattle.card_types.specs.KeySets.{HasKey}
 use Rattle.card_types.specs.Privileges.{has, security_domain}
 use Rattle.card_types.specs.Says.{domain_aid, file_aid}
 use Rattle.card_types.specs.Slots.{held}
 use Rattle.card_types.specs.declared.factory.TheConstants.{FACTORY_FILE}
-use Rattle.card_types.specs.declared.found.Found.{Found}
 use Rattle.card_types.specs.declared.found.Found.TheVariants as found
 use Rattle.card_types.specs.declared.tables.Entry.{Entry}
 use Rattle.card_types.specs.declared.tables.KeyRec.{KeyRec}
@@ -18,9 +15,9 @@ use Rattle.card_types.specs.declared.tables.LoadFile.{LoadFile}
 use Rattle.card_types.specs.declared.tables.Object.{Object}
 use Rattle.card_types.specs.declared.tables.Tables.{Tables}
 use Rattle.card_types.proofs.Domains.{domain_aid_is}
-use Rattle.card_types.proofs.SameAid.{aid_same_itself, same_aid_decides}
+use Rattle.card_types.proofs.SameAid.{same_aid_decides}
 use Rattle.card_types.proofs.SetNames.{has_from_held}
-use Rattle.card_check.specs.CardSlots.{HasCardSlots, HasObject, IsDomainSlot, IsFactoryFileHere, IsIssuerEntry}
+use Rattle.card_check.specs.CardSlots.{HasCardSlots, IsDomainSlot, IsFactoryFileHere, IsIssuerEntry}
 
 -- what is in a slot that has to hold something
 pub in_used : {T : Type 0} (Is : T → Type 0) (o : Option T) → MatchOption o ⊥ Is → (thing : T) × (o ≡ Some thing) × Is thing

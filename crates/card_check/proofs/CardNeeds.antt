@@ -1,6 +1,6 @@
 -- What the tables of a card have in their slots.
-use Rattle.std.proofs.Common.{◌≡◌, ◌≢◌, inl, inr, ℕ, ◌<◌, ◌≤◌, min, Bool, true, false, ◌==◌, cond, List, [], ◌∷◌, length, take, Option, None, Some, refl, ap, sym, subst, ◌∙◌, arith}
-use Rattle.std.specs.Prelude.{All, Contains, MatchOption, map}
+use Rattle.std.proofs.Common.{◌≡◌, ◌≢◌, inl, inr, ℕ, ◌≤◌, Bool, true, cond, List, [], ◌∷◌, Option, None, Some, refl, ap, sym, subst, ◌∙◌, arith}
+use Rattle.std.specs.Prelude.{All, map}
 use Rattle.std.specs.Option.{option_map}
 use Rattle.std.specs.List.{concat}
 use Rattle.std.proofs.lemmas.Bool.{eqb-true}
@@ -10,19 +10,16 @@ use Rattle.std.proofs.lemmas.List.Sorted.{sum_by-IsPermutation}
 use Rattle.std.proofs.lemmas.List.Sums.{length-filter}
 use Rattle.std.proofs.lemmas.Option.{MatchOption-at_some}
 use Rattle.card_types.specs.AidOrder.{same_aid}
-use Rattle.card_types.specs.Found.{aid_of}
 use Rattle.card_types.specs.Hierarchy.{EndsAt, IsLine}
-use Rattle.card_types.specs.KeySets.{HasKey, HasKeys, IsKey}
+use Rattle.card_types.specs.KeySets.{HasKeys, IsKey}
 use Rattle.card_types.specs.Privileges.{has, security_domain}
 use Rattle.card_types.specs.Registry as registry
 use Rattle.card_types.specs.Registry.{domain_of, entry_named, file_named, keys_of}
-use Rattle.card_types.specs.Says.{Says, counter_of, domain_aid, domain_slot, entry_of, file_aid, file_of, keeps_counter, key_of, object_of, used}
+use Rattle.card_types.specs.Says.{Says, counter_of, domain_aid, domain_slot, entry_of, file_of, key_of, object_of, used}
 use Rattle.card_types.specs.Slots.{held}
 use Rattle.card_types.specs.Well.{IsFactoryFile, IsIssuerDomain, IsWellCounter, IsWellFile, IsWellKey, IsWellObject, Well}
 use Rattle.card_types.specs.declared.factory.TheConstants.{ISSUER, FACTORY_FILE}
-use Rattle.card_types.specs.declared.found.Found.{Found}
 use Rattle.card_types.specs.declared.found.Found.TheVariants as found
-use Rattle.card_types.specs.declared.limits.TheConstants.{DOMAIN_KEYS}
 use Rattle.card_types.specs.declared.tables.Entry.{Entry}
 use Rattle.card_types.specs.declared.tables.KeyRec.{KeyRec}
 use Rattle.card_types.specs.declared.tables.LoadFile.{LoadFile}
@@ -33,7 +30,7 @@ use Rattle.card_types.proofs.Domains.{domain_aid_is, domain_is_used, file_domain
 use Rattle.card_types.proofs.EntryNames.{entry_in_slot, one_entry_slot}
 use Rattle.card_types.proofs.FileNames.{file_in_slot, one_file_slot}
 use Rattle.card_types.proofs.KeyNames.{counters_shown, keys_shown, one_key_slot}
-use Rattle.card_types.proofs.Lines.{line_steps, one_line}
+use Rattle.card_types.proofs.Lines.{one_line}
 use Rattle.card_types.proofs.ObjectNames.{objects_shown, one_object_slot}
 use Rattle.card_types.proofs.SameAid.{same_aid_decides}
 use Rattle.card_types.proofs.SetNames.{set_of_counter}

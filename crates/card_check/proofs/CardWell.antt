@@ -1,9 +1,9 @@
 -- What the slots of a card lay out is as a registry always is.
-use Rattle.std.proofs.Common.{◌≡◌, ◌≢◌, inl, inr, ℕ, ◌+◌, ◌*◌, ◌/◌, ◌<◌, ◌≤◌, min, Bool, true, false, cond, ◌==◌, ◌&&◌, List, [], ◌∷◌, length, take, Option, None, Some, refl, ap, sym, subst, ◌∙◌, length-append, arith}
-use Rattle.std.specs.Prelude.{All, Contains, IsSome, MatchOption, filter, map, nat_lt}
-use Rattle.std.specs.List.{concat, count_by, sum_by}
+use Rattle.std.proofs.Common.{◌≡◌, inl, inr, ℕ, ◌*◌, ◌<◌, ◌≤◌, min, Bool, true, cond, ◌==◌, List, [], ◌∷◌, length, take, Option, Some, refl, ap, sym, subst, ◌∙◌, length-append, arith}
+use Rattle.std.specs.Prelude.{All, Contains, IsSome, map, nat_lt}
+use Rattle.std.specs.List.{concat, sum_by}
 use Rattle.std.specs.List.Sorted.{IsPermutation}
-use Rattle.std.proofs.lemmas.Bool.{and_from, and_parts, cases_eq, eq-eqb, eqb-true, lt-ltb, ltb-true}
+use Rattle.std.proofs.lemmas.Bool.{and_from, and_parts, cases_eq, eq-eqb, lt-ltb, ltb-true}
 use Rattle.std.proofs.lemmas.List.{length-map, length-take}
 use Rattle.std.proofs.lemmas.List.Elements.{All-contains}
 use Rattle.std.proofs.lemmas.List.Sorted.{length_permutation, sum_by-IsPermutation}
@@ -16,9 +16,9 @@ use Rattle.card_types.specs.Registry as registry
 use Rattle.card_types.specs.Registry.{domain_of, entry_named, file_named, is_domain, keys_of}
 use Rattle.card_types.specs.Says.{Says, counter_of, domain_aid, entry_of, file_aid, file_of, keeps_counter, key_of, object_of, used}
 use Rattle.card_types.specs.Slots.{held}
-use Rattle.card_types.specs.Well.{HasCounterOf, HasKeyNamed, IsDomainNamed, IsFactoryFile, IsIssuerDomain, IsWellCounter, IsWellEntry, IsWellFile, IsWellKey, IsWellObject, IsWholeSet, LeadsToRoot, Well, pages_of}
+use Rattle.card_types.specs.Well.{HasKeyNamed, IsDomainNamed, IsFactoryFile, IsIssuerDomain, IsWellCounter, IsWellEntry, IsWellFile, IsWellKey, IsWellObject, IsWholeSet, LeadsToRoot, Well, pages_of}
 use Rattle.card_types.specs.declared.factory.TheConstants.{ISSUER, FACTORY_FILE}
-use Rattle.card_types.specs.declared.limits.TheConstants.{DOMAIN_KEYS, ENTRIES, FILES, FILE_LIMIT, KEYS, LOAD_PAGES, OBJECTS}
+use Rattle.card_types.specs.declared.limits.TheConstants.{DOMAIN_KEYS, ENTRIES, FILES, FILE_LIMIT, KEYS, OBJECTS}
 use Rattle.card_types.specs.declared.tables.Entry.{Entry}
 use Rattle.card_types.specs.declared.tables.KeyRec.{KeyRec}
 use Rattle.card_types.specs.declared.tables.LoadFile.{LoadFile}
@@ -31,10 +31,9 @@ use Rattle.card_types.proofs.FileNames.{file_in_slot}
 use Rattle.card_types.proofs.KeyNames.{counters_shown, keys_shown}
 use Rattle.card_types.proofs.Members.{contains_first, filtered}
 use Rattle.card_types.proofs.ObjectNames.{objects_shown}
-use Rattle.card_types.proofs.SameAid.{aid_same_itself, same_aid_decides}
-use Rattle.card_types.proofs.SetNames.{is_key_held}
+use Rattle.card_types.proofs.SameAid.{same_aid_decides}
 use Rattle.card_types.proofs.Shows.{shows_used, used_from_held}
-use Rattle.card_check.specs.CardSlots.{HasCardSlots, IsDomainSlot, IsCardEntry, is_key_of}
+use Rattle.card_check.specs.CardSlots.{HasCardSlots, IsDomainSlot, is_key_of}
 use Rattle.card_check.specs.IsCard.{HasPages, pages_named}
 use Rattle.card_check.specs.LoadPages.{HasPageNumbers, all_pages}
 use Rattle.card_check.proofs.CardNames.{apart, factory_load_file, file_aid_is, in_some, in_used, is_factory_slot, issuer_entry, one_domain, one_file, some_from, used_from}

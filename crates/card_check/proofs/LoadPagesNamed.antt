@@ -1,18 +1,14 @@
 -- Load pages that are named one after the other, and the marks at them.
-use Rattle.std.proofs.Common.{◌≡◌, ◌≢◌, ◌⊎◌, inl, inr, ℕ, zero, suc, ◌+◌, ◌-◌, ◌<◌, ◌≤◌, Bool, true, false, List, [], ◌∷◌, ◌++◌, length, take, drop, get_or, replicate, Option, None, Some, refl, ap, sym, subst, ◌∙◌, append_assoc, add-one, drop-cons, get_or-set_other, get_or-set_same, arith}
+use Rattle.std.proofs.Common.{◌≡◌, inl, inr, ℕ, zero, suc, ◌+◌, ◌<◌, ◌≤◌, Bool, true, false, List, [], ◌∷◌, ◌++◌, length, take, drop, get_or, replicate, refl, ap, sym, subst, ◌∙◌, append_assoc, add-one, drop-cons, get_or-set_other, get_or-set_same, arith}
 use Rattle.std.proofs.lemmas.List.{append-nil, take-append-drop, take_all, take_more}
 use Rattle.std.proofs.Math.ListN.{length-set, set}
-use Rattle.std.specs.Prelude.{All, Contains, map, nat_eq, slice_index_or, slice_set}
-use Rattle.std.specs.List.{AllByRecursion, IsDistinct, concat, filter_map}
+use Rattle.std.specs.Prelude.{All, Contains, nat_eq, slice_set}
+use Rattle.std.specs.List.{AllByRecursion, IsDistinct}
 use Rattle.std.proofs.lemmas.Bool.{cases_eq, eq-eqb, ne_eqb}
-use Rattle.std.proofs.lemmas.List.Elements.{All-append, All-contains, All-contains_itself, All-from_recursion, All-push, All-weaker, Contains-append_left, Contains-append_right, Contains-push, Contains-push_cases, filter_map-append, recursion_from_All}
-use Rattle.std.proofs.lemmas.List.Folds.{concat-append}
+use Rattle.std.proofs.lemmas.List.Elements.{All-contains, All-contains_itself, All-from_recursion, All-push, All-weaker, Contains-append_left, Contains-append_right, Contains-push, Contains-push_cases, recursion_from_All}
 use Rattle.card_types.proofs.Members.{contains_cases, contains_first, contains_later}
-use Rattle.card_types.specs.Says.{used}
-use Rattle.card_types.specs.declared.limits.TheConstants.{FILE_LIMIT, LOAD_PAGES}
-use Rattle.card_types.specs.declared.tables.LoadFile.{LoadFile}
-use Rattle.card_check.specs.IsCard.{pages_named}
-use Rattle.card_check.specs.LoadPages.{AreLoadPages, HasMarks, HaveLoadPages, IsLoadPage, IsNewPage, all_pages}
+use Rattle.card_types.specs.declared.limits.TheConstants.{LOAD_PAGES}
+use Rattle.card_check.specs.LoadPages.{AreLoadPages, HasMarks, IsLoadPage, IsNewPage}
 
 module _ {X : Type 0} where
   -- what is so of the members is so of all

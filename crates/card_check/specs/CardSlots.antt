@@ -13,7 +13,7 @@ use Rattle.card_types.specs.declared.factory.TheConstants.{ISSUER, FACTORY_FILE,
 use Rattle.card_types.specs.declared.found.Found.{Found}
 use Rattle.card_types.specs.declared.found.Found.TheVariants as found
 use Rattle.card_types.specs.declared.life.Life.TheVariants.{Personalized}
-use Rattle.card_types.specs.declared.limits.TheConstants.{COUNTER_LIMIT, DOMAIN_KEYS, ENTRIES, FILES, FILE_LIMIT, KEYS, OBJECTS, RECEIPT_LIMIT}
+use Rattle.card_types.specs.declared.limits.TheConstants.{COUNTER_LIMIT, DOMAIN_KEYS, ENTRIES, FILES, KEYS, OBJECTS, RECEIPT_LIMIT}
 use Rattle.card_types.specs.declared.privileges.Privileges.{Privileges}
 use Rattle.card_types.specs.declared.tables.Entry.{Entry}
 use Rattle.card_types.specs.declared.tables.KeyRec.{KeyRec}

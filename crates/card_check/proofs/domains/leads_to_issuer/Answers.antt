@@ -1,4 +1,4 @@
-use Rattle.std.proofs.Common.{◌≡◌, ◌∙◌, sym, arith}
+use Rattle.std.proofs.Common.{arith}
 use Rattle.std.proofs.lemmas.Bool.{eq-eqb, eqb-true}
 use Rattle.card_check.proofs.IssuerLines.{way_begins, way_ends, way_goes_on, way_is_lost, way_is_over}
 use Rattle.card_check.proofs.domains.leads_to_issuer.Goals as goal

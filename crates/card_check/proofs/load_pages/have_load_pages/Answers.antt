@@ -1,4 +1,4 @@
-use Rattle.std.proofs.Common.{◌≡◌, ◌+◌, ◌<◌, Bool, List, length, None, Some, get_or, take, refl, sym, subst, ◌∙◌, arith}
+use Rattle.std.proofs.Common.{◌+◌, ◌<◌, Bool, List, length, None, take, refl, sym, subst, ◌∙◌, arith}
 use Rattle.std.proofs.lemmas.List.{get_or_read}
 use Rattle.card_check.specs.LoadPages.{all_pages}
 use Rattle.card_check.proofs.LoadFilesNamed.{HaveMarks, file_has, files_end, files_go_on, files_pass, have_none}

@@ -1,5 +1,5 @@
 use Rattle.std.proofs.Common.{◌++◌, take, refl, arith}
-use Rattle.card_check.proofs.LoadPagesNamed.{marking_begins, marking_ends, marking_goes_on, new_page}
+use Rattle.card_check.proofs.LoadPagesNamed.{marking_begins, marking_goes_on, new_page}
 use Rattle.card_check.proofs.load_pages.mark_pages.Goals as goal
 
 pub loop-page-init : goal.loop-page-init
