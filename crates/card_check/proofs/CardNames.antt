@@ -17,7 +17,7 @@ use Rattle.card_types.specs.declared.tables.Tables.{Tables}
 use Rattle.card_types.proofs.Domains.{domain_aid_is}
 use Rattle.card_types.proofs.SameAid.{same_aid_decides}
 use Rattle.card_types.proofs.SetNames.{has_from_held}
-use Rattle.card_check.specs.CardSlots.{HasCardSlots, IsDomainSlot, IsFactoryFileHere, IsIssuerEntry}
+use Rattle.card_check.specs.CardSlots.{HasCardSlots, IsDomainSlot, IsFactoryLoadFile, IsIssuerEntry}
 
 -- what is in a slot that has to hold something
 pub in_used : {T : Type 0} (Is : T → Type 0) (o : Option T) → MatchOption o ⊥ Is → (thing : T) × (o ≡ Some thing) × Is thing
@@ -92,5 +92,5 @@ module _ (tables : Tables) (card : HasCardSlots tables) where
   pub issuer_entry : (entry : Entry) × (held tables.entries.items 0 ≡ Some entry) × IsIssuerEntry entry
   issuer_entry = in_used IsIssuerEntry (held tables.entries.items 0) card.issuer
 
-  pub factory_load_file : (file : LoadFile) × (held tables.files.items 0 ≡ Some file) × IsFactoryFileHere file
-  factory_load_file = in_used IsFactoryFileHere (held tables.files.items 0) card.factory_file
+  pub factory_load_file : (file : LoadFile) × (held tables.files.items 0 ≡ Some file) × IsFactoryLoadFile file
+  factory_load_file = in_used IsFactoryLoadFile (held tables.files.items 0) card.factory_file

@@ -35,7 +35,7 @@ use Rattle.card_types.proofs.ObjectNames.{objects_shown, one_object_slot}
 use Rattle.card_types.proofs.SameAid.{same_aid_decides}
 use Rattle.card_types.proofs.SetNames.{set_of_counter}
 use Rattle.card_types.proofs.Shows.{shows_used}
-use Rattle.card_check.specs.CardSlots.{HasCardSlots, IsAlone, IsCardEntry, IsCardFile, IsCardKey, IsCardObject, IsDomainSlot, IsFactoryFileHere, IsIssuerEntry, LeadsToIssuer, is_key_of}
+use Rattle.card_check.specs.CardSlots.{HasCardSlots, IsAlone, IsCardEntry, IsCardFile, IsCardKey, IsCardObject, IsDomainSlot, IsFactoryLoadFile, IsIssuerEntry, LeadsToIssuer, is_key_of}
 use Rattle.card_check.specs.IsCard.{IsCard, IsInLoadPages, pages_named}
 use Rattle.card_check.specs.LoadPages.{HaveLoadPages, IsLoadPage}
 use Rattle.card_check.proofs.CardNames.{file_aid_is, in_used, is_factory_slot, some_from, used_from}
@@ -95,7 +95,7 @@ module _ (page : ℕ → List ℕ) (tables : Tables) (card : IsCard page tables)
         unlocked = is.unlocked;
       }
 
-  factory_is : IsFactoryFileHere first_file.0
+  factory_is : IsFactoryLoadFile first_file.0
   factory_is =
       let file = first_file.0 in
       let at = first_file.1 in
@@ -246,7 +246,7 @@ module _ (page : ℕ → List ℕ) (tables : Tables) (card : IsCard page tables)
   slots_of_card = record {
     room = record { entries = card.layout.entries; files = card.layout.files; keys = card.layout.keys; objects = card.layout.objects };
     issuer = used_from IsIssuerEntry (held entries 0) first_entry.0 first_entry.1 issuer_is;
-    factory_file = used_from IsFactoryFileHere (held files 0) first_file.0 first_file.1 factory_is;
+    factory_file = used_from IsFactoryLoadFile (held files 0) first_file.0 first_file.1 factory_is;
     entries = record { at = entry_is };
     files = record { at = file_is };
     pages = pages_are;

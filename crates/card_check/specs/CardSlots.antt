@@ -55,11 +55,13 @@ has_domain_right privileges =
     has authorized_management privileges || has delegated_management privileges
     || has token_verification privileges || has receipt_generation privileges
 
+-- the privileges have names and go together
 pub record HasRights (privileges : Privileges) : Type 0 where
   pub named : IsNamed privileges
   pub domain_rights : has_domain_right privileges ≡ true → has security_domain privileges ≡ true
   pub one_management : (has authorized_management privileges && has delegated_management privileges) ≡ false
 
+-- the entry in the slot is one that a card may have
 pub record IsCardEntry (tables : Tables) (slot : ℕ) (entry : Entry) : Type 0 where
   pub aid : IsAid entry.aid
   pub alone : IsAlone tables (found.Entry slot) entry.aid
@@ -70,17 +72,19 @@ pub record IsCardEntry (tables : Tables) (slot : ℕ) (entry : Entry) : Type 0 w
   pub rights : HasRights entry.privileges
   pub receipts : entry.receipts ≤ RECEIPT_LIMIT
 
+-- the Executable Load File in the slot is one that a card may have, but for its pages
 pub record IsCardFile (tables : Tables) (slot : ℕ) (file : LoadFile) : Type 0 where
   pub aid : IsAid file.aid
   pub alone : IsAlone tables (found.File slot) file.aid
   pub domain : IsDomainSlot tables.entries.items file.domain
   pub bytes : 0 < slot → 1 ≤ file.len
 
--- the keys of the domain in a slot
+-- the slot holds a key of this owner
 abbrev pub is_key_of : ℕ → Option KeyRec → Bool
 is_key_of owner None = false
 is_key_of owner (Some key) = key.owner == owner
 
+-- the key in the slot is one that a card may have
 pub record IsCardKey (tables : Tables) (slot : ℕ) (key : KeyRec) : Type 0 where
   pub owner : IsDomainSlot tables.entries.items key.owner
   pub size : IsKeyLength (length key.bytes.items)
@@ -94,6 +98,7 @@ pub record IsCardKey (tables : Tables) (slot : ℕ) (key : KeyRec) : Type 0 wher
 abbrev pub HasObject : List (Option Object) → ℕ → ℕ → ℕ → Type 0
 HasObject objects owner tag slot = MatchOption (held objects slot) ⊥ (λ object. (object.owner ≡ owner) × (object.tag ≡ tag))
 
+-- the data object in the slot is one that a card may have
 pub record IsCardObject (tables : Tables) (slot : ℕ) (object : Object) : Type 0 where
   pub owner : IsDomainSlot tables.entries.items object.owner
   pub form : IsObject object.tag (length object.value.items)
@@ -109,15 +114,16 @@ pub record IsIssuerEntry (entry : Entry) : Type 0 where
   pub unlocked : entry.life.locked ≡ false
 
 -- the factory's Executable Load File, without bytes
-pub record IsFactoryFileHere (file : LoadFile) : Type 0 where
+pub record IsFactoryLoadFile (file : LoadFile) : Type 0 where
   pub aid : file.aid ≡ FACTORY_FILE
   pub domain : file.domain ≡ 0
   pub len : file.len ≡ 0
 
+-- the slots are those of a card
 pub record HasCardSlots (tables : Tables) : Type 0 where
   pub room : HasRoom tables
   pub issuer : MatchOption (held tables.entries.items 0) ⊥ IsIssuerEntry
-  pub factory_file : MatchOption (held tables.files.items 0) ⊥ IsFactoryFileHere
+  pub factory_file : MatchOption (held tables.files.items 0) ⊥ IsFactoryLoadFile
   pub entries : EachSlot tables.entries.items (IsCardEntry tables)
   pub files : EachSlot tables.files.items (IsCardFile tables)
   pub pages : HaveLoadPages tables.files.items

@@ -12,7 +12,7 @@ use crate::slots::{Admits, all_admitted};
 use bitflags::Flags;
 use card_types::{Entry, FACTORY_MODULE, Found, Life, Privileges, RECEIPT_LIMIT, Tables, in_slot};
 
-/// Whether each entry is as a card has them.
+/// Whether every entry is one that a card may have.
 pub fn has_card_entries(tables: &Tables) -> bool
     requires { HasRoom tables.now }
     ensures { IsTrue result ↔ EachSlot tables.now.entries.items (IsCardEntry tables.now) }
@@ -36,7 +36,8 @@ impl Admits<Entry> for Tables {
     }
 }
 
-// Whether it is a security domain, and its Module and life cycle state, fit its Executable Load File.
+// Whether it is a security domain or an application, as its Executable Load File has it, with a Module and a life cycle
+// state to go with that.
 fn has_kind(entry: &Entry) -> bool
     ensures { IsTrue result ↔ HasKind entry.now }
 {

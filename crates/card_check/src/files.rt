@@ -10,7 +10,7 @@ use crate::room::FACTORY_SLOT;
 use crate::slots::{Admits, all_admitted};
 use card_types::{Found, LoadFile, Tables};
 
-/// Whether each Executable Load File is as a card has them.
+/// Whether every Executable Load File is one that a card may have, but for the pages that it names.
 pub fn has_card_files(tables: &Tables) -> bool
     requires { HasRoom tables.now }
     ensures { IsTrue result ↔ EachSlot tables.now.files.items (IsCardFile tables.now) }

@@ -19,12 +19,13 @@ const KEY_LENGTH: usize = 16;
 /// The highest key version number of a key set.
 const LAST_VERSION: u8 = 0x6F;
 
-/// Key version numbers of a token key and a receipt key.
+/// The key version number of a token key.
 const TOKEN_KEY: u8 = 0x70;
 
+/// The key version number of a receipt key.
 const RECEIPT_KEY: u8 = 0x71;
 
-/// Whether each key is as a card has them.
+/// Whether every key is one that a card may have.
 pub fn has_card_keys(tables: &Tables) -> bool
     requires { HasRoom tables.now }
     ensures { IsTrue result ↔ EachSlot tables.now.keys.items (IsCardKey tables.now) }
@@ -100,6 +101,7 @@ fn counts_well(key: &KeyRec) -> bool
     key.identifier != 1 || key.version > LAST_VERSION || key.counter <= COUNTER_LIMIT
 }
 
+// How many keys the domain in the slot has.
 fn keys_of(keys: &[Option<KeyRec>], owner: u8) -> usize
     ensures { result ≡ count_by (is_key_by owner) keys.now }
 {

@@ -27,6 +27,7 @@ pub fn have_load_pages(files: &[Option<LoadFile>]) -> bool
     true
 }
 
+// Marks the pages of the file, where it is short enough and none of them has a mark.
 fn mark_file(marks: &mut [bool], file: &LoadFile) -> bool
     requires { length marks.old ≡ LOAD_PAGES }
     ensures array { HasPageNumbers file.now }

@@ -10,19 +10,22 @@ use crate::domains::is_domain;
 use crate::slots::{Admits, all_admitted};
 use card_types::{OBJECTS, Object, Tables, in_slot};
 
-/// Tags of data objects: Issuer Identification Number, Card Image Number, key diversification data, card data and
-/// card-specific data.
+/// The tag of the Issuer Identification Number.
 const ISSUER_NUMBER: u16 = 0x42;
 
+/// The tag of the Card Image Number.
 const IMAGE_NUMBER: u16 = 0x45;
 
+/// The tag of key diversification data.
 const DIVERSIFICATION: u16 = 0xCF;
 
+/// The tag of card data.
 const CARD_DATA: u16 = 0x66;
 
+/// The tag of card-specific data.
 const CARD_SPECIFIC: u16 = 0x5F50;
 
-/// Whether each data object is as a card has them.
+/// Whether every data object is one that a card may have.
 pub fn has_card_objects(tables: &Tables) -> bool
     requires { HasRoom tables.now }
     ensures { IsTrue result ↔ EachSlot tables.now.objects.items (IsCardObject tables.now) }

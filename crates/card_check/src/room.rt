@@ -1,7 +1,7 @@
 //! The slots that there are, and what is in the first ones.
 
 ghost use Rattle.std.specs.Prelude.{◌↔◌, IsTrue, MatchOption};
-ghost use Rattle.card_check.specs.CardSlots.{HasRoom, IsFactoryFileHere, IsIssuerEntry};
+ghost use Rattle.card_check.specs.CardSlots.{HasRoom, IsFactoryLoadFile, IsIssuerEntry};
 ghost use Rattle.card_types.specs.Slots.{held};
 
 use card_types::{
@@ -45,7 +45,7 @@ fn is_issuer(entry: &Entry) -> bool
 
 /// Whether the factory's Executable Load File is in its slot.
 pub fn has_factory_file(tables: &Tables) -> bool
-    ensures { IsTrue result ↔ MatchOption (held tables.now.files.items 0) ⊥ IsFactoryFileHere }
+    ensures { IsTrue result ↔ MatchOption (held tables.now.files.items 0) ⊥ IsFactoryLoadFile }
 {
     match in_slot(&tables.files, FACTORY_SLOT) {
         Some(file) => is_factory_file(file),
@@ -54,7 +54,7 @@ pub fn has_factory_file(tables: &Tables) -> bool
 }
 
 fn is_factory_file(file: &LoadFile) -> bool
-    ensures { IsTrue result ↔ IsFactoryFileHere file.now }
+    ensures { IsTrue result ↔ IsFactoryLoadFile file.now }
 {
     file.aid.as_bytes() == &FACTORY_FILE[..] && file.domain == ISSUER_SLOT && file.len == 0
 }
