@@ -1,8 +1,8 @@
 -- What a reply gives, by the cases of a session's level and of the status.
-use Rattle.std.proofs.Common.{◌≡◌, ℕ, ◌+◌, ◌-◌, ◌*◌, ◌^◌, ◌<◌, ◌≤◌, List, [], ◌∷◌, ◌++◌, length, take, drop, Bool, true, false, refl, sym, ap, subst, ◌∙◌, arith, inl, inr}
+use Rattle.std.proofs.Common.{◌≡◌, ℕ, ◌+◌, ◌-◌, ◌*◌, ◌^◌, ◌<◌, ◌≤◌, List, [], ◌∷◌, ◌++◌, length, take, drop, set, Bool, true, false, refl, sym, ap, subst, ◌∙◌, arith, inl, inr}
 use Rattle.std.specs.Prelude.{◌↔◌, IsTrue, nat_eq, slice_index, if◌then◌else◌, ◌&&◌}
 use Rattle.std.proofs.lemmas.Bool.{cases_Bool, true≢false}
-use Rattle.std.proofs.lemmas.List.{append_assoc, drop_at, get_or-drop, length-append, length-take-le, nil_from_length, take_at}
+use Rattle.std.proofs.lemmas.List.{append_assoc, drop_at, get_or-drop, length-append, length-drop, length-take-le, nil_from_length, take-append-drop, take_at}
 use Rattle.std.specs.Cmp.Lexicographic.{other_text, pointwise, same_text}
 use Rattle.std.specs.Int.{to_be_bytes, w128}
 use Rattle.aes_block.specs.Cipher.{IsBlock, cipher}
@@ -30,12 +30,20 @@ truth_of false xs ys e = (λ t. absurd (true≢false (sym t)), λ s. absurd (oth
 -- ---- a data field that is enciphered
 
 module _ (kept : KeptSession) (session : Session) (stands : StandsFor kept session) where
-  pub kept_reply_sealed : (p : List ℕ)
+  kept_reply_sealed : (p : List ℕ)
       → sealed kept.keys.enc (cipher kept.keys.enc (0x80 ∷ drop 1 (to_be_bytes w128 kept.number))) p
       ≡ sealed (s_enc session.offer) (reply_icv session) p
   unfolding reply_icv
   kept_reply_sealed p =
       (λ i. sealed (stands.keys.enc i) (cipher (stands.keys.enc i) (0x80 ∷ drop 1 (to_be_bytes w128 (stands.number i)))) p)
+
+  -- the same by the bytes of a counter block
+  pub kept_enciphers : (inside : KeptSession) (block p : List ℕ) → inside ≡ kept → block ≡ to_be_bytes w128 inside.number
+      → sealed inside.keys.enc (cipher inside.keys.enc (set block 0 0x80)) p ≡ sealed (s_enc session.offer) (reply_icv session) p
+  kept_enciphers inside block p same eb =
+      ap (λ (b : List ℕ). sealed inside.keys.enc (cipher inside.keys.enc (set b 0 0x80)) p) eb
+      ∙ ap (λ (k : KeptSession). sealed k.keys.enc (cipher k.keys.enc (0x80 ∷ drop 1 (to_be_bytes w128 k.number))) p) same
+      ∙ kept_reply_sealed p
 
 reply_icv_is_block : (session : Session) → IsBlock (reply_icv session)
 unfolding reply_icv
@@ -266,3 +274,42 @@ one_reply_field session p q bp bq same = elim (cases_Bool (has_r_encryption sess
     enciphered e (b ∷ bs) (d ∷ ds) bp bq same =
         one_sealed_reply session (b ∷ bs) (d ∷ ds) bp bq
         (sym (sealed_reply session (b ∷ bs) (omega arith) e) ∙ same ∙ sealed_reply session (d ∷ ds) (omega arith) e)
+
+-- a reply with a success or a warning and with R-MAC, cut into its data field and its R-MAC
+pub record IsCut (session : Session) (reply body : List ℕ) (status : ℕ) (field mac : List ℕ) : Type 0 where
+  pub split : reply ≡ body ++ status_bytes status
+  pub with_mac : has_r_mac session.level ≡ true
+  pub success : is_success_or_warning status ≡ true
+  pub joined : body ≡ field ++ mac
+  pub eight : length mac ≡ 8
+
+pub cut_at : (session : Session) (reply body : List ℕ) (status : ℕ) (field mac : List ℕ) → reply ≡ body ++ status_bytes status
+    → has_r_mac session.level ≡ true → is_success_or_warning status ≡ true → 8 ≤ length body
+    → field ≡ take (length body - 8) body → mac ≡ drop (length body - 8) body → IsCut session reply body status field mac
+cut_at session reply body status field mac split m s long ef em = record {
+  split = split;
+  with_mac = m;
+  success = s;
+  joined = sym (take-append-drop (length body - 8) body) ∙ (λ i. sym ef i ++ sym em i);
+  eight = omega (arith, ap length em, length-drop (length body - 8) body, long);
+}
+
+module _ (session : Session) (reply body : List ℕ) (status : ℕ) (field mac : List ℕ) (cut : IsCut session reply body status field mac) where
+  pub cut_long : IsTooShort session reply → ⊥
+  cut_long = not_short session reply body status cut.split cut.with_mac cut.success field mac cut.joined cut.eight
+
+  pub cut_right : mac ≡ r_mac session field status → HasRightMac session reply
+  cut_right = has_right session reply body status cut.split cut.with_mac cut.success field mac cut.joined cut.eight
+
+  pub cut_wrong : (mac ≡ r_mac session field status → ⊥) → HasRightMac session reply → ⊥
+  cut_wrong = has_wrong session reply body status cut.split cut.with_mac cut.success field mac cut.joined cut.eight
+
+  pub cut_parts : (other : List ℕ) (another : ℕ) → Unwraps session reply other another
+      → (reply_field session other ≡ field) × (mac ≡ r_mac session field status) × (another ≡ status)
+  cut_parts = whole_parts session reply body status cut.split cut.with_mac cut.success field mac cut.joined cut.eight
+
+  pub cut_unwraps : mac ≡ r_mac session field status → (other : List ℕ) → IsBytes other → reply_field session other ≡ field → IsBytes reply
+      → Unwraps session reply other status
+  cut_unwraps right other bytes same octets =
+      whole_unwraps session reply body status cut.split cut.with_mac cut.success field mac cut.joined cut.eight right other bytes same
+      (word session reply body status cut.split octets)

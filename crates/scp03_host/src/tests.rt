@@ -134,12 +134,16 @@ fn channels(rt: HostRuntime) -> Result<(), Fail> {
     let (level, authenticate, get_data, _) = SESSIONS[0];
     for channel in 0..4 {
         let mut session = begun(level, channel, &mut out)?;
-        assert_eq!(rt; out[0], 0x84 + channel);
-        assert_eq!(rt; out[1..], bytes(authenticate)[1..], "channel {channel}");
+        assert_eq!(rt; out.first(), Some(&(0x84 + channel)));
+        assert_eq!(rt;
+            out.get(1..),
+            bytes(authenticate).get(1..),
+            "channel {channel}"
+        );
 
         assert_eq!(rt; session.wrap(&GET_DATA, channel, &mut out), Ok(()));
-        assert_eq!(rt; out[0], 0x84 + channel);
-        assert_eq!(rt; out[1..], bytes(get_data)[1..], "channel {channel}");
+        assert_eq!(rt; out.first(), Some(&(0x84 + channel)));
+        assert_eq!(rt; out.get(1..), bytes(get_data).get(1..), "channel {channel}");
     }
     Ok(())
 }

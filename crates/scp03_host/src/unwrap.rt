@@ -76,6 +76,13 @@ impl<K: BlockKey> HostSession<K> {
         has_r_mac(self.level)
     }
 
+    // They are enciphered.
+    fn has_r_encryption(&self) -> bool
+        ensures { (session : model.Session) → StandsFor self.now session → result ≡ standard.has_r_encryption session.level }
+    {
+        has_r_encryption(self.level)
+    }
+
     // Whether these eight bytes are the R-MAC of the data field as sent and of the status.
     fn is_right_mac(&self, field: &[u8], mac: &[u8], status: Status) -> bool
         requires { length mac.now ≡ 8 }
@@ -107,7 +114,7 @@ impl<K: BlockKey> HostSession<K> {
             → IfNone result ((p : List ℕ) → IsBytes p → reply_field session p ≡ field.old → ⊥) }
         ensures length { IfSome result (λ n. n ≤ length field.old) }
     {
-        if field.is_empty() || !has_r_encryption(self.level) {
+        if field.is_empty() || !self.has_r_encryption() {
             return Some(field.len());
         }
         let mut counter = self.number.to_be_bytes();

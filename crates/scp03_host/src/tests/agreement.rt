@@ -14,7 +14,7 @@ use aes_block::{Aes128, Aes192, Aes256, BlockKey};
 use apdu_core::{Command, Status};
 use arrayvec::ArrayVec;
 use card_types::{Aid, Level};
-use scp03_card::{Session, offer};
+use scp03_card::{Offer, Session, offer};
 use std::test::Fail;
 
 const KEYS: [u8; 32] = *b"@ABCDEFGHIJKLMNOPQRSTUVWXYZ[\\]^_";
@@ -59,10 +59,7 @@ fn answer<K: BlockKey>(
 {
     let mut reply = plain_reply(field);
     card.close_reply(&mut reply, status);
-    let Ok(status) = host.unwrap(&reply, told) else {
-        return None;
-    };
-    Some(status)
+    host.unwrap(&reply, told).ok()
 }
 
 fn plain_reply(field: &[u8]) -> ArrayVec<u8, 258>
@@ -91,14 +88,20 @@ fn both_ends(rt: HostRuntime) -> Result<(), Fail> {
     Ok(())
 }
 
+/// The data field that the card answers to INITIALIZE UPDATE, as far as the host reads it.
+fn update_reply<K: BlockKey>(offer: &Offer<K>) -> [u8; 32] {
+    let mut reply = [0; 32];
+    reply[13..21].copy_from_slice(&offer.challenge());
+    reply[21..29].copy_from_slice(&offer.cryptogram());
+    reply
+}
+
 /// A session of as many commands as there are lengths of a data field, with a reply of each length.
 fn talk<K: BlockKey>(level: Level) -> Result<(), &'static str> {
     let key = &KEYS[..K::LEN];
     let aid = Aid::new(b"\xa0\0\0\x01\x51\0\0\0").ok_or("an AID")?;
     let offer = offer::<K>(keys(key), 0x01fffe, &aid, &HOST);
-    let mut update = [0; 32];
-    update[13..21].copy_from_slice(&offer.challenge());
-    update[21..29].copy_from_slice(&offer.cryptogram());
+    let update = update_reply(&offer);
     let mut out = ArrayVec::new();
     let mut host = begin(keys::<K>(key), &HOST, &update, level, 0, &mut out)
         .ok()

@@ -1,22 +1,10 @@
-use Rattle.std.proofs.Common.{◌≡◌, ◌∙◌, List, ℕ, ap, subst, sym, Some, arith}
-use Rattle.std.specs.Prelude.{[], ◌++◌}
-use Rattle.scp03_card.specs.Kept.{StandsFor}
+use Rattle.std.proofs.Common.{◌≡◌, ◌∙◌, List, ℕ, ap, subst, sym, Ok, Result, arith}
+use Rattle.std.specs.Result.{result_ok}
 use Rattle.scp03_card.specs.Protected.{protected}
-use Rattle.scp03_card.specs.Session.{Session}
 use Rattle.scp03_host.specs.Agreement.{told_field}
 use Rattle.scp03_host.specs.Unwrapped.{Unwraps}
 use Rattle.scp03_host.proofs.AgreementLemmas.{told_unwraps}
 use Rattle.scp03_host.proofs.tests.agreement.answer.Goals as goal
-
-pub returns-in_default-clause-told : goal.returns-in_default-clause-told
-returns-in_default-clause-told g c = λ session host card.
-    let field : List ℕ = c.args.field.now in
-    let status : ℕ = c.args.status.0 in
-    let sent : protected session field status ≡ c.deref.result.now =
-    sym (c.deref.ensures.0 ∙ c.close_reply.ensures.protected session card ∙ ap (λ (f : List ℕ). protected session f status) c.plain_reply-reply.ensures) in
-    let told = subst (λ (r : List ℕ). Unwraps session r (told_field session field status) status) sent
-    (told_unwraps session field status (record { at = λ j. omega (arith, c.type_inv.field j) }) (omega arith)) in
-    absurd (c.in_default.not-Ok _ (c.unwrap.ensures.back session (told_field session field status) status host told).0)
 
 pub returns-clause-told : goal.returns-clause-told
 returns-clause-told g c = λ session host card.
@@ -26,6 +14,5 @@ returns-clause-told g c = λ session host card.
     sym (c.deref.ensures.0 ∙ c.close_reply.ensures.protected session card ∙ ap (λ (f : List ℕ). protected session f status) c.plain_reply-reply.ensures) in
     let told = subst (λ (r : List ℕ). Unwraps session r (told_field session field status) status) sent
     (told_unwraps session field status (record { at = λ j. omega (arith, c.type_inv.field j) }) (omega arith)) in
-    let found = c.in-Ok.ensures.back session (told_field session field status) status host told in
-    let same : c.in-Ok.status ≡ c.args.status = (let both = found.0 in cc) in
-    (ap Some same, found.1)
+    let found = c.unwrap.ensures.back session (told_field session field status) status host told in
+    (c.ok.ensures.value ∙ ap result_ok found.0, found.1)
