@@ -1,7 +1,7 @@
 // Sessions with the static keys 40 to 4F, the host challenge 00 to 07, the sequence counter 000000 and the AID
 // A000000151000000. All values were computed apart from this project, by a script over the CMAC and the AES of OpenSSL.
 
-ghost use Rattle.std.specs.Prelude.{◌≡◌, ◌<◌, ◌≤◌, length, OnOk};
+ghost use Rattle.std.specs.Prelude.{◌≡◌, ◌≤◌, length, OnOk};
 ghost use Rattle.apdu_core.specs.Apdu.{apdu_of};
 ghost use Rattle.arrayvec.specs.ArrayVec.{array_vec_len};
 ghost use Rattle.scp03_card.specs.Kept.{StandsFor};
@@ -38,22 +38,13 @@ fn told(holds: bool, what: &'static str) -> Told {
     if holds { Ok(()) } else { Err(what) }
 }
 
-fn digit(digit: u8) -> u8
-    ensures { result < 16 }
-{
-    match digit {
-        b'0'..=b'9' => digit - b'0',
-        b'a'..=b'f' => digit - b'a' + 10,
-        _ => 0,
-    }
-}
-
 /// The bytes that these hexadecimal digits write.
 fn bytes(digits: &[u8]) -> ArrayVec<u8, 258> {
     let mut bytes = ArrayVec::new();
-    for i in 0..digits.len() / 2 {
-        let _fits = bytes.try_push(16 * digit(digits[2 * i]) + digit(digits[2 * i + 1]));
+    for _ in 0..digits.len() / 2 {
+        let _fits = bytes.try_push(0);
     }
+    let _even = hex::decode_to_slice(digits, bytes.as_mut_slice());
     bytes
 }
 
@@ -163,116 +154,6 @@ fn an_answered_command(rt: HostRuntime) -> Result<(), Fail> {
         bytes(b"fd75588f5a63ef6905c90d099f369ee91e85fc9247a98b7c9000")
     );
     Ok(())
-}
-
-#[test]
-fn transcripts_at_each_level(rt: HostRuntime) {
-    // The level, the body of EXTERNAL AUTHENTICATE, and each command with its reply.
-    let transcripts: [(Level, u128, [&[u8]; 8]); 5] = [
-        (
-            Level::Mac,
-            0x76857f0738ab14222d8dc8e0cddd3b2a,
-            [
-                b"84ca00c10888910f8a9e0ff493",
-                b"c1030000019000",
-                b"86f240020a4f00bef9a1ec24f4e4d2",
-                b"6310",
-                b"84e400001a4f10a0a1a2a3a4a5a6a7a8a9aaabacadaeafa42a1f02368c92f8",
-                b"006a88",
-                b"85e2900018000102030405060708090a0b0c0d0e0fff8d387e2ad10e3b",
-                b"101112131415161718191a1b1c1d1e1f9000",
-            ],
-        ),
-        (
-            Level::EncMac,
-            0x76857f0738ab1422175ebdab660f4280,
-            [
-                b"84ca00c108a79beaec6d951a0f",
-                b"c1030000019000",
-                b"86f24002182fb52f669170f38c7b57ee68b891badf7dde136f3a69899e",
-                b"6310",
-                b"84e400002898f7d8c342b68c9a2d85e39eda82a457f1632f11b920132a6a7c9e86d5aee2269fcf4a1c1e18a7d0",
-                b"006a88",
-                b"85e2900028abfcff01b81d2d8d549eb6f04a18bd5ba809a4cb6b46dcd5f4d8946ee2b4980fea97544c6ea38200",
-                b"101112131415161718191a1b1c1d1e1f9000",
-            ],
-        ),
-        (
-            Level::MacR,
-            0x76857f0738ab1422ef323fbe5edf2a8f,
-            [
-                b"84ca00c1083f52caa85154bb2d",
-                b"c103000001021e30d5aed62bd59000",
-                b"86f240020a4f00c3fc5f7f8cbcc42c",
-                b"29d3e997b4f7b23a6310",
-                b"84e400001a4f10a0a1a2a3a4a5a6a7a8a9aaabacadaeaf92a5c08644a1a5e0",
-                b"6a88",
-                b"85e2900018000102030405060708090a0b0c0d0e0f9415c18948d8c8ab",
-                b"101112131415161718191a1b1c1d1e1f3621a4bfa3ecbfd09000",
-            ],
-        ),
-        (
-            Level::EncMacR,
-            0x76857f0738ab1422ac1e5412e7c32421,
-            [
-                b"84ca00c10839e77c4412a338b8",
-                b"c1030000013f4bc01af81a8edf9000",
-                b"86f24002182fb52f669170f38c7b57ee68b891badfd9c23c5fba3844dd",
-                b"a4a3716a237fbb5e6310",
-                b"84e400002898f7d8c342b68c9a2d85e39eda82a457f1632f11b920132a6a7c9e86d5aee226949ff3f0018dc638",
-                b"6a88",
-                b"85e2900028abfcff01b81d2d8d549eb6f04a18bd5ba809a4cb6b46dcd5f4d8946ee2b4980f11e8fb3d47e68e4b",
-                b"101112131415161718191a1b1c1d1e1f374e99efdb401d309000",
-            ],
-        ),
-        (
-            Level::Full,
-            0x76857f0738ab1422cc3a9195e19f90a3,
-            [
-                b"84ca00c10839888bfe9333e491",
-                b"fd75588f5a63ef6905c90d099f369ee91e85fc9247a98b7c9000",
-                b"86f24002182fb52f669170f38c7b57ee68b891badf4b9d1e756d9eafa5",
-                b"2417e9df37c6ea3b6310",
-                b"84e400002898f7d8c342b68c9a2d85e39eda82a457f1632f11b920132a6a7c9e86d5aee22620bf2f4a2d46e72a",
-                b"6a88",
-                b"85e2900028abfcff01b81d2d8d549eb6f04a18bd5ba809a4cb6b46dcd5f4d8946ee2b4980f949632b1e6de0826",
-                b"3f9c99dd0c48721ce7ba6f35f0b853c2e8fe1356f99beec56c5d65938665dd4168d8e6980f4e8e719000",
-            ],
-        ),
-    ];
-    for (level, host, lines) in transcripts {
-        assert_eq!(rt; transcript(level, host, lines), Ok(()), "{level:?}");
-    }
-}
-
-// No data field, then a warning on channel 2 without data, then an error that had data, then blocks
-// that are whole both ways.
-fn transcript(level: Level, host: u128, lines: [&[u8]; 8]) -> Told {
-    let mut session = begun::<Aes128>(0, CARD, level, host)?;
-    told(session.level() == level, "level")?;
-    let mut block = [0; 16];
-    session.dek().seal(&mut block);
-    told(
-        u128::from_be_bytes(block) == 0x1899564a9da8de833d25c71739eaadce,
-        "Key-DEK",
-    )?;
-    let [
-        get_data,
-        counter,
-        get_status,
-        warning,
-        delete,
-        error,
-        store_data,
-        block,
-    ] = lines;
-    exchange(&mut session, get_data, counter, b"", b"c103000001", 0x9000)?;
-    exchange(&mut session, get_status, warning, b"4f00", b"", 0x6310)?;
-    let aid = b"4f10a0a1a2a3a4a5a6a7a8a9aaabacadaeaf";
-    exchange(&mut session, delete, error, aid, b"00", 0x6a88)?;
-    let stored = b"000102030405060708090a0b0c0d0e0f";
-    let data = b"101112131415161718191a1b1c1d1e1f";
-    exchange(&mut session, store_data, block, stored, data, 0x9000)
 }
 
 #[test]
