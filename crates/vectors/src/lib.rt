@@ -1,10 +1,17 @@
-//! Tests over several crates: published values, worked examples, and the two ends of a secure channel with each
-//! other. There is nothing to call.
+//! Tests over several crates: the two ends of a secure channel with each other, against values that were computed apart
+//! from this project. There is nothing to call.
 //!
 //! - `transcripts`: sessions of SCP03 with every value in between, at both ends.
+//! - `driver`: an interpreter of scripts, which knows the commands that the card has: a host at one end, a card at the
+//!   other.
+//! - `rows`: scripts, with the lines that they write and the bytes that they send.
 #![tactic(auto)]
 
 #[cfg(test)]
 mod digits;
+#[cfg(test)]
+mod driver;
+#[cfg(test)]
+mod rows;
 #[cfg(test)]
 mod transcripts;

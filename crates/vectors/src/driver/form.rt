@@ -1,0 +1,187 @@
+//! The forms of a script line.
+
+use crate::driver::channel::Channel;
+use apdu_core::{Command, Status};
+use arrayvec::ArrayVec;
+use card_types::{Aid, Level};
+
+/// What a line asks for.
+#[derive(Drop)]
+pub enum Form {
+    /// Nothing: the line is blank or a comment.
+    Nothing,
+    Reset,
+    Channel(Channel),
+
+    Keys(Keys),
+    Select(Option<Aid>),
+    Raw(ArrayVec<u8, 258>),
+    Open(Opening),
+    Send(Plain),
+    Bad(Plain),
+    Want(Status),
+}
+
+/// The static keys of a host.
+#[derive(Clone, Copy)]
+pub struct Keys {
+    pub enc: [u8; 16],
+    pub mac: [u8; 16],
+    pub dek: [u8; 16],
+}
+
+/// A session to begin: key version, level and host challenge.
+#[derive(Clone, Copy)]
+pub struct Opening {
+    pub version: u8,
+    pub level: Level,
+    pub challenge: [u8; 8],
+}
+
+/// A command to protect, of class 80.
+#[derive(Drop)]
+pub struct Plain {
+    ins: u8,
+    p1: u8,
+    p2: u8,
+    body: ArrayVec<u8, 255>,
+}
+
+impl Plain {
+    /// The command, without Le.
+    pub fn command(&self) -> Command<'_> {
+        Command {
+            class: 0x80,
+            ins: self.ins,
+            p1: self.p1,
+            p2: self.p2,
+            body: &self.body,
+            le: None,
+        }
+    }
+}
+
+/// A line: what it asks for, and whether of the reply the status alone is printed.
+#[derive(Drop)]
+pub struct Line {
+    pub quiet: bool,
+    pub form: Form,
+}
+
+impl Line {
+    /// Reads a line, if it has a form.
+    pub fn read(line: &[u8]) -> Option<Line> {
+        if let [b'-', b' ', line @ ..] = line {
+            let form = sending(line)?;
+            return Some(Line { quiet: true, form });
+        }
+        let form = match silent(line) {
+            Some(form) => form,
+            None => sending(line)?,
+        };
+        Some(Line { quiet: false, form })
+    }
+}
+
+// A form that sends nothing.
+fn silent(line: &[u8]) -> Option<Form> {
+    if matches!(line, [b'#', ..]) || line.iter().all(|byte| *byte == b' ') {
+        return Some(Form::Nothing);
+    }
+    if line == b"reset".as_slice() {
+        return Some(Form::Reset);
+    }
+    let (verb, rest) = cut(line)?;
+    match verb {
+        b"channel" => Some(Form::Channel(Channel::from_digits(rest)?)),
+        b"keys" => Some(Form::Keys(read_keys(rest)?)),
+        b"want" => Some(Form::Want(Status(u16::from_be_bytes(array(rest)?)))),
+        _ => None,
+    }
+}
+
+// A form that sends.
+fn sending(line: &[u8]) -> Option<Form> {
+    if line == b"select".as_slice() {
+        return Some(Form::Select(None));
+    }
+    let (verb, rest) = cut(line)?;
+    match verb {
+        b"select" => {
+            let aid: ArrayVec<u8, 16> = bytes(rest)?;
+            Some(Form::Select(Some(Aid::new(&aid)?)))
+        }
+        b"raw" => Some(Form::Raw(bytes(rest)?)),
+        b"open" => Some(Form::Open(read_opening(rest)?)),
+        b"send" => Some(Form::Send(read_plain(rest)?)),
+        b"bad" => Some(Form::Bad(read_plain(rest)?)),
+        _ => None,
+    }
+}
+
+fn read_keys(words: &[u8]) -> Option<Keys> {
+    let (enc, rest) = cut(words)?;
+    let (mac, dek) = cut(rest)?;
+    Some(Keys {
+        enc: array(enc)?,
+        mac: array(mac)?,
+        dek: array(dek)?,
+    })
+}
+
+fn read_opening(words: &[u8]) -> Option<Opening> {
+    let (version, rest) = cut(words)?;
+    let (level, challenge) = cut(rest)?;
+    Some(Opening {
+        version: byte(version)?,
+        level: Level::from_code(byte(level)?)?,
+        challenge: array(challenge)?,
+    })
+}
+
+fn read_plain(word: &[u8]) -> Option<Plain> {
+    let bytes: ArrayVec<u8, 261> = bytes(word)?;
+    let command = Command::read(&bytes).ok()?;
+    if command.class != 0x80 {
+        return None;
+    }
+    let mut body = ArrayVec::new();
+    body.try_extend_from_slice(command.body).ok()?;
+    Some(Plain {
+        ins: command.ins,
+        p1: command.p1,
+        p2: command.p2,
+        body,
+    })
+}
+
+// The word before the first space, and what is behind it.
+fn cut(words: &[u8]) -> Option<(&[u8], &[u8])> {
+    let at = words.iter().position(|byte| *byte == b' ')?;
+    Some((&words[..at], &words[at + 1..]))
+}
+
+fn byte(word: &[u8]) -> Option<u8> {
+    let bytes: [u8; 1] = array(word)?;
+    Some(bytes[0])
+}
+
+// So many bytes in digits, and no more.
+fn array<const N: usize>(word: &[u8]) -> Option<[u8; N]> {
+    let mut bytes = [0; N];
+    hex::decode_to_slice(word, &mut bytes).ok()?;
+    Some(bytes)
+}
+
+// At least one byte in digits, and at most `N`.
+fn bytes<const N: usize>(word: &[u8]) -> Option<ArrayVec<u8, N>> {
+    if word.is_empty() {
+        return None;
+    }
+    let mut bytes = ArrayVec::new();
+    for _ in 0..word.len() / 2 {
+        bytes.try_push(0).ok()?;
+    }
+    hex::decode_to_slice(word, bytes.as_mut_slice()).ok()?;
+    Some(bytes)
+}
