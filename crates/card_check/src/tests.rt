@@ -239,6 +239,49 @@ fn knows_cards(rt: HostRuntime) -> Result<(), Fail> {
     Ok(())
 }
 
+// A file of 32,768 bytes, in 128 pages from this one on.
+fn long_file(name: u8, first: u16) -> Result<LoadFile, Fail> {
+    let mut pages = [0; 128];
+    for (number, page) in pages.iter_mut().enumerate() {
+        *page = first.saturating_add(number as u16);
+    }
+    Ok(LoadFile {
+        aid: aid(name)?,
+        domain: 0,
+        len: 32_768,
+        pages,
+    })
+}
+
+#[test]
+fn knows_full_cards(rt: HostRuntime) -> Result<(), Fail> {
+    let mut tables = Tables::factory(rt.alloc())?;
+    for slot in 1..32u8 {
+        put(
+            &mut tables.entries,
+            usize::from(slot),
+            Some(domain(slot, slot - 1, Life::Selectable, SECURITY_DOMAIN)?),
+        )?;
+    }
+    assert!(rt; is_card(&tables), "32 domains, each below the last one");
+    for (slot, name, first) in [
+        (1, 0x41, 96),
+        (2, 0x42, 224),
+        (3, 0x43, 352),
+        (4, 0x44, 480),
+    ] {
+        put(&mut tables.files, slot, Some(long_file(name, first)?))?;
+    }
+    assert!(rt; is_card(&tables), "all load pages");
+    put(
+        &mut tables.files,
+        5,
+        Some(load_file(0x45, 0, 1, [96, 0, 0])?),
+    )?;
+    assert!(rt; !is_card(&tables), "a page more");
+    Ok(())
+}
+
 #[test]
 fn judges_entries(rt: HostRuntime) -> Result<(), Fail> {
     let tables = Tables::factory(rt.alloc())?;
@@ -484,13 +527,10 @@ fn judges_load_files(rt: HostRuntime) -> Result<(), Fail> {
     let factory = tables.files[0].ok_or("the factory's file")?;
     let purses = load_file(5, BANK, 513, [96, 607, 200])?;
     let tickets = load_file(6, 0, 256, [201, 0, 0])?;
-    let mut long = LoadFile {
-        len: 32_768,
-        ..purses
+    let long = LoadFile {
+        domain: BANK,
+        ..long_file(5, 480)?
     };
-    for (number, page) in long.pages.iter_mut().enumerate() {
-        *page = number as u16 + 480;
-    }
     let cases = [
         (
             "pages past the length",
