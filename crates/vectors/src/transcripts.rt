@@ -35,29 +35,39 @@ fn derived<const N: usize>(key: [u8; 16], constant: u8, context: &[u8]) -> [u8; 
     out
 }
 
-#[test]
-fn derived_values(rt: HostRuntime) {
+fn card_challenge() -> u64 {
     let mut counter_and_aid = [0; 11];
     counter_and_aid[3..].copy_from_slice(&AID);
-    let challenge = derived(STATIC_KEY, 0x02, &counter_and_aid);
-    assert_eq!(rt; u64::from_be_bytes(challenge), CARD_CHALLENGE);
+    u64::from_be_bytes(derived(STATIC_KEY, 0x02, &counter_and_aid))
+}
 
+fn both_challenges() -> [u8; 16] {
     let mut context = [0; 16];
     context[..8].copy_from_slice(&HOST_CHALLENGE);
-    context[8..].copy_from_slice(&challenge);
-    for (constant, key) in [(0x04, S_ENC), (0x06, S_MAC), (0x07, S_RMAC)] {
-        assert_eq!(rt;
-            u128::from_be_bytes(derived(STATIC_KEY, constant, &context)),
-            key
-        );
-    }
-    let s_mac = S_MAC.to_be_bytes();
-    for (constant, cryptogram) in [(0x00, CARD_CRYPTOGRAM), (0x01, HOST_CRYPTOGRAM)] {
-        assert_eq!(rt;
-            u64::from_be_bytes(derived(s_mac, constant, &context)),
-            cryptogram
-        );
-    }
+    context[8..].copy_from_slice(&CARD_CHALLENGE.to_be_bytes());
+    context
+}
+
+fn session_key(constant: u8) -> u128 {
+    u128::from_be_bytes(derived(STATIC_KEY, constant, &both_challenges()))
+}
+
+fn cryptogram(constant: u8) -> u64 {
+    u64::from_be_bytes(derived(S_MAC.to_be_bytes(), constant, &both_challenges()))
+}
+
+fn derivations() -> Told<()> {
+    told(card_challenge() == CARD_CHALLENGE, "card challenge")?;
+    told(session_key(0x04) == S_ENC, "S-ENC")?;
+    told(session_key(0x06) == S_MAC, "S-MAC")?;
+    told(session_key(0x07) == S_RMAC, "S-RMAC")?;
+    told(cryptogram(0x00) == CARD_CRYPTOGRAM, "card cryptogram")?;
+    told(cryptogram(0x01) == HOST_CRYPTOGRAM, "host cryptogram")
+}
+
+#[test]
+fn derived_values(rt: HostRuntime) {
+    assert_eq!(rt; derivations(), Ok(()));
 }
 
 fn keys() -> StaticKeys<Aes128> {
