@@ -57,10 +57,10 @@ fn judges_the_issuer(rt: HostRuntime) -> Result<(), Fail> {
     );
     let selectable = with_life(issuer, Life::Selectable, false);
     for (what, entry) in [
-        ("another AID", with_aid(issuer, aid(9)?)),
+        ("another AID", with_aid(issuer, aid(9))),
         ("another domain", with_domain(issuer, BANK)),
         ("another file", with_file(issuer, PURSES)),
-        ("another module", with_module(issuer, aid(9)?)),
+        ("another module", with_module(issuer, aid(9))),
         ("selectable", selectable),
         ("locked", with_life(issuer, Life::Personalized, true)),
         ("no domain", with_privileges(issuer, 0)),
@@ -73,7 +73,7 @@ fn judges_the_issuer(rt: HostRuntime) -> Result<(), Fail> {
 
 #[test]
 fn judges_domains(rt: HostRuntime) -> Result<(), Fail> {
-    let shop = domain(2, BANK, Life::Installed, SECURITY_DOMAIN)?;
+    let shop = domain(2, BANK, Life::Installed, SECURITY_DOMAIN);
     let locked = with_life(shop, Life::Personalized, true);
     let counted = Entry {
         receipts: 0xFFFF,
@@ -88,20 +88,20 @@ fn judges_domains(rt: HostRuntime) -> Result<(), Fail> {
     }
     let both = SECURITY_DOMAIN | DELEGATED_MANAGEMENT | 0x40_00;
     for (what, entry) in [
-        ("the AID of another entry", with_aid(shop, aid(1)?)),
-        ("the AID of a load file", with_aid(shop, aid(6)?)),
+        ("the AID of another entry", with_aid(shop, aid(1))),
+        ("the AID of a load file", with_aid(shop, aid(6))),
         ("a domain's slot that is free", with_domain(shop, FREE)),
         ("a domain's slot past the last", with_domain(shop, 32)),
         ("an application for a domain", with_domain(shop, PURSE)),
         ("another root", with_domain(shop, SHOP)),
         ("another file", with_file(shop, PURSES)),
-        ("another module", with_module(shop, aid(0xAA)?)),
+        ("another module", with_module(shop, aid(0xAA))),
         ("no Security Domain", with_privileges(shop, 0)),
         ("two kinds of management", with_privileges(shop, both)),
     ] {
         assert!(rt; !is_card_with(rt.alloc(), SHOP, Some(entry))?, "{what}");
     }
-    let bank = domain(1, SHOP, Life::Installed, SECURITY_DOMAIN)?;
+    let bank = domain(1, SHOP, Life::Installed, SECURITY_DOMAIN);
     assert!(rt;
         !is_card_with(rt.alloc(), BANK, Some(bank))?,
         "a loop of two domains"
@@ -112,12 +112,12 @@ fn judges_domains(rt: HostRuntime) -> Result<(), Fail> {
 
 #[test]
 fn judges_applications(rt: HostRuntime) -> Result<(), Fail> {
-    let purse = application(3, BANK, PURSES)?;
+    let purse = application(3, BANK, PURSES);
     assert!(rt; is_card_with(rt.alloc(), PURSE, None)?, "no purse");
     let personalized = with_life(purse, Life::Personalized, false);
     for (what, entry) in [
-        ("the AID of another entry", with_aid(purse, aid(4)?)),
-        ("the AID of its file", with_aid(purse, aid(5)?)),
+        ("the AID of another entry", with_aid(purse, aid(4))),
+        ("the AID of its file", with_aid(purse, aid(5))),
         ("itself for a domain", with_domain(purse, PURSE)),
         ("a file's slot that is free", with_file(purse, FREE)),
         ("a file's slot past the last", with_file(purse, 16)),
