@@ -20,6 +20,7 @@ use Rattle.card_types.specs.Slots.{held}
 use Rattle.card_types.specs.Well.{IsFactoryFile, IsIssuerDomain, IsWellCounter, IsWellFile, IsWellKey, IsWellObject, Well}
 use Rattle.card_types.specs.declared.factory.TheConstants.{ISSUER, FACTORY_FILE}
 use Rattle.card_types.specs.declared.found.Found.TheVariants as found
+use Rattle.card_types.specs.declared.limits.TheConstants.{FILE_LIMIT}
 use Rattle.card_types.specs.declared.tables.Entry.{Entry}
 use Rattle.card_types.specs.declared.tables.KeyRec.{KeyRec}
 use Rattle.card_types.specs.declared.tables.LoadFile.{LoadFile}
@@ -197,7 +198,7 @@ module _ (page : ℕ → List ℕ) (tables : Tables) (card : IsCard page tables)
 
   pages_are : HaveLoadPages files
   pages_are = record {
-    lengths = all_of_members (λ (f : LoadFile). f.len ≤ 32768) (used files) (λ file there. (All-contains IsInLoadPages (used files) file card.files there).size);
+    lengths = all_of_members (λ (f : LoadFile). f.len ≤ FILE_LIMIT) (used files) (λ file there. (All-contains IsInLoadPages (used files) file card.files there).size);
     pages = record { each = pages_each (used files) card.files; apart = card.apart };
   }
 

@@ -86,7 +86,7 @@ distinct_places (x ∷ pages) all apart = (
 pub few_load_pages : (pages : List ℕ) → AreLoadPages pages → length pages ≤ LOAD_PAGES
 few_load_pages pages are =
     let places = map (λ page. page - 96) pages in
-    let few : length places ≤ 512 = length-le_from_distinct_below places 512 (distinct_places pages are.each are.apart) (λ q found.
+    let few : length places ≤ LOAD_PAGES = length-le_from_distinct_below places LOAD_PAGES (distinct_places pages are.each are.apart) (λ q found.
     (let from = mapped (λ page. page - 96) pages q (among q places found) in
     let is : IsLoadPage from.0 = All-contains IsLoadPage pages from.0 are.each from.1 in
     omega (arith, is.0, is.1, from.2))) in

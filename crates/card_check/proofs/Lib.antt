@@ -1,10 +1,10 @@
-pub mod IssuerLines
-pub mod LoadPagesNamed
-pub mod LoadFilesNamed
-pub mod Sorting
+pub mod CardFromSlots
 pub mod CardNames
+pub mod CardNeeds
 pub mod CardSays
 pub mod CardWell
-pub mod CardNeeds
-pub mod CardFromSlots
 pub mod Counting
+pub mod IssuerLines
+pub mod LoadFilesNamed
+pub mod LoadPagesNamed
+pub mod Sorting
