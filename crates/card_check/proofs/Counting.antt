@@ -11,8 +11,8 @@ use Rattle.card_types.specs.Says.{used}
 use Rattle.card_types.specs.Slots.{held}
 use Rattle.card_types.specs.declared.limits.TheConstants.{LOAD_PAGES}
 use Rattle.card_types.proofs.Members.{contains_first, contains_later, mapped}
-use Rattle.card_check.specs.IsCard.{HasPages}
-use Rattle.card_check.specs.LoadPages.{AreLoadPages, IsLoadPage}
+use Rattle.card_check.specs.IsCard.{HasPages, IsLoadPage}
+use Rattle.card_check.specs.LoadPages.{AreLoadPages}
 
 module _ {T : Type 0} where
   pub used_at_most : (slots : List (Option T)) → length (used slots) ≤ length slots

@@ -8,7 +8,8 @@ use Rattle.std.proofs.lemmas.Bool.{cases_eq, eq-eqb, ne_eqb}
 use Rattle.std.proofs.lemmas.List.Elements.{All-contains, All-contains_itself, All-from_recursion, All-push, All-weaker, Contains-append_left, Contains-append_right, Contains-push, Contains-push_cases, recursion_from_All}
 use Rattle.card_types.proofs.Members.{contains_cases, contains_first, contains_later}
 use Rattle.card_types.specs.declared.limits.TheConstants.{LOAD_PAGES}
-use Rattle.card_check.specs.LoadPages.{AreLoadPages, HasMarks, IsLoadPage, IsNewPage}
+use Rattle.card_check.specs.LoadPages.{AreLoadPages, HasMarks, IsNewPage}
+use Rattle.card_check.specs.IsCard.{IsLoadPage}
 
 module _ {X : Type 0} where
   -- what is so of the members is so of all

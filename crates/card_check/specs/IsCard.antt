@@ -11,14 +11,17 @@ use Rattle.card_types.specs.declared.limits.TheConstants.{FILE_LIMIT}
 use Rattle.card_types.specs.declared.tables.LoadFile.{LoadFile}
 use Rattle.card_types.specs.declared.tables.Tables.{Tables}
 
--- the numbers of the pages that hold an Executable Load File
+-- the numbers of the pages that hold an Executable Load File, and those of load pages
 abbrev pub pages_named : LoadFile → List ℕ
 pages_named file = take (pages_of file.len) file.pages
+
+abbrev pub IsLoadPage : ℕ → Type 0
+IsLoadPage page = (96 ≤ page) × (page < 608)
 
 -- the file is no longer than one may be, and its pages are load pages
 pub record IsInLoadPages (file : LoadFile) : Type 0 where
   pub size : file.len ≤ FILE_LIMIT
-  pub pages : All (λ page. (96 ≤ page) × (page < 608)) (pages_named file)
+  pub pages : All IsLoadPage (pages_named file)
 
 -- each page has 256 bytes
 abbrev pub HasPages : (ℕ → List ℕ) → Type 0

@@ -4,10 +4,7 @@ use Rattle.std.specs.List.{IsDistinct, concat}
 use Rattle.card_types.specs.Says.{used}
 use Rattle.card_types.specs.declared.limits.TheConstants.{FILE_LIMIT, LOAD_PAGES}
 use Rattle.card_types.specs.declared.tables.LoadFile.{LoadFile}
-use Rattle.card_check.specs.IsCard.{pages_named}
-
-abbrev pub IsLoadPage : ℕ → Type 0
-IsLoadPage page = (96 ≤ page) × (page < 608)
+use Rattle.card_check.specs.IsCard.{IsLoadPage, pages_named}
 
 -- load pages, none of them twice
 pub record AreLoadPages (pages : List ℕ) : Type 0 where
