@@ -1,0 +1,30 @@
+-- What contracts see of records, and why a device is not mounted.
+use Rattle.std.specs.Prelude.{◌≡◌, ℕ, Bool, List}
+use Rattle.card_types.specs.Registry.{Registry}
+use Rattle.card_types.specs.declared.tables.Tables.{Tables}
+use Rattle.flash_core.specs.declared.page.Page.{Page}
+use Rattle.flash_core.specs.Faults.{Rose}
+use Rattle.page_journal.specs.Moments.{LeavesOnly}
+use Rattle.rec_store.specs.Holds.{Reopens}
+use Rattle.rec_store.specs.declared.open.OpenCause.{OpenCause}
+use Rattle.rec_store.specs.declared.open.OpenCause.TheVariants.{Memory, FlashFailed, NotACard}
+
+-- the device, the tables with all changes so far, the numbers of the store pages that are staged, and whether no commit
+-- has failed
+pub record Contents (F : Type 0) : Type 0 where
+  pub flash : F
+  pub tables : Tables
+  pub staged : List ℕ
+  pub live : Bool
+
+-- Why a device is not mounted: memory was wanted before any call on it, it failed, or its pages hold no registry.
+abbrev pub OpenFails : {F : Type 0} → Type 0 → (F → ℕ) → (F → List Page) → F → OpenCause → F → Type 0
+OpenFails tells faults pages old (Memory refused) new = new ≡ old
+OpenFails tells faults pages old FlashFailed new = Rose (faults old) (faults new)
+OpenFails tells faults pages old NotACard new = tells → ((registry : Registry) → Reopens (pages old) registry → ⊥) × (pages new ≡ pages old)
+
+-- Why slots are not read: the device failed, or one of them holds nothing that a card has.
+abbrev pub SlotsFail : Type 0 → ℕ → ℕ → Type 0 → OpenCause → Type 0
+SlotsFail tells before now bad (Memory refused) = ⊥
+SlotsFail tells before now bad FlashFailed = Rose before now
+SlotsFail tells before now bad NotACard = tells → bad

@@ -1,0 +1,51 @@
+-- Which registry pages hold.
+use Rattle.std.specs.Prelude.{◌≡◌, ℕ, ◌++◌, List, [], Contains, All, take, replicate, nat_lt, if◌then◌else◌}
+use Rattle.card_check.specs.IsCard.{IsCard, pages_named}
+use Rattle.card_types.specs.Registry.{Registry}
+use Rattle.card_types.specs.Says.{Says, used}
+use Rattle.card_types.specs.declared.tables.LoadFile.{LoadFile}
+use Rattle.card_types.specs.declared.tables.Tables.{Tables}
+use Rattle.flash_core.specs.declared.page.Page.{Page}
+use Rattle.page_journal.specs.Journal.{IsSound, bytes_of, stored}
+use Rattle.page_journal.specs.Moments.{Always, Leaves, current}
+use Rattle.rec_store.specs.StoredTables.{HoldsTables}
+
+-- Store pages and load pages hold a registry: the store pages hold tables that are a card's, and these say it.
+pub record Holds (store load : ℕ → List ℕ) (registry : Registry) : Type 0 where
+  pub tables : Tables
+  pub held : HoldsTables store tables
+  pub card : IsCard load tables
+  pub says : Says load tables registry
+
+-- the store pages of a device, an open journal applied
+abbrev pub store_page : List Page → ℕ → List ℕ
+store_page pages number = bytes_of (stored pages number)
+
+-- the same, with staged pages in their places
+abbrev pub current_page : List (ℕ × Page) → List Page → ℕ → List ℕ
+current_page staged pages number = bytes_of (current staged pages number)
+
+-- Its load pages, of 256 bytes. A list of pages that lacks one, as none of a device does, has zeros there.
+abbrev pub load_page : List Page → ℕ → List ℕ
+load_page pages number = take 256 ((if nat_lt number 96 then [] else bytes_of (stored pages number)) ++ replicate 256 0)
+
+-- after a power loss that left these pages the card has this registry
+pub record Reopens (pages : List Page) (registry : Registry) : Type 0 where
+  pub sound : IsSound pages
+  pub holds : Holds (store_page pages) (load_page pages) registry
+
+-- or one of these
+abbrev pub ReopensAsOne : List Registry → List Page → Type 0
+ReopensAsOne registries pages = (registry : Registry) × Contains registries registry × Reopens pages registry
+
+-- no Executable Load File has this load page
+abbrev pub IsFree : Tables → ℕ → Type 0
+IsFree tables page = All (λ file. Contains (pages_named file) page → ⊥) (used tables.files.items)
+
+-- Power lost now leaves this registry: all store pages stand, and all load pages that its files have.
+pub record Keeps (pages : List Page) (may_leave : List Page → Type 0) (registry : Registry) : Type 0 where
+  pub reopens : Always may_leave (λ outcome. Reopens outcome registry)
+  pub now : Reopens pages registry
+  pub loose : List ℕ
+  pub leaves : Always may_leave (Leaves (stored pages) loose)
+  pub free : (page : ℕ) → Contains loose page → IsFree now.holds.tables page

@@ -1,0 +1,13 @@
+pub mod Places
+pub mod Bytes
+pub mod EntrySlot
+pub mod FileSlot
+pub mod KeySlot
+pub mod ObjectSlot
+pub mod Superblock
+pub mod StoredTables
+pub mod Holds
+pub mod Room
+pub mod Reading
+pub mod Contents
+pub mod Laws

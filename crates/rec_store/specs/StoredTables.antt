@@ -1,0 +1,44 @@
+-- The tables that store pages hold.
+use Rattle.std.specs.Prelude.{◌≡◌, ℕ, ◌/◌, ◌<◌, List, Option, All, length}
+use Rattle.card_check.specs.IsCard.{IsInLoadPages}
+use Rattle.card_types.specs.Says.{used}
+use Rattle.card_types.specs.Slots.{held}
+use Rattle.card_types.specs.declared.limits.TheConstants.{ENTRIES, FILES, KEYS, OBJECTS}
+use Rattle.card_types.specs.declared.tables.Tables.{Tables}
+use Rattle.rec_store.specs.EntrySlot.{HoldsEntry, IsRoomyEntry}
+use Rattle.rec_store.specs.FileSlot.{HoldsFile}
+use Rattle.rec_store.specs.KeySlot.{HoldsKey, IsRoomyKey}
+use Rattle.rec_store.specs.ObjectSlot.{HoldsObject}
+use Rattle.rec_store.specs.Places.{entry_slot, file_slot, key_slot, object_slot, slot_in}
+use Rattle.rec_store.specs.Superblock.{IsSuperblock}
+
+-- the first so many slots hold these things
+abbrev pub AreHeld : {T : Type 0} → (List ℕ → Option T → Type 0) → (ℕ → List ℕ) → ℕ → List (Option T) → Type 0
+AreHeld holds slot count things = (i : ℕ) → i < count → holds (slot i) (held things i)
+
+-- a page has its slots of these things, as the page of this number
+abbrev pub HoldsPage : {T : Type 0} → (List ℕ → Option T → Type 0) → ℕ → List ℕ → ℕ → List (Option T) → Type 0
+HoldsPage holds size page number things = (i : ℕ) → i / (256 / size) ≡ number → i < length things → holds (slot_in page size i) (held things i)
+
+-- there is a place for each slot
+pub record HasSlots (tables : Tables) : Type 0 where
+  pub entries : length tables.entries.items ≡ ENTRIES
+  pub files : length tables.files.items ≡ FILES
+  pub keys : length tables.keys.items ≡ KEYS
+  pub objects : length tables.objects.items ≡ OBJECTS
+
+-- the store pages hold these tables, and no others
+pub record HoldsTables (store : ℕ → List ℕ) (tables : Tables) : Type 0 where
+  pub slots : HasSlots tables
+  pub life : IsSuperblock (store 0) tables.life
+  pub entries : AreHeld HoldsEntry (entry_slot store) ENTRIES tables.entries.items
+  pub files : AreHeld HoldsFile (file_slot store) FILES tables.files.items
+  pub keys : AreHeld HoldsKey (key_slot store) KEYS tables.keys.items
+  pub objects : AreHeld HoldsObject (object_slot store) OBJECTS tables.objects.items
+
+-- slots have room for all that is in the tables
+pub record AreRoomy (tables : Tables) : Type 0 where
+  pub slots : HasSlots tables
+  pub entries : All IsRoomyEntry (used tables.entries.items)
+  pub files : All IsInLoadPages (used tables.files.items)
+  pub keys : All IsRoomyKey (used tables.keys.items)

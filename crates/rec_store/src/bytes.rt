@@ -1,0 +1,46 @@
+//! Bytes of any length in a slot: one byte says how many there are, and they stand behind it.
+
+ghost use Rattle.std.specs.Prelude.{◌≡◌, ◌+◌, ◌<◌, ◌≤◌, ◌++◌, ℕ, List, length, take, drop, slice_index, slice_range, IfOk, OnErr, IfSome};
+ghost use Rattle.card_types.specs.Aid.{IsAid};
+ghost use Rattle.rec_store.specs.Bytes.{HasBytesAt};
+
+use crate::slot::BadSlot;
+use card_types::Aid;
+
+/// The bytes that stand from this place of a slot on.
+pub fn bytes_at(slot: &[u8], at: usize) -> Result<&[u8], BadSlot>
+    requires { at < length slot.now }
+    ensures ok { IfOk result (λ bytes. HasBytesAt slot.now at bytes.now) }
+    ensures err { OnErr result ((bytes : List ℕ) → HasBytesAt slot.now at bytes → ⊥) }
+{
+    let count = usize::from(slot[at]);
+    match slot[at + 1..].get(..count) {
+        Some(bytes) => Ok(bytes),
+        None => Err(BadSlot),
+    }
+}
+
+/// The AID that stands from this place of a slot on.
+pub fn aid_at(slot: &[u8], at: usize) -> Result<Aid, BadSlot>
+    requires { at < length slot.now }
+    ensures ok { IfOk result (λ aid. HasBytesAt slot.now at aid) }
+    ensures form { IfOk result IsAid }
+    ensures err { OnErr result ((aid : List ℕ) → IsAid aid → HasBytesAt slot.now at aid → ⊥) }
+{
+    match Aid::new(bytes_at(slot, at)?) {
+        Some(aid) => Ok(aid),
+        None => Err(BadSlot),
+    }
+}
+
+/// Makes these bytes stand from this place of a slot on.
+pub fn put_bytes(slot: &mut [u8], at: usize, bytes: &[u8])
+    requires few { length bytes.now < 256 }
+    requires room { at + 1 + length bytes.now ≤ length slot.old }
+    ensures put { HasBytesAt slot.new at bytes.now }
+    ensures before { take at slot.new ≡ take at slot.old }
+    ensures after { drop (at + 1 + length bytes.now) slot.new ≡ drop (at + 1 + length bytes.now) slot.old }
+{
+    slot[at] = bytes.len() as u8;
+    slot[at + 1..at + 1 + bytes.len()].copy_from_slice(bytes);
+}

@@ -1,0 +1,111 @@
+//! The load directory of an Executable Load File.
+
+ghost use Rattle.std.specs.Prelude.{◌≡◌, ◌<◌, ◌≤◌, ◌+◌, ◌*◌, ℕ, List, Option, length, slice_index, IfOk, OnErr, IfSome};
+ghost use Rattle.card_check.specs.IsCard.{IsInLoadPages};
+ghost use Rattle.card_types.specs.Well.{pages_of};
+ghost use Rattle.card_types.specs.declared.tables.LoadFile.{LoadFile as FileOf};
+ghost use Rattle.rec_store.specs.FileSlot.{HoldsFile, IsFileIn, ninth_bit, page_in};
+
+use crate::bytes::{aid_at, put_bytes};
+use crate::slot::{BadSlot, FREE, Slot, USED};
+use byteorder::{BigEndian, ByteOrder};
+use card_types::{FILE_LIMIT, LoadFile};
+
+/// The first load page.
+const LOAD: u16 = 96;
+
+impl Slot for LoadFile {
+    ghost FIRST = { 9 };
+
+    const FIRST: u16 = 9;
+
+    ghost SIZE = { 256 };
+
+    const SIZE: usize = 256;
+
+    ghost holds = { HoldsFile };
+
+    ghost is_roomy = { IsInLoadPages };
+
+    fn read(slot: &[u8]) -> Result<Option<LoadFile>, BadSlot> {
+        match slot[0] {
+            FREE => Ok(None),
+            USED => Ok(Some(read_used(slot)?)),
+            _ => Err(BadSlot),
+        }
+    }
+
+    fn write(thing: &Option<LoadFile>, slot: &mut [u8]) {
+        match thing {
+            Some(file) => write_used(file, slot),
+            None => slot[0] = FREE,
+        }
+    }
+
+    ghost sizes = { (lit< tt, refl, lit≤ tt) };
+}
+
+fn read_used(slot: &[u8]) -> Result<LoadFile, BadSlot>
+    requires size { length slot.now ≡ 256 }
+    requires mark { slice_index slot.now 0 ≡ 1 }
+    ensures ok { IfOk result (IsFileIn slot.now) }
+    ensures roomy { IfOk result IsInLoadPages }
+    ensures err { OnErr result ((file : FileOf) → IsFileIn slot.now file → ⊥) }
+{
+    let aid = aid_at(slot, 1)?;
+    let len = BigEndian::read_u16(&slot[19..]);
+    if usize::from(len) > FILE_LIMIT {
+        return Err(BadSlot);
+    }
+    Ok(LoadFile {
+        aid,
+        domain: slot[18],
+        len,
+        pages: read_pages(slot, usize::from(len).div_ceil(256)),
+    })
+}
+
+// The numbers of the first so many load pages, and zeros behind them.
+fn read_pages(slot: &[u8], count: usize) -> [u16; 128]
+    requires size { length slot.now ≡ 256 }
+    requires few { count ≤ 128 }
+    ensures { (i : ℕ) → i < count → slice_index result i ≡ page_in slot.now i }
+{
+    let mut pages = [0; 128];
+    for i in 0..count {
+        let ninth = slot[192 + i / 8] >> (7 - i % 8) & 1;
+        pages[i] = LOAD + 256 * u16::from(ninth) + u16::from(slot[64 + i]);
+    }
+    pages
+}
+
+fn write_used(file: &LoadFile, slot: &mut [u8])
+    requires size { length slot.old ≡ 256 }
+    requires roomy { IsInLoadPages file.now }
+    ensures { IsFileIn slot.new file.now }
+{
+    slot[0] = USED;
+    put_bytes(slot, 1, file.aid.as_bytes());
+    slot[18] = file.domain;
+    BigEndian::write_u16(&mut slot[19..], file.len);
+    write_pages(
+        &file.pages,
+        usize::from(file.len).div_ceil(256),
+        &mut slot[64..],
+    );
+}
+
+// Writes the numbers of the first so many load pages into the bytes from 64 on.
+fn write_pages(pages: &[u16; 128], count: usize, slot: &mut [u8])
+    requires size { length slot.old ≡ 192 }
+    requires few { count ≤ 128 }
+    requires range { (i : ℕ) → i < count → (96 ≤ slice_index pages.now i) × (slice_index pages.now i < 608) }
+    ensures { (i : ℕ) → i < count → slice_index pages.now i ≡ 96 + 256 * ninth_bit slot.new (i) + slice_index slot.new i }
+{
+    for i in 0..count {
+        slot[i] = (pages[i] - LOAD) as u8;
+    }
+    for byte in 0..16 {
+        slot[128 + byte] = 0;
+    }
+}

@@ -1,0 +1,39 @@
+//! The tables of a card on a flash device that may lose power at any moment.
+//!
+//! Terms. *Store pages* and *load pages* are those of `page_journal`. Each thing of the tables has a *slot* in the store pages,
+//! and the *superblock* has the life cycle state of the card. The bytes of Executable Load Files stand in load pages, which
+//! their slots name. The pages of a device *reopen as* a registry where its store pages, an open journal applied, hold
+//! tables that are a card's, and these say the registry. There is at most one (`one_registry`). Power lost *keeps* a registry
+//! where all that it may leave reopens as it.
+//!
+//! What holds, each with the clause that proves it:
+//!
+//!  1. The tables in memory are what the store pages hold, changes included, but after a commit that failed (the invariant of
+//!     `Records`).
+//!  2. A device is mounted exactly where its pages reopen as a registry, which the tables then say (`mount`, `says` and
+//!     `err`). On pages that do not, nothing is written.
+//!  3. While a device is mounted, power lost leaves no registry that it could not leave before (`mount`, `moments` and
+//!     `err_moments`), and once it is mounted, the one that the pages reopened as (`mount`, `says`).
+//!  4. A change is made in one slot, and makes no call on the device (`set_entry` and its like, `tables` and `same`).
+//!  5. While changes are committed, power lost leaves the registry from before or the one with all changes (`commit`,
+//!     `moments`), and once they are, the latter (`commit`, `keeps`).
+//!  6. A load page that no Executable Load File has may be written, and power lost leaves the registry (`write_load`).
+//!  7. A call fails only where the device's count of faults rose (`cause` on each call, and `mount`, `err`).
+#![tactic(auto)]
+
+mod bytes;
+mod entry_slot;
+mod file_slot;
+mod key_slot;
+mod laws;
+mod mount;
+mod object_slot;
+mod open;
+mod records;
+mod slot;
+mod slots;
+mod superblock;
+
+pub use laws::{one_registry, room_stays};
+pub use open::{OpenCause, OpenError};
+pub use records::Records;

@@ -1,0 +1,76 @@
+//! All slots of one kind.
+
+ghost use Rattle.std.specs.Prelude.{◌≡◌, ◌⊎◌, ◌+◌, ◌*◌, ◌/◌, ◌%◌, ◌<◌, ◌≤◌, ℕ, List, [], Option, true, length, All, IsSome, OnOk, IfErr};
+ghost use Rattle.card_types.specs.Says.{used};
+ghost use Rattle.flash_core.specs.declared.page.Page.{Page as PageOf};
+ghost use Rattle.frame_pool.specs.Staged.{staged, with_page};
+ghost use Rattle.rec_store.specs.Holds.{store_page};
+ghost use Rattle.rec_store.specs.Contents.{SlotsFail};
+ghost use Rattle.rec_store.specs.Places.{slot_from, slot_in};
+ghost use Rattle.rec_store.specs.Reading.{IsRead};
+ghost use Rattle.rec_store.specs.StoredTables.{AreHeld, HoldsPage};
+
+use crate::open::OpenCause;
+use crate::slot::Slot;
+use flash_core::{Flash, Page};
+use page_journal::PageStore;
+
+/// Reads all slots of one kind, each page once.
+pub fn read_slots<F: Flash, T: Slot>(
+    store: &mut PageStore<F>,
+    slots: &mut [Option<T>],
+) -> Result<(), OpenCause>
+    requires live { store.old.live ≡ true }
+    requires none { store.old.staged ≡ [] }
+    requires range { T.FIRST * (256 / T.SIZE) + length slots.old ≤ 45 * (256 / T.SIZE) }
+    ensures ok { F.tells → OnOk result (AreHeld T.holds (slot_from (store_page (F.pages store.old.flash)) T.FIRST T.SIZE) (length slots.new) slots.new) }
+    ensures roomy { OnOk result (All T.is_roomy (used slots.new)) }
+    ensures read { IsRead F.tells F.pages F.moment F.may_leave F.left_since F.faults store.old store.new }
+    ensures err { IfErr result (SlotsFail F.tells (F.faults store.old.flash) (F.faults store.new.flash)
+        ((i : ℕ) × (i < length slots.old) × ((thing : Option T) → T.holds (slot_from (store_page (F.pages store.old.flash)) T.FIRST T.SIZE i) thing → ⊥))) }
+{
+    let mut page = Page { bytes: [0; 256] };
+    let each = 256 / T::SIZE;
+    for number in 0..slots.len() {
+        let place = number % each;
+        if place == 0 {
+            store.read(T::FIRST + (number / each) as u16, &mut page)?;
+        }
+        slots[number] = T::read(&page.bytes[place * T::SIZE..(place + 1) * T::SIZE])?;
+    }
+    Ok(())
+}
+
+/// Stages the page of a slot, with all slots of it. It makes no call on the device.
+pub fn stage_slots<F: Flash, T: Slot>(store: &mut PageStore<F>, slots: &[Option<T>], slot: u8)
+    requires live { store.old.live ≡ true }
+    requires settled { store.old.settled ≡ true }
+    requires slot { slot < length slots.now }
+    requires whole { length slots.now % (256 / T.SIZE) ≡ 0 }
+    requires range { T.FIRST * (256 / T.SIZE) + length slots.now ≤ 45 * (256 / T.SIZE) }
+    requires roomy { All T.is_roomy (used slots.now) }
+    requires frame { IsSome (staged store.old.staged (T.FIRST + slot / (256 / T.SIZE))) ⊎ (length store.old.staged < 30) }
+    ensures { (page : PageOf) × (store.new ≡ record store.old { staged = with_page store.old.staged (T.FIRST + slot / (256 / T.SIZE)) page })
+        × HoldsPage T.holds T.SIZE page.bytes (slot / (256 / T.SIZE)) slots.now }
+{
+    let number = usize::from(slot) / (256 / T::SIZE);
+    let page = Page {
+        bytes: page_of(slots, number),
+    };
+    store.stage(T::FIRST + number as u16, &page);
+}
+
+// The page of slots with this number.
+fn page_of<T: Slot>(slots: &[Option<T>], number: usize) -> [u8; 256]
+    requires range { (number + 1) * (256 / T.SIZE) ≤ length slots.now }
+    requires roomy { All T.is_roomy (used slots.now) }
+    ensures { HoldsPage T.holds T.SIZE result number slots.now }
+{
+    let mut bytes = [0; 256];
+    let each = 256 / T::SIZE;
+    for place in 0..each {
+        let slot = &mut bytes[place * T::SIZE..(place + 1) * T::SIZE];
+        T::write(&slots[number * each + place], slot);
+    }
+    bytes
+}
