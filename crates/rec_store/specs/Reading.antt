@@ -9,7 +9,7 @@ pub record IsRead {F : Type 0} (tells : Type 0) (pages : F → List Page) (momen
   pub staged : new.staged ≡ old.staged
   pub settled : new.settled ≡ old.settled
   pub live : new.live ≡ old.live
-  pub pages : tells → pages new.flash ≡ pages old.flash
+  pub seen : tells → pages new.flash ≡ pages old.flash
   pub loss : tells → NoneNew (may_leave old.flash) (may_leave new.flash)
   pub moments : tells → LeavesOnly moment left_since old.flash new.flash (may_leave old.flash)
   pub later : faults old.flash ≤ faults new.flash

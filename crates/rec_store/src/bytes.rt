@@ -1,10 +1,12 @@
 //! Bytes of any length in a slot: one byte says how many there are, and they stand behind it.
 
-ghost use Rattle.std.specs.Prelude.{◌≡◌, ◌+◌, ◌<◌, ◌≤◌, ◌++◌, ℕ, List, length, take, drop, slice_index, slice_range, IfOk, OnErr, IfSome};
+ghost use Rattle.std.specs.Prelude.{◌≡◌, ◌+◌, ◌<◌, ◌≤◌, ◌^◌, ℕ, List, length, slice_index, IfOk, OnErr};
+ghost use Rattle.byteorder.specs.Endian.{big_from};
 ghost use Rattle.card_types.specs.Aid.{IsAid};
 ghost use Rattle.rec_store.specs.Bytes.{HasBytesAt};
 
 use crate::slot::BadSlot;
+use byteorder::{BigEndian, ByteOrder};
 use card_types::Aid;
 
 /// The bytes that stand from this place of a slot on.
@@ -38,9 +40,27 @@ pub fn put_bytes(slot: &mut [u8], at: usize, bytes: &[u8])
     requires few { length bytes.now < 256 }
     requires room { at + 1 + length bytes.now ≤ length slot.old }
     ensures put { HasBytesAt slot.new at bytes.now }
-    ensures before { take at slot.new ≡ take at slot.old }
-    ensures after { drop (at + 1 + length bytes.now) slot.new ≡ drop (at + 1 + length bytes.now) slot.old }
+    ensures below { (i : ℕ) → i < at → slice_index slot.new i ≡ slice_index slot.old i }
 {
     slot[at] = bytes.len() as u8;
     slot[at + 1..at + 1 + bytes.len()].copy_from_slice(bytes);
+}
+
+/// Makes a number of two bytes stand at this place.
+pub fn put_u16(slot: &mut [u8], at: usize, number: u16)
+    requires { at + 2 ≤ length slot.old }
+    ensures put { big_from at 2 slot.new ≡ number }
+    ensures below { (i : ℕ) → i < at → slice_index slot.new i ≡ slice_index slot.old i }
+{
+    BigEndian::write_u16(&mut slot[at..], number);
+}
+
+/// Makes a number of three bytes stand at this place.
+pub fn put_u24(slot: &mut [u8], at: usize, number: u32)
+    requires room { at + 3 ≤ length slot.old }
+    requires fits { number < 2 ^ 24 }
+    ensures put { big_from at 3 slot.new ≡ number }
+    ensures below { (i : ℕ) → i < at → slice_index slot.new i ≡ slice_index slot.old i }
+{
+    BigEndian::write_u24(&mut slot[at..], number);
 }

@@ -1,10 +1,11 @@
 //! The slot of an application or a security domain.
 
-ghost use Rattle.std.specs.Prelude.{◌≡◌, ◌<◌, ◌≤◌, ◌^◌, ℕ, List, Option, length, IfOk, OnErr, IfSome};
-ghost use Rattle.rec_store.specs.EntrySlot.{HoldsEntry, IsRoomyEntry};
+ghost use Rattle.std.specs.Prelude.{◌≡◌, ◌<◌, ◌≤◌, ◌^◌, ℕ, List, Option, length, slice_index, IfOk, OnErr, IfSome};
+ghost use Rattle.rec_store.specs.EntrySlot.{HoldsEntry, IsEntryIn, IsRoomyEntry};
 ghost use Rattle.card_types.specs.declared.tables.Entry.{Entry as EntryOf};
+ghost use Rattle.std.proofs.Common.{lit<, lit≤, refl};
 
-use crate::bytes::{aid_at, put_bytes};
+use crate::bytes::{aid_at, put_bytes, put_u16, put_u24};
 use crate::slot::{BadSlot, FREE, Slot, USED};
 use bitflags::Flags;
 use byteorder::{BigEndian, ByteOrder};
@@ -70,6 +71,6 @@ fn write_used(entry: &Entry, slot: &mut [u8])
     slot[19] = entry.file;
     put_bytes(slot, 20, entry.module.as_bytes());
     slot[37] = entry.life.code();
-    BigEndian::write_u24(&mut slot[38..], entry.privileges.bits());
-    BigEndian::write_u16(&mut slot[41..], entry.receipts);
+    put_u24(slot, 38, entry.privileges.bits());
+    put_u16(slot, 41, entry.receipts);
 }

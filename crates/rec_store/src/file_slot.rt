@@ -1,12 +1,12 @@
 //! The load directory of an Executable Load File.
 
-ghost use Rattle.std.specs.Prelude.{◌≡◌, ◌<◌, ◌≤◌, ◌+◌, ◌*◌, ℕ, List, Option, length, slice_index, IfOk, OnErr, IfSome};
+ghost use Rattle.std.specs.Prelude.{◌≡◌, ◌<◌, ◌≤◌, ◌+◌, ◌-◌, ◌/◌, ◌%◌, ◌^◌, ℕ, List, Option, length, slice_index, IfOk, OnErr, IfSome};
 ghost use Rattle.card_check.specs.IsCard.{IsInLoadPages};
-ghost use Rattle.card_types.specs.Well.{pages_of};
 ghost use Rattle.card_types.specs.declared.tables.LoadFile.{LoadFile as FileOf};
-ghost use Rattle.rec_store.specs.FileSlot.{HoldsFile, IsFileIn, ninth_bit, page_in};
+ghost use Rattle.rec_store.specs.FileSlot.{HoldsFile, IsFileIn, page_in};
+ghost use Rattle.std.proofs.Common.{lit<, lit≤, refl};
 
-use crate::bytes::{aid_at, put_bytes};
+use crate::bytes::{aid_at, put_bytes, put_u16};
 use crate::slot::{BadSlot, FREE, Slot, USED};
 use byteorder::{BigEndian, ByteOrder};
 use card_types::{FILE_LIMIT, LoadFile};
@@ -87,25 +87,49 @@ fn write_used(file: &LoadFile, slot: &mut [u8])
     slot[0] = USED;
     put_bytes(slot, 1, file.aid.as_bytes());
     slot[18] = file.domain;
-    BigEndian::write_u16(&mut slot[19..], file.len);
-    write_pages(
-        &file.pages,
-        usize::from(file.len).div_ceil(256),
-        &mut slot[64..],
-    );
+    put_u16(slot, 19, file.len);
+    write_pages(&file.pages, usize::from(file.len).div_ceil(256), slot);
 }
 
-// Writes the numbers of the first so many load pages into the bytes from 64 on.
+// Makes the numbers of the first so many load pages stand in a slot.
 fn write_pages(pages: &[u16; 128], count: usize, slot: &mut [u8])
-    requires size { length slot.old ≡ 192 }
+    requires size { length slot.old ≡ 256 }
     requires few { count ≤ 128 }
     requires range { (i : ℕ) → i < count → (96 ≤ slice_index pages.now i) × (slice_index pages.now i < 608) }
-    ensures { (i : ℕ) → i < count → slice_index pages.now i ≡ 96 + 256 * ninth_bit slot.new (i) + slice_index slot.new i }
+    ensures pages { (i : ℕ) → i < count → slice_index pages.now i ≡ page_in slot.new i }
+    ensures below { (i : ℕ) → i < 64 → slice_index slot.new i ≡ slice_index slot.old i }
 {
     for i in 0..count {
-        slot[i] = (pages[i] - LOAD) as u8;
+        slot[64 + i] = ((pages[i] - LOAD) % 256) as u8;
     }
     for byte in 0..16 {
-        slot[128 + byte] = 0;
+        slot[192 + byte] = ninth_bits(&pages[..count], byte);
+    }
+}
+
+// The byte of this number in the bit map of the ninth bits.
+fn ninth_bits(pages: &[u16], byte: usize) -> u8
+    requires few { length pages.now ≤ 128 }
+    requires byte { byte < 16 }
+    ensures { (i : ℕ) → i < length pages.now → i / 8 ≡ byte → slice_index pages.now i < 608 → result / 2 ^ (7 - i % 8) % 2 ≡ (slice_index pages.now i - 96) / 256 }
+{
+    let first = 8 * byte;
+    128 * ninth(pages, first)
+        + 64 * ninth(pages, first + 1)
+        + 32 * ninth(pages, first + 2)
+        + 16 * ninth(pages, first + 3)
+        + 8 * ninth(pages, first + 4)
+        + 4 * ninth(pages, first + 5)
+        + 2 * ninth(pages, first + 6)
+        + ninth(pages, first + 7)
+}
+
+fn ninth(pages: &[u16], index: usize) -> u8
+    ensures bit { result ≤ 1 }
+    ensures of { index < length pages.now → slice_index pages.now index < 608 → result ≡ (slice_index pages.now index - 96) / 256 }
+{
+    match pages.get(index) {
+        Some(page) => u8::from(*page >= LOAD + 256),
+        None => 0,
     }
 }

@@ -3,8 +3,9 @@
 ghost use Rattle.std.specs.Prelude.{◌≡◌, ◌<◌, ◌≤◌, ◌^◌, ℕ, List, Option, length, slice_index, IfOk, OnErr, IfSome};
 ghost use Rattle.rec_store.specs.KeySlot.{HoldsKey, IsKeyIn, IsRoomyKey};
 ghost use Rattle.card_types.specs.declared.tables.KeyRec.{KeyRec as KeyOf};
+ghost use Rattle.std.proofs.Common.{lit<, lit≤, refl};
 
-use crate::bytes::{bytes_at, put_bytes};
+use crate::bytes::{bytes_at, put_bytes, put_u24};
 use crate::slot::{BadSlot, FREE, Slot, USED};
 use arrayvec::ArrayVec;
 use byteorder::{BigEndian, ByteOrder};
@@ -78,5 +79,5 @@ fn write_used(key: &KeyRec, slot: &mut [u8])
     slot[2] = key.version;
     slot[3] = key.identifier;
     put_bytes(slot, 4, &key.bytes);
-    BigEndian::write_u24(&mut slot[37..], key.counter);
+    put_u24(slot, 37, key.counter);
 }

@@ -3,8 +3,9 @@
 ghost use Rattle.std.specs.Prelude.{◌≡◌, ◌<◌, ◌≤◌, ℕ, List, Option, length, slice_index, IfOk, OnErr, IfSome};
 ghost use Rattle.rec_store.specs.ObjectSlot.{HoldsObject, IsObjectIn};
 ghost use Rattle.card_types.specs.declared.tables.Object.{Object as ObjectOf};
+ghost use Rattle.std.proofs.Common.{lit<, lit≤, refl};
 
-use crate::bytes::{bytes_at, put_bytes};
+use crate::bytes::{bytes_at, put_bytes, put_u16};
 use crate::slot::{BadSlot, FREE, Slot, USED};
 use arrayvec::ArrayVec;
 use byteorder::{BigEndian, ByteOrder};
@@ -64,6 +65,6 @@ fn write_used(object: &Object, slot: &mut [u8])
 {
     slot[0] = USED;
     slot[1] = object.owner;
-    BigEndian::write_u16(&mut slot[2..], object.tag);
+    put_u16(slot, 2, object.tag);
     put_bytes(slot, 4, &object.value);
 }
