@@ -1,6 +1,6 @@
 -- The slot of an application or a security domain, of 64 bytes. Numbers are big-endian, and bytes that are not named are
--- not read.
-use Rattle.std.specs.Prelude.{◌≡◌, ℕ, ◌<◌, ◌^◌, ◌++◌, List, Option, None, Some, slice_index, slice_range}
+-- not read. Privileges with names are in three bytes, so no others are kept.
+use Rattle.std.specs.Prelude.{◌≡◌, ◌%◌, ◌^◌, ℕ, List, Option, None, Some, slice_index}
 use Rattle.byteorder.specs.Endian.{big_from}
 use Rattle.card_types.specs.Aid.{IsAid}
 use Rattle.card_types.specs.LifeMark.{code_of}
@@ -16,14 +16,10 @@ pub record IsEntryIn (slot : List ℕ) (entry : Entry) : Type 0 where
   pub module_aid : IsAid entry.«module»
   pub module_ : HasBytesAt slot 20 entry.«module»
   pub life : slice_index slot 37 ≡ code_of entry.life
-  pub privileges : big_from 38 3 slot ≡ bits_of entry.privileges
+  pub privileges : big_from 38 3 slot ≡ bits_of entry.privileges % 2 ^ 24
   pub receipts : big_from 41 2 slot ≡ entry.receipts
 
 -- what a slot holds: its mark is 01 where it is used, and 00 where it is free
 abbrev pub HoldsEntry : List ℕ → Option Entry → Type 0
 HoldsEntry slot None = slice_index slot 0 ≡ 0x00
 HoldsEntry slot (Some entry) = IsEntryIn slot entry
-
--- a slot has room for the entry: its privileges are no more than three bytes
-abbrev pub IsRoomyEntry : Entry → Type 0
-IsRoomyEntry entry = bits_of entry.privileges < 2 ^ 24

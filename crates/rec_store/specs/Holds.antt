@@ -25,7 +25,8 @@ store_page pages number = bytes_of (stored pages number)
 abbrev pub current_page : List (ℕ × Page) → List Page → ℕ → List ℕ
 current_page staged pages number = bytes_of (current staged pages number)
 
--- Its load pages, of 256 bytes. A list of pages that lacks one, as none of a device does, has zeros there.
+-- Its load pages, of 256 bytes. Where no load page is there are zeros: so under each other number, and in a list of pages that is
+-- too short, as that of no device is.
 abbrev pub load_page : List Page → ℕ → List ℕ
 load_page pages number = take 256 ((if nat_lt number 96 then [] else bytes_of (stored pages number)) ++ replicate 256 0)
 

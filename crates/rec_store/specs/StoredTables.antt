@@ -5,7 +5,7 @@ use Rattle.card_types.specs.Says.{used}
 use Rattle.card_types.specs.Slots.{held}
 use Rattle.card_types.specs.declared.limits.TheConstants.{ENTRIES, FILES, KEYS, OBJECTS}
 use Rattle.card_types.specs.declared.tables.Tables.{Tables}
-use Rattle.rec_store.specs.EntrySlot.{HoldsEntry, IsRoomyEntry}
+use Rattle.rec_store.specs.EntrySlot.{HoldsEntry}
 use Rattle.rec_store.specs.FileSlot.{HoldsFile}
 use Rattle.rec_store.specs.KeySlot.{HoldsKey, IsRoomyKey}
 use Rattle.rec_store.specs.ObjectSlot.{HoldsObject}
@@ -27,7 +27,7 @@ pub record HasSlots (tables : Tables) : Type 0 where
   pub keys : length tables.keys.items ≡ KEYS
   pub objects : length tables.objects.items ≡ OBJECTS
 
--- the store pages hold these tables, and no others
+-- the store pages hold these tables
 pub record HoldsTables (store : ℕ → List ℕ) (tables : Tables) : Type 0 where
   pub slots : HasSlots tables
   pub life : IsSuperblock (store 0) tables.life
@@ -39,6 +39,5 @@ pub record HoldsTables (store : ℕ → List ℕ) (tables : Tables) : Type 0 whe
 -- slots have room for all that is in the tables
 pub record AreRoomy (tables : Tables) : Type 0 where
   pub slots : HasSlots tables
-  pub entries : All IsRoomyEntry (used tables.entries.items)
   pub files : All IsInLoadPages (used tables.files.items)
   pub keys : All IsRoomyKey (used tables.keys.items)

@@ -46,6 +46,15 @@ pub fn put_bytes(slot: &mut [u8], at: usize, bytes: &[u8])
     slot[at + 1..at + 1 + bytes.len()].copy_from_slice(bytes);
 }
 
+/// The number of three bytes at this place.
+pub fn u24_at(slot: &[u8], at: usize) -> u32
+    requires { at + 3 ≤ length slot.now }
+    ensures number { result ≡ big_from at 3 slot.now }
+    ensures fits { result < 2 ^ 24 }
+{
+    BigEndian::read_u24(&slot[at..])
+}
+
 /// Makes a number of two bytes stand at this place.
 pub fn put_u16(slot: &mut [u8], at: usize, number: u16)
     requires { at + 2 ≤ length slot.old }

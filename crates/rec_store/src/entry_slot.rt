@@ -1,11 +1,11 @@
 //! The slot of an application or a security domain.
 
 ghost use Rattle.std.specs.Prelude.{◌≡◌, ◌<◌, ◌≤◌, ◌^◌, ℕ, List, Option, length, slice_index, IfOk, OnErr, IfSome};
-ghost use Rattle.rec_store.specs.EntrySlot.{HoldsEntry, IsEntryIn, IsRoomyEntry};
+ghost use Rattle.rec_store.specs.EntrySlot.{HoldsEntry, IsEntryIn};
 ghost use Rattle.card_types.specs.declared.tables.Entry.{Entry as EntryOf};
 ghost use Rattle.std.proofs.Common.{lit<, lit≤, refl};
 
-use crate::bytes::{aid_at, put_bytes, put_u16, put_u24};
+use crate::bytes::{aid_at, put_bytes, put_u16, put_u24, u24_at};
 use crate::slot::{BadSlot, FREE, Slot, USED};
 use bitflags::Flags;
 use byteorder::{BigEndian, ByteOrder};
@@ -22,7 +22,7 @@ impl Slot for Entry {
 
     ghost holds = { HoldsEntry };
 
-    ghost is_roomy = { IsRoomyEntry };
+    ghost is_roomy = { λ _. Unit {0} };
 
     fn read(slot: &[u8]) -> Result<Option<Entry>, BadSlot> {
         match slot[0] {
@@ -46,7 +46,6 @@ fn read_used(slot: &[u8]) -> Result<Entry, BadSlot>
     requires size { length slot.now ≡ 64 }
     requires mark { slice_index slot.now 0 ≡ 1 }
     ensures ok { IfOk result (IsEntryIn slot.now) }
-    ensures roomy { IfOk result IsRoomyEntry }
     ensures err { OnErr result ((entry : EntryOf) → IsEntryIn slot.now entry → ⊥) }
 {
     Ok(Entry {
@@ -55,14 +54,13 @@ fn read_used(slot: &[u8]) -> Result<Entry, BadSlot>
         file: slot[19],
         module: aid_at(slot, 20)?,
         life: LifeMark::from_code(slot[37]).ok_or(BadSlot)?,
-        privileges: Privileges::from_bits_retain(BigEndian::read_u24(&slot[38..])),
+        privileges: Privileges::from_bits_retain(u24_at(slot, 38)),
         receipts: BigEndian::read_u16(&slot[41..]),
     })
 }
 
 fn write_used(entry: &Entry, slot: &mut [u8])
-    requires size { length slot.old ≡ 64 }
-    requires roomy { IsRoomyEntry entry.now }
+    requires { length slot.old ≡ 64 }
     ensures { IsEntryIn slot.new entry.now }
 {
     slot[0] = USED;
@@ -71,6 +69,6 @@ fn write_used(entry: &Entry, slot: &mut [u8])
     slot[19] = entry.file;
     put_bytes(slot, 20, entry.module.as_bytes());
     slot[37] = entry.life.code();
-    put_u24(slot, 38, entry.privileges.bits());
+    put_u24(slot, 38, entry.privileges.bits() % 0x100_0000);
     put_u16(slot, 41, entry.receipts);
 }

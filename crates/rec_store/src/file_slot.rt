@@ -1,6 +1,6 @@
 //! The load directory of an Executable Load File.
 
-ghost use Rattle.std.specs.Prelude.{◌≡◌, ◌<◌, ◌≤◌, ◌+◌, ◌-◌, ◌/◌, ◌%◌, ◌^◌, ℕ, List, Option, length, slice_index, IfOk, OnErr, IfSome};
+ghost use Rattle.std.specs.Prelude.{◌≡◌, ◌<◌, ◌≤◌, ◌+◌, ◌-◌, ◌/◌, ◌%◌, ◌^◌, ℕ, List, Option, All, length, slice_index, take, IfOk, OnErr, IfSome};
 ghost use Rattle.card_check.specs.IsCard.{IsInLoadPages};
 ghost use Rattle.card_types.specs.declared.tables.LoadFile.{LoadFile as FileOf};
 ghost use Rattle.rec_store.specs.FileSlot.{HoldsFile, IsFileIn, page_in};
@@ -73,7 +73,7 @@ fn read_pages(slot: &[u8], count: usize) -> [u16; 128]
 {
     let mut pages = [0; 128];
     for i in 0..count {
-        let ninth = slot[192 + i / 8] >> (7 - i % 8) & 1;
+        let ninth = (slot[192 + i / 8] >> (7 - i % 8)) % 2;
         pages[i] = LOAD + 256 * u16::from(ninth) + u16::from(slot[64 + i]);
     }
     pages
@@ -95,7 +95,7 @@ fn write_used(file: &LoadFile, slot: &mut [u8])
 fn write_pages(pages: &[u16; 128], count: usize, slot: &mut [u8])
     requires size { length slot.old ≡ 256 }
     requires few { count ≤ 128 }
-    requires range { (i : ℕ) → i < count → (96 ≤ slice_index pages.now i) × (slice_index pages.now i < 608) }
+    requires range { All (λ page. (96 ≤ page) × (page < 608)) (take count pages.now) }
     ensures pages { (i : ℕ) → i < count → slice_index pages.now i ≡ page_in slot.new i }
     ensures below { (i : ℕ) → i < 64 → slice_index slot.new i ≡ slice_index slot.old i }
 {

@@ -5,10 +5,9 @@ ghost use Rattle.rec_store.specs.KeySlot.{HoldsKey, IsKeyIn, IsRoomyKey};
 ghost use Rattle.card_types.specs.declared.tables.KeyRec.{KeyRec as KeyOf};
 ghost use Rattle.std.proofs.Common.{lit<, lit≤, refl};
 
-use crate::bytes::{bytes_at, put_bytes, put_u24};
+use crate::bytes::{bytes_at, put_bytes, put_u24, u24_at};
 use crate::slot::{BadSlot, FREE, Slot, USED};
 use arrayvec::ArrayVec;
-use byteorder::{BigEndian, ByteOrder};
 use card_types::KeyRec;
 
 impl Slot for KeyRec {
@@ -56,7 +55,7 @@ fn read_used(slot: &[u8]) -> Result<KeyRec, BadSlot>
     let identifier = slot[3];
     let version = slot[2];
     let counter = if identifier == 1 && version < 0x70 {
-        BigEndian::read_u24(&slot[37..])
+        u24_at(slot, 37)
     } else {
         0
     };

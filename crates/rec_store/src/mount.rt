@@ -23,6 +23,7 @@ impl<F: Flash> Records<F> {
     /// for the tables and the staged pages, before any call on the device.
     pub fn mount(alloc: Global, flash: F) -> Result<Records<F>, OpenError<F>>
         ensures ready { IfOk result (λ r. (r.staged ≡ []) × (r.live ≡ true)) }
+        ensures card { IfOk result (λ r. (page : ℕ → List ℕ) → HasPages page → IsCard page r.tables) }
         ensures in_order { IfOk result (λ r. IsInOrder r.tables) }
         // The tables say the registry that the pages reopened as, and power lost leaves it from then on.
         ensures says { F.tells → IfOk result (λ r. (registry : Registry) × Reopens (F.pages flash) registry

@@ -60,7 +60,7 @@ fn read_used(slot: &[u8]) -> Result<Object, BadSlot>
 }
 
 fn write_used(object: &Object, slot: &mut [u8])
-    requires size { length slot.old ≡ 128 }
+    requires { length slot.old ≡ 128 }
     ensures { IsObjectIn slot.new object.now }
 {
     slot[0] = USED;

@@ -9,7 +9,6 @@ ghost use Rattle.card_types.specs.declared.limits.TheConstants.{ENTRIES, FILES, 
 ghost use Rattle.flash_core.specs.Device.{NoneNew};
 ghost use Rattle.flash_core.specs.Faults.{HasCause};
 ghost use Rattle.page_journal.specs.Moments.{LeavesOnly};
-ghost use Rattle.rec_store.specs.EntrySlot.{IsRoomyEntry};
 ghost use Rattle.rec_store.specs.Holds.{IsFree, Keeps, Reopens, load_page};
 ghost use Rattle.rec_store.specs.KeySlot.{IsRoomyKey};
 ghost use Rattle.rec_store.specs.Places.{entry_page, file_page, key_page, object_page};
@@ -66,7 +65,6 @@ impl<F: Flash> Records<F> {
     pub fn set_entry(&mut self, slot: u8, value: Option<Entry>)
         requires live { self.old.live ≡ true }
         requires range { slot < ENTRIES }
-        requires roomy { IfSome value IsRoomyEntry }
         requires frame { HasFrame self.old.staged (entry_page slot) }
         ensures tables { SetsEntry self.old.tables self.new.tables slot value }
         ensures staged { self.new.staged ≡ with_staged self.old.staged (entry_page slot) }
