@@ -1,2 +1,5 @@
 mod Bits
 mod Kept
+mod OneThing
+mod OneRegistry
+mod Rooms

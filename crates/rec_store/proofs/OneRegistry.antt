@@ -1,0 +1,152 @@
+-- Store pages and load pages hold at most one registry.
+use Rattle.std.proofs.Common.{◌≡◌, inl, inr, ℕ, zero, suc, ◌<◌, ◌≤◌, List, [], ◌∷◌, length, Option, None, Some, refl, ap, sym, ◌∙◌, subst, arith}
+use Rattle.std.specs.Prelude.{Contains, IfSome, take, map, filter, unwrap_or}
+use Rattle.std.specs.List.{concat}
+use Rattle.std.specs.List.Sorted.{IsPermutation, IsStrictlySortedBy}
+use Rattle.std.specs.Cmp.{IsTotalOrder}
+use Rattle.std.specs.Option.{option_map}
+use Rattle.std.specs.Ordering.{on}
+use Rattle.std.specs.declared.cmp.Ordering.{Ordering}
+use Rattle.std.proofs.lemmas.Cmp.{nat_list_cmp_total, on_total}
+use Rattle.std.proofs.lemmas.Bool.{cases_lt}
+use Rattle.std.proofs.lemmas.List.{get_or_past}
+use Rattle.std.proofs.lemmas.List.Elements.{All-contains}
+use Rattle.std.proofs.lemmas.List.Sorted.{IsPermutation-sym, IsPermutation-trans}
+use Rattle.card_check.specs.IsCard.{IsCard, pages_named}
+use Rattle.card_types.proofs.ChangeExists.{one_order}
+use Rattle.card_types.proofs.KeyNames.{counter_order_total, key_order_total}
+use Rattle.card_types.proofs.LeastOfList.{sorted_by_name}
+use Rattle.card_types.proofs.ObjectNames.{object_order_total}
+use Rattle.card_types.proofs.Shows.{shows_used}
+use Rattle.card_types.specs.AidOrder.{aid_order}
+use Rattle.card_types.specs.Ascending.{counter_order, key_order, object_order}
+use Rattle.card_types.specs.Registry as registry
+use Rattle.card_types.specs.Says.{Says, counter_of, domain_aid, entry_of, file_aid, file_of, keeps_counter, key_of, object_of, used}
+use Rattle.card_types.specs.Slots.{held}
+use Rattle.card_types.specs.Well.{IsWellEntry, pages_of}
+use Rattle.card_types.specs.declared.tables.Entry.{Entry}
+use Rattle.card_types.specs.declared.tables.LoadFile.{LoadFile}
+use Rattle.card_types.specs.declared.tables.Tables.{Tables}
+use Rattle.rec_store.specs.Holds.{Holds}
+use Rattle.rec_store.specs.Places.{entry_slot, file_slot, key_slot, object_slot}
+use Rattle.rec_store.specs.StoredTables.{HoldsTables}
+use Rattle.rec_store.proofs.OneThing.{AreNamed, AreSameFiles, SameFile, one_card_life, one_entry, one_file, one_key, one_object}
+
+module _ {T : Type 0} where
+  pub same_slots : (xs ys : List (Option T)) → length xs ≡ length ys → ((i : ℕ) → i < length xs → held xs i ≡ held ys i) → xs ≡ ys
+  same_slots [] [] count each = refl
+  same_slots [] (y ∷ ys) count each = absurd (omega (arith, count))
+  same_slots (x ∷ xs) [] count each = absurd (omega (arith, count))
+  same_slots (x ∷ xs) (y ∷ ys) count each =
+      let first : x ≡ y = each 0 (omega arith) in
+      let rest = same_slots xs ys (omega (arith, count)) (λ i lt. each (suc i) (omega (arith, lt))) in
+      cc
+
+  pub same_views : {X : Type 0} (view : T → X) (xs ys : List (Option T)) → length xs ≡ length ys → ((i : ℕ) → i < length xs → option_map view (held xs i) ≡ option_map view (held ys i)) → map view (used xs) ≡ map view (used ys)
+  same_views view [] [] count each = refl
+  same_views view [] (y ∷ ys) count each = absurd (omega (arith, count))
+  same_views view (x ∷ xs) [] count each = absurd (omega (arith, count))
+  same_views view (x ∷ xs) (y ∷ ys) count each = by_first x y (each 0 (omega arith)) (same_views view xs ys (omega (arith, count)) (λ i lt. each (suc i) (omega (arith, lt))))
+    where
+      by_first : (a b : Option T) → option_map view a ≡ option_map view b → map view (used xs) ≡ map view (used ys) → map view (used (a ∷ xs)) ≡ map view (used (b ∷ ys))
+      by_first None None same rest = rest
+      by_first None (Some b) same rest = absurd (cc same)
+      by_first (Some a) None same rest = absurd (cc same)
+      by_first (Some a) (Some b) same rest = let head : view a ≡ view b = cc same in cc
+
+  pub same_map : {X : Type 0} (f g : T → X) → ((x : T) → f x ≡ g x) → (xs : List T) → map f xs ≡ map g xs
+  same_map f g each [] = refl
+  same_map f g each (x ∷ xs) = let first = each x in let rest = same_map f g each xs in cc
+
+-- two lists in one order that have the same members as a third are one
+one_list : {X : Type 0} (order : X → X → Ordering) → IsTotalOrder order → (all xs ys : List X) → IsPermutation all xs → IsPermutation all ys → IsStrictlySortedBy order xs → IsStrictlySortedBy order ys → xs ≡ ys
+one_list order total all xs ys first second sorted also = one_order order total xs ys sorted also (IsPermutation-trans xs all ys (IsPermutation-sym all xs first) second)
+
+-- the same where they are in order of a name
+one_named_list : {X : Type 0} (name : X → List ℕ) (all xs ys : List X) → IsPermutation all xs → IsPermutation all ys → IsStrictlySortedBy aid_order (map name xs) → IsStrictlySortedBy aid_order (map name ys) → xs ≡ ys
+one_named_list name all xs ys first second sorted also =
+    one_list (on name aid_order) (on_total name nat_list_cmp_total) all xs ys first second (sorted_by_name aid_order name xs sorted) (sorted_by_name aid_order name ys also)
+
+-- entries of a card have privileges with names
+entry_named : (load : ℕ → List ℕ) (tables : Tables) → IsCard load tables → (i : ℕ) → AreNamed (held tables.entries.items i)
+entry_named load tables card i = of (held tables.entries.items i) refl
+  where
+    of : (entry : Option Entry) → held tables.entries.items i ≡ entry → AreNamed entry
+    of None is = tt
+    of (Some entry) is =
+        let view = entry_of tables.entries.items tables.files.items in
+        let shown = (shows_used view tables.entries.items card.said.entries card.says.entries).there i entry is refl in
+        (All-contains (IsWellEntry card.said) card.said.entries (view entry) card.well.entries shown).named_privileges
+
+module _ (store load : ℕ → List ℕ) (t u : Tables) (first : HoldsTables store t) (second : HoldsTables store u) where
+  same_file : (i : ℕ) → i < length t.files.items → AreSameFiles (held t.files.items i) (held u.files.items i)
+  same_file i lt = let n = first.slots.files in one_file (file_slot store i) (held t.files.items i) (held u.files.items i) (first.files i (omega (arith, lt, n))) (second.files i (omega (arith, lt, n)))
+
+  -- what hangs on all that counts of a file is the same
+  pub same_file_views : {X : Type 0} (view : LoadFile → X) → ((x y : LoadFile) → SameFile x y → view x ≡ view y) → (i : ℕ) → i < length t.files.items → option_map view (held t.files.items i) ≡ option_map view (held u.files.items i)
+  same_file_views view congruent i lt = by_slots (held t.files.items i) (held u.files.items i) (same_file i lt)
+    where
+      by_slots : (a b : Option LoadFile) → AreSameFiles a b → option_map view a ≡ option_map view b
+      by_slots None None same = refl
+      by_slots None (Some b) same = absurd same
+      by_slots (Some a) None same = absurd same
+      by_slots (Some a) (Some b) same = ap Some (congruent a b same)
+
+  pub files_count : length t.files.items ≡ length u.files.items
+  files_count = first.slots.files ∙ sym second.slots.files
+
+  pub same_pages : map pages_named (used t.files.items) ≡ map pages_named (used u.files.items)
+  same_pages = same_views pages_named t.files.items u.files.items files_count (same_file_views pages_named (λ x y same. same.pages))
+
+  same_file_aid : (slot : ℕ) → file_aid t.files.items slot ≡ file_aid u.files.items slot
+  same_file_aid slot = elim (cases_lt slot (length t.files.items)) [
+    | inl lt ↦ ap (λ aid. unwrap_or aid []) (same_file_views (λ file. file.aid) (λ x y same. same.aid) slot lt)
+    | inr past ↦
+        (let none : held t.files.items slot ≡ None = get_or_past t.files.items slot None past in
+        let also_none : held u.files.items slot ≡ None = get_or_past u.files.items slot None (omega (arith, past, files_count)) in
+        ap (λ file. unwrap_or (option_map (λ file. file.aid) file) []) (none ∙ sym also_none))
+  ]
+
+  module _ (card : IsCard load t) (also : IsCard load u) where
+    same_entries : t.entries.items ≡ u.entries.items
+    same_entries =
+        same_slots t.entries.items u.entries.items (first.slots.entries ∙ sym second.slots.entries)
+        (λ i lt. one_entry (entry_slot store i) (held t.entries.items i) (held u.entries.items i) (entry_named load t card i) (entry_named load u also i) (first.entries i (omega (arith, lt, first.slots.entries))) (second.entries i (omega (arith, lt, first.slots.entries))))
+
+    same_keys : t.keys.items ≡ u.keys.items
+    same_keys =
+        same_slots t.keys.items u.keys.items (first.slots.keys ∙ sym second.slots.keys)
+        (λ i lt. one_key (key_slot store i) (held t.keys.items i) (held u.keys.items i) (first.keys i (omega (arith, lt, first.slots.keys))) (second.keys i (omega (arith, lt, first.slots.keys))))
+
+    same_objects : t.objects.items ≡ u.objects.items
+    same_objects =
+        same_slots t.objects.items u.objects.items (first.slots.objects ∙ sym second.slots.objects)
+        (λ i lt. one_object (object_slot store i) (held t.objects.items i) (held u.objects.items i) (first.objects i (omega (arith, lt, first.slots.objects))) (second.objects i (omega (arith, lt, first.slots.objects))))
+
+    shown_entries : map (entry_of t.entries.items t.files.items) (used t.entries.items) ≡ map (entry_of u.entries.items u.files.items) (used u.entries.items)
+    shown_entries =
+        same_map (entry_of t.entries.items t.files.items) (entry_of t.entries.items u.files.items) (λ entry. let file = same_file_aid entry.file in λ i. record (entry_of t.entries.items t.files.items entry) { file = file i }) (used t.entries.items)
+        ∙ ap (λ entries. map (entry_of entries u.files.items) (used entries)) same_entries
+
+    shown_files : map (file_of load t.entries.items) (used t.files.items) ≡ map (file_of load u.entries.items) (used u.files.items)
+    shown_files =
+        same_views (file_of load t.entries.items) t.files.items u.files.items files_count
+        (same_file_views (file_of load t.entries.items) (λ x y same. let aid = same.aid in let domain = same.domain in let size = same.size in let pages = same.pages in
+        λ i. record { aid = aid i; domain = domain_aid t.entries.items (domain i); bytes = take (size i) (concat (map load (pages i))) }))
+        ∙ ap (λ entries. map (file_of load entries) (used u.files.items)) same_entries
+
+    pub one_said : (a b : registry.Registry) → Says load t a → Says load u b → a ≡ b
+    one_said a b says other =
+        let life : a.life ≡ b.life = sym says.life ∙ one_card_life (store 0) t.life u.life first.life second.life ∙ other.life in
+        let entries : a.entries ≡ b.entries = one_named_list (λ entry. entry.aid) _ a.entries b.entries says.entries (subst (λ all. IsPermutation all b.entries) (sym shown_entries) other.entries) says.ascending.entries other.ascending.entries in
+        let files : a.files ≡ b.files = one_named_list (λ file. file.aid) _ a.files b.files says.files (subst (λ all. IsPermutation all b.files) (sym shown_files) other.files) says.ascending.files other.ascending.files in
+        let keys : a.keys ≡ b.keys = one_list key_order key_order_total _ a.keys b.keys says.keys
+            (subst (λ all. IsPermutation all b.keys) (sym (ap (λ entries. map (key_of entries) (used t.keys.items)) same_entries ∙ ap (λ keys. map (key_of u.entries.items) (used keys)) same_keys)) other.keys) says.ascending.keys other.ascending.keys in
+        let counters : a.counters ≡ b.counters = one_list counter_order counter_order_total _ a.counters b.counters says.counters
+            (subst (λ all. IsPermutation all b.counters) (sym (ap (λ entries. map (counter_of entries) (filter keeps_counter (used t.keys.items))) same_entries ∙ ap (λ keys. map (counter_of u.entries.items) (filter keeps_counter (used keys))) same_keys)) other.counters) says.ascending.counters other.ascending.counters in
+        let objects : a.objects ≡ b.objects = one_list object_order object_order_total _ a.objects b.objects says.objects
+            (subst (λ all. IsPermutation all b.objects) (sym (ap (λ entries. map (object_of entries) (used t.objects.items)) same_entries ∙ ap (λ objects. map (object_of u.entries.items) (used objects)) same_objects)) other.objects) says.ascending.objects other.ascending.objects in
+        λ i. record { life = life i; entries = entries i; files = files i; keys = keys i; counters = counters i; objects = objects i }
+
+pub one_registry : (store load : ℕ → List ℕ) (a b : registry.Registry) → Holds store load a → Holds store load b → a ≡ b
+one_registry store load a b first second = one_said store load first.tables second.tables first.held second.held first.card second.card a b first.says second.says
