@@ -2,4 +2,6 @@ mod Bits
 mod Kept
 mod OneThing
 mod OneRegistry
+mod Places
+mod Roomy
 mod Rooms

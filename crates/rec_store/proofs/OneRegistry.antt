@@ -141,11 +141,11 @@ module _ (store load : ℕ → List ℕ) (t u : Tables) (first : HoldsTables sto
         let entries : a.entries ≡ b.entries = one_named_list (λ entry. entry.aid) _ a.entries b.entries says.entries (subst (λ all. IsPermutation all b.entries) (sym shown_entries) other.entries) says.ascending.entries other.ascending.entries in
         let files : a.files ≡ b.files = one_named_list (λ file. file.aid) _ a.files b.files says.files (subst (λ all. IsPermutation all b.files) (sym shown_files) other.files) says.ascending.files other.ascending.files in
         let keys : a.keys ≡ b.keys = one_list key_order key_order_total _ a.keys b.keys says.keys
-            (subst (λ all. IsPermutation all b.keys) (sym (ap (λ entries. map (key_of entries) (used t.keys.items)) same_entries ∙ ap (λ keys. map (key_of u.entries.items) (used keys)) same_keys)) other.keys) says.ascending.keys other.ascending.keys in
+        (subst (λ all. IsPermutation all b.keys) (sym (ap (λ entries. map (key_of entries) (used t.keys.items)) same_entries ∙ ap (λ keys. map (key_of u.entries.items) (used keys)) same_keys)) other.keys) says.ascending.keys other.ascending.keys in
         let counters : a.counters ≡ b.counters = one_list counter_order counter_order_total _ a.counters b.counters says.counters
-            (subst (λ all. IsPermutation all b.counters) (sym (ap (λ entries. map (counter_of entries) (filter keeps_counter (used t.keys.items))) same_entries ∙ ap (λ keys. map (counter_of u.entries.items) (filter keeps_counter (used keys))) same_keys)) other.counters) says.ascending.counters other.ascending.counters in
+        (subst (λ all. IsPermutation all b.counters) (sym (ap (λ entries. map (counter_of entries) (filter keeps_counter (used t.keys.items))) same_entries ∙ ap (λ keys. map (counter_of u.entries.items) (filter keeps_counter (used keys))) same_keys)) other.counters) says.ascending.counters other.ascending.counters in
         let objects : a.objects ≡ b.objects = one_list object_order object_order_total _ a.objects b.objects says.objects
-            (subst (λ all. IsPermutation all b.objects) (sym (ap (λ entries. map (object_of entries) (used t.objects.items)) same_entries ∙ ap (λ objects. map (object_of u.entries.items) (used objects)) same_objects)) other.objects) says.ascending.objects other.ascending.objects in
+        (subst (λ all. IsPermutation all b.objects) (sym (ap (λ entries. map (object_of entries) (used t.objects.items)) same_entries ∙ ap (λ objects. map (object_of u.entries.items) (used objects)) same_objects)) other.objects) says.ascending.objects other.ascending.objects in
         λ i. record { life = life i; entries = entries i; files = files i; keys = keys i; counters = counters i; objects = objects i }
 
 pub one_registry : (store load : ℕ → List ℕ) (a b : registry.Registry) → Holds store load a → Holds store load b → a ≡ b

@@ -144,8 +144,8 @@ one_file slot (Some x) (Some y) first second =
           ap (λ n. take n x.pages) (sym few) ∙ same_number_lists (take (pages_of y.len) x.pages) (take (pages_of y.len) y.pages)
           (length-take-le (pages_of y.len) x.pages (omega (arith, few, long_enough x slot first)) ∙ sym (length-take-le (pages_of y.len) y.pages (long_enough y slot second)))
           (λ k lt.
-              let within : k < pages_of y.len = omega (arith, lt, length-take-le (pages_of y.len) x.pages (omega (arith, few, long_enough x slot first))) in
-              let here : get_or (take (pages_of y.len) x.pages) k 0 ≡ get_or x.pages k 0 = grind (arith, common_steps) in
-              let there : get_or (take (pages_of y.len) y.pages) k 0 ≡ get_or y.pages k 0 = grind (arith, common_steps) in
-              here ∙ first.pages k (omega (arith, within, few)) ∙ sym (second.pages k within) ∙ sym there);
+          let within : k < pages_of y.len = omega (arith, lt, length-take-le (pages_of y.len) x.pages (omega (arith, few, long_enough x slot first))) in
+          let here : get_or (take (pages_of y.len) x.pages) k 0 ≡ get_or x.pages k 0 = grind (arith, common_steps) in
+          let there : get_or (take (pages_of y.len) y.pages) k 0 ≡ get_or y.pages k 0 = grind (arith, common_steps) in
+          here ∙ first.pages k (omega (arith, within, few)) ∙ sym (second.pages k within) ∙ sym there);
     }

@@ -2,13 +2,13 @@
 -- other, from the first byte of a page on, and as many in a page as there is room for.
 use Rattle.std.specs.Prelude.{ℕ, ◌+◌, ◌*◌, ◌/◌, ◌%◌, List, slice_range}
 
--- the slot with this number, in a page of slots of this size
-abbrev pub slot_in : List ℕ → ℕ → ℕ → List ℕ
-slot_in page size number = slice_range page (number % (256 / size) * size) (number % (256 / size) * size + size)
+-- the slot at this place of a page, of those of this size
+abbrev pub slot_at : List ℕ → ℕ → ℕ → List ℕ
+slot_at page size place = slice_range page (place * size) (place * size + size)
 
 -- the slot with this number, of those of this size that begin in this page
 abbrev pub slot_from : (ℕ → List ℕ) → ℕ → ℕ → ℕ → List ℕ
-slot_from store first size number = slot_in (store (first + number / (256 / size))) size number
+slot_from store first size number = slot_at (store (first + number / (256 / size))) size (number % (256 / size))
 
 -- 32 entries of 64 bytes
 abbrev pub entry_slot : (ℕ → List ℕ) → ℕ → List ℕ

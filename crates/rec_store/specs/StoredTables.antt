@@ -1,5 +1,5 @@
 -- The tables that store pages hold.
-use Rattle.std.specs.Prelude.{◌≡◌, ℕ, ◌/◌, ◌<◌, List, Option, All, length}
+use Rattle.std.specs.Prelude.{◌≡◌, ℕ, ◌+◌, ◌*◌, ◌/◌, ◌<◌, List, Option, All, length}
 use Rattle.card_check.specs.IsCard.{IsInLoadPages}
 use Rattle.card_types.specs.Says.{used}
 use Rattle.card_types.specs.Slots.{held}
@@ -9,16 +9,16 @@ use Rattle.rec_store.specs.EntrySlot.{HoldsEntry}
 use Rattle.rec_store.specs.FileSlot.{HoldsFile}
 use Rattle.rec_store.specs.KeySlot.{HoldsKey, IsRoomyKey}
 use Rattle.rec_store.specs.ObjectSlot.{HoldsObject}
-use Rattle.rec_store.specs.Places.{entry_slot, file_slot, key_slot, object_slot, slot_in}
+use Rattle.rec_store.specs.Places.{entry_slot, file_slot, key_slot, object_slot, slot_at}
 use Rattle.rec_store.specs.Superblock.{IsSuperblock}
 
 -- the first so many slots hold these things
 abbrev pub AreHeld : {T : Type 0} → (List ℕ → Option T → Type 0) → (ℕ → List ℕ) → ℕ → List (Option T) → Type 0
 AreHeld holds slot count things = (i : ℕ) → i < count → holds (slot i) (held things i)
 
--- a page has its slots of these things, as the page of this number
+-- a page holds the things of its slots, as the page with this number of those
 abbrev pub HoldsPage : {T : Type 0} → (List ℕ → Option T → Type 0) → ℕ → List ℕ → ℕ → List (Option T) → Type 0
-HoldsPage holds size page number things = (i : ℕ) → i / (256 / size) ≡ number → i < length things → holds (slot_in page size i) (held things i)
+HoldsPage holds size page number things = (place : ℕ) → place < 256 / size → holds (slot_at page size place) (held things (number * (256 / size) + place))
 
 -- there is a place for each slot
 pub record HasSlots (tables : Tables) : Type 0 where

@@ -1,19 +1,42 @@
 //! All slots of one kind.
 
-ghost use Rattle.std.specs.Prelude.{◌≡◌, ◌⊎◌, ◌+◌, ◌*◌, ◌/◌, ◌%◌, ◌<◌, ◌≤◌, ℕ, List, [], Option, true, length, All, IsSome, OnOk, IfErr};
+ghost use Rattle.std.specs.Prelude.{◌≡◌, ◌≢◌, ◌⊎◌, ◌+◌, ◌*◌, ◌/◌, ◌%◌, ◌<◌, ◌≤◌, ℕ, List, [], Option, true, length, All, IsSome, IfSome, IfOk, OnOk, OnErr, IfErr};
 ghost use Rattle.card_types.specs.Says.{used};
+ghost use Rattle.card_types.specs.Slots.{held};
 ghost use Rattle.flash_core.specs.declared.page.Page.{Page as PageOf};
 ghost use Rattle.frame_pool.specs.Staged.{staged, with_page};
-ghost use Rattle.rec_store.specs.Holds.{store_page};
 ghost use Rattle.rec_store.specs.Contents.{SlotsFail};
-ghost use Rattle.rec_store.specs.Places.{slot_from, slot_in};
+ghost use Rattle.rec_store.specs.Holds.{store_page};
+ghost use Rattle.rec_store.specs.Places.{slot_at, slot_from};
 ghost use Rattle.rec_store.specs.Reading.{IsRead};
 ghost use Rattle.rec_store.specs.StoredTables.{AreHeld, HoldsPage};
 
 use crate::open::OpenCause;
-use crate::slot::Slot;
+use crate::slot::{BadSlot, Slot};
 use flash_core::{Flash, Page};
 use page_journal::PageStore;
+
+// What the slot at a place of a page holds.
+fn read_at<T: Slot>(bytes: &[u8; 256], place: usize) -> Result<Option<T>, BadSlot>
+    requires { place < 256 / T.SIZE }
+    ensures ok { IfOk result (T.holds (slot_at bytes.now T.SIZE place)) }
+    ensures roomy { IfOk result (λ thing. IfSome thing T.is_roomy) }
+    ensures err { OnErr result ((thing : Option T) → T.holds (slot_at bytes.now T.SIZE place) thing → ⊥) }
+{
+    let at = place * T::SIZE;
+    T::read(&bytes[at..at + T::SIZE])
+}
+
+// Makes the slot at a place of a page hold this.
+fn write_at<T: Slot>(thing: &Option<T>, bytes: &mut [u8; 256], place: usize)
+    requires place { place < 256 / T.SIZE }
+    requires roomy { IfSome thing.now T.is_roomy }
+    ensures put { T.holds (slot_at bytes.new T.SIZE place) thing.now }
+    ensures others { (other : ℕ) → other < 256 / T.SIZE → other ≢ place → slot_at bytes.new T.SIZE other ≡ slot_at bytes.old T.SIZE other }
+{
+    let at = place * T::SIZE;
+    T::write(thing, &mut bytes[at..at + T::SIZE]);
+}
 
 /// Reads all slots of one kind, each page once.
 pub fn read_slots<F: Flash, T: Slot>(
@@ -36,7 +59,7 @@ pub fn read_slots<F: Flash, T: Slot>(
         if place == 0 {
             store.read(T::FIRST + (number / each) as u16, &mut page)?;
         }
-        slots[number] = T::read(&page.bytes[place * T::SIZE..(place + 1) * T::SIZE])?;
+        slots[number] = read_at(&page.bytes, place)?;
     }
     Ok(())
 }
@@ -62,15 +85,14 @@ pub fn stage_slots<F: Flash, T: Slot>(store: &mut PageStore<F>, slots: &[Option<
 
 // The page of slots with this number.
 fn page_of<T: Slot>(slots: &[Option<T>], number: usize) -> [u8; 256]
-    requires range { (number + 1) * (256 / T.SIZE) ≤ length slots.now }
+    requires range { number * (256 / T.SIZE) + 256 / T.SIZE ≤ length slots.now }
     requires roomy { All T.is_roomy (used slots.now) }
     ensures { HoldsPage T.holds T.SIZE result number slots.now }
 {
     let mut bytes = [0; 256];
     let each = 256 / T::SIZE;
     for place in 0..each {
-        let slot = &mut bytes[place * T::SIZE..(place + 1) * T::SIZE];
-        T::write(&slots[number * each + place], slot);
+        write_at(&slots[number * each + place], &mut bytes, place);
     }
     bytes
 }

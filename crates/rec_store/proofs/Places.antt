@@ -1,0 +1,36 @@
+-- Slots of one size in a page.
+use Rattle.std.proofs.Common.{◌≡◌, ◌≢◌, ◌⊎◌, inl, inr, ⊎_elim, ℕ, ◌+◌, ◌-◌, ◌*◌, ◌/◌, ◌%◌, ◌<◌, ◌≤◌, List, ◌++◌, length, take, drop, get_or, sym, ap, ◌∙◌, arith}
+use Rattle.std.specs.Prelude.{slice_range}
+use Rattle.std.proofs.lemmas.Bool.{cases_lt}
+use Rattle.std.proofs.lemmas.Grind.{same_number_lists, common_steps}
+use Rattle.rec_store.specs.Places.{slot_at}
+
+-- one slot ends before the next begins
+pub before : (i j size : ℕ) → i < j → i * size + size ≤ j * size
+before i j size lt = grind arith
+
+-- a page with other bytes at a place
+abbrev pub with_part : ℕ → ℕ → List ℕ → List ℕ → List ℕ
+with_part at count page part = take at page ++ (part ++ drop count (drop at page))
+
+part_below : (at count : ℕ) (page part : List ℕ) (i : ℕ) → at + count ≤ length page → length part ≡ count → i < at → get_or (with_part at count page part) i 0 ≡ get_or page i 0
+part_below at count page part i room same lt = grind (arith, common_steps)
+
+part_above : (at count : ℕ) (page part : List ℕ) (i : ℕ) → at + count ≤ length page → length part ≡ count → at + count ≤ i → get_or (with_part at count page part) i 0 ≡ get_or page i 0
+part_above at count page part i room same le = grind (arith, common_steps)
+
+part_length : (at count : ℕ) (page part : List ℕ) → at + count ≤ length page → length part ≡ count → length (with_part at count page part) ≡ length page
+part_length at count page part room same = grind (arith, common_steps)
+
+-- a range is what its bytes are
+pub same_range : (old new : List ℕ) (from count : ℕ) → length new ≡ length old → ((i : ℕ) → i < count → get_or new (from + i) 0 ≡ get_or old (from + i) 0) → slice_range new from (from + count) ≡ slice_range old from (from + count)
+same_range old new from count same each =
+    same_number_lists (slice_range new from (from + count)) (slice_range old from (from + count)) (grind (arith, common_steps)) (λ k lt. grind (arith, common_steps, each k))
+
+pub slot_apart : (page part : List ℕ) (size place other : ℕ) → place * size + size ≤ length page → length part ≡ size → other ≢ place → slot_at (with_part (place * size) size page part) size other ≡ slot_at page size other
+slot_apart page part size place other room same apart =
+    same_range page (with_part (place * size) size page part) (other * size) size (part_length (place * size) size page part room same)
+    (λ i lt. elim (cases_lt other place) [
+      | inl less ↦ part_below (place * size) size page part (other * size + i) room same (omega (arith, lt, before other place size less))
+      | inr more ↦ part_above (place * size) size page part (other * size + i) room same (omega (arith, before place other size (omega (arith, apart, more))))
+    ])
