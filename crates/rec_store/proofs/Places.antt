@@ -1,6 +1,7 @@
 -- Slots of one size in a page.
 use Rattle.std.proofs.Common.{◌≡◌, ◌≢◌, ◌⊎◌, inl, inr, ⊎_elim, ℕ, ◌+◌, ◌-◌, ◌*◌, ◌/◌, ◌%◌, ◌<◌, ◌≤◌, List, ◌++◌, length, take, drop, get_or, sym, ap, ◌∙◌, arith}
 use Rattle.std.specs.Prelude.{slice_range}
+use Rattle.std.proofs.Math.Nat.{div-mul-le_self, mod-eq-sub-div-mul}
 use Rattle.std.proofs.lemmas.Bool.{cases_lt}
 use Rattle.std.proofs.lemmas.Grind.{same_number_lists, common_steps}
 use Rattle.rec_store.specs.Places.{slot_at}
@@ -34,3 +35,29 @@ slot_apart page part size place other room same apart =
       | inl less ↦ part_below (place * size) size page part (other * size + i) room same (omega (arith, lt, before other place size less))
       | inr more ↦ part_above (place * size) size page part (other * size + i) room same (omega (arith, before place other size (omega (arith, apart, more))))
     ])
+
+at_most : (i j size : ℕ) → i ≤ j → i * size ≤ j * size
+at_most i j size le = grind arith
+
+-- the page of a slot has its other slots too, where pages are whole
+pub whole_page : (slot all each : ℕ) → 0 < each → slot < all → all % each ≡ 0 → slot / each * each + each ≤ all
+whole_page slot all each some lt whole = elim (cases_lt (slot / each) (all / each)) [
+  | inl less ↦ omega (arith, before (slot / each) (all / each) each less, div-mul-le_self all each, mod-eq-sub-div-mul all each, whole)
+  | inr more ↦ absurd (omega (arith, at_most (all / each) (slot / each) each more, div-mul-le_self slot each, lt, whole, mod-eq-sub-div-mul all each))
+]
+
+-- and is one of the store pages
+pub page_within : (first page all each : ℕ) → first * each + all ≤ 45 * each → page * each + each ≤ all → 0 < each → first + page < 45
+page_within first page all each room whole some = elim (cases_lt (first + page) 45) [
+  | inl less ↦ less
+  | inr more ↦ absurd (omega (arith, at_most 45 (first + page) each more, distributed, room, whole, some))
+]
+  where
+    distributed : (first + page) * each ≡ first * each + page * each
+    distributed = grind arith
+
+pub some_each : (size : ℕ) → 256 / size * size ≡ 256 → 0 < 256 / size
+some_each size whole = elim (cases_lt 0 (256 / size)) [
+  | inl some ↦ some
+  | inr none ↦ absurd (omega (arith, at_most (256 / size) 0 size none, whole))
+]

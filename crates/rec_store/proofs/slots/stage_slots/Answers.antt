@@ -1,19 +1,21 @@
-use Rattle.std.proofs.Common.{rules, ◌≡◌, ◌≢◌, ◌⊎◌, ◌+◌, ◌*◌, ◌/◌, ◌%◌, ◌<◌, ◌≤◌, ℕ, List, [], Option, true, length, All, IsSome, IfSome, IfOk, OnOk, OnErr, IfErr, ◌-◌, Bool, false, nat_eq, nat_lt, ◌∷◌, ◌++◌, slice_index_or, slice_set, bit_and, bit_or, Fits, w8, w32, w64, Bor, MutBor}
-use Rattle.card_types.specs.Says.{used}
-use Rattle.card_types.specs.Slots.{held}
-use Rattle.flash_core.specs.declared.page.Page.{Page as PageOf}
-use Rattle.frame_pool.specs.Staged.{staged, with_page}
-use Rattle.rec_store.specs.Contents.{SlotsFail}
-use Rattle.rec_store.specs.Holds.{store_page}
-use Rattle.rec_store.specs.Places.{slot_at, slot_from}
-use Rattle.rec_store.specs.Reading.{IsRead}
-use Rattle.rec_store.specs.StoredTables.{AreHeld, HoldsPage}
+use Rattle.std.proofs.Common.{◌≡◌, ◌+◌, ◌*◌, ◌/◌, ◌%◌, ◌<◌, ◌≤◌, ℕ, ap, ◌∙◌, sym, subst, length, arith}
+use Rattle.rec_store.proofs.Places.{page_within, some_each, whole_page}
 use Rattle.rec_store.proofs.slots.stage_slots.Goals as goal
 
--- src/slots.rt:81:16
 pub page_of-requires-clause-range : goal.page_of-requires-clause-range
-page_of-requires-clause-range g c = ?
+page_of-requires-clause-range g c =
+    let size = g.T.Slot.SIZE in
+    let each : 256 / c.SIZE.result ≡ 256 / size = ap (λ n. 256 / n) c.SIZE.ensures in
+    let whole = whole_page c.args.slot (length c.args.slots.now) (256 / size) (some_each size g.met.T.Slot.sizes.1) c.requires.slot c.requires.whole in
+    subst (λ (n : ℕ). n / (256 / c.SIZE.result) * (256 / size) + 256 / size ≤ length c.args.slots.now) (sym c.from.ensures)
+    (subst (λ (n : ℕ). c.args.slot / n * (256 / size) + 256 / size ≤ length c.args.slots.now) (sym each) whole)
 
--- src/slots.rt:83:5
 pub stage-requires-clause-range : goal.stage-requires-clause-range
-stage-requires-clause-range g c = ?
+stage-requires-clause-range g c =
+    let size = g.T.Slot.SIZE in
+    let each : 256 / c.SIZE.result ≡ 256 / size = ap (λ n. 256 / n) c.SIZE.ensures in
+    let some = some_each size g.met.T.Slot.sizes.1 in
+    let whole = whole_page c.args.slot (length c.args.slots.now) (256 / size) some c.requires.slot c.requires.whole in
+    let within = page_within g.T.Slot.FIRST (c.args.slot / (256 / size)) (length c.args.slots.now) (256 / size) c.requires.range whole some in
+    let page : c.from.result / (256 / c.SIZE.result) ≡ c.args.slot / (256 / size) = ap (λ n. n / (256 / c.SIZE.result)) c.from.ensures ∙ ap (λ n. c.args.slot / n) each in
+    omega (arith, within, page, c.FIRST.ensures)
