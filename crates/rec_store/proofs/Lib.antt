@@ -3,5 +3,6 @@ mod Kept
 mod OneThing
 mod OneRegistry
 mod Places
+mod Readings
 mod Roomy
 mod Rooms

@@ -4,6 +4,7 @@ ghost use Rattle.std.specs.Prelude.{◌≡◌, ◌≢◌, ◌⊎◌, ◌+◌, �
 ghost use Rattle.card_types.specs.Says.{used};
 ghost use Rattle.card_types.specs.Slots.{held};
 ghost use Rattle.flash_core.specs.declared.page.Page.{Page as PageOf};
+ghost use Rattle.flash_core.specs.Faults.{Rose};
 ghost use Rattle.frame_pool.specs.Staged.{staged, with_page};
 ghost use Rattle.rec_store.specs.Contents.{SlotsFail};
 ghost use Rattle.rec_store.specs.Holds.{store_page};
@@ -13,7 +14,7 @@ ghost use Rattle.rec_store.specs.StoredTables.{AreHeld, HoldsPage};
 
 use crate::open::OpenCause;
 use crate::slot::{BadSlot, Slot};
-use flash_core::{Flash, Page};
+use flash_core::{Flash, FlashFailed, Page};
 use page_journal::PageStore;
 
 // What the slot at a place of a page holds.
@@ -38,6 +39,39 @@ fn write_at<T: Slot>(thing: &Option<T>, bytes: &mut [u8; 256], place: usize)
     T::write(thing, &mut bytes[at..at + T::SIZE]);
 }
 
+// Reads the slots of a page, which is the one with this number of those.
+fn read_page<T: Slot>(
+    bytes: &[u8; 256],
+    slots: &mut [Option<T>],
+    number: usize,
+) -> Result<(), BadSlot>
+    requires { number * (256 / T.SIZE) + 256 / T.SIZE ≤ length slots.old }
+    ensures ok { OnOk result (HoldsPage T.holds T.SIZE bytes.now number slots.new) }
+    ensures roomy { OnOk result ((place : ℕ) → place < 256 / T.SIZE → IfSome (held slots.new (number * (256 / T.SIZE) + place)) T.is_roomy) }
+    ensures before { (slot : ℕ) → slot < number * (256 / T.SIZE) → held slots.new slot ≡ held slots.old slot }
+    ensures err { OnErr result ((place : ℕ) × (place < 256 / T.SIZE) × ((thing : Option T) → T.holds (slot_at bytes.now T.SIZE place) thing → ⊥)) }
+{
+    let each = 256 / T::SIZE;
+    for place in 0..each {
+        slots[number * each + place] = read_at(bytes, place)?;
+    }
+    Ok(())
+}
+
+/// Reads a store page of a store where nothing is staged.
+pub fn read_store<F: Flash>(store: &mut PageStore<F>, page: u16) -> Result<Page, FlashFailed>
+    requires live { store.old.live ≡ true }
+    requires none { store.old.staged ≡ [] }
+    requires range { page < 45 }
+    ensures page { F.tells → IfOk result (λ read. store_page (F.pages store.old.flash) page ≡ read.bytes) }
+    ensures read { IsRead F.tells F.pages F.moment F.may_leave F.left_since F.faults store.old store.new }
+    ensures cause { OnErr result (Rose (F.faults store.old.flash) (F.faults store.new.flash)) }
+{
+    let mut into = Page { bytes: [0; 256] };
+    store.read(page, &mut into)?;
+    Ok(into)
+}
+
 /// Reads all slots of one kind, each page once.
 pub fn read_slots<F: Flash, T: Slot>(
     store: &mut PageStore<F>,
@@ -45,21 +79,17 @@ pub fn read_slots<F: Flash, T: Slot>(
 ) -> Result<(), OpenCause>
     requires live { store.old.live ≡ true }
     requires none { store.old.staged ≡ [] }
+    requires whole { length slots.old % (256 / T.SIZE) ≡ 0 }
     requires range { T.FIRST * (256 / T.SIZE) + length slots.old ≤ 45 * (256 / T.SIZE) }
     ensures ok { F.tells → OnOk result (AreHeld T.holds (slot_from (store_page (F.pages store.old.flash)) T.FIRST T.SIZE) (length slots.new) slots.new) }
     ensures roomy { OnOk result (All T.is_roomy (used slots.new)) }
     ensures read { IsRead F.tells F.pages F.moment F.may_leave F.left_since F.faults store.old store.new }
     ensures err { IfErr result (SlotsFail F.tells (F.faults store.old.flash) (F.faults store.new.flash)
-        ((i : ℕ) × (i < length slots.old) × ((thing : Option T) → T.holds (slot_from (store_page (F.pages store.old.flash)) T.FIRST T.SIZE i) thing → ⊥))) }
+        ((slot : ℕ) × (slot < length slots.old) × ((thing : Option T) → T.holds (slot_from (store_page (F.pages store.old.flash)) T.FIRST T.SIZE slot) thing → ⊥))) }
 {
-    let mut page = Page { bytes: [0; 256] };
-    let each = 256 / T::SIZE;
-    for number in 0..slots.len() {
-        let place = number % each;
-        if place == 0 {
-            store.read(T::FIRST + (number / each) as u16, &mut page)?;
-        }
-        slots[number] = read_at(&page.bytes, place)?;
+    for number in 0..slots.len() / (256 / T::SIZE) {
+        let page = read_store(store, T::FIRST + number as u16)?;
+        read_page(&page.bytes, slots, number)?;
     }
     Ok(())
 }

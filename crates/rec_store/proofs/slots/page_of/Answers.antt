@@ -26,7 +26,7 @@ loop-place-preserved g c =
     let is : c.index-slots-number.result ≡ held slots slot = get_or_read slots slot c.index-slots-number.result (omega (arith, c.loop-place-test.true, c.requires.range, row, each)) c.index-slots-number.is None in
     below_more (λ place. g.T.Slot.holds (slot_at c.write_at.new.bytes size place) (held slots (c.args.number * (256 / size) + place))) c.loop-place.place
     (λ place lt. subst (λ bytes. g.T.Slot.holds bytes (held slots (c.args.number * (256 / size) + place)))
-        (sym (c.write_at.ensures.others place (omega (arith, lt, c.loop-place-test.true, each)) (λ is. omega (arith, is, lt)))) (c.loop-place.invariant place lt))
+    (sym (c.write_at.ensures.others place (omega (arith, lt, c.loop-place-test.true, each)) (λ is. omega (arith, is, lt)))) (c.loop-place.invariant place lt))
     (subst (g.T.Slot.holds (slot_at c.write_at.new.bytes size c.loop-place.place)) (is ∙ ap (held slots) same) c.write_at.ensures.put)
 
 pub returns : goal.returns

@@ -15,6 +15,6 @@ returns-clause-others g c other within apart =
     let room : place * size + size ≤ length page = omega (arith, before place (256 / size) size c.requires.place, g.met.T.Slot.sizes.1, c.told-bytes) in
     let same : length part ≡ size = grind (arith, common_steps, c.write.auto.slot) in
     let apart_at : (a n : ℕ) → a ≡ place * size → n ≡ size → slot_at (with_part a n page part) size other ≡ slot_at page size other =
-        λ a n is_a is_n. subst (λ (a : ℕ). slot_at (with_part a n page part) size other ≡ slot_at page size other) (sym is_a)
-        (subst (λ (n : ℕ). slot_at (with_part (place * size) n page part) size other ≡ slot_at page size other) (sym is_n) (slot_apart page part size place other room same apart)) in
+    λ a n is_a is_n. subst (λ (a : ℕ). slot_at (with_part a n page part) size other ≡ slot_at page size other) (sym is_a)
+    (subst (λ (n : ℕ). slot_at (with_part (place * size) n page part) size other ≡ slot_at page size other) (sym is_n) (slot_apart page part size place other room same apart)) in
     apart_at _ _ at count
