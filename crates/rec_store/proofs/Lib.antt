@@ -1,4 +1,5 @@
 mod Bits
+mod Causes
 mod Kept
 mod OneThing
 mod OneRegistry

@@ -1,10 +1,11 @@
 -- Slots of one size in a page.
-use Rattle.std.proofs.Common.{◌≡◌, ◌≢◌, ◌⊎◌, inl, inr, ⊎_elim, ℕ, ◌+◌, ◌-◌, ◌*◌, ◌/◌, ◌%◌, ◌<◌, ◌≤◌, List, ◌++◌, length, take, drop, get_or, sym, ap, ◌∙◌, arith}
+use Rattle.std.proofs.Common.{◌≡◌, ◌≢◌, ◌⊎◌, inl, inr, ⊎_elim, ℕ, ◌+◌, ◌-◌, ◌*◌, ◌/◌, ◌%◌, ◌<◌, ◌≤◌, List, ◌++◌, length, take, drop, get_or, sym, ap, subst, ◌∙◌, arith}
 use Rattle.std.specs.Prelude.{slice_range}
 use Rattle.std.proofs.Math.Nat.{div-mul-le_self, mod-eq-sub-div-mul}
 use Rattle.std.proofs.lemmas.Bool.{cases_lt}
+use Rattle.std.proofs.lemmas.Nat.{div-mul-add, mod-mul-add}
 use Rattle.std.proofs.lemmas.Grind.{same_number_lists, common_steps}
-use Rattle.rec_store.specs.Places.{slot_at}
+use Rattle.rec_store.specs.Places.{slot_at, slot_from}
 
 -- one slot ends before the next begins
 pub before : (i j size : ℕ) → i < j → i * size + size ≤ j * size
@@ -61,3 +62,22 @@ some_each size whole = elim (cases_lt 0 (256 / size)) [
   | inl some ↦ some
   | inr none ↦ absurd (omega (arith, at_most (256 / size) 0 size none, whole))
 ]
+
+-- what is so of all slots before a page, and of those in it
+pub page_more : (each number : ℕ) (P : ℕ → Type 0) → ((slot : ℕ) → slot < number * each → P slot) → ((place : ℕ) → place < each → P (number * each + place)) → (slot : ℕ) → slot < (number + 1) * each → P slot
+page_more each number P before_it in_it slot lt = elim (cases_lt slot (number * each)) [
+  | inl less ↦ before_it slot less
+  | inr more ↦
+      (let row : (number + 1) * each ≡ number * each + each = grind arith in
+      let here : number * each + (slot - number * each) ≡ slot = omega (arith, more) in
+      subst P here (in_it (slot - number * each) (omega (arith, lt, row, more))))
+]
+
+-- where a slot of a page is
+pub slot_in_page : (store : ℕ → List ℕ) (first size number place : ℕ) → place < 256 / size → slot_from store first size (number * (256 / size) + place) ≡ slot_at (store (first + number)) size place
+slot_in_page store first size number place lt =
+    ap (λ page. slot_at (store (first + page)) size ((number * (256 / size) + place) % (256 / size))) (div-mul-add number (256 / size) place lt)
+    ∙ ap (slot_at (store (first + number)) size) (mod-mul-add number (256 / size) place lt)
+
+pub all_pages : (all each : ℕ) → all % each ≡ 0 → all / each * each ≡ all
+all_pages all each whole = omega (arith, whole, mod-eq-sub-div-mul all each, div-mul-le_self all each)
