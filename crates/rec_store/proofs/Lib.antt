@@ -1,5 +1,6 @@
 mod Bits
 mod Causes
+mod Changes
 mod Kept
 mod OneThing
 mod OneRegistry
@@ -7,3 +8,4 @@ mod Places
 mod Readings
 mod Roomy
 mod Rooms
+mod Staging
