@@ -178,3 +178,10 @@ module _ (t u : Tables) (was : AreRoomy t) where
     files = subst (λ files. All IsInLoadPages (used files)) (sym sets.files) was.files;
     keys = subst (λ keys. All IsRoomyKey (used keys)) (sym sets.keys) was.keys;
   }
+
+  pub life_roomy : (life : CardLife) → AreRoomy (record t { life = life })
+  life_roomy life = record {
+    slots = record { entries = was.slots.entries; files = was.slots.files; keys = was.slots.keys; objects = was.slots.objects };
+    files = was.files;
+    keys = was.keys;
+  }

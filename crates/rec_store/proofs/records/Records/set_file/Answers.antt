@@ -1,4 +1,4 @@
-use Rattle.std.proofs.Common.{◌≡◌, ◌/◌, ℕ, refl, ap, sym, subst, ◌∙◌, arith}
+use Rattle.std.proofs.Common.{◌≡◌, ◌+◌, ◌/◌, ℕ, refl, ap, sym, subst, ◌∙◌, arith}
 use Rattle.std.specs.Prelude.{All, slice_set}
 use Rattle.std.specs.Vec.{with_item}
 use Rattle.card_check.specs.IsCard.{IsInLoadPages}
@@ -18,8 +18,9 @@ use Rattle.rec_store.proofs.records.Records.set_file.Goals as goal
 
 pub stage_slots-requires-clause-frame : goal.stage_slots-requires-clause-frame
 stage_slots-requires-clause-frame g c =
-    let page = file_page c.args.slot in
-    frame c.self.inside.store.staged page (subst (λ staged. HasFrame staged page) (sym (ap (λ r. r.staged) c.self.view_is)) c.requires.frame)
+    let page = 9 + c.args.slot / 1 in
+    let is : page ≡ file_page c.args.slot = omega arith in
+    frame c.self.inside.store.staged page (subst (HasFrame (numbers c.self.inside.store.staged)) (sym is) (subst (λ staged. HasFrame staged (file_page c.args.slot)) (sym (ap (λ r. r.staged) c.self.view_is)) c.requires.frame))
 
 pub stage_slots-requires-clause-roomy : goal.stage_slots-requires-clause-roomy
 stage_slots-requires-clause-roomy g c = subst (λ slots. All IsInLoadPages (used slots)) (sym c.deref.ensures.value) (of_all_set IsInLoadPages c.self.inside.tables.files.items c.from.result c.args.value c.self.invariant.0.files c.requires.roomy)
@@ -42,10 +43,12 @@ invariant_of-self g c =
     ap (λ (s : Store g.row.F.Denot). s.settled) e.1 ∙ c.self.invariant.1,
     λ told live.
         subst (λ (s : Store g.row.F.Denot). HoldsTables (current_page s.staged (F.pages s.flash)) after) (sym e.1)
-        (file_set store.staged (F.pages store.flash) (file_page slot) e.0 before after (c.self.invariant.2 told (ap (λ r. r.live) c.self.view_is ∙ c.requires.live)) slot value sets c.requires.range refl in_page))
+        (file_set store.staged (F.pages store.flash) (9 + slot / 1) e.0 before after (c.self.invariant.2 told (ap (λ r. r.live) c.self.view_is ∙ c.requires.live)) slot value sets c.requires.range (omega arith) in_page))
 
 pub returns-clause-staged : goal.returns-clause-staged
 returns-clause-staged g c =
-    let page = file_page c.args.slot in
+    let page = 9 + c.args.slot / 1 in
+    let is : page ≡ file_page c.args.slot = omega arith in
     let e = c.stage_slots.ensures in
-    ap (λ (s : Store g.row.F.Denot). numbers s.staged) e.1 ∙ staged_numbers c.self.inside.store.staged page e.0 ∙ ap (λ staged. with_staged staged page) (ap (λ r. r.staged) c.self.view_is)
+    ap (λ (s : Store g.row.F.Denot). numbers s.staged) e.1 ∙ staged_numbers c.self.inside.store.staged page e.0 ∙ ap (λ n. with_staged (numbers c.self.inside.store.staged) n) is
+    ∙ ap (λ staged. with_staged staged (file_page c.args.slot)) (ap (λ r. r.staged) c.self.view_is)
