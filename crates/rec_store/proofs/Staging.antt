@@ -11,7 +11,7 @@ use Rattle.flash_core.specs.declared.page.Page.{Page}
 use Rattle.frame_pool.specs.Staged.{staged, with_page}
 use Rattle.page_journal.specs.Journal.{bytes_of, stored}
 use Rattle.page_journal.specs.Moments.{first_of}
-use Rattle.rec_store.specs.Holds.{current_page}
+use Rattle.rec_store.specs.Holds.{NoLoadPage, current_page}
 use Rattle.rec_store.specs.Places.{slot_at, slot_from}
 use Rattle.rec_store.specs.Room.{HasFrame, with_staged}
 use Rattle.rec_store.specs.StoredTables.{AreHeld, HoldsPage}
@@ -60,11 +60,18 @@ staged_apart [] page x n apart = grind (arith, nat_tests)
 staged_apart (first ∷ rest) page x n apart = elim (cases_eq first.0 page) [
   | inl same ↦ grind (arith, nat_tests)
   | inr other ↦ (let later : staged (with_page rest page x) n ≡ staged rest n = staged_apart rest page x n apart in
-    elim (cases_eq first.0 n) [
-      | inl is ↦ grind (arith, nat_tests)
-      | inr differs ↦ grind (arith, nat_tests)
-    ])
+      elim (cases_eq first.0 n) [
+        | inl is ↦ grind (arith, nat_tests)
+        | inr differs ↦ grind (arith, nat_tests)
+      ])
 ]
+
+pub none_loaded : (pool : Pages) (page : ℕ) (x : Page) → page < 45 → NoLoadPage pool → NoLoadPage (with_page pool page x)
+none_loaded pool page x lt none n le = staged_apart pool page x n (λ is. omega (arith, is, lt, le)) ∙ none n le
+
+pub none_staged : (pool : Pages) → numbers pool ≡ [] → pool ≡ []
+none_staged [] none = refl
+none_staged (first ∷ rest) none = absurd (cc none)
 
 -- the page as it is now, and the others as they were
 pub page_here : (pool : Pages) (pages : List Page) (page : ℕ) (x : Page) → current_page (with_page pool page x) pages page ≡ x.bytes

@@ -1,11 +1,12 @@
 -- Which registry pages hold.
-use Rattle.std.specs.Prelude.{◌≡◌, ℕ, ◌++◌, List, [], Contains, All, take, replicate, nat_lt, if◌then◌else◌}
+use Rattle.std.specs.Prelude.{◌≡◌, ℕ, ◌≤◌, ◌++◌, List, [], Option, None, Contains, All, take, replicate, nat_lt, if◌then◌else◌}
 use Rattle.card_check.specs.IsCard.{IsCard, pages_named}
 use Rattle.card_types.specs.Registry.{Registry}
 use Rattle.card_types.specs.Says.{Says, used}
 use Rattle.card_types.specs.declared.tables.LoadFile.{LoadFile}
 use Rattle.card_types.specs.declared.tables.Tables.{Tables}
 use Rattle.flash_core.specs.declared.page.Page.{Page}
+use Rattle.frame_pool.specs.Staged.{staged}
 use Rattle.page_journal.specs.Journal.{IsSound, bytes_of, stored}
 use Rattle.page_journal.specs.Moments.{Always, Leaves, current}
 use Rattle.rec_store.specs.StoredTables.{HoldsTables}
@@ -17,18 +18,29 @@ pub record Holds (store load : ℕ → List ℕ) (registry : Registry) : Type 0 
   pub card : IsCard load tables
   pub says : Says load tables registry
 
--- the store pages of a device, an open journal applied
+-- the bytes of a list of pages: those of a store page
+abbrev pub store_in : (ℕ → Option Page) → ℕ → List ℕ
+store_in list number = bytes_of (list number)
+
+-- and the 256 of a load page; there are zeros where no load page is, so under a number below the first, and in a list that lacks
+-- one, as that of no device does
+abbrev pub load_in : (ℕ → Option Page) → ℕ → List ℕ
+load_in list number = take 256 ((if nat_lt number 96 then [] else bytes_of (list number)) ++ replicate 256 0)
+
+-- those of a device, an open journal applied
 abbrev pub store_page : List Page → ℕ → List ℕ
-store_page pages number = bytes_of (stored pages number)
+store_page pages = store_in (stored pages)
 
--- the same, with staged pages in their places
-abbrev pub current_page : List (ℕ × Page) → List Page → ℕ → List ℕ
-current_page staged pages number = bytes_of (current staged pages number)
-
--- Its load pages, of 256 bytes. Where no load page is there are zeros: so under each other number, and in a list of pages that is
--- too short, as that of no device is.
 abbrev pub load_page : List Page → ℕ → List ℕ
-load_page pages number = take 256 ((if nat_lt number 96 then [] else bytes_of (stored pages number)) ++ replicate 256 0)
+load_page pages = load_in (stored pages)
+
+-- and with staged pages in their places
+abbrev pub current_page : List (ℕ × Page) → List Page → ℕ → List ℕ
+current_page staged pages = store_in (current staged pages)
+
+-- no load page is staged
+abbrev pub NoLoadPage : List (ℕ × Page) → Type 0
+NoLoadPage pool = (number : ℕ) → 45 ≤ number → staged pool number ≡ None
 
 -- after a power loss that left these pages the card has this registry
 pub record Reopens (pages : List Page) (registry : Registry) : Type 0 where

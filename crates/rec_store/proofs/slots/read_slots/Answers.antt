@@ -20,8 +20,12 @@ pub read_store-requires-clause-range : goal.read_store-requires-clause-range
 read_store-requires-clause-range g c =
     let size = g.T.Slot.SIZE in
     let all = length c.args.slots.now in
-    omega (arith, c.FIRST.ensures, page_within g.T.Slot.FIRST c.loop-number.number all (256 / size) c.requires.range
-    (whole size c.SIZE.result c.loop-number.number all c.SIZE.ensures c.requires.whole (omega (arith, c.loop-number-test.true))) (some_each size g.met.T.Slot.sizes.1))
+    omega (
+      arith,
+      c.FIRST.ensures,
+      page_within g.T.Slot.FIRST c.loop-number.number all (256 / size) c.requires.range
+          (whole size c.SIZE.result c.loop-number.number all c.SIZE.ensures c.requires.whole (omega (arith, c.loop-number-test.true))) (some_each size g.met.T.Slot.sizes.1),
+    )
 
 pub returns-in_err-read_page-clause-err : goal.returns-in_err-read_page-clause-err
 returns-in_err-read_page-clause-err g c =
@@ -34,14 +38,15 @@ returns-in_err-read_page-clause-err g c =
     ((slot : ℕ) × (slot < length c.args.slots.now) × ((thing : Option g.row.T.Denot) → g.T.Slot.holds (slot_from store g.T.Slot.FIRST size slot) thing → ⊥))
     c.from_residual-in_err-read_page.ensures.1
     (λ told.
-        let seen : store (g.T.Slot.FIRST + number) ≡ c.in_ok-page.page.bytes =
-            ap (λ pages. store_page pages (g.T.Slot.FIRST + number)) (sym (c.loop-number.invariant.read.seen told))
-            ∙ ap (λ n. store_page (F.pages c.loop-number.store.flash) (n + number)) (sym c.FIRST.ensures)
-            ∙ c.in_ok-page.ensures.page told in
-        let here = slot_in_page store g.T.Slot.FIRST size number bad.0 bad.1 ∙ ap (λ bytes. slot_at bytes size bad.0) seen in
-        (number * (256 / size) + bad.0,
-        omega (arith, bad.1, whole size c.SIZE.result number (length c.args.slots.now) c.SIZE.ensures c.requires.whole (omega (arith, c.loop-number-test.true))),
-        λ thing holds. bad.2 thing (subst (λ bytes. g.T.Slot.holds bytes thing) here holds)))
+    let seen : store (g.T.Slot.FIRST + number) ≡ c.in_ok-page.page.bytes =
+    ap (λ pages. store_page pages (g.T.Slot.FIRST + number)) (sym (c.loop-number.invariant.read.seen told))
+    ∙ ap (λ n. store_page (F.pages c.loop-number.store.flash) (n + number)) (sym c.FIRST.ensures)
+    ∙ c.in_ok-page.ensures.page told in
+    let here = slot_in_page store g.T.Slot.FIRST size number bad.0 bad.1 ∙ ap (λ bytes. slot_at bytes size bad.0) seen in (
+      number * (256 / size) + bad.0,
+      omega (arith, bad.1, whole size c.SIZE.result number (length c.args.slots.now) c.SIZE.ensures c.requires.whole (omega (arith, c.loop-number-test.true))),
+      λ thing holds. bad.2 thing (subst (λ bytes. g.T.Slot.holds bytes thing) here holds),
+    ))
 
 pub loop-number-preserved : goal.loop-number-preserved
 loop-number-preserved g c =
@@ -55,12 +60,12 @@ loop-number-preserved g c =
       holds = λ told. page_more (256 / size) c.loop-number.number (λ slot. g.T.Slot.holds (slot_from (store_page (F.pages c.args.store.now.flash)) g.T.Slot.FIRST size slot) (held slots slot))
           (λ slot lt. subst (g.T.Slot.holds (slot_from (store_page (F.pages c.args.store.now.flash)) g.T.Slot.FIRST size slot)) (sym (read.before slot lt)) (was.holds told slot lt))
           (λ place lt.
-              let here = slot_in_page (store_page (F.pages c.args.store.now.flash)) g.T.Slot.FIRST size c.loop-number.number place lt in
-              let seen : store_page (F.pages c.args.store.now.flash) (g.T.Slot.FIRST + c.loop-number.number) ≡ c.in_ok-page.page.bytes =
-                  ap (λ pages. store_page pages (g.T.Slot.FIRST + c.loop-number.number)) (sym (was.read.seen told))
-                  ∙ ap (λ n. store_page (F.pages c.loop-number.store.flash) (n + c.loop-number.number)) (sym c.FIRST.ensures)
-                  ∙ c.in_ok-page.ensures.page told in
-              subst (λ bytes. g.T.Slot.holds bytes (held slots (c.loop-number.number * (256 / size) + place))) (sym (here ∙ ap (λ bytes. slot_at bytes size place) seen)) (read.ok place lt));
+          let here = slot_in_page (store_page (F.pages c.args.store.now.flash)) g.T.Slot.FIRST size c.loop-number.number place lt in
+          let seen : store_page (F.pages c.args.store.now.flash) (g.T.Slot.FIRST + c.loop-number.number) ≡ c.in_ok-page.page.bytes =
+          ap (λ pages. store_page pages (g.T.Slot.FIRST + c.loop-number.number)) (sym (was.read.seen told))
+          ∙ ap (λ n. store_page (F.pages c.loop-number.store.flash) (n + c.loop-number.number)) (sym c.FIRST.ensures)
+          ∙ c.in_ok-page.ensures.page told in
+          subst (λ bytes. g.T.Slot.holds bytes (held slots (c.loop-number.number * (256 / size) + place))) (sym (here ∙ ap (λ bytes. slot_at bytes size place) seen)) (read.ok place lt));
       roomy = page_more (256 / size) c.loop-number.number (λ slot. IfSome (held slots slot) g.T.Slot.is_roomy)
           (λ slot lt. subst (λ thing. IfSome thing g.T.Slot.is_roomy) (sym (read.before slot lt)) (was.roomy slot lt))
           read.roomy;

@@ -1,16 +1,16 @@
-use Rattle.std.proofs.Common.{◌≡◌, ◌/◌, ℕ, refl, ap, sym, subst, ◌∙◌}
+use Rattle.std.proofs.Common.{◌≡◌, ◌/◌, ℕ, refl, ap, sym, subst, ◌∙◌, arith}
 use Rattle.std.specs.Prelude.{slice_set}
 use Rattle.std.specs.Vec.{with_item}
 use Rattle.card_types.specs.SlotChange.{SetsEntry}
 use Rattle.card_types.specs.declared.tables.Tables.{Tables}
 use Rattle.page_journal.specs.Store.{Store}
 use Rattle.rec_store.specs.EntrySlot.{HoldsEntry}
-use Rattle.rec_store.specs.Holds.{current_page}
+use Rattle.rec_store.specs.Holds.{NoLoadPage, current_page}
 use Rattle.rec_store.specs.Places.{entry_page}
 use Rattle.rec_store.specs.Room.{HasFrame, with_staged}
 use Rattle.rec_store.specs.StoredTables.{HoldsPage, HoldsTables}
 use Rattle.rec_store.proofs.Changes.{entry_roomy, entry_set}
-use Rattle.rec_store.proofs.Staging.{frame, numbers, staged_numbers}
+use Rattle.rec_store.proofs.Staging.{frame, none_loaded, numbers, staged_numbers}
 use Rattle.rec_store.proofs.records.Records.set_entry.Goals as goal
 
 pub stage_slots-requires-clause-frame : goal.stage_slots-requires-clause-frame
@@ -30,12 +30,14 @@ invariant_of-self g c =
     let put : slice_set items c.from.result value ≡ slice_set items slot value = ap (λ n. slice_set items n value) c.from.ensures in
     let sets : SetsEntry before after slot value = record { life = refl; entries = put; files = refl; keys = refl; objects = refl } in
     let e = c.stage_slots.ensures in
-    let in_page : HoldsPage HoldsEntry 64 e.0.bytes (slot / 4) (slice_set items slot value) = subst (HoldsPage HoldsEntry 64 e.0.bytes (slot / 4)) (c.deref.ensures.value ∙ put) e.2 in
-    (entry_roomy before after c.self.invariant.0 slot value sets,
-    ap (λ (s : Store g.row.F.Denot). s.settled) e.1 ∙ c.self.invariant.1,
-    λ told live.
-        subst (λ (s : Store g.row.F.Denot). HoldsTables (current_page s.staged (F.pages s.flash)) after) (sym e.1)
-        (entry_set store.staged (F.pages store.flash) (entry_page slot) e.0 before after (c.self.invariant.2 told (ap (λ r. r.live) c.self.view_is ∙ c.requires.live)) slot value sets c.requires.range refl in_page))
+    let in_page : HoldsPage HoldsEntry 64 e.0.bytes (slot / 4) (slice_set items slot value) = subst (HoldsPage HoldsEntry 64 e.0.bytes (slot / 4)) (c.deref.ensures.value ∙ put) e.2 in (
+      entry_roomy before after c.self.invariant.0 slot value sets,
+      ap (λ (s : Store g.row.F.Denot). s.settled) e.1 ∙ c.self.invariant.1,
+      subst (λ (s : Store g.row.F.Denot). NoLoadPage s.staged) (sym e.1) (none_loaded store.staged (entry_page slot) e.0 (omega (arith, c.requires.range)) c.self.invariant.2),
+      λ told live.
+          subst (λ (s : Store g.row.F.Denot). HoldsTables (current_page s.staged (F.pages s.flash)) after) (sym e.1)
+          (entry_set store.staged (F.pages store.flash) (entry_page slot) e.0 before after (c.self.invariant.3 told (ap (λ r. r.live) c.self.view_is ∙ c.requires.live)) slot value sets c.requires.range refl in_page),
+    )
 
 pub returns-clause-staged : goal.returns-clause-staged
 returns-clause-staged g c =

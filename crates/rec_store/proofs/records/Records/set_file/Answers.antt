@@ -7,13 +7,13 @@ use Rattle.card_types.specs.SlotChange.{SetsFile}
 use Rattle.card_types.specs.declared.tables.Tables.{Tables}
 use Rattle.page_journal.specs.Store.{Store}
 use Rattle.rec_store.specs.FileSlot.{HoldsFile}
-use Rattle.rec_store.specs.Holds.{current_page}
+use Rattle.rec_store.specs.Holds.{NoLoadPage, current_page}
 use Rattle.rec_store.specs.Places.{file_page}
 use Rattle.rec_store.specs.Room.{HasFrame, with_staged}
 use Rattle.rec_store.specs.StoredTables.{HoldsPage, HoldsTables}
 use Rattle.rec_store.proofs.Changes.{file_roomy, file_set}
 use Rattle.rec_store.proofs.Roomy.{of_all_set}
-use Rattle.rec_store.proofs.Staging.{frame, numbers, staged_numbers}
+use Rattle.rec_store.proofs.Staging.{frame, none_loaded, numbers, staged_numbers}
 use Rattle.rec_store.proofs.records.Records.set_file.Goals as goal
 
 pub stage_slots-requires-clause-frame : goal.stage_slots-requires-clause-frame
@@ -38,12 +38,14 @@ invariant_of-self g c =
     let sets : SetsFile before after slot value = record { life = refl; entries = refl; files = put; keys = refl; objects = refl } in
     let e = c.stage_slots.ensures in
     let one : slot / 1 ≡ slot = omega arith in
-    let in_page : HoldsPage HoldsFile 256 e.0.bytes slot (slice_set items slot value) = subst (λ n. HoldsPage HoldsFile 256 e.0.bytes n (slice_set items slot value)) one (subst (HoldsPage HoldsFile 256 e.0.bytes (slot / 1)) (c.deref.ensures.value ∙ put) e.2) in
-    (file_roomy before after c.self.invariant.0 slot value sets c.requires.roomy,
-    ap (λ (s : Store g.row.F.Denot). s.settled) e.1 ∙ c.self.invariant.1,
-    λ told live.
-        subst (λ (s : Store g.row.F.Denot). HoldsTables (current_page s.staged (F.pages s.flash)) after) (sym e.1)
-        (file_set store.staged (F.pages store.flash) (9 + slot / 1) e.0 before after (c.self.invariant.2 told (ap (λ r. r.live) c.self.view_is ∙ c.requires.live)) slot value sets c.requires.range (omega arith) in_page))
+    let in_page : HoldsPage HoldsFile 256 e.0.bytes slot (slice_set items slot value) = subst (λ n. HoldsPage HoldsFile 256 e.0.bytes n (slice_set items slot value)) one (subst (HoldsPage HoldsFile 256 e.0.bytes (slot / 1)) (c.deref.ensures.value ∙ put) e.2) in (
+      file_roomy before after c.self.invariant.0 slot value sets c.requires.roomy,
+      ap (λ (s : Store g.row.F.Denot). s.settled) e.1 ∙ c.self.invariant.1,
+      subst (λ (s : Store g.row.F.Denot). NoLoadPage s.staged) (sym e.1) (none_loaded store.staged (9 + slot / 1) e.0 (omega (arith, c.requires.range)) c.self.invariant.2),
+      λ told live.
+          subst (λ (s : Store g.row.F.Denot). HoldsTables (current_page s.staged (F.pages s.flash)) after) (sym e.1)
+          (file_set store.staged (F.pages store.flash) (9 + slot / 1) e.0 before after (c.self.invariant.3 told (ap (λ r. r.live) c.self.view_is ∙ c.requires.live)) slot value sets c.requires.range (omega arith) in_page),
+    )
 
 pub returns-clause-staged : goal.returns-clause-staged
 returns-clause-staged g c =
