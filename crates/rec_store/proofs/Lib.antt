@@ -6,6 +6,7 @@ mod OneThing
 mod OneRegistry
 mod Places
 mod Readings
+mod Reopening
 mod Roomy
 mod Rooms
 mod Staging

@@ -1,7 +1,7 @@
 -- Runs of reads, one after the other.
 use Rattle.std.proofs.Common.{◌≡◌, ◌⊎◌, inl, inr, ⊎_elim, ℕ, ◌≤◌, List, refl, ◌∙◌, arith}
 use Rattle.flash_core.specs.declared.page.Page.{Page}
-use Rattle.page_journal.specs.Moments.{LeavesOnly}
+use Rattle.page_journal.specs.Moments.{Always, LeavesOnly}
 use Rattle.page_journal.specs.Store.{Store}
 use Rattle.rec_store.specs.Reading.{IsRead}
 
@@ -42,3 +42,15 @@ module _ {F : Type 0} (tells : Type 0) (pages : F → List Page) (moment : F →
     moments = λ told. joined old.flash mid.flash new.flash (may_leave old.flash) (may_leave mid.flash) (first.moments told) (second.moments told) (first.loss told);
     later = omega (arith, first.later, second.later);
   }
+
+  -- less is said
+  pub weaker : (old new : F) (P Q : List Page → Type 0) → LeavesOnly moment left_since old new P → ((c : List Page) → P c → Q c) → LeavesOnly moment left_since old new Q
+  weaker old new P Q was step = record {
+    later = was.later;
+    each = λ c left. step c (was.each c left);
+    before = λ t c le left. ⊎_elim (λ earlier. inl earlier) (λ p. inr (step c p)) (was.before t c le left);
+  }
+
+  -- this moment is one of those
+  pub now_left : (old new : F) (P : List Page → Type 0) → LeavesOnly moment left_since old new P → tells → ((f : F) (t : ℕ) (c : List Page) → tells → t ≤ moment f → may_leave f c → left_since f t c) → Always (may_leave new) P
+  now_left old new P was told counts c possible = was.each c (counts new (moment old) c told was.later possible)

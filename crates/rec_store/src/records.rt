@@ -146,7 +146,9 @@ impl<F: Flash> Records<F> {
             → Keeps (F.pages self.new.flash) (F.may_leave self.new.flash) registry }
         ensures cause { HasCause (F.faults self.old.flash) (F.faults self.new.flash) result }
     {
-        self.store.read(page, into)
+        let answer = self.store.read(page, into);
+        prove!(into.bytes[..].len() == 256);
+        answer
     }
 
     /// Writes a load page that no Executable Load File has. Until a commit of changes a power loss may leave any bytes
@@ -165,6 +167,7 @@ impl<F: Flash> Records<F> {
             → Keeps (F.pages self.new.flash) (F.may_leave self.new.flash) registry }
         ensures cause { HasCause (F.faults self.old.flash) (F.faults self.new.flash) result }
     {
+        prove!(from.bytes[..].len() == 256);
         self.store.write_free(page, from)
     }
 

@@ -1,0 +1,179 @@
+-- What power loss may leave reopens as the registry that was there.
+use Rattle.std.proofs.Common.{◌≡◌, ◌≢◌, ◌⊎◌, inl, inr, ⊎_elim, ℕ, ◌+◌, ◌/◌, ◌%◌, ◌<◌, ◌≤◌, ◌++◌, if◌then◌else◌, Bool, true, false, List, [], ◌∷◌, length, Option, None, Some, Result, Ok, Err, refl, ap, sym, subst, ◌∙◌, arith}
+use Rattle.std.specs.Prelude.{All, Contains, OnOk, map, nat_lt, replicate, take}
+use Rattle.std.specs.List.{concat}
+use Rattle.std.specs.List.Sorted.{IsPermutation}
+use Rattle.std.proofs.lemmas.Bool.{cases_lt}
+use Rattle.std.proofs.lemmas.Bool.Decides.{nat_tests}
+use Rattle.std.proofs.lemmas.List.{take-append-le, take_all}
+use Rattle.std.proofs.lemmas.List.Elements.{All-cons, All-contains, All-head, All-map, All-nil, All-tail}
+use Rattle.card_check.specs.IsCard.{IsCard, IsInLoadPages, pages_named}
+use Rattle.card_types.proofs.Members.{contains_first, contains_later}
+use Rattle.card_types.specs.Registry.{Registry}
+use Rattle.card_types.specs.Says.{Says, domain_aid, file_of, used}
+use Rattle.card_types.specs.Slots.{held}
+use Rattle.card_types.specs.declared.limits.TheConstants.{ENTRIES, FILES, KEYS, OBJECTS}
+use Rattle.card_types.specs.declared.tables.LoadFile.{LoadFile}
+use Rattle.card_types.specs.declared.tables.Tables.{Tables}
+use Rattle.flash_core.specs.Device.{NoneNew}
+use Rattle.flash_core.specs.declared.page.Page.{Page}
+use Rattle.page_journal.specs.Journal.{IsSound, bytes_of, stored}
+use Rattle.page_journal.specs.Moments.{Always, Leaves, current, first_of}
+use Rattle.rec_store.specs.EntrySlot.{HoldsEntry}
+use Rattle.rec_store.specs.FileSlot.{HoldsFile}
+use Rattle.rec_store.specs.Holds.{IsFree, Keeps, NoLoadPage, Reopens, load_in, load_page, store_in, store_page}
+use Rattle.rec_store.specs.KeySlot.{HoldsKey}
+use Rattle.rec_store.specs.ObjectSlot.{HoldsObject}
+use Rattle.rec_store.specs.Places.{entry_slot, file_slot, key_slot, object_slot, slot_at, slot_from}
+use Rattle.rec_store.specs.StoredTables.{AreHeld, HoldsTables}
+use Rattle.rec_store.specs.Superblock.{IsSuperblock}
+use Rattle.rec_store.proofs.OneRegistry.{same_pages}
+
+-- store pages that are the same hold the same tables
+module _ (old new : ℕ → List ℕ) (same : (n : ℕ) → n < 45 → new n ≡ old n) where
+  held_same : {T : Type 0} (holds : List ℕ → Option T → Type 0) (first size count : ℕ) (things : List (Option T)) → ((i : ℕ) → i < count → first + i / (256 / size) < 45) → AreHeld holds (slot_from old first size) count things → AreHeld holds (slot_from new first size) count things
+  held_same holds first size count things within was i lt =
+      subst (λ bytes. holds bytes (held things i)) (sym (ap (λ page. slot_at page size (i % (256 / size))) (same (first + i / (256 / size)) (within i lt)))) (was i lt)
+
+  pub tables_same : (t : Tables) → HoldsTables old t → HoldsTables new t
+  tables_same t was = record {
+    slots = was.slots;
+    life = subst (λ bytes. IsSuperblock bytes t.life) (sym (same 0 (omega arith))) was.life;
+    entries = held_same HoldsEntry 1 64 ENTRIES t.entries.items (λ i lt. omega (arith, lt)) was.entries;
+    files = held_same HoldsFile 9 256 FILES t.files.items (λ i lt. omega (arith, lt)) was.files;
+    keys = held_same HoldsKey 25 64 KEYS t.keys.items (λ i lt. omega (arith, lt)) was.keys;
+    objects = held_same HoldsObject 37 128 OBJECTS t.objects.items (λ i lt. omega (arith, lt)) was.objects;
+  }
+
+map_same : {X Y : Type 0} (f g : X → Y) (xs : List X) → ((x : X) → Contains xs x → f x ≡ g x) → map f xs ≡ map g xs
+map_same f g [] each = refl
+map_same f g (x ∷ xs) each =
+    let first = each x (contains_first x xs) in
+    let rest = map_same f g xs (λ y among. each y (contains_later x xs y among)) in
+    cc
+
+-- tables say the same over load pages of which those are the same that a file has
+module _ (old new : ℕ → List ℕ) (t : Tables) (same : (file : LoadFile) → Contains (used t.files.items) file → (n : ℕ) → Contains (pages_named file) n → new n ≡ old n) where
+  same_files : map (file_of new t.entries.items) (used t.files.items) ≡ map (file_of old t.entries.items) (used t.files.items)
+  same_files = map_same (file_of new t.entries.items) (file_of old t.entries.items) (used t.files.items) (λ file among.
+      let pages = map_same new old (pages_named file) (same file among) in
+      λ i. record { aid = file.aid; domain = domain_aid t.entries.items file.domain; bytes = take file.len (concat (pages i)) })
+
+  pub says_same : (registry : Registry) → Says old t registry → Says new t registry
+  says_same registry says = record {
+    life = says.life;
+    entries = says.entries;
+    files = subst (λ files. IsPermutation files registry.files) (sym same_files) says.files;
+    keys = says.keys;
+    counters = says.counters;
+    objects = says.objects;
+    ascending = says.ascending;
+  }
+
+  pub card_same : IsCard old t → IsCard new t
+  card_same card = record {
+    layout = card.layout;
+    factory_file = card.factory_file;
+    files = card.files;
+    apart = card.apart;
+    said = card.said;
+    says = says_same card.said card.says;
+    well = card.well;
+  }
+
+-- a load page of a list
+pub load_at : (list : ℕ → Option Page) (n : ℕ) → 96 ≤ n → load_in list n ≡ take 256 (bytes_of (list n) ++ replicate 256 0)
+load_at list n le = grind (arith, nat_tests)
+
+pub load_same : (a b : ℕ → Option Page) (n : ℕ) → (96 ≤ n → a n ≡ b n) → load_in a n ≡ load_in b n
+load_same a b n same = elim (cases_lt n 96) [
+  | inl low ↦ grind (arith, nat_tests)
+  | inr high ↦ load_at a n high ∙ ap (λ page. take 256 (bytes_of page ++ replicate 256 0)) (same high) ∙ sym (load_at b n high)
+]
+
+-- what power loss leaves of a list of pages that hold tables
+module _ (list : ℕ → Option Page) (loose : List ℕ) (outcome : List Page) (t : Tables) (leaves : Leaves list loose outcome) (free : (n : ℕ) → Contains loose n → IsFree t n) (card : IsCard (load_in list) t) where
+  left_store : (n : ℕ) → n < 45 → store_page outcome n ≡ store_in list n
+  left_store n lt = ap bytes_of (leaves.store n lt)
+
+  left_load : (file : LoadFile) → Contains (used t.files.items) file → (n : ℕ) → Contains (pages_named file) n → load_page outcome n ≡ load_in list n
+  left_load file among n named = load_same (stored outcome) list n (λ high. leaves.load n high (λ is_loose. All-contains (λ file. Contains (pages_named file) n → ⊥) (used t.files.items) file (free n is_loose) among named))
+
+  pub left_tables : HoldsTables (store_in list) t → HoldsTables (store_page outcome) t
+  left_tables held = tables_same (store_in list) (store_page outcome) left_store t held
+
+  pub left_card : IsCard (load_page outcome) t
+  left_card = card_same (load_in list) (load_page outcome) t left_load card
+
+  pub left_says : (registry : Registry) → Says (load_in list) t registry → Says (load_page outcome) t registry
+  left_says registry says = says_same (load_in list) (load_page outcome) t left_load registry says
+
+  pub left : (registry : Registry) → HoldsTables (store_in list) t → Says (load_in list) t registry → Reopens outcome registry
+  left registry held says = record {
+    sound = leaves.sound;
+    holds = record { tables = t; held = left_tables held; card = left_card; says = left_says registry says };
+  }
+
+-- pages that hold a registry, of which all else that power loss leaves are loose pages
+pub keeps : (pages : List Page) (may_leave : List Page → Type 0) (registry : Registry) (t : Tables) → IsSound pages → HoldsTables (store_page pages) t → IsCard (load_page pages) t → Says (load_page pages) t registry
+    → (loose : List ℕ) → Always may_leave (Leaves (stored pages) loose) → ((n : ℕ) → Contains loose n → IsFree t n) → Keeps pages may_leave registry
+keeps pages may_leave registry t sound held card says loose leaves free = record {
+  reopens = λ outcome possible. left (stored pages) loose outcome t (leaves outcome possible) free card registry held says;
+  now = record { sound = sound; holds = record { tables = t; held = held; card = card; says = says } };
+  loose = loose;
+  leaves = leaves;
+  free = free;
+}
+
+-- pages that are the same, where power loss leaves nothing else
+pub keeps_on : (old new : List Page) (may_leave later : List Page → Type 0) (registry : Registry) → new ≡ old → NoneNew may_leave later → Keeps old may_leave registry → Keeps new later registry
+keeps_on old new may_leave later registry same none was = subst (λ pages. Keeps pages later registry) (sym same) (record {
+  reopens = λ outcome possible. was.reopens outcome (none outcome possible);
+  now = was.now;
+  loose = was.loose;
+  leaves = λ outcome possible. was.leaves outcome (none outcome possible);
+  free = was.free;
+})
+
+-- the load page that was read
+pub load_read : (list : ℕ → Option Page) (n : ℕ) (page : Page) → 96 ≤ n → list n ≡ Some page → length page.bytes ≡ 256 → page.bytes ≡ load_in list n
+load_read list n page high is whole = sym (load_at list n high ∙ ap (λ one. take 256 (bytes_of one ++ replicate 256 0)) is ∙ first)
+  where
+    first : take 256 (page.bytes ++ replicate 256 0) ≡ page.bytes
+    first = take-append-le 256 page.bytes (replicate 256 0) (omega (arith, whole)) ∙ take_all 256 page.bytes (omega (arith, whole))
+
+-- no load page is staged
+pub load_current : (pool : List (ℕ × Page)) (pages : List Page) (n : ℕ) → NoLoadPage pool → 45 ≤ n → current pool pages n ≡ stored pages n
+load_current pool pages n none le = ap (λ one. first_of one (stored pages n)) (none n le)
+
+pub on_ok : {A B : Type 0} (result : Result A B) (P Q : Type 0) → (P → Q) → OnOk result P → OnOk result Q
+on_ok (Ok value) P Q step holds = step holds
+on_ok (Err error) P Q step holds = tt
+
+-- files of which each has none of these pages, and those of other tables with the same pages
+free_same : (t u : Tables) (page : ℕ) → map pages_named (used t.files.items) ≡ map pages_named (used u.files.items) → IsFree t page → IsFree u page
+free_same t u page same free =
+    All-from_map (used u.files.items) (subst (All (λ named. Contains named page → ⊥)) same (All-map (λ named. Contains named page → ⊥) pages_named (used t.files.items) free))
+  where
+    All-from_map : (files : List LoadFile) → All (λ named. Contains named page → ⊥) (map pages_named files) → All (λ file. Contains (pages_named file) page → ⊥) files
+    All-from_map [] all = All-nil (λ file. Contains (pages_named file) page → ⊥)
+    All-from_map (file ∷ files) all = All-cons (λ file. Contains (pages_named file) page → ⊥) file files (All-head (λ named. Contains named page → ⊥) (pages_named file) (map pages_named files) all)
+        (All-from_map files (All-tail (λ named. Contains named page → ⊥) (pages_named file) (map pages_named files) all))
+
+-- the same tables, as other tables that the same store pages hold: no file has a page of which none of theirs has it
+pub free_of_held : (store : ℕ → List ℕ) (t u : Tables) (page : ℕ) → HoldsTables store t → HoldsTables store u → IsFree t page → IsFree u page
+free_of_held store t u page first second = free_same t u page (same_pages store (λ _. []) t u first second)
+
+-- pages that power loss leaves of a list, and what it leaves then
+pub keeps_left : (list : ℕ → Option Page) (loose : List ℕ) (t : Tables) (registry : Registry) → ((n : ℕ) → Contains loose n → IsFree t n) → HoldsTables (store_in list) t → IsCard (load_in list) t → Says (load_in list) t registry
+    → (pages : List Page) (may_leave : List Page → Type 0) → Leaves list loose pages → Always may_leave (Leaves list loose) → Keeps pages may_leave registry
+keeps_left list loose t registry free held card says pages may_leave now later =
+    keeps pages may_leave registry t now.sound (left_tables list loose pages t now free card held) (left_card list loose pages t now free card) (left_says list loose pages t now free card registry says) loose
+    (λ outcome possible.
+        let leaves = later outcome possible in
+        record {
+          sound = leaves.sound;
+          store = λ n lt. leaves.store n lt ∙ sym (now.store n lt);
+          load = λ n high tight. leaves.load n high tight ∙ sym (now.load n high tight);
+        })
+    free
