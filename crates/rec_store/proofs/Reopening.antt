@@ -177,3 +177,15 @@ keeps_left list loose t registry free held card says pages may_leave now later =
           load = λ n high tight. leaves.load n high tight ∙ sym (now.load n high tight);
         })
     free
+
+pub both_ok : {A B : Type 0} (result : Result A B) (P Q : Type 0) → OnOk result P → OnOk result Q → OnOk result (P × Q)
+both_ok (Ok value) P Q first second = (first, second)
+both_ok (Err error) P Q first second = tt
+
+pub always_ok : {A B : Type 0} (result : Result A B) (P : Type 0) → P → OnOk result P
+always_ok (Ok value) P holds = holds
+always_ok (Err error) P holds = tt
+
+-- a page of no list is loose
+pub none_loose : (t : Tables) (n : ℕ) → Contains [] n → IsFree t n
+none_loose t n among = absurd (omega (arith, among.1))
