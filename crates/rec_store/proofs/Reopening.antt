@@ -170,12 +170,12 @@ pub keeps_left : (list : ℕ → Option Page) (loose : List ℕ) (t : Tables) (r
 keeps_left list loose t registry free held card says pages may_leave now later =
     keeps pages may_leave registry t now.sound (left_tables list loose pages t now free card held) (left_card list loose pages t now free card) (left_says list loose pages t now free card registry says) loose
     (λ outcome possible.
-        let leaves = later outcome possible in
-        record {
-          sound = leaves.sound;
-          store = λ n lt. leaves.store n lt ∙ sym (now.store n lt);
-          load = λ n high tight. leaves.load n high tight ∙ sym (now.load n high tight);
-        })
+    let leaves = later outcome possible in
+    record {
+      sound = leaves.sound;
+      store = λ n lt. leaves.store n lt ∙ sym (now.store n lt);
+      load = λ n high tight. leaves.load n high tight ∙ sym (now.load n high tight);
+    })
     free
 
 pub both_ok : {A B : Type 0} (result : Result A B) (P Q : Type 0) → OnOk result P → OnOk result Q → OnOk result (P × Q)

@@ -4,7 +4,8 @@ use Rattle.card_types.specs.Registry.{Registry}
 use Rattle.card_types.specs.declared.tables.Tables.{Tables}
 use Rattle.flash_core.specs.declared.page.Page.{Page}
 use Rattle.flash_core.specs.Faults.{Rose}
-use Rattle.page_journal.specs.Moments.{LeavesOnly}
+use Rattle.page_journal.specs.declared.cause.MountCause.{MountCause}
+use Rattle.page_journal.specs.declared.cause.MountCause.TheVariants as mount
 use Rattle.rec_store.specs.Holds.{Reopens}
 use Rattle.rec_store.specs.declared.open.OpenCause.{OpenCause}
 use Rattle.rec_store.specs.declared.open.OpenCause.TheVariants.{Memory, FlashFailed, NotACard}
@@ -28,3 +29,15 @@ abbrev pub SlotsFail : Type 0 → ℕ → ℕ → Type 0 → OpenCause → Type 
 SlotsFail tells before now bad (Memory refused) = ⊥
 SlotsFail tells before now bad FlashFailed = Rose before now
 SlotsFail tells before now bad NotACard = tells → bad
+
+-- the cause of a store that is not mounted, as that of a card
+abbrev pub opened_cause : MountCause → OpenCause
+opened_cause (mount.Memory refused) = Memory refused
+opened_cause mount.FlashFailed = FlashFailed
+opened_cause mount.BadJournal = NotACard
+
+-- Why the tables of a card are not read: the device failed, or its pages hold no registry. Then nothing is written.
+abbrev pub CardFails : {F : Type 0} → Type 0 → (F → ℕ) → (F → List Page) → F → OpenCause → F → Type 0
+CardFails tells faults pages old (Memory refused) new = ⊥
+CardFails tells faults pages old FlashFailed new = Rose (faults old) (faults new)
+CardFails tells faults pages old NotACard new = tells → ((registry : Registry) → Reopens (pages old) registry → ⊥) × (pages new ≡ pages old)

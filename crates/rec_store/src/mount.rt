@@ -1,20 +1,26 @@
 //! Power on: the tables are read from a device.
 
-ghost use Rattle.std.specs.Prelude.{◌≡◌, ◌≤◌, ℕ, List, [], true, IsTrue, ◌↔◌, IfOk, IfErr, OnOk, OnErr};
+ghost use Rattle.std.specs.Prelude.{◌≡◌, ◌↔◌, ◌≤◌, ℕ, List, [], true, IsTrue, IfOk, IfErr, OnOk};
 ghost use Rattle.card_check.specs.IsCard.{HasPages, IsCard};
 ghost use Rattle.card_types.specs.InOrder.{IsInOrder};
 ghost use Rattle.card_types.specs.Registry.{Registry};
 ghost use Rattle.card_types.specs.Says.{Says};
-ghost use Rattle.page_journal.specs.Moments.{Always, LeavesOnly};
-ghost use Rattle.rec_store.specs.Contents.{OpenFails};
-ghost use Rattle.rec_store.specs.Holds.{Keeps, Reopens, ReopensAsOne, load_page};
+ghost use Rattle.card_types.specs.declared.tables.Tables.{Tables as TablesOf};
+ghost use Rattle.flash_core.specs.Device.{Only};
+ghost use Rattle.page_journal.specs.Journal.{IsSound, stored};
+ghost use Rattle.page_journal.specs.Moments.{Always, Leaves, LeavesOnly};
+ghost use Rattle.page_journal.specs.Store.{IsListed};
+ghost use Rattle.rec_store.specs.Contents.{CardFails, OpenFails, SlotsFail, opened_cause};
+ghost use Rattle.rec_store.specs.Holds.{Keeps, Reopens, ReopensAsOne, load_page, store_page};
+ghost use Rattle.rec_store.specs.Reading.{IsRead};
+ghost use Rattle.rec_store.specs.StoredTables.{AreRoomy, HasSlots, HoldsTables};
 
 use crate::open::{OpenCause, OpenError};
 use crate::records::Records;
-use crate::slots::read_slots;
+use crate::slots::{read_slots, read_store};
 use crate::superblock::read_superblock;
 use card_types::Tables;
-use flash_core::{Flash, Page};
+use flash_core::Flash;
 use page_journal::{MountCause, PageStore};
 use std::alloc::Global;
 
@@ -38,6 +44,7 @@ impl<F: Flash> Records<F> {
             → IfErr result (λ e. LeavesOnly F.moment F.left_since flash e.flash (ReopensAsOne registries)) }
         ensures err { IfErr result (λ e. OpenFails F.tells F.faults F.pages flash e.cause e.flash) }
     {
+        // Each slot of these tables is read over.
         let tables = match Tables::factory(alloc) {
             Ok(tables) => tables,
             Err(refused) => {
@@ -57,7 +64,9 @@ impl<F: Flash> Records<F> {
     }
 }
 
-fn cause_of(cause: MountCause) -> OpenCause {
+fn cause_of(cause: MountCause) -> OpenCause
+    ensures { result ≡ opened_cause cause }
+{
     match cause {
         MountCause::Memory(refused) => OpenCause::Memory(refused),
         MountCause::FlashFailed => OpenCause::FlashFailed,
@@ -65,7 +74,24 @@ fn cause_of(cause: MountCause) -> OpenCause {
     }
 }
 
-fn open<F: Flash>(mut tables: Tables, mut store: PageStore<F>) -> Result<Records<F>, OpenError<F>> {
+// Reads the tables from a store, and ends a commit that was cut off.
+fn open<F: Flash>(mut tables: Tables, mut store: PageStore<F>) -> Result<Records<F>, OpenError<F>>
+    requires slots { HasSlots tables }
+    requires live { store.live ≡ true }
+    requires none { store.staged ≡ [] }
+    requires sound { F.tells → IsSound (F.pages store.flash) }
+    requires only { F.tells → Only (F.pages store.flash) (F.may_leave store.flash) }
+    ensures ready { IfOk result (λ r. (r.staged ≡ []) × (r.live ≡ true)) }
+    ensures card { IfOk result (λ r. (page : ℕ → List ℕ) → HasPages page → IsCard page r.tables) }
+    ensures held { F.tells → IfOk result (λ r. HoldsTables (store_page (F.pages store.flash)) r.tables) }
+    ensures list { F.tells → IfOk result (λ r. IsListed (stored (F.pages store.flash)) (F.pages r.flash)) }
+    ensures only { F.tells → IfOk result (λ r. Only (F.pages r.flash) (F.may_leave r.flash)) }
+    ensures moments { F.tells → IfOk result (λ r. LeavesOnly F.moment F.left_since store.flash r.flash (Leaves (stored (F.pages store.flash)) [])) }
+    ensures later { IfOk result (λ r. F.faults store.flash ≤ F.faults r.flash) }
+    ensures err_later { IfErr result (λ e. F.faults store.flash ≤ F.faults e.flash) }
+    ensures err_moments { F.tells → IfErr result (λ e. LeavesOnly F.moment F.left_since store.flash e.flash (Leaves (stored (F.pages store.flash)) [])) }
+    ensures err { IfErr result (λ e. CardFails F.tells F.faults F.pages store.flash e.cause e.flash) }
+{
     match read_card(&mut tables, &mut store) {
         Ok(()) => Ok(Records { tables, store }),
         Err(cause) => Err(OpenError {
@@ -75,7 +101,23 @@ fn open<F: Flash>(mut tables: Tables, mut store: PageStore<F>) -> Result<Records
     }
 }
 
-fn read_card<F: Flash>(tables: &mut Tables, store: &mut PageStore<F>) -> Result<(), OpenCause> {
+// Reads the tables, and ends a commit that was cut off where they are a card's.
+fn read_card<F: Flash>(tables: &mut Tables, store: &mut PageStore<F>) -> Result<(), OpenCause>
+    requires slots { HasSlots tables.old }
+    requires live { store.old.live ≡ true }
+    requires none { store.old.staged ≡ [] }
+    requires sound { F.tells → IsSound (F.pages store.old.flash) }
+    requires only { F.tells → Only (F.pages store.old.flash) (F.may_leave store.old.flash) }
+    ensures ready { OnOk result ((store.new.staged ≡ []) × (store.new.settled ≡ true) × (store.new.live ≡ true)) }
+    ensures card { OnOk result ((page : ℕ → List ℕ) → HasPages page → IsCard page tables.new) }
+    ensures roomy { OnOk result (AreRoomy tables.new) }
+    ensures held { F.tells → OnOk result (HoldsTables (store_page (F.pages store.old.flash)) tables.new) }
+    ensures list { F.tells → OnOk result (IsListed (stored (F.pages store.old.flash)) (F.pages store.new.flash)) }
+    ensures only { F.tells → OnOk result (Only (F.pages store.new.flash) (F.may_leave store.new.flash)) }
+    ensures moments { F.tells → LeavesOnly F.moment F.left_since store.old.flash store.new.flash (Leaves (stored (F.pages store.old.flash)) []) }
+    ensures later { F.faults store.old.flash ≤ F.faults store.new.flash }
+    ensures err { IfErr result (λ cause. CardFails F.tells F.faults F.pages store.old.flash cause store.new.flash) }
+{
     read_tables(tables, store)?;
     if !is_card(tables) {
         return Err(OpenCause::NotACard);
@@ -91,10 +133,18 @@ fn is_card(tables: &Tables) -> bool
     false
 }
 
-fn read_tables<F: Flash>(tables: &mut Tables, store: &mut PageStore<F>) -> Result<(), OpenCause> {
-    let mut page = Page { bytes: [0; 256] };
-    store.read(0, &mut page)?;
-    tables.life = read_superblock(&page.bytes)?;
+// Reads the superblock and all slots.
+fn read_tables<F: Flash>(tables: &mut Tables, store: &mut PageStore<F>) -> Result<(), OpenCause>
+    requires slots { HasSlots tables.old }
+    requires live { store.old.live ≡ true }
+    requires none { store.old.staged ≡ [] }
+    ensures held { F.tells → OnOk result (HoldsTables (store_page (F.pages store.old.flash)) tables.new) }
+    ensures roomy { OnOk result (AreRoomy tables.new) }
+    ensures read { IsRead F.tells F.pages F.moment F.may_leave F.left_since F.faults store.old store.new }
+    ensures err { IfErr result (SlotsFail F.tells (F.faults store.old.flash) (F.faults store.new.flash)
+        ((held : TablesOf) → HoldsTables (store_page (F.pages store.old.flash)) held → ⊥)) }
+{
+    tables.life = read_superblock(&read_store(store, 0)?.bytes)?;
     read_slots(store, &mut tables.entries)?;
     read_slots(store, &mut tables.files)?;
     read_slots(store, &mut tables.keys)?;

@@ -40,10 +40,10 @@ returns-clause-moments g c told before after kept says =
     let on = was.now.holds in
     subst (λ f. LeavesOnly F.moment F.left_since f new (λ outcome. Reopens outcome before ⊎ Reopens outcome after)) flash_is
     (weaker F.tells F.pages F.moment F.may_leave F.left_since F.faults old new (λ outcome. Leaves (stored (F.pages old)) was.loose outcome ⊎ Leaves list [] outcome) (λ outcome. Reopens outcome before ⊎ Reopens outcome after)
-        (c.commit.ensures.moments told was.loose was.leaves)
-        (λ outcome. ⊎_elim
-            (λ leaves. inl (left (stored (F.pages old)) was.loose outcome on.tables leaves was.free on.card before on.held on.says))
-            (λ leaves. inr (left list [] outcome tables leaves (none_loose tables) card after held says_now))))
+    (c.commit.ensures.moments told was.loose was.leaves)
+    (λ outcome. ⊎_elim
+    (λ leaves. inl (left (stored (F.pages old)) was.loose outcome on.tables leaves was.free on.card before on.held on.says))
+    (λ leaves. inr (left list [] outcome tables leaves (none_loose tables) card after held says_now))))
 
 some_or_none : (pool : List (ℕ × Page)) → (pool ≡ []) ⊎ (0 < length pool)
 some_or_none [] = inl refl
@@ -70,18 +70,18 @@ returns-clause-keeps g c told before after kept says =
     let sound : IsSound (F.pages new) = ⊎_elim (λ (leaves : Leaves (stored (F.pages old)) was.loose (F.pages new)). leaves.sound) (λ (leaves : Leaves list [] (F.pages new)). leaves.sound) (later (F.pages new) (g.met.F.Flash.as_read new told)) in
     ⊎_elim
     (λ (none : store.staged ≡ []).
-        let now : Holds (store_page (F.pages old)) (load_page (F.pages old)) after =
-            subst (λ staged. Holds (current_page staged (F.pages old)) (load_in (current staged (F.pages old))) after) none (record { tables = tables; held = held; card = card; says = says_now }) in
-        let one : before ≡ after = one_registry (store_page (F.pages old)) (load_page (F.pages old)) before after on now in
-        always_ok c.commit.result (Keeps (F.pages new) (F.may_leave new) after)
-        (subst (λ (s : Store g.row.F.Denot). Keeps (F.pages s.flash) (F.may_leave s.flash) after) (sym (e.idle none).1) (subst (Keeps (F.pages old) (F.may_leave old)) one was)))
+    let now : Holds (store_page (F.pages old)) (load_page (F.pages old)) after =
+    subst (λ staged. Holds (current_page staged (F.pages old)) (load_in (current staged (F.pages old))) after) none (record { tables = tables; held = held; card = card; says = says_now }) in
+    let one : before ≡ after = one_registry (store_page (F.pages old)) (load_page (F.pages old)) before after on now in
+    always_ok c.commit.result (Keeps (F.pages new) (F.may_leave new) after)
+    (subst (λ (s : Store g.row.F.Denot). Keeps (F.pages s.flash) (F.may_leave s.flash) after) (sym (e.idle none).1) (subst (Keeps (F.pages old) (F.may_leave old)) one was)))
     (λ (some : 0 < length store.staged).
-        on_ok c.commit.result (IsListed list (F.pages new) × Only (F.pages new) (F.may_leave new)) (Keeps (F.pages new) (F.may_leave new) after)
-        (λ done.
-            let leaves : Leaves list [] (F.pages new) = record { sound = sound; store = λ n lt. done.0 n (inl lt); load = λ n high tight. done.0 n (inr high) } in
-            keeps_left list [] tables after (none_loose tables) held card says_now (F.pages new) (F.may_leave new) leaves
-            (λ outcome possible. subst (Leaves list []) (sym (done.1 outcome possible)) leaves))
-        (both_ok c.commit.result (IsListed list (F.pages new)) (Only (F.pages new) (F.may_leave new)) (e.list told) (e.only told some)))
+    on_ok c.commit.result (IsListed list (F.pages new) × Only (F.pages new) (F.may_leave new)) (Keeps (F.pages new) (F.may_leave new) after)
+    (λ done.
+    let leaves : Leaves list [] (F.pages new) = record { sound = sound; store = λ n lt. done.0 n (inl lt); load = λ n high tight. done.0 n (inr high) } in
+    keeps_left list [] tables after (none_loose tables) held card says_now (F.pages new) (F.may_leave new) leaves
+    (λ outcome possible. subst (Leaves list []) (sym (done.1 outcome possible)) leaves))
+    (both_ok c.commit.result (IsListed list (F.pages new)) (Only (F.pages new) (F.may_leave new)) (e.list told) (e.only told some)))
     (some_or_none store.staged)
 
 pub returns-clause-load : goal.returns-clause-load
@@ -93,6 +93,6 @@ returns-clause-load g c told =
     let list = current store.staged (F.pages old) in
     on_ok c.commit.result (IsListed list (F.pages new)) (load_page (F.pages new) ≡ load_page (F.pages c.args.self.now.flash))
     (λ listed.
-        let loads : load_page (F.pages new) ≡ load_in list = λ i n. load_same (stored (F.pages new)) list n (λ high. listed n (inr high)) i in
-        loads ∙ load_now store.staged (F.pages old) c.self.invariant.2 ∙ ap (λ r. load_page (F.pages r.flash)) c.self.view_is)
+    let loads : load_page (F.pages new) ≡ load_in list = λ i n. load_same (stored (F.pages new)) list n (λ high. listed n (inr high)) i in
+    loads ∙ load_now store.staged (F.pages old) c.self.invariant.2 ∙ ap (λ r. load_page (F.pages r.flash)) c.self.view_is)
     (c.commit.ensures.list told)

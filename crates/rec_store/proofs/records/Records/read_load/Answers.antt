@@ -13,8 +13,8 @@ returns-clause-bytes g c told =
     let into = c.read-answer.new.into in
     on_ok c.read-answer.result (current store.staged (pages store.flash) page ≡ Some into) (into.bytes ≡ load_page (pages c.args.self.now.flash) page)
     (λ is.
-        let there : stored (pages store.flash) page ≡ Some into = sym (load_current store.staged (pages store.flash) page c.self.invariant.2 (omega (arith, c.requires.range.0))) ∙ is in
-        load_read (stored (pages store.flash)) page into c.requires.range.0 there c.if-prove.false ∙ ap (λ r. load_page (pages r.flash) page) c.self.view_is)
+    let there : stored (pages store.flash) page ≡ Some into = sym (load_current store.staged (pages store.flash) page c.self.invariant.2 (omega (arith, c.requires.range.0))) ∙ is in
+    load_read (stored (pages store.flash)) page into c.requires.range.0 there c.if-prove.false ∙ ap (λ r. load_page (pages r.flash) page) c.self.view_is)
     (c.read-answer.ensures.list told (ap (λ r. r.live) c.self.view_is ∙ c.requires.live))
 
 pub returns-clause-keeps : goal.returns-clause-keeps

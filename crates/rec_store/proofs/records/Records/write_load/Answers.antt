@@ -41,8 +41,8 @@ returns-clause-moments g c told none registry kept =
     let on = was.now.holds in
     subst (λ f. LeavesOnly F.moment F.left_since f new (λ outcome. Reopens outcome registry)) flash_is
     (weaker F.tells F.pages F.moment F.may_leave F.left_since F.faults old new (Leaves (stored (F.pages old)) (page ∷ was.loose)) (λ outcome. Reopens outcome registry)
-        (c.write_free.ensures.moments told was.loose was.leaves)
-        (λ outcome leaves. left (stored (F.pages old)) (page ∷ was.loose) outcome on.tables leaves free on.card registry on.held on.says))
+    (c.write_free.ensures.moments told was.loose was.leaves)
+    (λ outcome leaves. left (stored (F.pages old)) (page ∷ was.loose) outcome on.tables leaves free on.card registry on.held on.says))
 
 pub returns-clause-keeps : goal.returns-clause-keeps
 returns-clause-keeps g c told none registry kept =
