@@ -1,0 +1,105 @@
+use Rattle.std.proofs.Common.{◌≡◌, ◌≤◌, ◌<◌, ◌++◌, ℕ, List, Option, length, take, drop, ap, sym, subst, ◌∙◌, arith}
+use Rattle.std.specs.Prelude.{OnOk}
+use Rattle.std.specs.Vec.{with_items}
+use Rattle.std.proofs.lemmas.List.{take-append-le, take_all}
+use Rattle.card_types.specs.Slots.{held}
+use Rattle.card_types.specs.declared.limits.TheConstants.{ENTRIES, FILES, KEYS, OBJECTS}
+use Rattle.card_types.specs.declared.tables.Entry.{Entry}
+use Rattle.card_types.specs.declared.tables.KeyRec.{KeyRec}
+use Rattle.card_types.specs.declared.tables.LoadFile.{LoadFile}
+use Rattle.card_types.specs.declared.tables.Object.{Object}
+use Rattle.card_types.specs.declared.tables.Tables.{Tables}
+use Rattle.flash_core.specs.declared.page.Page.{Page}
+use Rattle.rec_store.specs.Contents.{SlotsFail}
+use Rattle.rec_store.specs.EntrySlot.{HoldsEntry}
+use Rattle.rec_store.specs.FileSlot.{HoldsFile}
+use Rattle.rec_store.specs.Holds.{store_page}
+use Rattle.rec_store.specs.KeySlot.{HoldsKey}
+use Rattle.rec_store.specs.ObjectSlot.{HoldsObject}
+use Rattle.rec_store.specs.Places.{slot_from}
+use Rattle.rec_store.specs.StoredTables.{AreHeld, HoldsTables}
+use Rattle.rec_store.specs.Superblock.{IsSuperblock}
+use Rattle.rec_store.proofs.Causes.{each_err, fails_later, handed_on}
+use Rattle.rec_store.proofs.Reopening.{on_ok}
+use Rattle.rec_store.proofs.mount.read_tables.Goals as goal
+
+abbrev NoTables : (ℕ → List ℕ) → Type 0
+NoTables store = (t : Tables) → HoldsTables store t → ⊥
+
+abbrev BadSlot : {T : Type 0} → (List ℕ → Option T → Type 0) → ℕ → ℕ → ℕ → List Page → Type 0
+BadSlot {T} holds first size count pages = (slot : ℕ) × (slot < count) × ((thing : Option T) → holds (slot_from (store_page pages) first size slot) thing → ⊥)
+
+-- a slot that holds nothing is one of no tables
+no_tables : {T : Type 0} (holds : List ℕ → Option T → Type 0) (first size count all : ℕ) (old now : List Page) (items : Tables → List (Option T)) → now ≡ old → count ≡ all
+    → ((t : Tables) → HoldsTables (store_page old) t → AreHeld holds (slot_from (store_page old) first size) all (items t)) → BadSlot holds first size count now → NoTables (store_page old)
+no_tables holds first size count all old now items same is are bad t held_all =
+    bad.2 (held (items t) bad.0) (subst (λ pages. holds (slot_from (store_page pages) first size bad.0) (held (items t) bad.0)) (sym same) (are t held_all bad.0 (omega (arith, bad.1, is))))
+
+-- the slots in the place of a table's
+filled : {T : Type 0} (count : ℕ) (items slots : List (Option T)) → count ≡ length items → length slots ≡ length items → take count (slots ++ drop (length slots) items) ≡ slots
+filled count items slots is same = take-append-le count slots (drop (length slots) items) (omega (arith, is, same)) ∙ take_all count slots (omega (arith, is, same))
+
+-- tables of slots that hold things
+are_held : {T : Type 0} (holds : List ℕ → Option T → Type 0) (first size count all : ℕ) (old now : List Page) (slots : List (Option T)) → now ≡ old → count ≡ all → AreHeld holds (slot_from (store_page now) first size) count slots → AreHeld holds (slot_from (store_page old) first size) all slots
+are_held holds first size count all old now slots same is are = subst (λ pages. AreHeld holds (slot_from (store_page pages) first size) all slots) same (subst (λ n. AreHeld holds (slot_from (store_page now) first size) n slots) is are)
+
+pub returns-in_err-read_slots-clause-err : goal.returns-in_err-read_slots-clause-err
+returns-in_err-read_slots-clause-err g c =
+    let F = g.F.Flash in
+    let first = c.args.store.now.flash in
+    handed_on (SlotsFail F.tells (F.faults first) (F.faults c.read_slots.new.store.flash) (NoTables (store_page (F.pages first)))) c.from_residual-in_err-read_slots.result c.in_err-read_slots.field-0.0 c.from_residual-in_err-read_slots.ensures.1
+    (fails_later F.tells (F.faults first) (F.faults c.read_store.new.store.flash) (F.faults c.read_slots.new.store.flash) (BadSlot HoldsEntry 1 64 (length c.deref_mut.result.now) (F.pages c.read_store.new.store.flash)) (NoTables (store_page (F.pages first))) c.read_store.ensures.read.later
+    (λ told. no_tables HoldsEntry 1 64 (length c.deref_mut.result.now) ENTRIES (F.pages first) (F.pages c.read_store.new.store.flash) (λ t. t.entries.items) (c.read_store.ensures.read.seen told) (ap length c.deref_mut.ensures.value ∙ c.requires.slots.entries) (λ t held_all. held_all.entries))
+    c.in_err-read_slots.field-0.0 c.in_err-read_slots.ensures.err)
+
+pub returns-in_err-read_slots-2-clause-err : goal.returns-in_err-read_slots-2-clause-err
+returns-in_err-read_slots-2-clause-err g c =
+    let F = g.F.Flash in
+    let first = c.args.store.now.flash in
+    handed_on (SlotsFail F.tells (F.faults first) (F.faults c.read_slots-2.new.store.flash) (NoTables (store_page (F.pages first)))) c.from_residual-in_err-read_slots-2.result c.in_err-read_slots-2.field-0.0 c.from_residual-in_err-read_slots-2.ensures.1
+    (fails_later F.tells (F.faults first) (F.faults c.read_slots.new.store.flash) (F.faults c.read_slots-2.new.store.flash) (BadSlot HoldsFile 9 256 (length c.deref_mut-2.result.now) (F.pages c.read_slots.new.store.flash)) (NoTables (store_page (F.pages first))) (omega (arith, c.read_store.ensures.read.later, c.in_ok-read_slots.ensures.read.later))
+    (λ told. no_tables HoldsFile 9 256 (length c.deref_mut-2.result.now) FILES (F.pages first) (F.pages c.read_slots.new.store.flash) (λ t. t.files.items) (c.in_ok-read_slots.ensures.read.seen told ∙ c.read_store.ensures.read.seen told) (ap length c.deref_mut-2.ensures.value ∙ c.requires.slots.files) (λ t held_all. held_all.files))
+    c.in_err-read_slots-2.field-0.0 c.in_err-read_slots-2.ensures.err)
+
+pub returns-in_err-read_slots-3-clause-err : goal.returns-in_err-read_slots-3-clause-err
+returns-in_err-read_slots-3-clause-err g c =
+    let F = g.F.Flash in
+    let first = c.args.store.now.flash in
+    handed_on (SlotsFail F.tells (F.faults first) (F.faults c.read_slots-3.new.store.flash) (NoTables (store_page (F.pages first)))) c.from_residual-in_err-read_slots-3.result c.in_err-read_slots-3.field-0.0 c.from_residual-in_err-read_slots-3.ensures.1
+    (fails_later F.tells (F.faults first) (F.faults c.read_slots-2.new.store.flash) (F.faults c.read_slots-3.new.store.flash) (BadSlot HoldsKey 25 64 (length c.deref_mut-3.result.now) (F.pages c.read_slots-2.new.store.flash)) (NoTables (store_page (F.pages first))) (omega (arith, c.read_store.ensures.read.later, c.in_ok-read_slots.ensures.read.later, c.in_ok-read_slots-2.ensures.read.later))
+    (λ told. no_tables HoldsKey 25 64 (length c.deref_mut-3.result.now) KEYS (F.pages first) (F.pages c.read_slots-2.new.store.flash) (λ t. t.keys.items) (c.in_ok-read_slots-2.ensures.read.seen told ∙ c.in_ok-read_slots.ensures.read.seen told ∙ c.read_store.ensures.read.seen told) (ap length c.deref_mut-3.ensures.value ∙ c.requires.slots.keys) (λ t held_all. held_all.keys))
+    c.in_err-read_slots-3.field-0.0 c.in_err-read_slots-3.ensures.err)
+
+pub returns-clause-err : goal.returns-clause-err
+returns-clause-err g c =
+    let F = g.F.Flash in
+    let first = c.args.store.now.flash in
+    each_err (SlotsFail F.tells (F.faults c.read_slots-3.new.store.flash) (F.faults c.read_slots-4.new.store.flash) (BadSlot HoldsObject 37 128 (length c.deref_mut-4.result.now) (F.pages c.read_slots-3.new.store.flash))) (SlotsFail F.tells (F.faults first) (F.faults c.read_slots-4.new.store.flash) (NoTables (store_page (F.pages first))))
+    (fails_later F.tells (F.faults first) (F.faults c.read_slots-3.new.store.flash) (F.faults c.read_slots-4.new.store.flash) (BadSlot HoldsObject 37 128 (length c.deref_mut-4.result.now) (F.pages c.read_slots-3.new.store.flash)) (NoTables (store_page (F.pages first))) (omega (arith, c.read_store.ensures.read.later, c.in_ok-read_slots.ensures.read.later, c.in_ok-read_slots-2.ensures.read.later, c.in_ok-read_slots-3.ensures.read.later))
+    (λ told. no_tables HoldsObject 37 128 (length c.deref_mut-4.result.now) OBJECTS (F.pages first) (F.pages c.read_slots-3.new.store.flash) (λ t. t.objects.items) (c.in_ok-read_slots-3.ensures.read.seen told ∙ c.in_ok-read_slots-2.ensures.read.seen told ∙ c.in_ok-read_slots.ensures.read.seen told ∙ c.read_store.ensures.read.seen told) (ap length c.deref_mut-4.ensures.value ∙ c.requires.slots.objects) (λ t held_all. held_all.objects)))
+    c.read_slots-4.result c.read_slots-4.ensures.err
+
+pub returns-clause-held : goal.returns-clause-held
+returns-clause-held g c told =
+    let F = g.F.Flash in
+    let first = F.pages c.args.store.now.flash in
+    let before = c.args.tables.now in
+    let after : Tables = record { life = c.in_ok-tables.field-0; entries = with_items before.entries c.read_slots.new.slots; files = with_items before.files c.read_slots-2.new.slots; keys = with_items before.keys c.read_slots-3.new.slots; objects = with_items before.objects c.read_slots-4.new.slots } in
+    let entries_long : length c.read_slots.new.slots ≡ length before.entries.items = c.read_slots.auto.slots ∙ ap length c.deref_mut.ensures.value in
+    let entries_are : after.entries.items ≡ c.read_slots.new.slots = filled before.entries.len before.entries.items c.read_slots.new.slots before.entries.ok.0 entries_long in
+    let files_long : length c.read_slots-2.new.slots ≡ length before.files.items = c.read_slots-2.auto.slots ∙ ap length c.deref_mut-2.ensures.value in
+    let files_are : after.files.items ≡ c.read_slots-2.new.slots = filled before.files.len before.files.items c.read_slots-2.new.slots before.files.ok.0 files_long in
+    let keys_long : length c.read_slots-3.new.slots ≡ length before.keys.items = c.read_slots-3.auto.slots ∙ ap length c.deref_mut-3.ensures.value in
+    let keys_are : after.keys.items ≡ c.read_slots-3.new.slots = filled before.keys.len before.keys.items c.read_slots-3.new.slots before.keys.ok.0 keys_long in
+    let objects_long : length c.read_slots-4.new.slots ≡ length before.objects.items = c.read_slots-4.auto.slots ∙ ap length c.deref_mut-4.ensures.value in
+    let objects_are : after.objects.items ≡ c.read_slots-4.new.slots = filled before.objects.len before.objects.items c.read_slots-4.new.slots before.objects.ok.0 objects_long in
+    on_ok c.read_slots-4.result (AreHeld HoldsObject (slot_from (store_page (F.pages c.read_slots-3.new.store.flash)) 37 128) (length c.read_slots-4.new.slots) c.read_slots-4.new.slots) (HoldsTables (store_page first) after)
+    (λ last. record {
+      slots = record { entries = ap length entries_are ∙ entries_long ∙ c.requires.slots.entries; files = ap length files_are ∙ files_long ∙ c.requires.slots.files; keys = ap length keys_are ∙ keys_long ∙ c.requires.slots.keys; objects = ap length objects_are ∙ objects_long ∙ c.requires.slots.objects };
+      life = subst (λ bytes. IsSuperblock bytes after.life) (sym (c.in_ok-read_store.ensures.page told)) c.in_ok-tables.ensures.ok;
+      entries = subst (AreHeld HoldsEntry (slot_from (store_page first) 1 64) ENTRIES) (sym entries_are) (are_held HoldsEntry 1 64 (length c.read_slots.new.slots) ENTRIES first (F.pages c.read_store.new.store.flash) c.read_slots.new.slots (c.read_store.ensures.read.seen told) (entries_long ∙ c.requires.slots.entries) (c.in_ok-read_slots.ensures.ok told));
+      files = subst (AreHeld HoldsFile (slot_from (store_page first) 9 256) FILES) (sym files_are) (are_held HoldsFile 9 256 (length c.read_slots-2.new.slots) FILES first (F.pages c.read_slots.new.store.flash) c.read_slots-2.new.slots (c.in_ok-read_slots.ensures.read.seen told ∙ c.read_store.ensures.read.seen told) (files_long ∙ c.requires.slots.files) (c.in_ok-read_slots-2.ensures.ok told));
+      keys = subst (AreHeld HoldsKey (slot_from (store_page first) 25 64) KEYS) (sym keys_are) (are_held HoldsKey 25 64 (length c.read_slots-3.new.slots) KEYS first (F.pages c.read_slots-2.new.store.flash) c.read_slots-3.new.slots (c.in_ok-read_slots-2.ensures.read.seen told ∙ c.in_ok-read_slots.ensures.read.seen told ∙ c.read_store.ensures.read.seen told) (keys_long ∙ c.requires.slots.keys) (c.in_ok-read_slots-3.ensures.ok told));
+      objects = subst (AreHeld HoldsObject (slot_from (store_page first) 37 128) OBJECTS) (sym objects_are) (are_held HoldsObject 37 128 (length c.read_slots-4.new.slots) OBJECTS first (F.pages c.read_slots-3.new.store.flash) c.read_slots-4.new.slots (c.in_ok-read_slots-3.ensures.read.seen told ∙ c.in_ok-read_slots-2.ensures.read.seen told ∙ c.in_ok-read_slots.ensures.read.seen told ∙ c.read_store.ensures.read.seen told) (objects_long ∙ c.requires.slots.objects) last);
+    })
+    (c.read_slots-4.ensures.ok told)
