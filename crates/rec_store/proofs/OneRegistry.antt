@@ -1,7 +1,7 @@
 -- Store pages and load pages hold at most one registry.
 use Rattle.std.proofs.Common.{◌≡◌, inl, inr, ℕ, zero, suc, ◌<◌, ◌≤◌, List, [], ◌∷◌, length, Option, None, Some, refl, ap, sym, ◌∙◌, subst, arith}
-use Rattle.std.specs.Prelude.{Contains, IfSome, take, map, filter, unwrap_or}
-use Rattle.std.specs.List.{concat}
+use Rattle.std.specs.Prelude.{All, Contains, IfSome, MatchOption, nat_eq, take, map, filter, unwrap_or}
+use Rattle.std.specs.List.{IsDistinct, concat}
 use Rattle.std.specs.List.Sorted.{IsPermutation, IsStrictlySortedBy}
 use Rattle.std.specs.Cmp.{IsTotalOrder}
 use Rattle.std.specs.Option.{option_map}
@@ -10,9 +10,10 @@ use Rattle.std.specs.declared.cmp.Ordering.{Ordering}
 use Rattle.std.proofs.lemmas.Cmp.{nat_list_cmp_total, on_total}
 use Rattle.std.proofs.lemmas.Bool.{cases_lt}
 use Rattle.std.proofs.lemmas.List.{get_or_past}
+use Rattle.std.proofs.lemmas.Nat.{and_le_r}
 use Rattle.std.proofs.lemmas.List.Elements.{All-contains}
 use Rattle.std.proofs.lemmas.List.Sorted.{IsPermutation-sym, IsPermutation-trans}
-use Rattle.card_check.specs.IsCard.{IsCard, pages_named}
+use Rattle.card_check.specs.IsCard.{IsCard, IsInLoadPages, pages_named}
 use Rattle.card_types.proofs.ChangeExists.{one_order}
 use Rattle.card_types.proofs.KeyNames.{counter_order_total, key_order_total}
 use Rattle.card_types.proofs.LeastOfList.{sorted_by_name}
@@ -20,17 +21,22 @@ use Rattle.card_types.proofs.ObjectNames.{object_order_total}
 use Rattle.card_types.proofs.Shows.{shows_used}
 use Rattle.card_types.specs.AidOrder.{aid_order}
 use Rattle.card_types.specs.Ascending.{counter_order, key_order, object_order}
+use Rattle.card_types.specs.Layout.{HasIssuer}
+use Rattle.card_types.specs.Privileges.{bits_of, named_bits}
 use Rattle.card_types.specs.Registry as registry
 use Rattle.card_types.specs.Says.{Says, counter_of, domain_aid, entry_of, file_aid, file_of, keeps_counter, key_of, object_of, used}
 use Rattle.card_types.specs.Slots.{held}
 use Rattle.card_types.specs.Well.{IsWellEntry, pages_of}
+use Rattle.card_types.specs.declared.factory.TheConstants.{FACTORY_FILE}
 use Rattle.card_types.specs.declared.tables.Entry.{Entry}
 use Rattle.card_types.specs.declared.tables.LoadFile.{LoadFile}
 use Rattle.card_types.specs.declared.tables.Tables.{Tables}
+use Rattle.rec_store.specs.EntrySlot.{HasThreeBytes}
 use Rattle.rec_store.specs.Holds.{Holds}
 use Rattle.rec_store.specs.Places.{entry_slot, file_slot, key_slot, object_slot}
 use Rattle.rec_store.specs.StoredTables.{HoldsTables}
-use Rattle.rec_store.proofs.OneThing.{AreNamed, AreSameFiles, SameFile, one_card_life, one_entry, one_file, one_key, one_object}
+use Rattle.rec_store.proofs.Roomy.{of_all, of_slot}
+use Rattle.rec_store.proofs.OneThing.{AreThreeBytes, AreSameFiles, SameFile, one_card_life, one_entry, one_file, one_key, one_object}
 
 module _ {T : Type 0} where
   pub same_slots : (xs ys : List (Option T)) → length xs ≡ length ys → ((i : ℕ) → i < length xs → held xs i ≡ held ys i) → xs ≡ ys
@@ -68,15 +74,16 @@ one_named_list name all xs ys first second sorted also =
     one_list (on name aid_order) (on_total name nat_list_cmp_total) all xs ys first second (sorted_by_name aid_order name xs sorted) (sorted_by_name aid_order name ys also)
 
 -- entries of a card have privileges with names
-entry_named : (load : ℕ → List ℕ) (tables : Tables) → IsCard load tables → (i : ℕ) → AreNamed (held tables.entries.items i)
-entry_named load tables card i = of (held tables.entries.items i) refl
+card_entry : (load : ℕ → List ℕ) (tables : Tables) → IsCard load tables → (i : ℕ) → AreThreeBytes (held tables.entries.items i)
+card_entry load tables card i = of (held tables.entries.items i) refl
   where
-    of : (entry : Option Entry) → held tables.entries.items i ≡ entry → AreNamed entry
+    of : (entry : Option Entry) → held tables.entries.items i ≡ entry → AreThreeBytes entry
     of None is = tt
     of (Some entry) is =
         let view = entry_of tables.entries.items tables.files.items in
         let shown = (shows_used view tables.entries.items card.said.entries card.says.entries).there i entry is refl in
-        (All-contains (IsWellEntry card.said) card.said.entries (view entry) card.well.entries shown).named_privileges
+        let named = (All-contains (IsWellEntry card.said) card.said.entries (view entry) card.well.entries shown).named_privileges in
+        omega (arith, named, and_le_r (bits_of entry.privileges) named_bits)
 
 module _ (store load : ℕ → List ℕ) (t u : Tables) (first : HoldsTables store t) (second : HoldsTables store u) where
   same_file : (i : ℕ) → i < length t.files.items → AreSameFiles (held t.files.items i) (held u.files.items i)
@@ -107,12 +114,12 @@ module _ (store load : ℕ → List ℕ) (t u : Tables) (first : HoldsTables sto
         ap (λ file. unwrap_or (option_map (λ file. file.aid) file) []) (none ∙ sym also_none))
   ]
 
-  module _ (card : IsCard load t) (also : IsCard load u) where
-    same_entries : t.entries.items ≡ u.entries.items
-    same_entries =
-        same_slots t.entries.items u.entries.items (first.slots.entries ∙ sym second.slots.entries)
-        (λ i lt. one_entry (entry_slot store i) (held t.entries.items i) (held u.entries.items i) (entry_named load t card i) (entry_named load u also i) (first.entries i (omega (arith, lt, first.slots.entries))) (second.entries i (omega (arith, lt, first.slots.entries))))
+  same_entries : ((i : ℕ) → AreThreeBytes (held t.entries.items i)) → ((i : ℕ) → AreThreeBytes (held u.entries.items i)) → t.entries.items ≡ u.entries.items
+  same_entries three also =
+      same_slots t.entries.items u.entries.items (first.slots.entries ∙ sym second.slots.entries)
+      (λ i lt. one_entry (entry_slot store i) (held t.entries.items i) (held u.entries.items i) (three i) (also i) (first.entries i (omega (arith, lt, first.slots.entries))) (second.entries i (omega (arith, lt, first.slots.entries))))
 
+  module _ (same : t.entries.items ≡ u.entries.items) where
     same_keys : t.keys.items ≡ u.keys.items
     same_keys =
         same_slots t.keys.items u.keys.items (first.slots.keys ∙ sym second.slots.keys)
@@ -126,14 +133,14 @@ module _ (store load : ℕ → List ℕ) (t u : Tables) (first : HoldsTables sto
     shown_entries : map (entry_of t.entries.items t.files.items) (used t.entries.items) ≡ map (entry_of u.entries.items u.files.items) (used u.entries.items)
     shown_entries =
         same_map (entry_of t.entries.items t.files.items) (entry_of t.entries.items u.files.items) (λ entry. let file = same_file_aid entry.file in λ i. record (entry_of t.entries.items t.files.items entry) { file = file i }) (used t.entries.items)
-        ∙ ap (λ entries. map (entry_of entries u.files.items) (used entries)) same_entries
+        ∙ ap (λ entries. map (entry_of entries u.files.items) (used entries)) same
 
     shown_files : map (file_of load t.entries.items) (used t.files.items) ≡ map (file_of load u.entries.items) (used u.files.items)
     shown_files =
         same_views (file_of load t.entries.items) t.files.items u.files.items files_count
         (same_file_views (file_of load t.entries.items) (λ x y same. let aid = same.aid in let domain = same.domain in let size = same.size in let pages = same.pages in
         λ i. record { aid = aid i; domain = domain_aid t.entries.items (domain i); bytes = take (size i) (concat (map load (pages i))) }))
-        ∙ ap (λ entries. map (file_of load entries) (used u.files.items)) same_entries
+        ∙ ap (λ entries. map (file_of load entries) (used u.files.items)) same
 
     pub one_said : (a b : registry.Registry) → Says load t a → Says load u b → a ≡ b
     one_said a b says other =
@@ -141,12 +148,57 @@ module _ (store load : ℕ → List ℕ) (t u : Tables) (first : HoldsTables sto
         let entries : a.entries ≡ b.entries = one_named_list (λ entry. entry.aid) _ a.entries b.entries says.entries (subst (λ all. IsPermutation all b.entries) (sym shown_entries) other.entries) says.ascending.entries other.ascending.entries in
         let files : a.files ≡ b.files = one_named_list (λ file. file.aid) _ a.files b.files says.files (subst (λ all. IsPermutation all b.files) (sym shown_files) other.files) says.ascending.files other.ascending.files in
         let keys : a.keys ≡ b.keys = one_list key_order key_order_total _ a.keys b.keys says.keys
-        (subst (λ all. IsPermutation all b.keys) (sym (ap (λ entries. map (key_of entries) (used t.keys.items)) same_entries ∙ ap (λ keys. map (key_of u.entries.items) (used keys)) same_keys)) other.keys) says.ascending.keys other.ascending.keys in
+        (subst (λ all. IsPermutation all b.keys) (sym (ap (λ entries. map (key_of entries) (used t.keys.items)) same ∙ ap (λ keys. map (key_of u.entries.items) (used keys)) same_keys)) other.keys) says.ascending.keys other.ascending.keys in
         let counters : a.counters ≡ b.counters = one_list counter_order counter_order_total _ a.counters b.counters says.counters
-        (subst (λ all. IsPermutation all b.counters) (sym (ap (λ entries. map (counter_of entries) (filter keeps_counter (used t.keys.items))) same_entries ∙ ap (λ keys. map (counter_of u.entries.items) (filter keeps_counter (used keys))) same_keys)) other.counters) says.ascending.counters other.ascending.counters in
+        (subst (λ all. IsPermutation all b.counters) (sym (ap (λ entries. map (counter_of entries) (filter keeps_counter (used t.keys.items))) same ∙ ap (λ keys. map (counter_of u.entries.items) (filter keeps_counter (used keys))) same_keys)) other.counters) says.ascending.counters other.ascending.counters in
         let objects : a.objects ≡ b.objects = one_list object_order object_order_total _ a.objects b.objects says.objects
-        (subst (λ all. IsPermutation all b.objects) (sym (ap (λ entries. map (object_of entries) (used t.objects.items)) same_entries ∙ ap (λ objects. map (object_of u.entries.items) (used objects)) same_objects)) other.objects) says.ascending.objects other.ascending.objects in
+        (subst (λ all. IsPermutation all b.objects) (sym (ap (λ entries. map (object_of entries) (used t.objects.items)) same ∙ ap (λ objects. map (object_of u.entries.items) (used objects)) same_objects)) other.objects) says.ascending.objects other.ascending.objects in
         λ i. record { life = life i; entries = entries i; files = files i; keys = keys i; counters = counters i; objects = objects i }
 
+    -- what the one say, the others do
+    says_alike : (said : registry.Registry) → Says load u said → Says load t said
+    says_alike said says = record {
+      life = one_card_life (store 0) t.life u.life first.life second.life ∙ says.life;
+      entries = subst (λ all. IsPermutation all said.entries) (sym shown_entries) says.entries;
+      files = subst (λ all. IsPermutation all said.files) (sym shown_files) says.files;
+      keys = subst (λ all. IsPermutation all said.keys) (sym (ap (λ entries. map (key_of entries) (used t.keys.items)) same ∙ ap (λ keys. map (key_of u.entries.items) (used keys)) same_keys)) says.keys;
+      counters = subst (λ all. IsPermutation all said.counters) (sym (ap (λ entries. map (counter_of entries) (filter keeps_counter (used t.keys.items))) same ∙ ap (λ keys. map (counter_of u.entries.items) (filter keeps_counter (used keys))) same_keys)) says.counters;
+      objects = subst (λ all. IsPermutation all said.objects) (sym (ap (λ entries. map (object_of entries) (used t.objects.items)) same ∙ ap (λ objects. map (object_of u.entries.items) (used objects)) same_objects)) says.objects;
+      ascending = says.ascending;
+    }
+
+    factory_alike : (a b : Option LoadFile) → AreSameFiles a b → MatchOption b ⊥ (λ file. (file.aid ≡ FACTORY_FILE) × (file.len ≡ 0)) → MatchOption a ⊥ (λ file. (file.aid ≡ FACTORY_FILE) × (file.len ≡ 0))
+    factory_alike None None alike is = is
+    factory_alike None (Some y) alike is = absurd alike
+    factory_alike (Some x) None alike is = absurd alike
+    factory_alike (Some x) (Some y) alike is = (alike.aid ∙ is.0, alike.size ∙ is.1)
+
+    loaded_alike : (a b : Option LoadFile) → AreSameFiles a b → IfSome b IsInLoadPages → IfSome a IsInLoadPages
+    loaded_alike None b alike is = tt
+    loaded_alike (Some x) None alike is = absurd alike
+    loaded_alike (Some x) (Some y) alike is = record {
+      size = omega (arith, is.size, alike.size);
+      pages = subst (All (λ page. (96 ≤ page) × (page < 608))) (sym alike.pages) is.pages;
+    }
+
+    -- where the one are a card's, so are the others
+    pub card_alike : IsCard load u → IsCard load t
+    card_alike card = record {
+      layout = record { entries = first.slots.entries; files = first.slots.files; keys = first.slots.keys; objects = first.slots.objects; issuer = subst HasIssuer (sym same) card.layout.issuer };
+      factory_file = factory_alike (held t.files.items 0) (held u.files.items 0) (same_file 0 (omega (arith, first.slots.files))) card.factory_file;
+      files = of_all IsInLoadPages t.files.items (λ i lt. loaded_alike (held t.files.items i) (held u.files.items i) (same_file i lt) (of_slot IsInLoadPages u.files.items i card.files));
+      apart = subst (λ pages. IsDistinct nat_eq (concat pages)) (sym same_pages) card.apart;
+      said = card.said;
+      says = says_alike card.said card.says;
+      well = card.well;
+    }
+
+-- tables that were read, where the store pages hold a card's
+pub read_card : (store load : ℕ → List ℕ) (t u : Tables) → HoldsTables store t → All HasThreeBytes (used t.entries.items) → HoldsTables store u → IsCard load u → IsCard load t
+read_card store load t u read three held_u card =
+    card_alike store load t u read held_u (same_entries store load t u read held_u (λ i. of_slot HasThreeBytes t.entries.items i three) (card_entry load u card)) card
+
 pub one_registry : (store load : ℕ → List ℕ) (a b : registry.Registry) → Holds store load a → Holds store load b → a ≡ b
-one_registry store load a b first second = one_said store load first.tables second.tables first.held second.held first.card second.card a b first.says second.says
+one_registry store load a b first second =
+    one_said store load first.tables second.tables first.held second.held
+    (same_entries store load first.tables second.tables first.held second.held (card_entry load first.tables first.card) (card_entry load second.tables second.card)) a b first.says second.says

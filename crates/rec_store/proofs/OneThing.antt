@@ -23,7 +23,7 @@ use Rattle.card_types.specs.declared.tables.KeyRec.{KeyRec}
 use Rattle.card_types.specs.declared.tables.LoadFile.{LoadFile}
 use Rattle.card_types.specs.declared.tables.Object.{Object}
 use Rattle.rec_store.specs.Bytes.{HasBytesAt}
-use Rattle.rec_store.specs.EntrySlot.{HoldsEntry, IsEntryIn}
+use Rattle.rec_store.specs.EntrySlot.{HasThreeBytes, HoldsEntry, IsEntryIn}
 use Rattle.rec_store.specs.FileSlot.{HoldsFile, IsFileIn, page_in}
 use Rattle.rec_store.specs.KeySlot.{HoldsKey, IsKeyIn}
 use Rattle.rec_store.specs.ObjectSlot.{HoldsObject, IsObjectIn}
@@ -65,10 +65,10 @@ one_mark a b same = sym (mark_back a.life a.locked) ∙ ap mark_of same ∙ mark
 one_bytes : (slot : List ℕ) (at : ℕ) (a b : List ℕ) → HasBytesAt slot at a → HasBytesAt slot at b → a ≡ b
 one_bytes slot at a b first second = sym first.behind ∙ ap (λ n. slice_range slot (at + 1) (at + 1 + n)) (sym first.count ∙ second.count) ∙ second.behind
 
-abbrev pub AreNamed : Option Entry → Type 0
-AreNamed entry = IfSome entry (λ e. IsNamed e.privileges)
+abbrev pub AreThreeBytes : Option Entry → Type 0
+AreThreeBytes entry = IfSome entry HasThreeBytes
 
-pub one_entry : (slot : List ℕ) (a b : Option Entry) → AreNamed a → AreNamed b → HoldsEntry slot a → HoldsEntry slot b → a ≡ b
+pub one_entry : (slot : List ℕ) (a b : Option Entry) → AreThreeBytes a → AreThreeBytes b → HoldsEntry slot a → HoldsEntry slot b → a ≡ b
 one_entry slot None None named also first second = refl
 one_entry slot None (Some y) named also first second = absurd (omega (arith, first, second.mark))
 one_entry slot (Some x) None named also first second = absurd (omega (arith, second, first.mark))
@@ -78,9 +78,7 @@ one_entry slot (Some x) (Some y) named also first second =
     let file : x.file ≡ y.file = sym first.file ∙ second.file in
     let module_ : x.«module» ≡ y.«module» = one_bytes slot 20 x.«module» y.«module» first.module_ second.module_ in
     let life : x.life ≡ y.life = one_mark x.life y.life (sym first.life ∙ second.life) in
-    let small = and_le_r (bits_of x.privileges) named_bits in
-    let also_small = and_le_r (bits_of y.privileges) named_bits in
-    let bits : x.privileges.0 ≡ y.privileges.0 = omega (arith, named, also, small, also_small, first.privileges, second.privileges) in
+    let bits : x.privileges.0 ≡ y.privileges.0 = omega (arith, named, also, first.privileges, second.privileges) in
     let receipts : x.receipts ≡ y.receipts = sym first.receipts ∙ second.receipts in
     λ i. Some (record { aid = aid i; domain = domain i; file = file i; «module» = module_ i; life = life i; privileges = record { 0 = bits i }; receipts = receipts i })
 

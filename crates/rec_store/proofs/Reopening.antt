@@ -5,9 +5,9 @@ use Rattle.std.specs.List.{concat}
 use Rattle.std.specs.List.Sorted.{IsPermutation}
 use Rattle.std.proofs.lemmas.Bool.{cases_lt}
 use Rattle.std.proofs.lemmas.Bool.Decides.{nat_tests}
-use Rattle.std.proofs.lemmas.List.{take-append-le, take_all}
+use Rattle.std.proofs.lemmas.List.{length-append, length-replicate, length-take-le, take-append-le, take_all}
 use Rattle.std.proofs.lemmas.List.Elements.{All-cons, All-contains, All-head, All-map, All-nil, All-tail}
-use Rattle.card_check.specs.IsCard.{IsCard, IsInLoadPages, pages_named}
+use Rattle.card_check.specs.IsCard.{HasPages, IsCard, pages_named}
 use Rattle.card_types.proofs.Members.{contains_first, contains_later}
 use Rattle.card_types.specs.Registry.{Registry}
 use Rattle.card_types.specs.Says.{Says, domain_aid, file_of, used}
@@ -84,6 +84,14 @@ module _ (old new : ℕ → List ℕ) (t : Tables) (same : (file : LoadFile) →
 -- a load page of a list
 pub load_at : (list : ℕ → Option Page) (n : ℕ) → 96 ≤ n → load_in list n ≡ take 256 (bytes_of (list n) ++ replicate 256 0)
 load_at list n le = grind (arith, nat_tests)
+
+pub has_pages : (list : ℕ → Option Page) → HasPages (load_in list)
+has_pages list n = elim (cases_lt n 96) [
+  | inl low ↦ grind (arith, nat_tests)
+  | inr high ↦
+      (let whole : length (take 256 (bytes_of (list n) ++ replicate 256 0)) ≡ 256 = length-take-le 256 _ (omega (arith, length-append (bytes_of (list n)) (replicate 256 0), length-replicate {A = ℕ} 256 0)) in
+      ap length (load_at list n high) ∙ whole)
+]
 
 pub load_same : (a b : ℕ → Option Page) (n : ℕ) → (96 ≤ n → a n ≡ b n) → load_in a n ≡ load_in b n
 load_same a b n same = elim (cases_lt n 96) [

@@ -1,6 +1,6 @@
 -- The slot of an application or a security domain, of 64 bytes. Numbers are big-endian, and bytes that are not named are
 -- not read. Privileges with names are in three bytes, so no others are kept.
-use Rattle.std.specs.Prelude.{◌≡◌, ◌%◌, ◌^◌, ℕ, List, Option, None, Some, slice_index}
+use Rattle.std.specs.Prelude.{◌≡◌, ◌%◌, ◌^◌, ◌<◌, ℕ, List, Option, None, Some, slice_index}
 use Rattle.byteorder.specs.Endian.{big_from}
 use Rattle.card_types.specs.Aid.{IsAid}
 use Rattle.card_types.specs.LifeMark.{code_of}
@@ -23,3 +23,7 @@ pub record IsEntryIn (slot : List ℕ) (entry : Entry) : Type 0 where
 abbrev pub HoldsEntry : List ℕ → Option Entry → Type 0
 HoldsEntry slot None = slice_index slot 0 ≡ 0x00
 HoldsEntry slot (Some entry) = IsEntryIn slot entry
+
+-- its privileges are in three bytes, as all that have names
+abbrev pub HasThreeBytes : Entry → Type 0
+HasThreeBytes entry = bits_of entry.privileges < 2 ^ 24

@@ -1,7 +1,7 @@
 //! The slot of an application or a security domain.
 
 ghost use Rattle.std.specs.Prelude.{◌≡◌, ◌<◌, ◌≤◌, ◌^◌, ℕ, List, Option, length, slice_index, IfOk, OnErr, IfSome};
-ghost use Rattle.rec_store.specs.EntrySlot.{HoldsEntry, IsEntryIn};
+ghost use Rattle.rec_store.specs.EntrySlot.{HasThreeBytes, HoldsEntry, IsEntryIn};
 ghost use Rattle.card_types.specs.declared.tables.Entry.{Entry as EntryOf};
 ghost use Rattle.std.proofs.Common.{lit<, lit≤, refl};
 
@@ -23,6 +23,8 @@ impl Slot for Entry {
     ghost holds = { HoldsEntry };
 
     ghost is_roomy = { λ _. Unit {0} };
+
+    ghost is_read = { HasThreeBytes };
 
     fn read(slot: &[u8]) -> Result<Option<Entry>, BadSlot> {
         match slot[0] {
@@ -46,6 +48,7 @@ fn read_used(slot: &[u8]) -> Result<Entry, BadSlot>
     requires size { length slot.now ≡ 64 }
     requires mark { slice_index slot.now 0 ≡ 1 }
     ensures ok { IfOk result (IsEntryIn slot.now) }
+    ensures read { IfOk result HasThreeBytes }
     ensures err { OnErr result ((entry : EntryOf) → IsEntryIn slot.now entry → ⊥) }
 {
     Ok(Entry {

@@ -27,6 +27,8 @@ impl Slot for LoadFile {
 
     ghost is_roomy = { IsInLoadPages };
 
+    ghost is_read = { IsInLoadPages };
+
     fn read(slot: &[u8]) -> Result<Option<LoadFile>, BadSlot> {
         match slot[0] {
             FREE => Ok(None),

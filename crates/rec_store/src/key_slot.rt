@@ -23,6 +23,8 @@ impl Slot for KeyRec {
 
     ghost is_roomy = { IsRoomyKey };
 
+    ghost is_read = { IsRoomyKey };
+
     fn read(slot: &[u8]) -> Result<Option<KeyRec>, BadSlot> {
         match slot[0] {
             FREE => Ok(None),

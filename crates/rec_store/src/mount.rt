@@ -1,16 +1,17 @@
 //! Power on: the tables are read from a device.
 
-ghost use Rattle.std.specs.Prelude.{◌≡◌, ◌↔◌, ◌≤◌, ℕ, List, [], true, IsTrue, IfOk, IfErr, OnOk};
+ghost use Rattle.std.specs.Prelude.{◌≡◌, ◌≤◌, ℕ, List, [], true, All, IfOk, IfErr, OnOk};
 ghost use Rattle.card_check.specs.IsCard.{HasPages, IsCard};
 ghost use Rattle.card_types.specs.InOrder.{IsInOrder};
 ghost use Rattle.card_types.specs.Registry.{Registry};
-ghost use Rattle.card_types.specs.Says.{Says};
+ghost use Rattle.card_types.specs.Says.{Says, used};
 ghost use Rattle.card_types.specs.declared.tables.Tables.{Tables as TablesOf};
 ghost use Rattle.flash_core.specs.Device.{Only};
 ghost use Rattle.page_journal.specs.Journal.{IsSound, stored};
 ghost use Rattle.page_journal.specs.Moments.{Always, Leaves, LeavesOnly};
 ghost use Rattle.page_journal.specs.Store.{IsListed};
 ghost use Rattle.rec_store.specs.Contents.{CardFails, OpenFails, SlotsFail, opened_cause};
+ghost use Rattle.rec_store.specs.EntrySlot.{HasThreeBytes};
 ghost use Rattle.rec_store.specs.Holds.{Keeps, Reopens, ReopensAsOne, load_page, store_page};
 ghost use Rattle.rec_store.specs.Reading.{IsRead};
 ghost use Rattle.rec_store.specs.StoredTables.{AreRoomy, HasSlots, HoldsTables};
@@ -19,6 +20,7 @@ use crate::open::{OpenCause, OpenError};
 use crate::records::Records;
 use crate::slots::{read_slots, read_store};
 use crate::superblock::read_superblock;
+use card_check::is_card;
 use card_types::Tables;
 use flash_core::Flash;
 use page_journal::{MountCause, PageStore};
@@ -126,13 +128,6 @@ fn read_card<F: Flash>(tables: &mut Tables, store: &mut PageStore<F>) -> Result<
     Ok(())
 }
 
-// A stand-in.
-fn is_card(tables: &Tables) -> bool
-    ensures { (page : ℕ → List ℕ) → HasPages page → (IsTrue result ↔ IsCard page tables.now) }
-{
-    false
-}
-
 // Reads the superblock and all slots.
 fn read_tables<F: Flash>(tables: &mut Tables, store: &mut PageStore<F>) -> Result<(), OpenCause>
     requires slots { HasSlots tables.old }
@@ -140,6 +135,7 @@ fn read_tables<F: Flash>(tables: &mut Tables, store: &mut PageStore<F>) -> Resul
     requires none { store.old.staged ≡ [] }
     ensures held { F.tells → OnOk result (HoldsTables (store_page (F.pages store.old.flash)) tables.new) }
     ensures roomy { OnOk result (AreRoomy tables.new) }
+    ensures entries { OnOk result (All HasThreeBytes (used tables.new.entries.items)) }
     ensures read { IsRead F.tells F.pages F.moment F.may_leave F.left_since F.faults store.old store.new }
     ensures err { IfErr result (SlotsFail F.tells (F.faults store.old.flash) (F.faults store.new.flash)
         ((held : TablesOf) → HoldsTables (store_page (F.pages store.old.flash)) held → ⊥)) }

@@ -24,6 +24,8 @@ impl Slot for Object {
 
     ghost is_roomy = { λ _. Unit {0} };
 
+    ghost is_read = { λ _. Unit {0} };
+
     fn read(slot: &[u8]) -> Result<Option<Object>, BadSlot> {
         match slot[0] {
             FREE => Ok(None),

@@ -28,11 +28,14 @@ pub trait Slot: Drop {
     // A slot has room for the thing.
     ghost is_roomy: { Self → Type 0 };
 
+    // What is so of each thing that is read.
+    ghost is_read: { Self → Type 0 };
+
     /// What a slot holds.
     fn read(slot: &[u8]) -> Result<Option<Self>, BadSlot>
         requires { length slot.now ≡ SIZE }
         ensures ok { IfOk result (holds slot.now) }
-        ensures roomy { IfOk result (λ thing. IfSome thing is_roomy) }
+        ensures read { IfOk result (λ thing. IfSome thing is_read) }
         ensures err { OnErr result ((thing : Option Self) → holds slot.now thing → ⊥) };
 
     /// Makes a slot hold this.

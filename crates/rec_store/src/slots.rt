@@ -21,7 +21,7 @@ use page_journal::PageStore;
 fn read_at<T: Slot>(bytes: &[u8; 256], place: usize) -> Result<Option<T>, BadSlot>
     requires { place < 256 / T.SIZE }
     ensures ok { IfOk result (T.holds (slot_at bytes.now T.SIZE place)) }
-    ensures roomy { IfOk result (λ thing. IfSome thing T.is_roomy) }
+    ensures read_each { IfOk result (λ thing. IfSome thing T.is_read) }
     ensures err { OnErr result ((thing : Option T) → T.holds (slot_at bytes.now T.SIZE place) thing → ⊥) }
 {
     let at = place * T::SIZE;
@@ -47,7 +47,7 @@ fn read_page<T: Slot>(
 ) -> Result<(), BadSlot>
     requires { number * (256 / T.SIZE) + 256 / T.SIZE ≤ length slots.old }
     ensures ok { OnOk result (HoldsPage T.holds T.SIZE bytes.now number slots.new) }
-    ensures roomy { OnOk result ((place : ℕ) → place < 256 / T.SIZE → IfSome (held slots.new (number * (256 / T.SIZE) + place)) T.is_roomy) }
+    ensures read_each { OnOk result ((place : ℕ) → place < 256 / T.SIZE → IfSome (held slots.new (number * (256 / T.SIZE) + place)) T.is_read) }
     ensures before { (slot : ℕ) → slot < number * (256 / T.SIZE) → held slots.new slot ≡ held slots.old slot }
     ensures err { OnErr result ((place : ℕ) × (place < 256 / T.SIZE) × ((thing : Option T) → T.holds (slot_at bytes.now T.SIZE place) thing → ⊥)) }
 {
@@ -82,7 +82,7 @@ pub fn read_slots<F: Flash, T: Slot>(
     requires whole { length slots.old % (256 / T.SIZE) ≡ 0 }
     requires range { T.FIRST * (256 / T.SIZE) + length slots.old ≤ 45 * (256 / T.SIZE) }
     ensures ok { F.tells → OnOk result (AreHeld T.holds (slot_from (store_page (F.pages store.old.flash)) T.FIRST T.SIZE) (length slots.new) slots.new) }
-    ensures roomy { OnOk result (All T.is_roomy (used slots.new)) }
+    ensures read_each { OnOk result (All T.is_read (used slots.new)) }
     ensures read { IsRead F.tells F.pages F.moment F.may_leave F.left_since F.faults store.old store.new }
     ensures err { IfErr result (SlotsFail F.tells (F.faults store.old.flash) (F.faults store.new.flash)
         ((slot : ℕ) × (slot < length slots.old) × ((thing : Option T) → T.holds (slot_from (store_page (F.pages store.old.flash)) T.FIRST T.SIZE slot) thing → ⊥))) }

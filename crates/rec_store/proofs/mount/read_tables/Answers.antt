@@ -1,7 +1,8 @@
 use Rattle.std.proofs.Common.{◌≡◌, ◌≤◌, ◌<◌, ◌++◌, ℕ, List, Option, length, take, drop, ap, sym, subst, ◌∙◌, arith}
-use Rattle.std.specs.Prelude.{OnOk}
+use Rattle.std.specs.Prelude.{All}
 use Rattle.std.specs.Vec.{with_items}
 use Rattle.std.proofs.lemmas.List.{take-append-le, take_all}
+use Rattle.card_types.specs.Says.{used}
 use Rattle.card_types.specs.Slots.{held}
 use Rattle.card_types.specs.declared.limits.TheConstants.{ENTRIES, FILES, KEYS, OBJECTS}
 use Rattle.card_types.specs.declared.tables.Entry.{Entry}
@@ -11,7 +12,7 @@ use Rattle.card_types.specs.declared.tables.Object.{Object}
 use Rattle.card_types.specs.declared.tables.Tables.{Tables}
 use Rattle.flash_core.specs.declared.page.Page.{Page}
 use Rattle.rec_store.specs.Contents.{SlotsFail}
-use Rattle.rec_store.specs.EntrySlot.{HoldsEntry}
+use Rattle.rec_store.specs.EntrySlot.{HasThreeBytes, HoldsEntry}
 use Rattle.rec_store.specs.FileSlot.{HoldsFile}
 use Rattle.rec_store.specs.Holds.{store_page}
 use Rattle.rec_store.specs.KeySlot.{HoldsKey}
@@ -20,7 +21,7 @@ use Rattle.rec_store.specs.Places.{slot_from}
 use Rattle.rec_store.specs.StoredTables.{AreHeld, HoldsTables}
 use Rattle.rec_store.specs.Superblock.{IsSuperblock}
 use Rattle.rec_store.proofs.Causes.{each_err, fails_later, handed_on}
-use Rattle.rec_store.proofs.Reopening.{on_ok}
+use Rattle.rec_store.proofs.Reopening.{always_ok, on_ok}
 use Rattle.rec_store.proofs.mount.read_tables.Goals as goal
 
 abbrev NoTables : (ℕ → List ℕ) → Type 0
@@ -103,3 +104,11 @@ returns-clause-held g c told =
       objects = subst (AreHeld HoldsObject (slot_from (store_page first) 37 128) OBJECTS) (sym objects_are) (are_held HoldsObject 37 128 (length c.read_slots-4.new.slots) OBJECTS first (F.pages c.read_slots-3.new.store.flash) c.read_slots-4.new.slots (c.in_ok-read_slots-3.ensures.read.seen told ∙ c.in_ok-read_slots-2.ensures.read.seen told ∙ c.in_ok-read_slots.ensures.read.seen told ∙ c.read_store.ensures.read.seen told) (objects_long ∙ c.requires.slots.objects) last);
     })
     (c.read_slots-4.ensures.ok told)
+
+pub returns-clause-entries : goal.returns-clause-entries
+returns-clause-entries g c =
+    let before = c.args.tables.now in
+    let long : length c.read_slots.new.slots ≡ length before.entries.items = c.read_slots.auto.slots ∙ ap length c.deref_mut.ensures.value in
+    let are : take before.entries.len (c.read_slots.new.slots ++ drop (length c.read_slots.new.slots) before.entries.items) ≡ c.read_slots.new.slots = filled before.entries.len before.entries.items c.read_slots.new.slots before.entries.ok.0 long in
+    always_ok c.read_slots-4.result (All HasThreeBytes (used (take before.entries.len (c.read_slots.new.slots ++ drop (length c.read_slots.new.slots) before.entries.items))))
+    (subst (λ slots. All HasThreeBytes (used slots)) (sym are) c.in_ok-read_slots.ensures.read_each)

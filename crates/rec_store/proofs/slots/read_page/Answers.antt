@@ -21,9 +21,9 @@ loop-place-preserved g c =
       holds = below_more (λ place. g.T.Slot.holds (slot_at c.args.bytes.now size place) (held slots (first + place))) c.loop-place.place
           (λ place lt. subst (g.T.Slot.holds (slot_at c.args.bytes.now size place)) (sym (others (first + place) (omega (arith, lt)))) (was.holds place lt))
           (subst (g.T.Slot.holds (slot_at c.args.bytes.now size c.loop-place.place)) (sym here) c.in_ok-slots.ensures.ok);
-      roomy = below_more (λ place. IfSome (held slots (first + place)) g.T.Slot.is_roomy) c.loop-place.place
-          (λ place lt. subst (λ thing. IfSome thing g.T.Slot.is_roomy) (sym (others (first + place) (omega (arith, lt)))) (was.roomy place lt))
-          (subst (λ thing. IfSome thing g.T.Slot.is_roomy) (sym here) c.in_ok-slots.ensures.roomy);
+      roomy = below_more (λ place. IfSome (held slots (first + place)) g.T.Slot.is_read) c.loop-place.place
+          (λ place lt. subst (λ thing. IfSome thing g.T.Slot.is_read) (sym (others (first + place) (omega (arith, lt)))) (was.roomy place lt))
+          (subst (λ thing. IfSome thing g.T.Slot.is_read) (sym here) c.in_ok-slots.ensures.read_each);
       before = λ slot lt. others slot (omega (arith, lt)) ∙ was.before slot lt;
     }
 
@@ -32,7 +32,7 @@ returns-clause-ok g c place within =
     let each : 256 / c.SIZE-each.result ≡ 256 / g.T.Slot.SIZE = ap (λ n. 256 / n) c.SIZE-each.ensures in
     c.loop-place.invariant.holds place (omega (arith, within, c.loop-place-test.false, each))
 
-pub returns-clause-roomy : goal.returns-clause-roomy
-returns-clause-roomy g c place within =
+pub returns-clause-read_each : goal.returns-clause-read_each
+returns-clause-read_each g c place within =
     let each : 256 / c.SIZE-each.result ≡ 256 / g.T.Slot.SIZE = ap (λ n. 256 / n) c.SIZE-each.ensures in
     c.loop-place.invariant.roomy place (omega (arith, within, c.loop-place-test.false, each))

@@ -8,6 +8,6 @@ use Rattle.rec_store.proofs.slots.read_page.Given as goal
 abbrev pub invariant-loop-place : goal.invariant-loop-place
 invariant-loop-place g l = record {
   holds : (place : ℕ) → place < l.place → g.T.Slot.holds (slot_at l.bytes g.T.Slot.SIZE place) (held l.slots (l.number * (256 / g.T.Slot.SIZE) + place));
-  roomy : (place : ℕ) → place < l.place → IfSome (held l.slots (l.number * (256 / g.T.Slot.SIZE) + place)) g.T.Slot.is_roomy;
+  roomy : (place : ℕ) → place < l.place → IfSome (held l.slots (l.number * (256 / g.T.Slot.SIZE) + place)) g.T.Slot.is_read;
   before : (slot : ℕ) → slot < l.number * (256 / g.T.Slot.SIZE) → held l.slots slot ≡ held l.fn.slots slot;
 }

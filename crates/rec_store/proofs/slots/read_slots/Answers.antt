@@ -66,16 +66,16 @@ loop-number-preserved g c =
           ∙ ap (λ n. store_page (F.pages c.loop-number.store.flash) (n + c.loop-number.number)) (sym c.FIRST.ensures)
           ∙ c.in_ok-page.ensures.page told in
           subst (λ bytes. g.T.Slot.holds bytes (held slots (c.loop-number.number * (256 / size) + place))) (sym (here ∙ ap (λ bytes. slot_at bytes size place) seen)) (read.ok place lt));
-      roomy = page_more (256 / size) c.loop-number.number (λ slot. IfSome (held slots slot) g.T.Slot.is_roomy)
-          (λ slot lt. subst (λ thing. IfSome thing g.T.Slot.is_roomy) (sym (read.before slot lt)) (was.roomy slot lt))
-          read.roomy;
+      roomy = page_more (256 / size) c.loop-number.number (λ slot. IfSome (held slots slot) g.T.Slot.is_read)
+          (λ slot lt. subst (λ thing. IfSome thing g.T.Slot.is_read) (sym (read.before slot lt)) (was.roomy slot lt))
+          read.read_each;
     }
 
-pub returns-clause-roomy : goal.returns-clause-roomy
-returns-clause-roomy g c =
+pub returns-clause-read_each : goal.returns-clause-read_each
+returns-clause-read_each g c =
     let size = g.T.Slot.SIZE in
     let all = length c.args.slots.now in
     let each : all / (256 / c.SIZE.result) ≡ all / (256 / size) = ap (λ n. all / (256 / n)) c.SIZE.ensures in
     let number : c.loop-number.number ≡ all / (256 / size) = omega (arith, each, c.loop-number-test.false, c.loop-number.auto.number-end) in
     let row : c.loop-number.number * (256 / size) ≡ all = ap (λ n. n * (256 / size)) number ∙ all_pages all (256 / size) c.requires.whole in
-    of_all g.T.Slot.is_roomy c.loop-number.slots (λ slot lt. c.loop-number.invariant.roomy slot (omega (arith, lt, row, c.loop-number.auto.slots)))
+    of_all g.T.Slot.is_read c.loop-number.slots (λ slot lt. c.loop-number.invariant.roomy slot (omega (arith, lt, row, c.loop-number.auto.slots)))
