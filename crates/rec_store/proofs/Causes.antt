@@ -1,7 +1,9 @@
 -- Causes of refusals.
-use Rattle.std.proofs.Common.{◌≡◌, ℕ, ◌≤◌, Result, Ok, Err, sym, subst, arith}
-use Rattle.std.specs.Prelude.{IfErr, IsErrAnd}
-use Rattle.rec_store.specs.Contents.{SlotsFail}
+use Rattle.std.proofs.Common.{◌≡◌, ℕ, ◌≤◌, List, Result, Ok, Err, sym, subst, ◌∙◌, arith}
+use Rattle.std.specs.Prelude.{IfErr, IfOk, IsErrAnd}
+use Rattle.flash_core.specs.declared.page.Page.{Page}
+use Rattle.rec_store.specs.Contents.{CardFails, OpenFails, SlotsFail}
+use Rattle.rec_store.specs.Holds.{Reopens}
 use Rattle.rec_store.specs.declared.open.OpenCause.{OpenCause}
 use Rattle.rec_store.specs.declared.open.OpenCause.TheVariants.{Memory, FlashFailed, NotACard}
 
@@ -23,3 +25,23 @@ pub fails_later : (tells : Type 0) (before mid now : ℕ) (bad also : Type 0) �
 fails_later tells before mid now bad also later step (Memory refused) why = absurd why
 fails_later tells before mid now bad also later step FlashFailed why = omega (arith, why, later)
 fails_later tells before mid now bad also later step NotACard why = λ told. step told (why told)
+
+-- why a card is not opened, where the store is what the device was
+pub opens_later : {F : Type 0} (tells : Type 0) (faults : F → ℕ) (pages : F → List Page) (old mid new : F) → faults old ≤ faults mid → (tells → pages mid ≡ pages old)
+    → (cause : OpenCause) → CardFails tells faults pages mid cause new → OpenFails tells faults pages old cause new
+opens_later tells faults pages old mid new later same (Memory refused) why = absurd why
+opens_later tells faults pages old mid new later same FlashFailed why = omega (arith, why, later)
+opens_later tells faults pages old mid new later same NotACard why = λ told. (λ registry reopens. (why told).0 registry (subst (λ p. Reopens p registry) (sym (same told)) reopens), (why told).1 ∙ same told)
+
+module _ {T E : Type 0} where
+  pub each_ok : (result : Result T E) (P Q : T → Type 0) → ((value : T) → P value → Q value) → IfOk result P → IfOk result Q
+  each_ok (Ok value) P Q step holds = step value holds
+  each_ok (Err error) P Q step holds = tt
+
+  pub also_ok : (result : Result T E) (P Q : T → Type 0) → IfOk result P → IfOk result Q → IfOk result (λ value. P value × Q value)
+  also_ok (Ok value) P Q first second = (first, second)
+  also_ok (Err error) P Q first second = tt
+
+  pub each_error : (result : Result T E) (P Q : E → Type 0) → ((error : E) → P error → Q error) → IfErr result P → IfErr result Q
+  each_error (Ok value) P Q step holds = tt
+  each_error (Err error) P Q step holds = step error holds
