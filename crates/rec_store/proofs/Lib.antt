@@ -1,12 +1,12 @@
 mod Bits
 mod Causes
-mod Changes
+mod ChangedTables
 mod Kept
-mod OneThing
 mod OneRegistry
+mod OneThing
 mod Places
 mod Readings
 mod Reopening
-mod Roomy
 mod Rooms
+mod Roomy
 mod Staging

@@ -22,10 +22,13 @@
 #![tactic(auto)]
 
 mod bytes;
+mod changes;
+mod commit;
 mod entry_slot;
 mod file_slot;
 mod key_slot;
 mod laws;
+mod load_pages;
 mod mount;
 mod object_slot;
 mod open;

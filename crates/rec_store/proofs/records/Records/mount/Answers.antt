@@ -21,9 +21,9 @@ pub returns-in-Ok-mount-clause-in_order : goal.returns-in-Ok-mount-clause-in_ord
 returns-in-Ok-mount-clause-in_order g c =
     each_ok c.open.result (λ r. (page : ℕ → List ℕ) → HasPages page → IsCard page r.tables) (λ r. IsInOrder r.tables)
     (λ r card.
-        let page : ℕ → List ℕ = λ n. replicate 256 0 in
-        let is = card page (λ n. length-replicate {A = ℕ} 256 0) in
-        record { layout = is.layout; page = page; said = is.said; says = is.says; well = is.well })
+    let page : ℕ → List ℕ = λ n. replicate 256 0 in
+    let is = card page (λ n. length-replicate {A = ℕ} 256 0) in
+    record { layout = is.layout; page = page; said = is.said; says = is.says; well = is.well })
     c.open.ensures.card
 
 pub returns-in-Ok-mount-clause-says : goal.returns-in-Ok-mount-clause-says
@@ -40,16 +40,17 @@ returns-in-Ok-mount-clause-says g c told =
     (λ r. ((page : ℕ → List ℕ) → HasPages page → IsCard page r.tables) × (HoldsTables (store_page pages) r.tables × LeavesOnly F.moment F.left_since store.flash r.flash (Leaves list [])))
     (λ r. (registry : Registry) × Reopens pages registry × Says (load_page (F.pages r.flash)) r.tables registry × Keeps (F.pages r.flash) (F.may_leave r.flash) registry)
     (λ r is.
-        let card = is.0 (load_page pages) (has_pages list) in
-        let later = now_left F.tells F.pages F.moment F.may_leave F.left_since F.faults store.flash r.flash (Leaves list []) is.1.1 told g.met.F.Flash.counts_now in
-        let now = later (F.pages r.flash) (g.met.F.Flash.as_read r.flash told) in
-        let loads : load_page (F.pages r.flash) ≡ load_page pages = λ i n. load_same (stored (F.pages r.flash)) list n (λ high. now.load n high (λ loose. absurd (omega (arith, loose.1)))) i in
-        (card.said,
-        record { sound = c.in-Ok-mount.ensures.sound told; holds = record { tables = r.tables; held = is.1.0; card = card; says = card.says } },
-        subst (λ load. Says load r.tables card.said) (sym loads) card.says,
-        keeps_left list [] r.tables card.said (none_loose r.tables) is.1.0 card card.says (F.pages r.flash) (F.may_leave r.flash) now later))
+    let card = is.0 (load_page pages) (has_pages list) in
+    let later = now_left F.tells F.pages F.moment F.may_leave F.left_since F.faults store.flash r.flash (Leaves list []) is.1.1 told g.met.F.Flash.counts_now in
+    let now = later (F.pages r.flash) (g.met.F.Flash.as_read r.flash told) in
+    let loads : load_page (F.pages r.flash) ≡ load_page pages = λ i n. load_same (stored (F.pages r.flash)) list n (λ high. now.load n high (λ loose. absurd (omega (arith, loose.1)))) i in (
+      card.said,
+      record { sound = c.in-Ok-mount.ensures.sound told; holds = record { tables = r.tables; held = is.1.0; card = card; says = card.says } },
+      subst (λ load. Says load r.tables card.said) (sym loads) card.says,
+      keeps_left list [] r.tables card.said (none_loose r.tables) is.1.0 card card.says (F.pages r.flash) (F.may_leave r.flash) now later,
+    ))
     (also_ok c.open.result (λ r. (page : ℕ → List ℕ) → HasPages page → IsCard page r.tables) (λ r. HoldsTables (store_page pages) r.tables × LeavesOnly F.moment F.left_since store.flash r.flash (Leaves list []))
-        c.open.ensures.card (also_ok c.open.result (λ r. HoldsTables (store_page pages) r.tables) (λ r. LeavesOnly F.moment F.left_since store.flash r.flash (Leaves list [])) held moments))
+    c.open.ensures.card (also_ok c.open.result (λ r. HoldsTables (store_page pages) r.tables) (λ r. LeavesOnly F.moment F.left_since store.flash r.flash (Leaves list [])) held moments))
 
 -- pages that are left reopen as what was there
 one_of : (pages outcome : List Page) (registries : List Registry) → ReopensAsOne registries pages → Leaves (stored pages) [] outcome → ReopensAsOne registries outcome
@@ -68,7 +69,7 @@ returns-in-Ok-mount-clause-moments g c told registries always =
     let P = Leaves (stored (F.pages store.flash)) [] in
     each_ok c.open.result (λ r. LeavesOnly F.moment F.left_since store.flash r.flash P) (λ r. LeavesOnly F.moment F.left_since flash r.flash (ReopensAsOne registries))
     (λ r second. joined F.tells F.pages F.moment F.may_leave F.left_since F.faults flash store.flash r.flash (ReopensAsOne registries) P first second
-        (λ outcome leaves. one_of (F.pages flash) outcome registries was (subst (λ p. Leaves (stored p) [] outcome) seen leaves)))
+    (λ outcome leaves. one_of (F.pages flash) outcome registries was (subst (λ p. Leaves (stored p) [] outcome) seen leaves)))
     (c.open.ensures.moments told)
 
 pub returns-in-Ok-mount-clause-err_moments : goal.returns-in-Ok-mount-clause-err_moments
@@ -82,7 +83,7 @@ returns-in-Ok-mount-clause-err_moments g c told registries always =
     let P = Leaves (stored (F.pages store.flash)) [] in
     each_error c.open.result (λ e. LeavesOnly F.moment F.left_since store.flash e.flash P) (λ e. LeavesOnly F.moment F.left_since flash e.flash (ReopensAsOne registries))
     (λ e second. joined F.tells F.pages F.moment F.may_leave F.left_since F.faults flash store.flash e.flash (ReopensAsOne registries) P first second
-        (λ outcome leaves. one_of (F.pages flash) outcome registries was (subst (λ p. Leaves (stored p) [] outcome) seen leaves)))
+    (λ outcome leaves. one_of (F.pages flash) outcome registries was (subst (λ p. Leaves (stored p) [] outcome) seen leaves)))
     (c.open.ensures.err_moments told)
 
 pub returns-in-Ok-mount-clause-err : goal.returns-in-Ok-mount-clause-err

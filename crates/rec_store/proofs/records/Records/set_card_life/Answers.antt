@@ -4,7 +4,7 @@ use Rattle.page_journal.specs.Store.{Store}
 use Rattle.rec_store.specs.Holds.{NoLoadPage, current_page}
 use Rattle.rec_store.specs.Room.{HasFrame, with_staged}
 use Rattle.rec_store.specs.StoredTables.{HoldsTables}
-use Rattle.rec_store.proofs.Changes.{life_roomy, life_set}
+use Rattle.rec_store.proofs.ChangedTables.{life_roomy, life_set}
 use Rattle.rec_store.proofs.Staging.{frame, none_loaded, numbers, staged_numbers}
 use Rattle.rec_store.proofs.records.Records.set_card_life.Goals as goal
 

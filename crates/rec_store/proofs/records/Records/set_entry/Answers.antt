@@ -9,7 +9,7 @@ use Rattle.rec_store.specs.Holds.{NoLoadPage, current_page}
 use Rattle.rec_store.specs.Places.{entry_page}
 use Rattle.rec_store.specs.Room.{HasFrame, with_staged}
 use Rattle.rec_store.specs.StoredTables.{HoldsPage, HoldsTables}
-use Rattle.rec_store.proofs.Changes.{entry_roomy, entry_set}
+use Rattle.rec_store.proofs.ChangedTables.{entry_roomy, entry_set}
 use Rattle.rec_store.proofs.Staging.{frame, none_loaded, numbers, staged_numbers}
 use Rattle.rec_store.proofs.records.Records.set_entry.Goals as goal
 

@@ -11,7 +11,7 @@ use Rattle.rec_store.specs.Holds.{NoLoadPage, current_page}
 use Rattle.rec_store.specs.Places.{file_page}
 use Rattle.rec_store.specs.Room.{HasFrame, with_staged}
 use Rattle.rec_store.specs.StoredTables.{HoldsPage, HoldsTables}
-use Rattle.rec_store.proofs.Changes.{file_roomy, file_set}
+use Rattle.rec_store.proofs.ChangedTables.{file_roomy, file_set}
 use Rattle.rec_store.proofs.Roomy.{of_all_set}
 use Rattle.rec_store.proofs.Staging.{frame, none_loaded, numbers, staged_numbers}
 use Rattle.rec_store.proofs.records.Records.set_file.Goals as goal

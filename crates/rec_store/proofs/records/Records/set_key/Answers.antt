@@ -10,7 +10,7 @@ use Rattle.rec_store.specs.Holds.{NoLoadPage, current_page}
 use Rattle.rec_store.specs.Places.{key_page}
 use Rattle.rec_store.specs.Room.{HasFrame, with_staged}
 use Rattle.rec_store.specs.StoredTables.{HoldsPage, HoldsTables}
-use Rattle.rec_store.proofs.Changes.{key_roomy, key_set}
+use Rattle.rec_store.proofs.ChangedTables.{key_roomy, key_set}
 use Rattle.rec_store.proofs.Roomy.{of_all_set}
 use Rattle.rec_store.proofs.Staging.{frame, none_loaded, numbers, staged_numbers}
 use Rattle.rec_store.proofs.records.Records.set_key.Goals as goal

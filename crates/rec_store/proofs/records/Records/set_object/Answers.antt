@@ -9,7 +9,7 @@ use Rattle.rec_store.specs.Holds.{NoLoadPage, current_page}
 use Rattle.rec_store.specs.Places.{object_page}
 use Rattle.rec_store.specs.Room.{HasFrame, with_staged}
 use Rattle.rec_store.specs.StoredTables.{HoldsPage, HoldsTables}
-use Rattle.rec_store.proofs.Changes.{object_roomy, object_set}
+use Rattle.rec_store.proofs.ChangedTables.{object_roomy, object_set}
 use Rattle.rec_store.proofs.Staging.{frame, none_loaded, numbers, staged_numbers}
 use Rattle.rec_store.proofs.records.Records.set_object.Goals as goal
 

@@ -1,5 +1,8 @@
-use Rattle.std.proofs.Common.{◌≡◌, ◌⊎◌, inl, inr, ℕ, List, [], ◌∷◌, Some, ap, sym, subst, ◌∙◌, arith}
+use Rattle.std.proofs.Common.{◌≡◌, ◌≢◌, inl, inr, ℕ, List, [], ◌∷◌, Some, ap, sym, subst, ◌∙◌, arith}
 use Rattle.std.specs.Prelude.{Contains}
+use Rattle.std.proofs.lemmas.List.Elements.{All-contains}
+use Rattle.card_check.specs.IsCard.{pages_named}
+use Rattle.card_types.specs.Says.{used}
 use Rattle.card_types.proofs.Members.{contains_cases}
 use Rattle.card_types.specs.declared.tables.Tables.{Tables}
 use Rattle.flash_core.specs.declared.page.Page.{Page}
@@ -8,7 +11,7 @@ use Rattle.page_journal.specs.Moments.{Leaves, LeavesOnly}
 use Rattle.rec_store.specs.Holds.{IsFree, Keeps, Reopens, current_page, load_page, store_page}
 use Rattle.rec_store.specs.StoredTables.{HoldsTables}
 use Rattle.rec_store.proofs.Readings.{now_left, weaker}
-use Rattle.rec_store.proofs.Reopening.{free_of_held, keeps_left, left, load_read, on_ok}
+use Rattle.rec_store.proofs.Reopening.{free_of_held, keeps_left, left, load_read, load_same, on_ok, says_same}
 use Rattle.rec_store.proofs.Staging.{none_staged}
 use Rattle.rec_store.proofs.records.Records.write_load.Goals as goal
 
@@ -59,3 +62,15 @@ returns-clause-keeps g c told none registry kept =
     let on = was.now.holds in
     let later = now_left F.tells F.pages F.moment F.may_leave F.left_since F.faults old new (Leaves (stored (F.pages old)) (page ∷ was.loose)) (c.write_free.ensures.moments told was.loose was.leaves) told g.met.F.Flash.counts_now in
     keeps_left (stored (F.pages old)) (page ∷ was.loose) on.tables registry free on.held on.card on.says (F.pages new) (F.may_leave new) (later (F.pages new) (g.met.F.Flash.as_read new told)) later
+
+pub returns-clause-says : goal.returns-clause-says
+returns-clause-says g c told registry says =
+    let pages = g.F.Flash.pages in
+    let flash_is = ap (λ r. r.flash) c.self.view_is in
+    let tables = c.args.self.now.tables in
+    let page = c.args.page in
+    let others : (n : ℕ) → n ≢ page → load_page (pages c.write_free.new.self.flash) n ≡ load_page (pages c.args.self.now.flash) n =
+        λ n apart. load_same (stored (pages c.write_free.new.self.flash)) (stored (pages c.self.inside.store.flash)) n (λ high. c.write_free.ensures.others told n apart) ∙ ap (λ f. load_page (pages f) n) flash_is in
+    says_same (load_page (pages c.args.self.now.flash)) (load_page (pages c.write_free.new.self.flash)) tables
+    (λ file among n named. others n (λ is. All-contains (λ file. Contains (pages_named file) page → ⊥) (used tables.files.items) file c.requires.free among (subst (Contains (pages_named file)) is named)))
+    registry says

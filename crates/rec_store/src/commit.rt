@@ -1,0 +1,36 @@
+//! A commit of changes.
+
+ghost use Rattle.std.specs.Prelude.{◌≡◌, ◌⊎◌, [], false, true, IsOk, OnErr, OnOk};
+ghost use Rattle.card_check.specs.IsCard.{IsCard};
+ghost use Rattle.card_types.specs.Registry.{Registry};
+ghost use Rattle.card_types.specs.Says.{Says};
+ghost use Rattle.flash_core.specs.Faults.{HasCause};
+ghost use Rattle.page_journal.specs.Moments.{LeavesOnly};
+ghost use Rattle.rec_store.specs.Holds.{Keeps, Reopens, load_page};
+
+use crate::records::Records;
+use flash_core::{Flash, FlashFailed};
+
+impl<F: Flash> Records<F> {
+    /// Commits all changes. With none it makes no call on the device. After an `Err` the device is mounted again; until then
+    /// only `tables` and `into_flash` may be called.
+    pub fn commit(&mut self) -> Result<(), FlashFailed>
+        requires live { self.old.live ≡ true }
+        requires card { F.tells → IsCard (load_page (F.pages self.old.flash)) self.old.tables }
+        // Power lost at any moment leaves the registry from before, or the one that the tables say.
+        ensures moments { F.tells → (before after : Registry) → Keeps (F.pages self.old.flash) (F.may_leave self.old.flash) before
+            → Says (load_page (F.pages self.old.flash)) self.old.tables after
+            → LeavesOnly F.moment F.left_since self.old.flash self.new.flash (λ outcome. Reopens outcome before ⊎ Reopens outcome after) }
+        ensures keeps { F.tells → (before after : Registry) → Keeps (F.pages self.old.flash) (F.may_leave self.old.flash) before
+            → Says (load_page (F.pages self.old.flash)) self.old.tables after
+            → OnOk result (Keeps (F.pages self.new.flash) (F.may_leave self.new.flash) after) }
+        ensures load { F.tells → OnOk result (load_page (F.pages self.new.flash) ≡ load_page (F.pages self.old.flash)) }
+        ensures tables { self.new.tables ≡ self.old.tables }
+        ensures idle { self.old.staged ≡ [] → IsOk result × (self.new ≡ self.old) }
+        ensures ok { OnOk result ((self.new.staged ≡ []) × (self.new.live ≡ true)) }
+        ensures err { OnErr result (self.new.live ≡ false) }
+        ensures cause { HasCause (F.faults self.old.flash) (F.faults self.new.flash) result }
+    {
+        self.store.commit()
+    }
+}

@@ -1,0 +1,54 @@
+//! Load pages.
+
+ghost use Rattle.std.specs.Prelude.{◌≡◌, ◌≢◌, ◌<◌, ◌≤◌, ℕ, [], true, OnOk};
+ghost use Rattle.card_types.specs.Registry.{Registry};
+ghost use Rattle.card_types.specs.Says.{Says};
+ghost use Rattle.flash_core.specs.Faults.{HasCause};
+ghost use Rattle.page_journal.specs.Moments.{LeavesOnly};
+ghost use Rattle.rec_store.specs.Holds.{IsFree, Keeps, Reopens, load_page};
+
+use crate::records::Records;
+use flash_core::{Flash, FlashFailed, Page};
+
+impl<F: Flash> Records<F> {
+    /// Reads a load page.
+    pub fn read_load(&mut self, page: u16, into: &mut Page) -> Result<(), FlashFailed>
+        requires live { self.old.live ≡ true }
+        requires range { (96 ≤ page) × (page < 608) }
+        ensures bytes { F.tells → OnOk result (into.new.bytes ≡ load_page (F.pages self.old.flash) page) }
+        ensures same { (self.new.tables ≡ self.old.tables) × (self.new.staged ≡ self.old.staged) × (self.new.live ≡ true) }
+        ensures pages { F.tells → F.pages self.new.flash ≡ F.pages self.old.flash }
+        // Power lost at any moment leaves the registry.
+        ensures moments { F.tells → (registry : Registry) → Keeps (F.pages self.old.flash) (F.may_leave self.old.flash) registry
+            → LeavesOnly F.moment F.left_since self.old.flash self.new.flash (λ outcome. Reopens outcome registry) }
+        ensures keeps { F.tells → (registry : Registry) → Keeps (F.pages self.old.flash) (F.may_leave self.old.flash) registry
+            → Keeps (F.pages self.new.flash) (F.may_leave self.new.flash) registry }
+        ensures cause { HasCause (F.faults self.old.flash) (F.faults self.new.flash) result }
+    {
+        let answer = self.store.read(page, into);
+        prove!(into.bytes[..].len() == 256);
+        answer
+    }
+
+    /// Writes a load page that no Executable Load File has. Until a commit of changes a power loss may leave any bytes
+    /// in it.
+    pub fn write_load(&mut self, page: u16, from: &Page) -> Result<(), FlashFailed>
+        requires live { self.old.live ≡ true }
+        requires range { (96 ≤ page) × (page < 608) }
+        requires free { IsFree self.old.tables page }
+        ensures bytes { F.tells → OnOk result (load_page (F.pages self.new.flash) page ≡ from.now.bytes) }
+        ensures others { F.tells → (other : ℕ) → other ≢ page → load_page (F.pages self.new.flash) other ≡ load_page (F.pages self.old.flash) other }
+        // The files of the tables have their bytes.
+        ensures says { F.tells → (registry : Registry) → Says (load_page (F.pages self.old.flash)) self.old.tables registry → Says (load_page (F.pages self.new.flash)) self.old.tables registry }
+        ensures same { (self.new.tables ≡ self.old.tables) × (self.new.staged ≡ self.old.staged) × (self.new.live ≡ true) }
+        // With nothing staged power lost at any moment leaves the registry.
+        ensures moments { F.tells → self.old.staged ≡ [] → (registry : Registry) → Keeps (F.pages self.old.flash) (F.may_leave self.old.flash) registry
+            → LeavesOnly F.moment F.left_since self.old.flash self.new.flash (λ outcome. Reopens outcome registry) }
+        ensures keeps { F.tells → self.old.staged ≡ [] → (registry : Registry) → Keeps (F.pages self.old.flash) (F.may_leave self.old.flash) registry
+            → Keeps (F.pages self.new.flash) (F.may_leave self.new.flash) registry }
+        ensures cause { HasCause (F.faults self.old.flash) (F.faults self.new.flash) result }
+    {
+        prove!(from.bytes[..].len() == 256);
+        self.store.write_free(page, from)
+    }
+}
