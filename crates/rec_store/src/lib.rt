@@ -40,3 +40,6 @@ mod superblock;
 pub use laws::{one_registry, room_stays};
 pub use open::{OpenCause, OpenError};
 pub use records::Records;
+
+#[cfg(test)]
+mod tests;

@@ -70,7 +70,7 @@ returns-clause-says g c told registry says =
     let tables = c.args.self.now.tables in
     let page = c.args.page in
     let others : (n : ℕ) → n ≢ page → load_page (pages c.write_free.new.self.flash) n ≡ load_page (pages c.args.self.now.flash) n =
-        λ n apart. load_same (stored (pages c.write_free.new.self.flash)) (stored (pages c.self.inside.store.flash)) n (λ high. c.write_free.ensures.others told n apart) ∙ ap (λ f. load_page (pages f) n) flash_is in
+    λ n apart. load_same (stored (pages c.write_free.new.self.flash)) (stored (pages c.self.inside.store.flash)) n (λ high. c.write_free.ensures.others told n apart) ∙ ap (λ f. load_page (pages f) n) flash_is in
     says_same (load_page (pages c.args.self.now.flash)) (load_page (pages c.write_free.new.self.flash)) tables
     (λ file among n named. others n (λ is. All-contains (λ file. Contains (pages_named file) page → ⊥) (used tables.files.items) file c.requires.free among (subst (Contains (pages_named file)) is named)))
     registry says
