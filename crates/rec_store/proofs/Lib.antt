@@ -1,6 +1,7 @@
 mod Bits
 mod Causes
 mod ChangedTables
+mod Committing
 mod Kept
 mod OneRegistry
 mod OneThing

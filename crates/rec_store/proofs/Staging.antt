@@ -7,14 +7,16 @@ use Rattle.std.proofs.lemmas.List.{get_or-set_other}
 use Rattle.std.proofs.Math.Nat.{div-add-mod}
 use Rattle.card_types.proofs.Members.{contains_cases}
 use Rattle.card_types.specs.Slots.{held}
+use Rattle.card_types.specs.declared.tables.Tables.{Tables}
 use Rattle.flash_core.specs.declared.page.Page.{Page}
 use Rattle.frame_pool.specs.Staged.{staged, with_page}
 use Rattle.page_journal.specs.Journal.{bytes_of, stored}
 use Rattle.page_journal.specs.Moments.{first_of}
+use Rattle.page_journal.specs.Store.{Store}
 use Rattle.rec_store.specs.Holds.{NoLoadPage, current_page}
 use Rattle.rec_store.specs.Places.{slot_at, slot_from}
 use Rattle.rec_store.specs.Room.{HasFrame, with_staged}
-use Rattle.rec_store.specs.StoredTables.{AreHeld, HoldsPage}
+use Rattle.rec_store.specs.StoredTables.{AreHeld, AreRoomy, HoldsPage, HoldsTables}
 
 abbrev Pages : Type 0
 Pages = List (ℕ × Page)
@@ -108,3 +110,20 @@ module _ {T : Type 0} (holds : List ℕ → Option T → Type 0) (old new : ℕ 
 
       within : (i : ℕ) → i % (256 / size) < 256 / size
       within i = omega (arith, some)
+
+-- the frame for a page, by the numbers of the staged pages
+pub frame_for : (pool : Pages) (shown : List ℕ) (page : ℕ) → numbers pool ≡ shown → HasFrame shown page → IsSome (staged pool page) ⊎ (length pool < 30)
+frame_for pool shown page is room = frame pool page (subst (λ staged. HasFrame staged page) (sym is) room)
+
+-- a store with one page more
+module _ {F : Type 0} (store new : Store F) (page : ℕ) (x : Page) (anew : new ≡ record store { staged = with_page store.staged page x }) where
+  pub numbers_anew : (shown : List ℕ) → numbers store.staged ≡ shown → numbers new.staged ≡ with_staged shown page
+  numbers_anew shown is = ap (λ (s : Store F). numbers s.staged) anew ∙ staged_numbers store.staged page x ∙ ap (λ staged. with_staged staged page) is
+
+  -- what is kept of records, where it holds the tables
+  pub kept_anew : (tells : Type 0) (pages : F → List Page) (t : Tables) → page < 45 → AreRoomy t → store.settled ≡ true → NoLoadPage store.staged
+      → (tells → HoldsTables (current_page (with_page store.staged page x) (pages store.flash)) t)
+      → AreRoomy t × (new.settled ≡ true) × NoLoadPage new.staged × (tells → new.live ≡ true → HoldsTables (current_page new.staged (pages new.flash)) t)
+  kept_anew tells pages t lt roomy settled none held =
+      subst (λ (s : Store F). AreRoomy t × (s.settled ≡ true) × NoLoadPage s.staged × (tells → s.live ≡ true → HoldsTables (current_page s.staged (pages s.flash)) t)) (sym anew)
+      (roomy, settled, none_loaded store.staged page x lt none, λ told live. held told)

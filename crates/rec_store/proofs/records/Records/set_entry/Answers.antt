@@ -1,22 +1,17 @@
-use Rattle.std.proofs.Common.{◌≡◌, ◌/◌, ℕ, refl, ap, sym, subst, ◌∙◌, arith}
+use Rattle.std.proofs.Common.{◌≡◌, ◌/◌, ℕ, refl, ap, subst, ◌∙◌, arith}
 use Rattle.std.specs.Prelude.{slice_set}
 use Rattle.std.specs.Vec.{with_item}
 use Rattle.card_types.specs.SlotChange.{SetsEntry}
 use Rattle.card_types.specs.declared.tables.Tables.{Tables}
-use Rattle.page_journal.specs.Store.{Store}
 use Rattle.rec_store.specs.EntrySlot.{HoldsEntry}
-use Rattle.rec_store.specs.Holds.{NoLoadPage, current_page}
 use Rattle.rec_store.specs.Places.{entry_page}
-use Rattle.rec_store.specs.Room.{HasFrame, with_staged}
-use Rattle.rec_store.specs.StoredTables.{HoldsPage, HoldsTables}
+use Rattle.rec_store.specs.StoredTables.{HoldsPage}
 use Rattle.rec_store.proofs.ChangedTables.{entry_roomy, entry_set}
-use Rattle.rec_store.proofs.Staging.{frame, none_loaded, numbers, staged_numbers}
+use Rattle.rec_store.proofs.Staging.{frame_for, kept_anew, numbers, numbers_anew}
 use Rattle.rec_store.proofs.records.Records.set_entry.Goals as goal
 
 pub stage_slots-requires-clause-frame : goal.stage_slots-requires-clause-frame
-stage_slots-requires-clause-frame g c =
-    let page = entry_page c.args.slot in
-    frame c.self.inside.store.staged page (subst (λ staged. HasFrame staged page) (sym (ap (λ r. r.staged) c.self.view_is)) c.requires.frame)
+stage_slots-requires-clause-frame g c = frame_for c.self.inside.store.staged c.args.self.now.staged (entry_page c.args.slot) (ap (λ r. r.staged) c.self.view_is) c.requires.frame
 
 pub invariant_of-self : goal.invariant_of-self
 invariant_of-self g c =
@@ -30,17 +25,9 @@ invariant_of-self g c =
     let put : slice_set items c.from.result value ≡ slice_set items slot value = ap (λ n. slice_set items n value) c.from.ensures in
     let sets : SetsEntry before after slot value = record { life = refl; entries = put; files = refl; keys = refl; objects = refl } in
     let e = c.stage_slots.ensures in
-    let in_page : HoldsPage HoldsEntry 64 e.0.bytes (slot / 4) (slice_set items slot value) = subst (HoldsPage HoldsEntry 64 e.0.bytes (slot / 4)) (c.deref.ensures.value ∙ put) e.2 in (
-      entry_roomy before after c.self.invariant.0 slot value sets,
-      ap (λ (s : Store g.row.F.Denot). s.settled) e.1 ∙ c.self.invariant.1,
-      subst (λ (s : Store g.row.F.Denot). NoLoadPage s.staged) (sym e.1) (none_loaded store.staged (entry_page slot) e.0 (omega (arith, c.requires.range)) c.self.invariant.2),
-      λ told live.
-          subst (λ (s : Store g.row.F.Denot). HoldsTables (current_page s.staged (F.pages s.flash)) after) (sym e.1)
-          (entry_set store.staged (F.pages store.flash) (entry_page slot) e.0 before after (c.self.invariant.3 told (ap (λ r. r.live) c.self.view_is ∙ c.requires.live)) slot value sets c.requires.range refl in_page),
-    )
+    let in_page : HoldsPage HoldsEntry 64 e.0.bytes (slot / 4) (slice_set items slot value) = subst (HoldsPage HoldsEntry 64 e.0.bytes (slot / 4)) (c.deref.ensures.value ∙ put) e.2 in
+    kept_anew store c.stage_slots.new.store (entry_page slot) e.0 e.1 F.tells F.pages after (omega (arith, c.requires.range)) (entry_roomy before after c.self.invariant.0 slot value sets) c.self.invariant.1 c.self.invariant.2
+    (λ told. entry_set store.staged (F.pages store.flash) (entry_page slot) e.0 before after (c.self.invariant.3 told (ap (λ r. r.live) c.self.view_is ∙ c.requires.live)) slot value sets c.requires.range refl in_page)
 
 pub returns-clause-staged : goal.returns-clause-staged
-returns-clause-staged g c =
-    let page = entry_page c.args.slot in
-    let e = c.stage_slots.ensures in
-    ap (λ (s : Store g.row.F.Denot). numbers s.staged) e.1 ∙ staged_numbers c.self.inside.store.staged page e.0 ∙ ap (λ staged. with_staged staged page) (ap (λ r. r.staged) c.self.view_is)
+returns-clause-staged g c = numbers_anew c.self.inside.store c.stage_slots.new.store (entry_page c.args.slot) c.stage_slots.ensures.0 c.stage_slots.ensures.1 c.args.self.now.staged (ap (λ r. r.staged) c.self.view_is)

@@ -5,22 +5,19 @@ use Rattle.card_check.specs.IsCard.{IsInLoadPages}
 use Rattle.card_types.specs.Says.{used}
 use Rattle.card_types.specs.SlotChange.{SetsFile}
 use Rattle.card_types.specs.declared.tables.Tables.{Tables}
-use Rattle.page_journal.specs.Store.{Store}
 use Rattle.rec_store.specs.FileSlot.{HoldsFile}
-use Rattle.rec_store.specs.Holds.{NoLoadPage, current_page}
 use Rattle.rec_store.specs.Places.{file_page}
 use Rattle.rec_store.specs.Room.{HasFrame, with_staged}
-use Rattle.rec_store.specs.StoredTables.{HoldsPage, HoldsTables}
+use Rattle.rec_store.specs.StoredTables.{HoldsPage}
 use Rattle.rec_store.proofs.ChangedTables.{file_roomy, file_set}
 use Rattle.rec_store.proofs.Roomy.{of_all_set}
-use Rattle.rec_store.proofs.Staging.{frame, none_loaded, numbers, staged_numbers}
+use Rattle.rec_store.proofs.Staging.{frame_for, kept_anew, numbers, numbers_anew}
 use Rattle.rec_store.proofs.records.Records.set_file.Goals as goal
 
 pub stage_slots-requires-clause-frame : goal.stage_slots-requires-clause-frame
 stage_slots-requires-clause-frame g c =
-    let page = 9 + c.args.slot / 1 in
-    let is : page ≡ file_page c.args.slot = omega arith in
-    frame c.self.inside.store.staged page (subst (HasFrame (numbers c.self.inside.store.staged)) (sym is) (subst (λ staged. HasFrame staged (file_page c.args.slot)) (sym (ap (λ r. r.staged) c.self.view_is)) c.requires.frame))
+    let is : file_page c.args.slot ≡ 9 + c.args.slot / 1 = omega arith in
+    frame_for c.self.inside.store.staged c.args.self.now.staged (9 + c.args.slot / 1) (ap (λ r. r.staged) c.self.view_is) (subst (HasFrame c.args.self.now.staged) is c.requires.frame)
 
 pub stage_slots-requires-clause-roomy : goal.stage_slots-requires-clause-roomy
 stage_slots-requires-clause-roomy g c = subst (λ slots. All IsInLoadPages (used slots)) (sym c.deref.ensures.value) (of_all_set IsInLoadPages c.self.inside.tables.files.items c.from.result c.args.value c.self.invariant.0.files c.requires.roomy)
@@ -38,19 +35,11 @@ invariant_of-self g c =
     let sets : SetsFile before after slot value = record { life = refl; entries = refl; files = put; keys = refl; objects = refl } in
     let e = c.stage_slots.ensures in
     let one : slot / 1 ≡ slot = omega arith in
-    let in_page : HoldsPage HoldsFile 256 e.0.bytes slot (slice_set items slot value) = subst (λ n. HoldsPage HoldsFile 256 e.0.bytes n (slice_set items slot value)) one (subst (HoldsPage HoldsFile 256 e.0.bytes (slot / 1)) (c.deref.ensures.value ∙ put) e.2) in (
-      file_roomy before after c.self.invariant.0 slot value sets c.requires.roomy,
-      ap (λ (s : Store g.row.F.Denot). s.settled) e.1 ∙ c.self.invariant.1,
-      subst (λ (s : Store g.row.F.Denot). NoLoadPage s.staged) (sym e.1) (none_loaded store.staged (9 + slot / 1) e.0 (omega (arith, c.requires.range)) c.self.invariant.2),
-      λ told live.
-          subst (λ (s : Store g.row.F.Denot). HoldsTables (current_page s.staged (F.pages s.flash)) after) (sym e.1)
-          (file_set store.staged (F.pages store.flash) (9 + slot / 1) e.0 before after (c.self.invariant.3 told (ap (λ r. r.live) c.self.view_is ∙ c.requires.live)) slot value sets c.requires.range (omega arith) in_page),
-    )
+    let in_page : HoldsPage HoldsFile 256 e.0.bytes slot (slice_set items slot value) = subst (λ n. HoldsPage HoldsFile 256 e.0.bytes n (slice_set items slot value)) one (subst (HoldsPage HoldsFile 256 e.0.bytes (slot / 1)) (c.deref.ensures.value ∙ put) e.2) in
+    kept_anew store c.stage_slots.new.store (9 + slot / 1) e.0 e.1 F.tells F.pages after (omega (arith, c.requires.range)) (file_roomy before after c.self.invariant.0 slot value sets c.requires.roomy) c.self.invariant.1 c.self.invariant.2
+    (λ told. file_set store.staged (F.pages store.flash) (9 + slot / 1) e.0 before after (c.self.invariant.3 told (ap (λ r. r.live) c.self.view_is ∙ c.requires.live)) slot value sets c.requires.range (omega arith) in_page)
 
 pub returns-clause-staged : goal.returns-clause-staged
 returns-clause-staged g c =
-    let page = 9 + c.args.slot / 1 in
-    let is : page ≡ file_page c.args.slot = omega arith in
-    let e = c.stage_slots.ensures in
-    ap (λ (s : Store g.row.F.Denot). numbers s.staged) e.1 ∙ staged_numbers c.self.inside.store.staged page e.0 ∙ ap (λ n. with_staged (numbers c.self.inside.store.staged) n) is
-    ∙ ap (λ staged. with_staged staged (file_page c.args.slot)) (ap (λ r. r.staged) c.self.view_is)
+    let is : 9 + c.args.slot / 1 ≡ file_page c.args.slot = omega arith in
+    numbers_anew c.self.inside.store c.stage_slots.new.store (9 + c.args.slot / 1) c.stage_slots.ensures.0 c.stage_slots.ensures.1 c.args.self.now.staged (ap (λ r. r.staged) c.self.view_is) ∙ ap (with_staged c.args.self.now.staged) is

@@ -8,12 +8,14 @@ use Rattle.card_types.specs.declared.tables.Tables.{Tables}
 use Rattle.flash_core.specs.declared.page.Page.{Page}
 use Rattle.page_journal.specs.Journal.{stored}
 use Rattle.page_journal.specs.Moments.{Leaves, LeavesOnly}
+use Rattle.rec_store.specs.Contents.{Contents}
 use Rattle.rec_store.specs.Holds.{IsFree, Keeps, Reopens, current_page, load_page, store_page}
 use Rattle.rec_store.specs.StoredTables.{HoldsTables}
 use Rattle.rec_store.proofs.Readings.{now_left, weaker}
 use Rattle.rec_store.proofs.Reopening.{free_of_held, keeps_left, left, load_read, load_same, on_ok, says_same}
 use Rattle.rec_store.proofs.Staging.{none_staged}
 use Rattle.rec_store.proofs.records.Records.write_load.Goals as goal
+use Rattle.rec_store.proofs.records.Records.write_load.Given as given
 
 pub returns-clause-bytes : goal.returns-clause-bytes
 returns-clause-bytes g c told =
@@ -21,7 +23,7 @@ returns-clause-bytes g c told =
     on_ok c.write_free.result (stored pages c.args.page ≡ Some c.args.from.now) (load_page pages c.args.page ≡ c.args.from.now.bytes)
     (λ is. sym (load_read (stored pages) c.args.page c.args.from.now c.requires.range.0 is c.if-prove.false)) (c.write_free.ensures.written told)
 
--- the page that is written is loose, and no file has it
+-- with the page that is written, which no file has, no loose page is one of a file
 freed : (pages : List Page) (may_leave : List Page → Type 0) (t : Tables) (page : ℕ) → HoldsTables (store_page pages) t → IsFree t page → {registry : _} → (was : Keeps pages may_leave registry)
     → (n : ℕ) → Contains (page ∷ was.loose) n → IsFree was.now.holds.tables n
 freed pages may_leave t page held free was n among = elim (contains_cases page was.loose n among) [
@@ -29,39 +31,40 @@ freed pages may_leave t page held free was n among = elim (contains_cases page w
   | inr later ↦ was.free n later
 ]
 
+-- the store pages hold the tables, where nothing is staged
+held_now : (g : given.Over) (c : goal.After-write_free g) → g.F.Flash.tells → c.args.self.now.staged ≡ [] → HoldsTables (store_page (g.F.Flash.pages c.self.inside.store.flash)) c.self.inside.tables
+held_now g c told none =
+    subst (λ staged. HoldsTables (current_page staged (g.F.Flash.pages c.self.inside.store.flash)) c.self.inside.tables)
+    (none_staged c.self.inside.store.staged (ap (λ r. r.staged) c.self.view_is ∙ none)) (c.self.invariant.3 told (ap (λ r. r.live) c.self.view_is ∙ c.requires.live))
+
 pub returns-clause-moments : goal.returns-clause-moments
-returns-clause-moments g c told none registry kept =
+returns-clause-moments g c told none registry =
     let F = g.F.Flash in
-    let store = c.self.inside.store in
-    let old = store.flash in
+    let old = c.self.inside.store.flash in
     let new = c.write_free.new.self.flash in
     let page = c.args.page in
-    let flash_is = ap (λ r. r.flash) c.self.view_is in
-    let was : Keeps (F.pages old) (F.may_leave old) registry = subst (λ f. Keeps (F.pages f) (F.may_leave f) registry) (sym flash_is) kept in
-    let empty = none_staged store.staged (ap (λ r. r.staged) c.self.view_is ∙ none) in
-    let held : HoldsTables (store_page (F.pages old)) c.self.inside.tables = subst (λ staged. HoldsTables (current_page staged (F.pages old)) c.self.inside.tables) empty (c.self.invariant.3 told (ap (λ r. r.live) c.self.view_is ∙ c.requires.live)) in
-    let free = freed (F.pages old) (F.may_leave old) c.self.inside.tables page held (subst (λ t. IsFree t page) (sym (ap (λ r. r.tables) c.self.view_is)) c.requires.free) was in
+    let free_now = subst (λ (r : Contents g.row.F.Denot). IsFree r.tables page) (sym c.self.view_is) c.requires.free in
+    subst (λ (r : Contents g.row.F.Denot). Keeps (F.pages r.flash) (F.may_leave r.flash) registry → LeavesOnly F.moment F.left_since r.flash new (λ outcome. Reopens outcome registry)) c.self.view_is
+    (λ was.
     let on = was.now.holds in
-    subst (λ f. LeavesOnly F.moment F.left_since f new (λ outcome. Reopens outcome registry)) flash_is
-    (weaker F.tells F.pages F.moment F.may_leave F.left_since F.faults old new (Leaves (stored (F.pages old)) (page ∷ was.loose)) (λ outcome. Reopens outcome registry)
+    let free = freed (F.pages old) (F.may_leave old) c.self.inside.tables page (held_now g c told none) free_now was in
+    weaker F.tells F.pages F.moment F.may_leave F.left_since F.faults old new (Leaves (stored (F.pages old)) (page ∷ was.loose)) (λ outcome. Reopens outcome registry)
     (c.write_free.ensures.moments told was.loose was.leaves)
     (λ outcome leaves. left (stored (F.pages old)) (page ∷ was.loose) outcome on.tables leaves free on.card registry on.held on.says))
 
 pub returns-clause-keeps : goal.returns-clause-keeps
-returns-clause-keeps g c told none registry kept =
+returns-clause-keeps g c told none registry =
     let F = g.F.Flash in
-    let store = c.self.inside.store in
-    let old = store.flash in
+    let old = c.self.inside.store.flash in
     let new = c.write_free.new.self.flash in
     let page = c.args.page in
-    let flash_is = ap (λ r. r.flash) c.self.view_is in
-    let was : Keeps (F.pages old) (F.may_leave old) registry = subst (λ f. Keeps (F.pages f) (F.may_leave f) registry) (sym flash_is) kept in
-    let empty = none_staged store.staged (ap (λ r. r.staged) c.self.view_is ∙ none) in
-    let held : HoldsTables (store_page (F.pages old)) c.self.inside.tables = subst (λ staged. HoldsTables (current_page staged (F.pages old)) c.self.inside.tables) empty (c.self.invariant.3 told (ap (λ r. r.live) c.self.view_is ∙ c.requires.live)) in
-    let free = freed (F.pages old) (F.may_leave old) c.self.inside.tables page held (subst (λ t. IsFree t page) (sym (ap (λ r. r.tables) c.self.view_is)) c.requires.free) was in
+    let free_now = subst (λ (r : Contents g.row.F.Denot). IsFree r.tables page) (sym c.self.view_is) c.requires.free in
+    subst (λ (r : Contents g.row.F.Denot). Keeps (F.pages r.flash) (F.may_leave r.flash) registry → Keeps (F.pages new) (F.may_leave new) registry) c.self.view_is
+    (λ was.
     let on = was.now.holds in
+    let free = freed (F.pages old) (F.may_leave old) c.self.inside.tables page (held_now g c told none) free_now was in
     let later = now_left F.tells F.pages F.moment F.may_leave F.left_since F.faults old new (Leaves (stored (F.pages old)) (page ∷ was.loose)) (c.write_free.ensures.moments told was.loose was.leaves) told g.met.F.Flash.counts_now in
-    keeps_left (stored (F.pages old)) (page ∷ was.loose) on.tables registry free on.held on.card on.says (F.pages new) (F.may_leave new) (later (F.pages new) (g.met.F.Flash.as_read new told)) later
+    keeps_left (stored (F.pages old)) (page ∷ was.loose) on.tables registry free on.held on.card on.says (F.pages new) (F.may_leave new) (later (F.pages new) (g.met.F.Flash.as_read new told)) later)
 
 pub returns-clause-says : goal.returns-clause-says
 returns-clause-says g c told registry says =
