@@ -1,5 +1,5 @@
 -- Store pages hold the tables after a change, where the page of its slot is staged.
-use Rattle.std.proofs.Common.{◌≡◌, ◌≢◌, ◌⊎◌, inl, inr, ⊎_elim, ℕ, ◌+◌, ◌/◌, ◌<◌, ◌≤◌, List, length, length-set, Option, refl, ap, sym, subst, ◌∙◌, arith}
+use Rattle.std.proofs.Common.{◌≡◌, ◌≢◌, ◌⊎◌, inl, inr, ⊎_elim, ℕ, ◌+◌, ◌/◌, ◌<◌, ◌≤◌, List, length, length-set, Option, ap, sym, subst, ◌∙◌, arith}
 use Rattle.std.specs.Prelude.{All, IfSome, slice_set}
 use Rattle.card_check.specs.IsCard.{IsInLoadPages}
 use Rattle.card_types.specs.Says.{used}
@@ -19,7 +19,7 @@ use Rattle.rec_store.specs.Holds.{current_page}
 use Rattle.rec_store.specs.KeySlot.{HoldsKey, IsRoomyKey}
 use Rattle.rec_store.specs.ObjectSlot.{HoldsObject}
 use Rattle.rec_store.specs.Places.{entry_page, entry_slot, file_page, file_slot, key_page, key_slot, object_page, object_slot}
-use Rattle.rec_store.specs.StoredTables.{AreHeld, AreRoomy, HasSlots, HoldsPage, HoldsTables}
+use Rattle.rec_store.specs.StoredTables.{AreHeld, AreRoomy, HoldsPage, HoldsTables}
 use Rattle.rec_store.specs.Superblock.{IsSuperblock}
 use Rattle.rec_store.proofs.Roomy.{of_all_set}
 use Rattle.rec_store.proofs.Staging.{held_anew, held_apart, page_apart, page_here}

@@ -1,5 +1,5 @@
 -- Changes that are committed, where power lost keeps a registry.
-use Rattle.std.proofs.Common.{◌≡◌, ◌⊎◌, inl, inr, ⊎_elim, ℕ, ◌<◌, List, [], ◌∷◌, length, refl, ap, sym, subst, ◌∙◌, arith}
+use Rattle.std.proofs.Common.{◌≡◌, ◌⊎◌, inl, inr, ⊎_elim, ℕ, ◌<◌, List, [], ◌∷◌, length, refl, sym, subst, arith}
 use Rattle.flash_core.specs.Device.{Only}
 use Rattle.flash_core.specs.declared.page.Page.{Page}
 use Rattle.card_check.specs.IsCard.{IsCard}
@@ -7,7 +7,7 @@ use Rattle.card_types.specs.Registry.{Registry}
 use Rattle.card_types.specs.Says.{Says}
 use Rattle.card_types.specs.declared.tables.Tables.{Tables}
 use Rattle.page_journal.specs.Journal.{stored}
-use Rattle.page_journal.specs.Moments.{Always, Leaves, current}
+use Rattle.page_journal.specs.Moments.{Leaves, current}
 use Rattle.page_journal.specs.Store.{IsListed}
 use Rattle.rec_store.specs.Holds.{Holds, Keeps, NoLoadPage, Reopens, current_page, load_in, load_page, store_page}
 use Rattle.rec_store.specs.StoredTables.{HoldsTables}

@@ -1,6 +1,6 @@
 -- Store pages and load pages hold at most one registry.
-use Rattle.std.proofs.Common.{◌≡◌, inl, inr, ℕ, zero, suc, ◌<◌, ◌≤◌, List, [], ◌∷◌, length, Option, None, Some, refl, ap, sym, ◌∙◌, subst, arith}
-use Rattle.std.specs.Prelude.{All, Contains, IfSome, MatchOption, nat_eq, take, map, filter, unwrap_or}
+use Rattle.std.proofs.Common.{◌≡◌, inl, inr, ℕ, suc, ◌<◌, ◌≤◌, List, [], ◌∷◌, length, Option, None, Some, refl, ap, sym, ◌∙◌, subst, arith}
+use Rattle.std.specs.Prelude.{All, IfSome, MatchOption, nat_eq, take, map, filter, unwrap_or}
 use Rattle.std.specs.List.{IsDistinct, concat}
 use Rattle.std.specs.List.Sorted.{IsPermutation, IsStrictlySortedBy}
 use Rattle.std.specs.Cmp.{IsTotalOrder}
@@ -26,7 +26,7 @@ use Rattle.card_types.specs.Privileges.{bits_of, named_bits}
 use Rattle.card_types.specs.Registry as registry
 use Rattle.card_types.specs.Says.{Says, counter_of, domain_aid, entry_of, file_aid, file_of, keeps_counter, key_of, object_of, used}
 use Rattle.card_types.specs.Slots.{held}
-use Rattle.card_types.specs.Well.{IsWellEntry, pages_of}
+use Rattle.card_types.specs.Well.{IsWellEntry}
 use Rattle.card_types.specs.declared.factory.TheConstants.{FACTORY_FILE}
 use Rattle.card_types.specs.declared.tables.Entry.{Entry}
 use Rattle.card_types.specs.declared.tables.LoadFile.{LoadFile}

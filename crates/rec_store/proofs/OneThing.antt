@@ -1,17 +1,13 @@
 -- A slot holds at most one thing.
-use Rattle.std.proofs.Common.{◌≡◌, ℕ, ◌+◌, ◌*◌, ◌%◌, ◌^◌, ◌<◌, ◌≤◌, ◌==◌, inl, inr, get_or, Bool, true, false, if◌then◌else◌, List, length, Option, None, Some, refl, ap, sym, ◌∙◌, slice_index, arith, length-take-le}
-use Rattle.std.specs.Prelude.{slice_range, take, map, MatchOption, IfSome}
-use Rattle.std.specs.Option.{option_map}
-use Rattle.std.specs.List.{concat}
+use Rattle.std.proofs.Common.{◌≡◌, ℕ, ◌+◌, ◌%◌, ◌<◌, ◌≤◌, ◌==◌, inl, inr, get_or, Bool, true, false, if◌then◌else◌, List, length, Option, None, Some, refl, ap, sym, ◌∙◌, slice_index, arith, length-take-le}
+use Rattle.std.specs.Prelude.{slice_range, take, IfSome}
 use Rattle.std.proofs.lemmas.Grind.{same_number_lists, common_steps}
 use Rattle.std.proofs.lemmas.Bool.{cases_lt}
 use Rattle.std.proofs.lemmas.List.{get_or_past}
-use Rattle.std.proofs.lemmas.Nat.{and_le_r}
 use Rattle.byteorder.specs.Endian.{big_from}
 use Rattle.card_types.specs.CardLife as card_life
 use Rattle.card_types.specs.LifeMark as life_mark
-use Rattle.card_types.specs.Privileges.{IsNamed, bits_of, named_bits}
-use Rattle.card_types.specs.Says.{file_of, keeps_counter}
+use Rattle.card_types.specs.Says.{keeps_counter}
 use Rattle.card_types.specs.Well.{pages_of}
 use Rattle.card_types.specs.declared.card_life.CardLife.{CardLife}
 use Rattle.card_types.specs.declared.card_life.CardLife.TheVariants.{OpReady, Initialized, Secured, Locked, Terminated}
@@ -23,10 +19,10 @@ use Rattle.card_types.specs.declared.tables.KeyRec.{KeyRec}
 use Rattle.card_types.specs.declared.tables.LoadFile.{LoadFile}
 use Rattle.card_types.specs.declared.tables.Object.{Object}
 use Rattle.rec_store.specs.Bytes.{HasBytesAt}
-use Rattle.rec_store.specs.EntrySlot.{HasThreeBytes, HoldsEntry, IsEntryIn}
-use Rattle.rec_store.specs.FileSlot.{HoldsFile, IsFileIn, page_in}
-use Rattle.rec_store.specs.KeySlot.{HoldsKey, IsKeyIn}
-use Rattle.rec_store.specs.ObjectSlot.{HoldsObject, IsObjectIn}
+use Rattle.rec_store.specs.EntrySlot.{HasThreeBytes, HoldsEntry}
+use Rattle.rec_store.specs.FileSlot.{HoldsFile, IsFileIn}
+use Rattle.rec_store.specs.KeySlot.{HoldsKey}
+use Rattle.rec_store.specs.ObjectSlot.{HoldsObject}
 use Rattle.rec_store.specs.Superblock.{IsSuperblock}
 
 -- the card's life of a code

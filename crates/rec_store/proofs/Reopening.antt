@@ -1,6 +1,6 @@
 -- What power loss may leave reopens as the registry that was there.
-use Rattle.std.proofs.Common.{◌≡◌, ◌≢◌, ◌⊎◌, inl, inr, ⊎_elim, ℕ, ◌+◌, ◌/◌, ◌%◌, ◌<◌, ◌≤◌, ◌++◌, if◌then◌else◌, Bool, true, false, List, [], ◌∷◌, length, Option, None, Some, Result, Ok, Err, refl, ap, sym, subst, ◌∙◌, arith}
-use Rattle.std.specs.Prelude.{All, Contains, OnOk, map, nat_lt, replicate, take}
+use Rattle.std.proofs.Common.{◌≡◌, inl, inr, ℕ, ◌+◌, ◌/◌, ◌%◌, ◌<◌, ◌≤◌, ◌++◌, List, [], ◌∷◌, length, Option, Some, Result, Ok, Err, refl, ap, sym, subst, ◌∙◌, arith}
+use Rattle.std.specs.Prelude.{All, Contains, OnOk, map, replicate, take}
 use Rattle.std.specs.List.{concat}
 use Rattle.std.specs.List.Sorted.{IsPermutation}
 use Rattle.std.proofs.lemmas.Bool.{cases_lt}
@@ -24,7 +24,7 @@ use Rattle.rec_store.specs.FileSlot.{HoldsFile}
 use Rattle.rec_store.specs.Holds.{IsFree, Keeps, NoLoadPage, Reopens, load_in, load_page, store_in, store_page}
 use Rattle.rec_store.specs.KeySlot.{HoldsKey}
 use Rattle.rec_store.specs.ObjectSlot.{HoldsObject}
-use Rattle.rec_store.specs.Places.{entry_slot, file_slot, key_slot, object_slot, slot_at, slot_from}
+use Rattle.rec_store.specs.Places.{slot_at, slot_from}
 use Rattle.rec_store.specs.StoredTables.{AreHeld, HoldsTables}
 use Rattle.rec_store.specs.Superblock.{IsSuperblock}
 use Rattle.rec_store.proofs.OneRegistry.{same_pages}

@@ -1,4 +1,4 @@
-use Rattle.std.proofs.Common.{◌≡◌, ◌+◌, ◌*◌, ℕ, slice_index, slice_set, below_more, arith}
+use Rattle.std.proofs.Common.{◌≡◌, ◌+◌, ◌*◌, slice_index, slice_set, below_more, arith}
 use Rattle.std.proofs.lemmas.Grind.{common_steps}
 use Rattle.rec_store.specs.FileSlot.{page_in}
 use Rattle.rec_store.proofs.file_slot.read_pages.Goals as goal

@@ -1,7 +1,6 @@
-use Rattle.std.proofs.Common.{◌≡◌, ◌⊎◌, inl, inr, ⊎_elim, ℕ, ◌<◌, List, [], length, ap, sym, subst, ◌∙◌}
+use Rattle.std.proofs.Common.{◌≡◌, ◌⊎◌, inr, ⊎_elim, ◌<◌, [], length, ap, sym, subst, ◌∙◌}
 use Rattle.std.specs.Prelude.{OnOk}
 use Rattle.card_check.specs.IsCard.{IsCard}
-use Rattle.card_types.specs.Registry.{Registry}
 use Rattle.card_types.specs.Says.{Says}
 use Rattle.flash_core.specs.Device.{Only}
 use Rattle.page_journal.specs.Journal.{stored}

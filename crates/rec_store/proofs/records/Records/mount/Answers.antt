@@ -1,5 +1,5 @@
-use Rattle.std.proofs.Common.{◌≡◌, ℕ, ◌≤◌, List, [], replicate, length, ap, sym, subst, ◌∙◌, arith}
-use Rattle.std.specs.Prelude.{IfErr, IfOk}
+use Rattle.std.proofs.Common.{◌≡◌, ℕ, List, [], replicate, sym, subst, arith}
+use Rattle.std.specs.Prelude.{IfOk}
 use Rattle.std.proofs.lemmas.List.{length-replicate}
 use Rattle.card_check.specs.IsCard.{HasPages, IsCard}
 use Rattle.card_types.specs.InOrder.{IsInOrder}
@@ -7,11 +7,10 @@ use Rattle.card_types.specs.Registry.{Registry}
 use Rattle.card_types.specs.Says.{Says}
 use Rattle.flash_core.specs.declared.page.Page.{Page}
 use Rattle.page_journal.specs.Journal.{stored}
-use Rattle.page_journal.specs.Moments.{Always, Leaves, LeavesOnly}
-use Rattle.rec_store.specs.Contents.{CardFails, Contents, OpenFails}
+use Rattle.page_journal.specs.Moments.{Leaves, LeavesOnly}
+use Rattle.rec_store.specs.Contents.{CardFails, OpenFails}
 use Rattle.rec_store.specs.Holds.{Keeps, Reopens, ReopensAsOne, load_page, store_page}
 use Rattle.rec_store.specs.StoredTables.{HoldsTables}
-use Rattle.rec_store.specs.declared.open.OpenError.{OpenError}
 use Rattle.rec_store.proofs.Causes.{also_ok, each_error, each_ok, opens_later}
 use Rattle.rec_store.proofs.Readings.{joined, now_left, weaker}
 use Rattle.rec_store.proofs.Reopening.{has_pages, keeps_left, left, load_same, none_loose}

@@ -1,4 +1,4 @@
-use Rattle.std.proofs.Common.{◌≡◌, ◌/◌, ℕ, refl, ap, subst, ◌∙◌, arith}
+use Rattle.std.proofs.Common.{◌≡◌, ◌/◌, refl, ap, subst, ◌∙◌, arith}
 use Rattle.std.specs.Prelude.{slice_set}
 use Rattle.std.specs.Vec.{with_item}
 use Rattle.card_types.specs.SlotChange.{SetsEntry}
@@ -7,7 +7,7 @@ use Rattle.rec_store.specs.EntrySlot.{HoldsEntry}
 use Rattle.rec_store.specs.Places.{entry_page}
 use Rattle.rec_store.specs.StoredTables.{HoldsPage}
 use Rattle.rec_store.proofs.ChangedTables.{entry_roomy, entry_set}
-use Rattle.rec_store.proofs.Staging.{frame_for, kept_anew, numbers, numbers_anew}
+use Rattle.rec_store.proofs.Staging.{frame_for, kept_anew, numbers_anew}
 use Rattle.rec_store.proofs.records.Records.set_entry.Goals as goal
 
 pub stage_slots-requires-clause-frame : goal.stage_slots-requires-clause-frame

@@ -1,4 +1,4 @@
-use Rattle.std.proofs.Common.{◌≡◌, ◌+◌, ◌/◌, ℕ, refl, ap, sym, subst, ◌∙◌, arith}
+use Rattle.std.proofs.Common.{◌≡◌, ◌+◌, ◌/◌, refl, ap, sym, subst, ◌∙◌, arith}
 use Rattle.std.specs.Prelude.{All, slice_set}
 use Rattle.std.specs.Vec.{with_item}
 use Rattle.card_check.specs.IsCard.{IsInLoadPages}
@@ -11,7 +11,7 @@ use Rattle.rec_store.specs.Room.{HasFrame, with_staged}
 use Rattle.rec_store.specs.StoredTables.{HoldsPage}
 use Rattle.rec_store.proofs.ChangedTables.{file_roomy, file_set}
 use Rattle.rec_store.proofs.Roomy.{of_all_set}
-use Rattle.rec_store.proofs.Staging.{frame_for, kept_anew, numbers, numbers_anew}
+use Rattle.rec_store.proofs.Staging.{frame_for, kept_anew, numbers_anew}
 use Rattle.rec_store.proofs.records.Records.set_file.Goals as goal
 
 pub stage_slots-requires-clause-frame : goal.stage_slots-requires-clause-frame
