@@ -3,7 +3,7 @@ use Rattle.std.proofs.Common.{◌≡◌, ℕ, ◌≤◌, List, Result, Ok, Err, 
 use Rattle.std.specs.Prelude.{IfErr, IfOk, IsErrAnd}
 use Rattle.flash_core.specs.declared.page.Page.{Page}
 use Rattle.rec_store.specs.Contents.{CardFails, OpenFails, SlotsFail}
-use Rattle.rec_store.specs.Holds.{Reopens}
+use Rattle.rec_store.specs.Reopens.{Reopens}
 use Rattle.rec_store.specs.declared.open.OpenCause.{OpenCause}
 use Rattle.rec_store.specs.declared.open.OpenCause.TheVariants.{Memory, FlashFailed, NotACard}
 

@@ -9,7 +9,7 @@ use Rattle.card_types.specs.declared.tables.Tables.{Tables}
 use Rattle.page_journal.specs.Journal.{stored}
 use Rattle.page_journal.specs.Moments.{Leaves, current}
 use Rattle.page_journal.specs.Store.{IsListed}
-use Rattle.rec_store.specs.Holds.{Holds, Keeps, NoLoadPage, Reopens, current_page, load_in, load_page, store_page}
+use Rattle.rec_store.specs.Reopens.{HoldsRegistry, Keeps, NoLoadPage, Reopens, current_page, load_in, load_page, store_page}
 use Rattle.rec_store.specs.StoredTables.{HoldsTables}
 use Rattle.rec_store.proofs.OneRegistry.{one_registry}
 use Rattle.rec_store.proofs.Reopening.{keeps_left, left, load_current, load_same, none_loose}
@@ -43,7 +43,7 @@ module _ (pool : List (ℕ × Page)) (pages : List Page) (may_leave : List Page 
   pub idle : pool ≡ [] → Keeps pages may_leave after
   idle empty = subst (Keeps pages may_leave) (one_registry (store_page pages) (load_page pages) before after was.now.holds now) was
     where
-      now : Holds (store_page pages) (load_page pages) after
+      now : HoldsRegistry (store_page pages) (load_page pages) after
       now = record { tables = t; held = subst (λ staged. HoldsTables (current_page staged pages) t) empty held; card = card; says = says }
 
   -- once the pages are committed

@@ -32,7 +32,7 @@ use Rattle.card_types.specs.declared.tables.Entry.{Entry}
 use Rattle.card_types.specs.declared.tables.LoadFile.{LoadFile}
 use Rattle.card_types.specs.declared.tables.Tables.{Tables}
 use Rattle.rec_store.specs.EntrySlot.{HasThreeBytes}
-use Rattle.rec_store.specs.Holds.{Holds}
+use Rattle.rec_store.specs.Reopens.{HoldsRegistry}
 use Rattle.rec_store.specs.Places.{entry_slot, file_slot, key_slot, object_slot}
 use Rattle.rec_store.specs.StoredTables.{HoldsTables}
 use Rattle.rec_store.proofs.Roomy.{of_all, of_slot}
@@ -198,7 +198,7 @@ pub read_card : (store load : ℕ → List ℕ) (t u : Tables) → HoldsTables s
 read_card store load t u read three held_u card =
     card_alike store load t u read held_u (same_entries store load t u read held_u (λ i. of_slot HasThreeBytes t.entries.items i three) (card_entry load u card)) card
 
-pub one_registry : (store load : ℕ → List ℕ) (a b : registry.Registry) → Holds store load a → Holds store load b → a ≡ b
+pub one_registry : (store load : ℕ → List ℕ) (a b : registry.Registry) → HoldsRegistry store load a → HoldsRegistry store load b → a ≡ b
 one_registry store load a b first second =
     one_said store load first.tables second.tables first.held second.held
     (same_entries store load first.tables second.tables first.held second.held (card_entry load first.tables first.card) (card_entry load second.tables second.card)) a b first.says second.says

@@ -21,7 +21,7 @@ use Rattle.page_journal.specs.Journal.{IsSound, bytes_of, stored}
 use Rattle.page_journal.specs.Moments.{Always, Leaves, current, first_of}
 use Rattle.rec_store.specs.EntrySlot.{HoldsEntry}
 use Rattle.rec_store.specs.FileSlot.{HoldsFile}
-use Rattle.rec_store.specs.Holds.{IsFree, Keeps, NoLoadPage, Reopens, load_in, load_page, store_in, store_page}
+use Rattle.rec_store.specs.Reopens.{IsFree, Keeps, NoLoadPage, Reopens, load_in, load_page, store_in, store_page}
 use Rattle.rec_store.specs.KeySlot.{HoldsKey}
 use Rattle.rec_store.specs.ObjectSlot.{HoldsObject}
 use Rattle.rec_store.specs.Places.{slot_at, slot_from}

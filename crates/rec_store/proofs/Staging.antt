@@ -13,7 +13,7 @@ use Rattle.frame_pool.specs.Staged.{staged, with_page}
 use Rattle.page_journal.specs.Journal.{bytes_of, stored}
 use Rattle.page_journal.specs.Moments.{first_of}
 use Rattle.page_journal.specs.Store.{Store}
-use Rattle.rec_store.specs.Holds.{NoLoadPage, current_page}
+use Rattle.rec_store.specs.Reopens.{NoLoadPage, current_page}
 use Rattle.rec_store.specs.Places.{slot_at, slot_from}
 use Rattle.rec_store.specs.Room.{HasFrame, with_staged}
 use Rattle.rec_store.specs.StoredTables.{AreHeld, AreRoomy, HoldsPage, HoldsTables}

@@ -6,7 +6,7 @@ use Rattle.flash_core.specs.declared.page.Page.{Page}
 use Rattle.flash_core.specs.Faults.{Rose}
 use Rattle.page_journal.specs.declared.cause.MountCause.{MountCause}
 use Rattle.page_journal.specs.declared.cause.MountCause.TheVariants as mount
-use Rattle.rec_store.specs.Holds.{Reopens}
+use Rattle.rec_store.specs.Reopens.{Reopens}
 use Rattle.rec_store.specs.declared.open.OpenCause.{OpenCause}
 use Rattle.rec_store.specs.declared.open.OpenCause.TheVariants.{Memory, FlashFailed, NotACard}
 

@@ -1,12 +1,12 @@
 -- Laws of pages and the registries that they hold.
 use Rattle.std.specs.Prelude.{◌≡◌, ℕ, List, Contains}
 use Rattle.card_types.specs.Registry.{Registry}
-use Rattle.rec_store.specs.Holds.{Holds}
+use Rattle.rec_store.specs.Reopens.{HoldsRegistry}
 use Rattle.rec_store.specs.Room.{HasFrame, HasRoomFor, with_staged}
 
 -- pages hold at most one registry
 abbrev pub OneRegistry : Type 0
-OneRegistry = (store load : ℕ → List ℕ) (registry another : Registry) → Holds store load registry → Holds store load another → registry ≡ another
+OneRegistry = (store load : ℕ → List ℕ) (registry another : Registry) → HoldsRegistry store load registry → HoldsRegistry store load another → registry ≡ another
 
 -- room for some pages is room for each of them, and stays when one of them is staged
 abbrev pub RoomStays : Type 0

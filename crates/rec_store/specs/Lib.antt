@@ -6,7 +6,7 @@ pub mod KeySlot
 pub mod ObjectSlot
 pub mod Superblock
 pub mod StoredTables
-pub mod Holds
+pub mod Reopens
 pub mod Room
 pub mod Reading
 pub mod Contents

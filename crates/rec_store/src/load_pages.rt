@@ -5,7 +5,7 @@ ghost use Rattle.card_types.specs.Registry.{Registry};
 ghost use Rattle.card_types.specs.Says.{Says};
 ghost use Rattle.flash_core.specs.Faults.{HasCause};
 ghost use Rattle.page_journal.specs.Moments.{LeavesOnly};
-ghost use Rattle.rec_store.specs.Holds.{IsFree, Keeps, Reopens, load_page};
+ghost use Rattle.rec_store.specs.Reopens.{IsFree, Keeps, Reopens, load_page};
 
 use crate::records::Records;
 use flash_core::{Flash, FlashFailed, Page};

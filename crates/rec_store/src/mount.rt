@@ -12,7 +12,7 @@ ghost use Rattle.page_journal.specs.Moments.{Always, Leaves, LeavesOnly};
 ghost use Rattle.page_journal.specs.Store.{IsListed};
 ghost use Rattle.rec_store.specs.Contents.{CardFails, OpenFails, SlotsFail, opened_cause};
 ghost use Rattle.rec_store.specs.EntrySlot.{HasThreeBytes};
-ghost use Rattle.rec_store.specs.Holds.{Keeps, Reopens, ReopensAsOne, load_page, store_page};
+ghost use Rattle.rec_store.specs.Reopens.{Keeps, Reopens, ReopensAsOne, load_page, store_page};
 ghost use Rattle.rec_store.specs.Reading.{IsRead};
 ghost use Rattle.rec_store.specs.StoredTables.{AreRoomy, HasSlots, HoldsTables};
 

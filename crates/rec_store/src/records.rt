@@ -20,7 +20,7 @@ pub struct Records<F: Flash> {
 impl<F: Flash> Model for Records<F> {
     ghost use Rattle.std.specs.Prelude.{◌≡◌, true, map};
     ghost use Rattle.rec_store.specs.Contents.{Contents};
-    ghost use Rattle.rec_store.specs.Holds.{NoLoadPage, current_page};
+    ghost use Rattle.rec_store.specs.Reopens.{NoLoadPage, current_page};
     ghost use Rattle.rec_store.specs.StoredTables.{AreRoomy, HoldsTables};
 
     ghost Value = { Contents F };

@@ -7,7 +7,7 @@ ghost use Rattle.flash_core.specs.declared.page.Page.{Page as PageOf};
 ghost use Rattle.flash_core.specs.Faults.{Rose};
 ghost use Rattle.frame_pool.specs.Staged.{staged, with_page};
 ghost use Rattle.rec_store.specs.Contents.{SlotsFail};
-ghost use Rattle.rec_store.specs.Holds.{store_page};
+ghost use Rattle.rec_store.specs.Reopens.{store_page};
 ghost use Rattle.rec_store.specs.Places.{slot_at, slot_from};
 ghost use Rattle.rec_store.specs.Reading.{IsRead};
 ghost use Rattle.rec_store.specs.StoredTables.{AreHeld, HoldsPage};

@@ -3,7 +3,7 @@ use Rattle.flash_core.specs.declared.page.Page.{Page}
 use Rattle.flash_core.specs.Device.{Only}
 use Rattle.page_journal.specs.Journal.{IsSound, stored}
 use Rattle.page_journal.specs.Moments.{Always, Leaves, LeavesOnly}
-use Rattle.rec_store.specs.Holds.{load_page, store_page}
+use Rattle.rec_store.specs.Reopens.{load_page, store_page}
 use Rattle.rec_store.proofs.OneRegistry.{read_card}
 use Rattle.rec_store.proofs.Readings.{joined, weaker}
 use Rattle.rec_store.proofs.Reopening.{has_pages}

@@ -10,7 +10,7 @@ use Rattle.flash_core.specs.declared.page.Page.{Page}
 use Rattle.rec_store.specs.Contents.{SlotsFail}
 use Rattle.rec_store.specs.EntrySlot.{HasThreeBytes, HoldsEntry}
 use Rattle.rec_store.specs.FileSlot.{HoldsFile}
-use Rattle.rec_store.specs.Holds.{store_page}
+use Rattle.rec_store.specs.Reopens.{store_page}
 use Rattle.rec_store.specs.KeySlot.{HoldsKey}
 use Rattle.rec_store.specs.ObjectSlot.{HoldsObject}
 use Rattle.rec_store.specs.Places.{slot_from}

@@ -1,7 +1,7 @@
 use Rattle.std.proofs.Common.{◌≡◌, ℕ, ◌+◌, ◌*◌, ◌/◌, ◌%◌, ◌<◌, ◌≤◌, Option, length, ap, sym, subst, ◌∙◌, arith}
 use Rattle.std.specs.Prelude.{IfSome}
 use Rattle.card_types.specs.Slots.{held}
-use Rattle.rec_store.specs.Holds.{store_page}
+use Rattle.rec_store.specs.Reopens.{store_page}
 use Rattle.rec_store.specs.Places.{slot_at, slot_from}
 use Rattle.rec_store.proofs.Causes.{no_card}
 use Rattle.rec_store.proofs.Places.{all_pages, before, page_more, page_within, slot_in_page, some_each}

@@ -1,7 +1,7 @@
 use Rattle.std.proofs.Common.{◌*◌, ◌/◌, ◌<◌, ℕ}
 use Rattle.std.specs.Prelude.{IfSome}
 use Rattle.card_types.specs.Slots.{held}
-use Rattle.rec_store.specs.Holds.{store_page}
+use Rattle.rec_store.specs.Reopens.{store_page}
 use Rattle.rec_store.specs.Places.{slot_from}
 use Rattle.rec_store.specs.Reading.{IsRead}
 use Rattle.rec_store.specs.StoredTables.{AreHeld}

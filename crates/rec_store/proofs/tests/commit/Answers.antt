@@ -1,7 +1,7 @@
 use Rattle.std.proofs.Common.{subst}
 use Rattle.card_check.specs.IsCard.{IsCard}
 use Rattle.page_journal.specs.Journal.{stored}
-use Rattle.rec_store.specs.Holds.{load_page}
+use Rattle.rec_store.specs.Reopens.{load_page}
 use Rattle.rec_store.proofs.Reopening.{has_pages}
 use Rattle.rec_store.proofs.tests.commit.Goals as goal
 

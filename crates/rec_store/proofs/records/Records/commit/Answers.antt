@@ -7,7 +7,7 @@ use Rattle.page_journal.specs.Journal.{stored}
 use Rattle.page_journal.specs.Moments.{LeavesOnly, current}
 use Rattle.page_journal.specs.Store.{IsListed, Store}
 use Rattle.rec_store.specs.Contents.{Contents}
-use Rattle.rec_store.specs.Holds.{Keeps, Reopens, load_in, load_page}
+use Rattle.rec_store.specs.Reopens.{Keeps, Reopens, load_in, load_page}
 use Rattle.rec_store.proofs.Committing.{Either, done, either, idle, load_now, some_or_none}
 use Rattle.rec_store.proofs.Readings.{now_left, weaker}
 use Rattle.rec_store.proofs.Reopening.{always_ok, both_ok, load_same, on_ok}

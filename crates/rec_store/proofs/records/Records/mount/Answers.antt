@@ -9,7 +9,7 @@ use Rattle.flash_core.specs.declared.page.Page.{Page}
 use Rattle.page_journal.specs.Journal.{stored}
 use Rattle.page_journal.specs.Moments.{Leaves, LeavesOnly}
 use Rattle.rec_store.specs.Contents.{CardFails, OpenFails}
-use Rattle.rec_store.specs.Holds.{Keeps, Reopens, ReopensAsOne, load_page, store_page}
+use Rattle.rec_store.specs.Reopens.{Keeps, Reopens, ReopensAsOne, load_page, store_page}
 use Rattle.rec_store.specs.StoredTables.{HoldsTables}
 use Rattle.rec_store.proofs.Causes.{also_ok, each_error, each_ok, opens_later}
 use Rattle.rec_store.proofs.Readings.{joined, now_left, weaker}

@@ -1,7 +1,7 @@
 use Rattle.std.proofs.Common.{◌≡◌, Some, ap, sym, subst, ◌∙◌, arith}
 use Rattle.page_journal.specs.Journal.{stored}
 use Rattle.page_journal.specs.Moments.{current}
-use Rattle.rec_store.specs.Holds.{Keeps, load_page}
+use Rattle.rec_store.specs.Reopens.{Keeps, load_page}
 use Rattle.rec_store.proofs.Reopening.{keeps_on, load_current, load_read, on_ok}
 use Rattle.rec_store.proofs.records.Records.read_load.Goals as goal
 

@@ -9,7 +9,7 @@ use Rattle.flash_core.specs.declared.page.Page.{Page}
 use Rattle.page_journal.specs.Journal.{stored}
 use Rattle.page_journal.specs.Moments.{Leaves, LeavesOnly}
 use Rattle.rec_store.specs.Contents.{Contents}
-use Rattle.rec_store.specs.Holds.{IsFree, Keeps, Reopens, current_page, load_page, store_page}
+use Rattle.rec_store.specs.Reopens.{IsFree, Keeps, Reopens, current_page, load_page, store_page}
 use Rattle.rec_store.specs.StoredTables.{HoldsTables}
 use Rattle.rec_store.proofs.Readings.{now_left, weaker}
 use Rattle.rec_store.proofs.Reopening.{free_of_held, keeps_left, left, load_read, load_same, on_ok, says_same}

@@ -11,7 +11,7 @@ use Rattle.page_journal.specs.Moments.{Always, Leaves, current}
 use Rattle.rec_store.specs.StoredTables.{HoldsTables}
 
 -- Store pages and load pages hold a registry: the store pages hold tables that are a card's, and these say it.
-pub record Holds (store load : ℕ → List ℕ) (registry : Registry) : Type 0 where
+pub record HoldsRegistry (store load : ℕ → List ℕ) (registry : Registry) : Type 0 where
   pub tables : Tables
   pub held : HoldsTables store tables
   pub card : IsCard load tables
@@ -44,7 +44,7 @@ NoLoadPage pool = (number : ℕ) → 45 ≤ number → staged pool number ≡ No
 -- after a power loss that left these pages the card has this registry
 pub record Reopens (pages : List Page) (registry : Registry) : Type 0 where
   pub sound : IsSound pages
-  pub holds : Holds (store_page pages) (load_page pages) registry
+  pub holds : HoldsRegistry (store_page pages) (load_page pages) registry
 
 -- or one of these
 abbrev pub ReopensAsOne : List Registry → List Page → Type 0
