@@ -54,7 +54,7 @@ impl Driver {
     }
 
     /// Does a line, and answers what it prints, or nothing where it has no form.
-    pub fn step(&mut self, line: &[u8]) -> Option<Text> {
+    pub(super) fn step(&mut self, line: &[u8]) -> Option<Text> {
         let line = Line::read(line)?;
         let outcome = self.act(&line.form);
         if let Some(status) = outcome.status() {

@@ -115,7 +115,11 @@ pub fn object(owner: u8, tag: u16, len: usize) -> Object
     Object { owner, tag, value }
 }
 
-pub fn put<T: Drop>(slots: &mut [Option<T>], slot: u8, thing: Option<T>) -> Result<(), Fail> {
+pub(super) fn put<T: Drop>(
+    slots: &mut [Option<T>],
+    slot: u8,
+    thing: Option<T>,
+) -> Result<(), Fail> {
     *slots.get_mut(usize::from(slot)).ok_or("a slot")? = thing;
     Ok(())
 }

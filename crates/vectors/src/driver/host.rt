@@ -29,32 +29,32 @@ impl Host {
         }
     }
 
-    pub fn set_keys(&mut self, keys: Keys) {
+    pub(super) fn set_keys(&mut self, keys: Keys) {
         self.keys = keys;
     }
 
     /// Drops all sessions.
-    pub fn reset(&mut self) {
+    pub(super) fn reset(&mut self) {
         for session in &mut self.sessions {
             *session = None;
         }
     }
 
     /// Drops the session of a channel.
-    pub fn end(&mut self, channel: Channel) {
+    pub(super) fn end(&mut self, channel: Channel) {
         self.sessions[usize::from(channel.number())] = None;
     }
 
-    pub fn session(&mut self, channel: Channel) -> Option<&mut HostSession<Aes128>> {
+    pub(super) fn session(&mut self, channel: Channel) -> Option<&mut HostSession<Aes128>> {
         self.sessions[usize::from(channel.number())].as_mut()
     }
 
-    pub fn keep(&mut self, channel: Channel, session: HostSession<Aes128>) {
+    pub(super) fn keep(&mut self, channel: Channel, session: HostSession<Aes128>) {
         self.sessions[usize::from(channel.number())] = Some(session);
     }
 
     /// The session that this reply to INITIALIZE UPDATE leads to, with EXTERNAL AUTHENTICATE in `out`.
-    pub fn begin(
+    pub(super) fn begin(
         &self,
         opening: &Opening,
         reply: &[u8],
