@@ -17,10 +17,10 @@ by_slot : (entries : List (Option Entry)) (slot : ℕ) (channel : Option Channel
 by_slot entries slot None selected = absurd selected
 by_slot entries slot (Some channel) selected = (selected.0, selected.1, sym selected.2)
 
-pub selected_entry : (tables : Tables) (live : Live) (state : State) (number slot : ℕ) → Says tables live state → number < CHANNELS
+pub selected_entry : (page : ℕ → List ℕ) (tables : Tables) (live : Live) (state : State) (number slot : ℕ) → Says page tables live state → number < CHANNELS
     → slice_index_or live.selected number None ≡ Some slot
     → (entry : Entry) × (held tables.entries.items slot ≡ Some entry) × (selected_on state.volatile number ≡ domain_aid tables.entries.items slot)
-selected_entry tables live state number slot says low is =
+selected_entry page tables live state number slot says low is =
     let found = by_slot tables.entries.items slot (channel_at state.volatile number)
     (subst (λ (o : Option ℕ). IsSelectedIn tables.entries.items o (channel_at state.volatile number)) is (says.selected number low)) in
     (found.0, found.1, found.2 ∙ sym (domain_aid_is tables.entries.items slot found.0 found.1))

@@ -56,10 +56,9 @@ IsSelectedIn entries None (Some channel) = ⊥
 IsSelectedIn entries (Some slot) None = ⊥
 IsSelectedIn entries (Some slot) (Some channel) = (entry : Entry) × (held entries slot ≡ Some entry) × (entry.aid ≡ channel.selected)
 
--- What the code keeps says this state, as far as the rules look: the tables say the registry, and for each channel its slot
--- is that of the AID selected. What else a channel holds is said elsewhere.
-pub record Says (tables : Tables) (live : Live) (state : State) : Type 0 where
-  pub page : ℕ → List ℕ
+-- What the code keeps says this state, as far as the rules look: the tables say the registry over these load pages, and for
+-- each channel its slot is that of the AID selected. What else a channel holds is said elsewhere.
+pub record Says (page : ℕ → List ℕ) (tables : Tables) (live : Live) (state : State) : Type 0 where
   pub registry : SaysRegistry page tables state.registry
   pub selected : (number : ℕ) → number < CHANNELS
       → IsSelectedIn tables.entries.items (slice_index_or live.selected number None) (channel_at state.volatile number)

@@ -1,6 +1,6 @@
 //! The first of a command's own rules that fails.
 
-ghost use Rattle.std.specs.Prelude.{◌≡◌, ◌≢◌, ◌<◌, None, IsSome, slice_index_or};
+ghost use Rattle.std.specs.Prelude.{◌≡◌, ◌≢◌, ◌<◌, ℕ, List, None, IsSome, slice_index_or};
 ghost use Rattle.apdu_core.specs.Apdu.{Apdu};
 ghost use Rattle.card_types.specs.InOrder.{IsInOrder};
 ghost use Rattle.policy_rules.specs.Admission.{Admitted};
@@ -31,7 +31,7 @@ pub fn judge(
     requires channel { channel < CHANNELS }
     requires opened { IsSome (slice_index_or live.now.selected channel None) }
     requires meant { IsMeant request.now }
-    ensures judged { (admitted : Admitted) → Says tables.now live.now admitted.at → IsSound admitted.at → channel ≡ admitted.channel
+    ensures judged { (page : ℕ → List ℕ) (admitted : Admitted) → Says page tables.now live.now admitted.at → IsSound admitted.at → channel ≡ admitted.channel
         → IsRequestOf request.now admitted.command → admitted.command.ins ≢ EXTERNAL_AUTHENTICATE → Judges admitted result }
     ensures elsewhere { (command : Apdu) → IsRequestOf request.now command → command.ins ≡ EXTERNAL_AUTHENTICATE → result ≡ None }
 {
