@@ -13,7 +13,7 @@ use Rattle.policy_rules.specs.declared.live.Live.{Live}
 use Rattle.policy_rules.specs.declared.live.TheConstants.{CHANNELS}
 use Rattle.policy_rules.specs.declared.rule.Rule.{Rule}
 use Rattle.card_core.specs.Holds.{HoldsAs}
-use Rattle.card_core.specs.Kept.{Shows, Stands}
+use Rattle.card_core.specs.Kept.{Shows, StandsOn}
 use Rattle.card_core.specs.Offers.{AnswersAs, OffersAs, standing_for}
 use Rattle.card_core.specs.Serves.{CarriesOut}
 use Rattle.card_core.specs.declared.held.Held.{Held}
@@ -21,8 +21,8 @@ use Rattle.card_core.specs.declared.held.Held.TheVariants as held
 use Rattle.card_core.proofs.Carrying.{answer_shows, does_as, refusal_shows}
 use Rattle.card_core.proofs.Standing.{HasFour, held_same, lost_shows, standing_shows}
 
-module _ (tables : Tables) (live : Live) (all : List Held) (admitted : Admitted)
-    (stands : Stands (record { tables = tables; live = live; held = all }) admitted.at)
+module _ (page : ℕ → List ℕ) (tables : Tables) (live : Live) (all : List Held) (admitted : Admitted)
+    (stands : StandsOn page (record { tables = tables; live = live; held = all }) admitted.at)
     (four : HasFour (record { tables = tables; live = live; held = all }) admitted.at) (low : admitted.channel < CHANNELS) where
   -- what the channel holds stands for what it holds in the model
   pub holds_for : HoldsAs (slice_index_or all admitted.channel held.Nothing) (standing_for admitted)
@@ -31,10 +31,10 @@ module _ (tables : Tables) (live : Live) (all : List Held) (admitted : Admitted)
   -- EXTERNAL AUTHENTICATE
   pub answer_carried : (slot : ℕ) (now : Held) (result : Result Status Rule) → admitted.command.ins ≡ EXTERNAL_AUTHENTICATE
       → slice_index_or live.selected admitted.channel None ≡ Some slot → AnswersAs admitted now result
-      → CarriesOut admitted (record { tables = tables; live = live; held = slice_set all admitted.channel now }) [] result
+      → CarriesOut page admitted (record { tables = tables; live = live; held = slice_set all admitted.channel now }) [] result
   answer_carried slot now (Ok status) is opened (offer, level, answers, judges, holds, word) = (
     _,
-    standing_shows tables live all admitted.at stands.shows four admitted.channel low slot now _ opened holds,
+    standing_shows page tables live all admitted.at stands.shows four admitted.channel low slot now _ opened holds,
     judges,
     does_as admitted _ ExternalAuthenticate (ap instruction_of is)
         (record { offer = offer; level = level; answers = answers; registry = refl; volatile = refl; body = refl; status = refl }),
@@ -42,8 +42,8 @@ module _ (tables : Tables) (live : Live) (all : List Held) (admitted : Admitted)
     word,
   )
   answer_carried slot now (Err rule) is opened (judges, holds) = (
-    answer_shows (record { tables = tables; live = live; held = slice_set all admitted.channel now }) admitted is
-        (lost_shows tables live all admitted.at stands.shows four admitted.channel low now holds),
+    answer_shows page (record { tables = tables; live = live; held = slice_set all admitted.channel now }) admitted is
+        (lost_shows page tables live all admitted.at stands.shows four admitted.channel low now holds),
     judges,
     refl,
   )
@@ -51,14 +51,13 @@ module _ (tables : Tables) (live : Live) (all : List Held) (admitted : Admitted)
   -- INITIALIZE UPDATE
   pub offer_carried : (slot : ℕ) (tables' : Tables) (now : Held) (body : List ℕ) (result : Result Status Rule) → admitted.command.ins ≡ INITIALIZE_UPDATE
       → slice_index_or live.selected admitted.channel None ≡ Some slot → tables'.entries.items ≡ tables.entries.items
-      → OffersAs admitted stands.shows.says.page tables tables' (slice_index_or all admitted.channel held.Nothing) now body result
-      → CarriesOut admitted (record { tables = tables'; live = live; held = slice_set all admitted.channel now }) body result
+      → OffersAs admitted page tables tables' (slice_index_or all admitted.channel held.Nothing) now body result
+      → CarriesOut page admitted (record { tables = tables'; live = live; held = slice_set all admitted.channel now }) body result
   offer_carried slot tables' now body (Ok status) is opened entries (judges, made, word) =
-      let shows = standing_shows tables live all admitted.at stands.shows four admitted.channel low slot now _ opened made.holds in (
+      let shows = standing_shows page tables live all admitted.at stands.shows four admitted.channel low slot now _ opened made.holds in (
         _,
         record {
           says = record {
-            page = stands.shows.says.page;
             registry = made.says;
             selected = subst (λ (entries : List (Option Entry)). (number : ℕ) → number < CHANNELS → IsSelectedIn entries (slice_index_or live.selected number None)
                 (channel_at (with_standing admitted.at.volatile admitted.channel (Offered made.offer)) number)) (sym entries) shows.says.selected;
@@ -81,10 +80,10 @@ module _ (tables : Tables) (live : Live) (all : List Held) (admitted : Admitted)
         word,
       )
   offer_carried slot tables' now body (Err rule) is opened entries (judges, same, kept, empty) = (
-    refusal_shows (record { tables = tables'; live = live; held = slice_set all admitted.channel now }) admitted
+    refusal_shows page (record { tables = tables'; live = live; held = slice_set all admitted.channel now }) admitted
         (ap (λ (ins : ℕ). ins == EXTERNAL_AUTHENTICATE) is)
-        (subst (λ (t : Tables). Shows (record { tables = t; live = live; held = slice_set all admitted.channel now }) admitted.at) (sym same)
-        (held_same (record { tables = tables; live = live; held = all }) admitted.at admitted.channel now (sym kept) stands.shows)),
+        (subst (λ (t : Tables). Shows page (record { tables = t; live = live; held = slice_set all admitted.channel now }) admitted.at) (sym same)
+        (held_same page (record { tables = tables; live = live; held = all }) admitted.at admitted.channel now (sym kept) stands.shows)),
     judges,
     empty,
   )

@@ -23,7 +23,7 @@ use Rattle.policy_rules.specs.declared.rule.RuleG.TheVariants.{G1, G2, G3, G4}
 use Rattle.card_core.specs.Domains.{is_domain_in}
 use Rattle.card_core.proofs.Standing.{none_selected, some_selected}
 
-module _ (tables : Tables) (live : Live) (state : State) (bytes : List ℕ) (command : Apdu) (says : Says tables live state) (short : Short command bytes) where
+module _ (page : ℕ → List ℕ) (tables : Tables) (live : Live) (state : State) (bytes : List ℕ) (command : Apdu) (says : Says page tables live state) (short : Short command bytes) where
   abbrev number : ℕ
   number = channel_of command.class
 
@@ -51,8 +51,8 @@ module _ (tables : Tables) (live : Live) (state : State) (bytes : List ℕ) (com
   to_application : (slot : ℕ) → slice_index_or live.selected number None ≡ Some slot
       → (entry : NamedEntry) × (entry_named state.registry (selected_on state.volatile number) ≡ Some entry) × (is_domain entry ≡ is_domain_in tables.entries.items slot)
   to_application slot is =
-      let on = selected_entry tables live state number slot says (channel_is_low command.class) is in
-      let named = entry_in_slot says.page tables state.registry says.registry slot on.0 on.1 in
+      let on = selected_entry page tables live state number slot says (channel_is_low command.class) is in
+      let named = entry_in_slot page tables state.registry says.registry slot on.0 on.1 in
       let aid = on.2 ∙ domain_aid_is tables.entries.items slot on.0 on.1 in (
         entry_of tables.entries.items tables.files.items on.0,
         ap (entry_named state.registry) aid ∙ named,

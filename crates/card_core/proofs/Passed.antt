@@ -24,7 +24,7 @@ use Rattle.policy_rules.specs.declared.rule.Rule.TheVariants.{G}
 use Rattle.policy_rules.specs.declared.rule.RuleG.{RuleG}
 use Rattle.policy_rules.specs.declared.rule.RuleG.TheVariants.{G1, G2, G3, G4, G5, G6, G7, G8}
 use Rattle.card_core.specs.Holds.{HoldsAs, held_passed}
-use Rattle.card_core.specs.Kept.{Shows, Stands}
+use Rattle.card_core.specs.Kept.{Shows, StandsOn}
 use Rattle.card_core.specs.Secured.{OpensAs}
 use Rattle.card_core.specs.Serves.{IsOver, Serves}
 use Rattle.card_core.specs.declared.held.Held.{Held}
@@ -47,12 +47,12 @@ pub written_at : (all : List Held) (place number : ℕ) (now other : Held) → l
 written_at all place number now other four low is = get_or-set_same all place now other (subst (λ (n : ℕ). n < length all) (sym is) (within all number four low))
 
 -- the place is the channel's number
-pub placed : (tables : Tables) (live : Live) (all : List Held) (state : State) (place number : ℕ) (passed other now : Held) → place ≡ number → passed ≡ other
-    → Stands (record { tables = tables; live = live; held = slice_set (slice_set all number other) number now }) state
-    → Stands (record { tables = tables; live = live; held = slice_set (slice_set all place passed) place now }) state
-placed tables live all state place number passed other now is same stands =
-    subst (λ (n : ℕ). Stands (record { tables = tables; live = live; held = slice_set (slice_set all n passed) n now }) state) (sym is)
-    (subst (λ (h : Held). Stands (record { tables = tables; live = live; held = slice_set (slice_set all number h) number now }) state) (sym same) stands)
+pub placed : (page : ℕ → List ℕ) (tables : Tables) (live : Live) (all : List Held) (state : State) (place number : ℕ) (passed other now : Held) → place ≡ number → passed ≡ other
+    → StandsOn page (record { tables = tables; live = live; held = slice_set (slice_set all number other) number now }) state
+    → StandsOn page (record { tables = tables; live = live; held = slice_set (slice_set all place passed) place now }) state
+placed page tables live all state place number passed other now is same stands =
+    subst (λ (n : ℕ). StandsOn page (record { tables = tables; live = live; held = slice_set (slice_set all n passed) n now }) state) (sym is)
+    (subst (λ (h : Held). StandsOn page (record { tables = tables; live = live; held = slice_set (slice_set all number h) number now }) state) (sym same) stands)
 
 pub protects_so : (command : Apdu) (class : Class) (answer test : Bool) → class_of command.class ≡ Some class → answer ≡ protects (Some class) command.ins
     → answer ≡ test → is_protected command ≡ test
@@ -79,7 +79,7 @@ module _ (all : List Held) (held_four : length all ≡ CHANNELS) (command : Apdu
       ∙ passed
       ∙ sym (written_at all (channel_of command.class) (channel_of command.class) passed_held held.Nothing held_four (channel_is_low command.class) refl)
 
-module _ (tables : Tables) (live : Live) (all : List Held) (state : State) (stands : Stands (record { tables = tables; live = live; held = all }) state)
+module _ (page : ℕ → List ℕ) (tables : Tables) (live : Live) (all : List Held) (state : State) (stands : StandsOn page (record { tables = tables; live = live; held = all }) state)
     (held_four : length all ≡ CHANNELS) (command : Apdu) where
   abbrev number : ℕ
   number = channel_of command.class
@@ -97,8 +97,8 @@ module _ (tables : Tables) (live : Live) (all : List Held) (state : State) (stan
   abbrev passed : Volatile
   passed = class_passed state.volatile command
 
-  shows_passed : Shows (record { tables = tables; live = live; held = all_passed }) (record { registry = state.registry; volatile = passed })
-  shows_passed = passed_shows tables live all state stands.shows four number low (command.ins == EXTERNAL_AUTHENTICATE)
+  shows_passed : Shows page (record { tables = tables; live = live; held = all_passed }) (record { registry = state.registry; volatile = passed })
+  shows_passed = passed_shows page tables live all state stands.shows four number low (command.ins == EXTERNAL_AUTHENTICATE)
 
   four_passed : HasFour (record { tables = tables; live = live; held = all_passed }) (record { registry = state.registry; volatile = passed })
   four_passed = record {
@@ -122,9 +122,9 @@ module _ (tables : Tables) (live : Live) (all : List Held) (state : State) (stan
 
   -- a command in plain
   pub plain_stands : is_protected command ≡ false
-      → Stands (record { tables = tables; live = live; held = all_passed }) (admitted_as state command None command.body).at
+      → StandsOn page (record { tables = tables; live = live; held = all_passed }) (admitted_as state command None command.body).at
   plain_stands plain = record {
-    shows = shows_same (record { tables = tables; live = live; held = all_passed }) state.registry passed (session_passed passed command)
+    shows = shows_same page (record { tables = tables; live = live; held = all_passed }) state.registry passed (session_passed passed command)
         (sym (session_same passed command shows_passed.holds.load)) shows_passed;
     sound = sound_at None command.body (plain, refl);
   }
@@ -147,14 +147,14 @@ module _ (tables : Tables) (live : Live) (all : List Held) (state : State) (stan
     -- a protected command that opens
     pub opened_stands : (session : Session) → session_for state command ≡ Some session → (now : Held) (plain : List ℕ) → Opens session command plain
         → HoldsAs now (Secured (accepting session command))
-        → Stands (record { tables = tables; live = live; held = slice_set all_passed number now })
+        → StandsOn page (record { tables = tables; live = live; held = slice_set all_passed number now })
         (admitted_as state command (Some (accepting session command)) plain).at
     opened_stands session is now plain opens holds =
         let joined = with_standing passed number (Secured (accepting session command)) in
-        let shows = standing_shows tables live all_passed (record { registry = state.registry; volatile = passed }) shows_passed four_passed number low slot now
+        let shows = standing_shows page tables live all_passed (record { registry = state.registry; volatile = passed }) shows_passed four_passed number low slot now
         (Secured (accepting session command)) opened holds in
         record {
-          shows = shows_same (record { tables = tables; live = live; held = slice_set all_passed number now }) state.registry joined (session_passed joined command)
+          shows = shows_same page (record { tables = tables; live = live; held = slice_set all_passed number now }) state.registry joined (session_passed joined command)
               (sym (session_same joined command shows.holds.load)) shows;
           sound = sound_at (Some (accepting session command)) plain (
             protected,
@@ -164,13 +164,13 @@ module _ (tables : Tables) (live : Live) (all : List Held) (state : State) (stan
 
     -- its session has ended
     ended_shows : (now : Held) → now ≡ held.Nothing
-        → Shows (record { tables = tables; live = live; held = slice_set all_passed number now })
+        → Shows page (record { tables = tables; live = live; held = slice_set all_passed number now })
         (record { registry = state.registry; volatile = without_session passed number })
     ended_shows now gone =
         let ended = with_standing passed number Nothing in
-        let shows = standing_shows tables live all_passed (record { registry = state.registry; volatile = passed }) shows_passed four_passed number low slot now
+        let shows = standing_shows page tables live all_passed (record { registry = state.registry; volatile = passed }) shows_passed four_passed number low slot now
         Nothing opened (subst (λ (h : Held). HoldsAs h Nothing) (sym gone) tt) in
-        shows_same (record { tables = tables; live = live; held = slice_set all_passed number now }) state.registry ended (without_session passed number)
+        shows_same page (record { tables = tables; live = live; held = slice_set all_passed number now }) state.registry ended (without_session passed number)
         (sym (load_same ended number shows.holds.load)) shows
 
     module _ (bytes : List ℕ) (short : Short command bytes) (known : IsKnown command.class command.ins)
@@ -180,21 +180,21 @@ module _ (tables : Tables) (live : Live) (all : List Held) (state : State) (stan
       pub refused_served : (now : Held) (plain reply : List ℕ) (rule : RuleG)
           → OpensAs command (standing_of (channel_at passed number)) (slice_index_or all_passed number held.Nothing) now plain (Err rule)
           → reply ≡ status_bytes (status_of (G rule))
-          → Serves state bytes (record { tables = tables; live = live; held = slice_set all_passed number now }) reply (Some (G rule))
+          → Serves page state bytes (record { tables = tables; live = live; held = slice_set all_passed number now }) reply (Some (G rule))
       refused_served now plain reply G6 (none, same) is =
-          barred (record { tables = tables; live = live; held = slice_set all_passed number now }) state bytes reply G6 passed stands.sound
+          barred page (record { tables = tables; live = live; held = slice_set all_passed number now }) state bytes reply G6 passed stands.sound
           (no_session_first state bytes command short known class is_class front not_over protected (sym (passed_session state command stands.sound.fits) ∙ none))
           (command, short, inr (no_plain_management command known, refl))
-          (held_same (record { tables = tables; live = live; held = all_passed }) (record { registry = state.registry; volatile = passed }) number now (sym same) shows_passed)
+          (held_same page (record { tables = tables; live = live; held = all_passed }) (record { registry = state.registry; volatile = passed }) number now (sym same) shows_passed)
           is
       refused_served now plain reply G7 (gone, wrong) is =
           let found = session_of (λ session. IsAuthentic session command → ⊥) wrong in
-          barred (record { tables = tables; live = live; held = slice_set all_passed number now }) state bytes reply G7 (without_session passed number) stands.sound
+          barred page (record { tables = tables; live = live; held = slice_set all_passed number now }) state bytes reply G7 (without_session passed number) stands.sound
           (wrong_mac_first state bytes command short known class is_class front not_over protected found.0 found.1 found.2)
           (command, short, refl) (ended_shows now gone) is
       refused_served now plain reply G8 (gone, wrong) is =
           let found = session_of (λ session. IsAuthentic session command × ((b : List ℕ) → Gives (accepting session command) (field_of command) b → ⊥)) wrong in
-          barred (record { tables = tables; live = live; held = slice_set all_passed number now }) state bytes reply G8 (without_session passed number) stands.sound
+          barred page (record { tables = tables; live = live; held = slice_set all_passed number now }) state bytes reply G8 (without_session passed number) stands.sound
           (wrong_padding_first state bytes command short known class is_class front not_over protected found.0 found.1 found.2.0 found.2.1)
           (command, short, refl) (ended_shows now gone) is
       refused_served now plain reply G1 opens is = absurd opens
@@ -207,8 +207,8 @@ module _ (tables : Tables) (live : Live) (all : List Held) (state : State) (stan
   pub over_served : (bytes reply : List ℕ) → Short command bytes → (class : Class) → class_of command.class ≡ Some class
       → IsKnown command.class command.ins → IsFirst (Bars state bytes) command_rules None → IsOver state.registry.life class command.ins
       → reply ≡ status_bytes (status_of (G G5))
-      → Serves state bytes (record { tables = tables; live = live; held = slice_set all number (held_passed false (slice_index_or all number held.Nothing)) }) reply (Some (G G5))
+      → Serves page state bytes (record { tables = tables; live = live; held = slice_set all number (held_passed false (slice_index_or all number held.Nothing)) }) reply (Some (G G5))
   over_served bytes reply short class is_class known front over is =
-      barred (record { tables = tables; live = live; held = slice_set all number (held_passed false (slice_index_or all number held.Nothing)) }) state bytes reply G5
+      barred page (record { tables = tables; live = live; held = slice_set all number (held_passed false (slice_index_or all number held.Nothing)) }) state bytes reply G5
       (placeless state.volatile number false) stands.sound (over_first state bytes command short known class is_class front over)
-      (command, short, refl) (passed_shows tables live all state stands.shows four number low false) is
+      (command, short, refl) (passed_shows page tables live all state stands.shows four number low false) is

@@ -31,11 +31,11 @@ use Rattle.card_core.specs.Kept.{Kept, Shows}
 use Rattle.card_core.specs.Serves.{CarriesOut, Serves, rule_of, word_of}
 
 -- a general rule bars the bytes
-pub barred : (card : Kept) (state : State) (bytes reply : List ℕ) (rule : RuleG) (left : Volatile) → IsSound state
+pub barred : (page : ℕ → List ℕ) (card : Kept) (state : State) (bytes reply : List ℕ) (rule : RuleG) (left : Volatile) → IsSound state
     → IsFirst (Bars state bytes) general_rules (Some rule) → Leaves state bytes rule left
-    → Shows card (record { registry = state.registry; volatile = left }) → reply ≡ status_bytes (status_of (G rule))
-    → Serves state bytes card reply (Some (G rule))
-barred card state bytes reply rule left sound first leaves shows is =
+    → Shows page card (record { registry = state.registry; volatile = left }) → reply ≡ status_bytes (status_of (G rule))
+    → Serves page state bytes card reply (Some (G rule))
+barred page card state bytes reply rule left sound first leaves shows is =
     let step = inl (record {
       rule = rule;
       left = left;
@@ -49,11 +49,11 @@ barred card state bytes reply rule left sound first leaves shows is =
     )
 
 -- a command that was carried out, or refused by a rule of its own
-pub carried_out : (state : State) (bytes : List ℕ) (command : Apdu) (session : Option Session) (plain : List ℕ) (card : Kept) (body reply : List ℕ)
+pub carried_out : (page : ℕ → List ℕ) (state : State) (bytes : List ℕ) (command : Apdu) (session : Option Session) (plain : List ℕ) (card : Kept) (body reply : List ℕ)
     (result : Result Status Rule) → IsSound state → Admits state bytes (admitted_as state command session plain)
-    → CarriesOut (admitted_as state command session plain) card body result → reply ≡ sent session body (word_of result)
-    → Serves state bytes card reply (rule_of result)
-carried_out state bytes command session plain card body reply (Ok status) sound admits (done, shows, judges, does, body_is, word) is =
+    → CarriesOut page (admitted_as state command session plain) card body result → reply ≡ sent session body (word_of result)
+    → Serves page state bytes card reply (rule_of result)
+carried_out page state bytes command session plain card body reply (Ok status) sound admits (done, shows, judges, does, body_is, word) is =
     let step = inr (inr (record {
       admitted = admitted_as state command session plain;
       done = done;
@@ -63,7 +63,7 @@ carried_out state bytes command session plain card body reply (Ok status) sound 
       outcome_is = ap (λ (r : List ℕ). record { state = done.state; reply = r; rule = None }) (is ∙ (λ i. sent session (body_is i) (word i)));
     })) in
     (done.state, record { shows = shows; sound = steps_keep_sound state bytes _ sound step }, step)
-carried_out state bytes command session plain card body reply (Err rule) sound admits (shows, judges, empty) is =
+carried_out page state bytes command session plain card body reply (Err rule) sound admits (shows, judges, empty) is =
     let admitted : Admitted = admitted_as state command session plain in
     let left = refusal_leaves (admitted_as state command session plain) in
     let step = inr (inl (record {

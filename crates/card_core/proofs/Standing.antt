@@ -25,17 +25,16 @@ use Rattle.policy_rules.specs.declared.instruction.TheConstants.{LOAD}
 use Rattle.policy_rules.specs.declared.live.Live.{Live}
 use Rattle.policy_rules.specs.declared.live.TheConstants.{CHANNELS}
 use Rattle.card_core.specs.Holds.{Holds, HoldsAs, held_passed, without_offer_held}
-use Rattle.card_core.specs.Kept.{Kept, Shows, Stands}
+use Rattle.card_core.specs.Kept.{Kept, Shows, StandsOn}
 use Rattle.card_core.specs.declared.held.Held.{Held}
 use Rattle.card_core.specs.declared.held.Held.TheVariants as held
 
 -- a channel is set beside the slot of what it has selected
-says_set : (tables : Tables) (live : Live) (state : State) (number : ℕ) (slot : Option ℕ) (channel : Option Channel) (after : Volatile)
-    → Says tables live state → number < length live.selected → number < length state.volatile.channels
+says_set : (page : ℕ → List ℕ) (tables : Tables) (live : Live) (state : State) (number : ℕ) (slot : Option ℕ) (channel : Option Channel) (after : Volatile)
+    → Says page tables live state → number < length live.selected → number < length state.volatile.channels
     → IsSelectedIn tables.entries.items slot channel → after.channels ≡ slice_set state.volatile.channels number channel
-    → Says tables (record { selected = slice_set live.selected number slot }) (record { registry = state.registry; volatile = after })
-says_set tables live state number slot channel after says low few selected is = record {
-  page = says.page;
+    → Says page tables (record { selected = slice_set live.selected number slot }) (record { registry = state.registry; volatile = after })
+says_set page tables live state number slot channel after says low few selected is = record {
   registry = says.registry;
   selected = λ other within.
       subst (λ (channels : List (Option Channel)). IsSelectedIn tables.entries.items (slice_index_or (slice_set live.selected number slot) other None) (slice_index_or channels other None))
@@ -54,12 +53,11 @@ says_set tables live state number slot channel after says low few selected is = 
 }
 
 -- a channel is set, with what it has selected in the same slot
-says_kept : (tables : Tables) (live : Live) (state : State) (number : ℕ) (channel : Option Channel) (after : Volatile)
-    → Says tables live state → number < length state.volatile.channels
+says_kept : (page : ℕ → List ℕ) (tables : Tables) (live : Live) (state : State) (number : ℕ) (channel : Option Channel) (after : Volatile)
+    → Says page tables live state → number < length state.volatile.channels
     → IsSelectedIn tables.entries.items (slice_index_or live.selected number None) channel → after.channels ≡ slice_set state.volatile.channels number channel
-    → Says tables live (record { registry = state.registry; volatile = after })
-says_kept tables live state number channel after says few selected is = record {
-  page = says.page;
+    → Says page tables live (record { registry = state.registry; volatile = after })
+says_kept page tables live state number channel after says few selected is = record {
   registry = says.registry;
   selected = λ other within.
       subst (λ (channels : List (Option Channel)). IsSelectedIn tables.entries.items (slice_index_or live.selected other None) (slice_index_or channels other None))
@@ -110,7 +108,7 @@ pub record HasFour (card : Kept) (state : State) : Type 0 where
   pub held : length card.held ≡ CHANNELS
   pub channels : length state.volatile.channels ≡ CHANNELS
 
-module _ (tables : Tables) (live : Live) (all : List Held) (state : State) (shows : Shows (record { tables = tables; live = live; held = all }) state)
+module _ (page : ℕ → List ℕ) (tables : Tables) (live : Live) (all : List Held) (state : State) (shows : Shows page (record { tables = tables; live = live; held = all }) state)
     (four : HasFour (record { tables = tables; live = live; held = all }) state) (number : ℕ) (low : number < CHANNELS) where
   few : number < length state.volatile.channels
   few = subst (λ (n : ℕ). number < n) (sym four.channels) low
@@ -128,10 +126,10 @@ module _ (tables : Tables) (live : Live) (all : List Held) (state : State) (show
   pub channel_shows : length live.selected ≡ CHANNELS → (slot : Option ℕ) (now : Held) (channel : Option Channel) (after : Volatile)
       → IsSelectedIn tables.entries.items slot channel → HoldsAs now (standing_of channel) → HasNoPlace channel
       → after.channels ≡ slice_set state.volatile.channels number channel → after.load ≡ None
-      → Shows (record { tables = tables; live = record { selected = slice_set live.selected number slot }; held = slice_set all number now })
+      → Shows page (record { tables = tables; live = record { selected = slice_set live.selected number slot }; held = slice_set all number now })
       (record { registry = state.registry; volatile = after })
   channel_shows live_four slot now channel after selected stands place is load = record {
-    says = says_set tables live state number slot channel after shows.says (subst (λ (n : ℕ). number < n) (sym live_four) low) few selected is;
+    says = says_set page tables live state number slot channel after shows.says (subst (λ (n : ℕ). number < n) (sym live_four) low) few selected is;
     holds = holds_set all state.volatile number now channel after shows.holds few_held few stands place is load;
   }
 
@@ -139,9 +137,9 @@ module _ (tables : Tables) (live : Live) (all : List Held) (state : State) (show
   pub holds_shows : (now : Held) (channel : Option Channel) (after : Volatile)
       → IsSelectedIn tables.entries.items (slice_index_or live.selected number None) channel → HoldsAs now (standing_of channel) → HasNoPlace channel
       → after.channels ≡ slice_set state.volatile.channels number channel → after.load ≡ None
-      → Shows (record { tables = tables; live = live; held = slice_set all number now }) (record { registry = state.registry; volatile = after })
+      → Shows page (record { tables = tables; live = live; held = slice_set all number now }) (record { registry = state.registry; volatile = after })
   holds_shows now channel after selected stands place is load = record {
-    says = says_kept tables live state number channel after shows.says few selected is;
+    says = says_kept page tables live state number channel after shows.says few selected is;
     holds = holds_set all state.volatile number now channel after shows.holds few_held few stands place is load;
   }
 
@@ -180,7 +178,7 @@ module _ (tables : Tables) (live : Live) (all : List Held) (state : State) (show
 
   -- the channel has lost its offer, if it had one
   pub lost_shows : (now : Held) → HoldsAs now (without_offer (standing_of here))
-      → Shows (record { tables = tables; live = live; held = slice_set all number now }) (record { registry = state.registry; volatile = placeless state.volatile number false })
+      → Shows page (record { tables = tables; live = live; held = slice_set all number now }) (record { registry = state.registry; volatile = placeless state.volatile number false })
   lost_shows now holds =
       holds_shows now (channel_passed false here) (placeless state.volatile number false)
       (selected_passed false (slice_index_or live.selected number None) here (shows.says.selected number low))
@@ -188,7 +186,7 @@ module _ (tables : Tables) (live : Live) (all : List Held) (state : State) (show
 
   -- behind the check of the class
   pub passed_shows : (keeps : Bool)
-      → Shows (record { tables = tables; live = live; held = slice_set all number (held_passed keeps (slice_index_or all number held.Nothing)) })
+      → Shows page (record { tables = tables; live = live; held = slice_set all number (held_passed keeps (slice_index_or all number held.Nothing)) })
       (record { registry = state.registry; volatile = placeless state.volatile number keeps })
   passed_shows true =
       holds_shows (slice_index_or all number held.Nothing) (channel_passed true here) (placeless state.volatile number true)
@@ -213,7 +211,7 @@ module _ (tables : Tables) (live : Live) (all : List Held) (state : State) (show
 
   -- an open channel holds something else
   pub standing_shows : (slot : ℕ) (now : Held) (standing : Standing) → slice_index_or live.selected number None ≡ Some slot → HoldsAs now standing
-      → Shows (record { tables = tables; live = live; held = slice_set all number now }) (record { registry = state.registry; volatile = with_standing state.volatile number standing })
+      → Shows page (record { tables = tables; live = live; held = slice_set all number now }) (record { registry = state.registry; volatile = with_standing state.volatile number standing })
   standing_shows slot now standing opened holds =
       holds_shows now (standing_so standing here) (with_standing state.volatile number standing)
       (selected_so standing (slice_index_or live.selected number None) here (shows.says.selected number low))
@@ -234,16 +232,16 @@ session_same volatile command none = by (command.ins == LOAD)
     by false = load_same volatile (channel_of command.class) none
 
 -- nothing is set in what is held
-pub held_same : (card : Kept) (state : State) (number : ℕ) (now : Held) → slice_index_or card.held number held.Nothing ≡ now → Shows card state
-    → Shows (record { tables = card.tables; live = card.live; held = slice_set card.held number now }) state
-held_same card state number now same shows =
-    subst (λ (all : List Held). Shows (record { tables = card.tables; live = card.live; held = all }) state)
+pub held_same : (page : ℕ → List ℕ) (card : Kept) (state : State) (number : ℕ) (now : Held) → slice_index_or card.held number held.Nothing ≡ now → Shows page card state
+    → Shows page (record { tables = card.tables; live = card.live; held = slice_set card.held number now }) state
+held_same page card state number now same shows =
+    subst (λ (all : List Held). Shows page (record { tables = card.tables; live = card.live; held = all }) state)
     (sym (ap (slice_set card.held number) (sym same) ∙ set-get_or card.held number held.Nothing)) shows
 
 -- the same volatile state
-pub shows_same : (card : Kept) (registry : Registry) (a b : Volatile) → a ≡ b → Shows card (record { registry = registry; volatile = a })
-    → Shows card (record { registry = registry; volatile = b })
-shows_same card registry a b same shows = subst (λ (v : Volatile). Shows card (record { registry = registry; volatile = v })) same shows
+pub shows_same : (page : ℕ → List ℕ) (card : Kept) (registry : Registry) (a b : Volatile) → a ≡ b → Shows page card (record { registry = registry; volatile = a })
+    → Shows page card (record { registry = registry; volatile = b })
+shows_same page card registry a b same shows = subst (λ (v : Volatile). Shows page card (record { registry = registry; volatile = v })) same shows
 
 pub issuer_selected : (entries : List (Option Entry)) → HasIssuer entries → IsSelectedIn entries (Some ISSUER_SLOT) (Some (fresh ISSUER))
 issuer_selected entries has = by (held entries ISSUER_SLOT) refl has
@@ -254,19 +252,19 @@ issuer_selected entries has = by (held entries ISSUER_SLOT) refl has
     by (Some entry) at is = (entry, at, is)
 
 -- the lowest closed channel is opened, and holds nothing, as it did
-pub opened_shows : (tables : Tables) (live : Live) (all : List Held) (state : State) → Shows (record { tables = tables; live = live; held = all }) state
+pub opened_shows : (page : ℕ → List ℕ) (tables : Tables) (live : Live) (all : List Held) (state : State) → Shows page (record { tables = tables; live = live; held = all }) state
     → HasFour (record { tables = tables; live = live; held = all }) state → length live.selected ≡ CHANNELS → (number : ℕ) → number < CHANNELS → HasLayout tables
     → lowest_closed state.volatile.channels ≡ Some number
-    → Shows (record { tables = tables; live = record { selected = slice_set live.selected number (Some ISSUER_SLOT) }; held = all })
+    → Shows page (record { tables = tables; live = record { selected = slice_set live.selected number (Some ISSUER_SLOT) }; held = all })
     (record { registry = state.registry; volatile = with_channel state.volatile number (Some (fresh ISSUER)) })
-opened_shows tables live all state shows four live_four number low layout found =
+opened_shows page tables live all state shows four live_four number low layout found =
     let closed = lowest_is_closed state.volatile.channels number found in
     let nothing : HoldsAs (slice_index_or all number held.Nothing) Nothing =
     subst (λ (c : Option Channel). HoldsAs (slice_index_or all number held.Nothing) (standing_of c)) closed.1 (shows.holds.channels number low) in
-    subst (λ (h : List Held). Shows (record { tables = tables; live = record { selected = slice_set live.selected number (Some ISSUER_SLOT) }; held = h })
+    subst (λ (h : List Held). Shows page (record { tables = tables; live = record { selected = slice_set live.selected number (Some ISSUER_SLOT) }; held = h })
     (record { registry = state.registry; volatile = with_channel state.volatile number (Some (fresh ISSUER)) }))
     (set-get_or all number held.Nothing)
-    (channel_shows tables live all state shows four number low live_four (Some ISSUER_SLOT) (slice_index_or all number held.Nothing) (Some (fresh ISSUER))
+    (channel_shows page tables live all state shows four number low live_four (Some ISSUER_SLOT) (slice_index_or all number held.Nothing) (Some (fresh ISSUER))
     (with_channel state.volatile number (Some (fresh ISSUER))) (issuer_selected tables.entries.items layout.issuer) nothing refl refl shows.holds.load)
 
 first_selected : (entries : List (Option Entry)) → HasIssuer entries → (number : ℕ) → number < CHANNELS
@@ -295,11 +293,10 @@ first_places (suc (suc (suc (suc number)))) = tt
 -- power on
 pub powered_on_stands : (page : ℕ → List ℕ) (tables : Tables) (live : Live) (all : List Held) (said : Registry) → HasLayout tables → SaysRegistry page tables said → Well said
     → live.selected ≡ Some ISSUER_SLOT ∷ None ∷ None ∷ None ∷ [] → all ≡ held.Nothing ∷ held.Nothing ∷ held.Nothing ∷ held.Nothing ∷ []
-    → Stands (record { tables = tables; live = live; held = all }) (powered_on said)
+    → StandsOn page (record { tables = tables; live = live; held = all }) (powered_on said)
 powered_on_stands page tables live all said layout says well is nothing = record {
   shows = record {
     says = record {
-      page = page;
       registry = says;
       selected = λ number low. subst (λ (slots : List (Option ℕ)). IsSelectedIn tables.entries.items (slice_index_or slots number None) (channel_at first_volatile number))
           (sym is) (first_selected tables.entries.items layout.issuer number low);

@@ -1,5 +1,6 @@
--- What a card keeps, and the states of the policy machine that it stands for.
-use Rattle.std.specs.Prelude.{List}
+-- What a card keeps, and the states of the policy machine that it shows.
+use Rattle.std.specs.Prelude.{ℕ, List}
+use Rattle.card_check.specs.IsCard.{HasPages, IsCard}
 use Rattle.card_types.specs.declared.tables.Tables.{Tables}
 use Rattle.policy_rules.specs.Means.{Says}
 use Rattle.policy_rules.specs.Sound.{IsSound}
@@ -14,12 +15,16 @@ pub record Kept : Type 0 where
   pub live : Live
   pub held : List Held
 
--- what is kept shows this state
-pub record Shows (card : Kept) (state : State) : Type 0 where
-  pub says : Says card.tables card.live state
+-- whatever stands in the load pages, the tables are a card's
+abbrev pub AreCards : Tables → Type 0
+AreCards tables = (page : ℕ → List ℕ) → HasPages page → IsCard page tables
+
+-- what is kept shows this state, over these load pages
+pub record Shows (page : ℕ → List ℕ) (card : Kept) (state : State) : Type 0 where
+  pub says : Says page card.tables card.live state
   pub holds : Holds card.held state.volatile
 
--- the card stands for this state, which is sound
-pub record Stands (card : Kept) (state : State) : Type 0 where
-  pub shows : Shows card state
+-- and the state is sound
+pub record StandsOn (page : ℕ → List ℕ) (card : Kept) (state : State) : Type 0 where
+  pub shows : Shows page card state
   pub sound : IsSound state

@@ -12,18 +12,18 @@ use Rattle.policy_rules.specs.Step.{Step, refusal_leaves}
 use Rattle.policy_rules.specs.declared.class.Class.{Class}
 use Rattle.policy_rules.specs.declared.instruction.TheConstants.{GET_DATA}
 use Rattle.policy_rules.specs.declared.rule.Rule.{Rule}
-use Rattle.card_core.specs.Kept.{Kept, Shows, Stands}
+use Rattle.card_core.specs.Kept.{Kept, Shows, StandsOn}
 
--- one step of the policy machine was made
-abbrev pub Serves : State → List ℕ → Kept → List ℕ → Option Rule → Type 0
-Serves state bytes card reply rule = (next : State) × Stands card next × Step state bytes (record { state = next; reply = reply; rule = rule })
+-- one step of the policy machine was made, over these load pages
+abbrev pub Serves : (ℕ → List ℕ) → State → List ℕ → Kept → List ℕ → Option Rule → Type 0
+Serves page state bytes card reply rule = (next : State) × StandsOn page card next × Step state bytes (record { state = next; reply = reply; rule = rule })
 
 -- an admitted command was carried out, or a rule of its own refused it
-abbrev pub CarriesOut : Admitted → Kept → List ℕ → Result Status Rule → Type 0
-CarriesOut admitted card body (Ok status) =
-    (done : Effect) × Shows card done.state × Judges admitted None × Does admitted done × (body ≡ done.body) × (status.0 ≡ done.status)
-CarriesOut admitted card body (Err rule) =
-    Shows card (record { registry = admitted.at.registry; volatile = refusal_leaves admitted }) × Judges admitted (Some rule) × (body ≡ [])
+abbrev pub CarriesOut : (ℕ → List ℕ) → Admitted → Kept → List ℕ → Result Status Rule → Type 0
+CarriesOut page admitted card body (Ok status) =
+    (done : Effect) × Shows page card done.state × Judges admitted None × Does admitted done × (body ≡ done.body) × (status.0 ≡ done.status)
+CarriesOut page admitted card body (Err rule) =
+    Shows page card (record { registry = admitted.at.registry; volatile = refusal_leaves admitted }) × Judges admitted (Some rule) × (body ≡ [])
 
 -- the status word of the reply, and the rule that refused the command
 abbrev pub word_of : Result Status Rule → ℕ

@@ -1,42 +1,55 @@
 //! A card.
 
-ghost use Rattle.std.specs.Prelude.{◌≡◌, ℕ, List, [], ◌∷◌, IfOk};
+ghost use Rattle.std.specs.Prelude.{◌≡◌, ◌⊎◌, ◌≤◌, ◌↔◌, ℕ, List, [], ◌∷◌, false, true, IfOk, IfErr, IsTrue, OnErr, OnOk};
+ghost use Rattle.apdu_core.specs.Reply.{status_bytes};
+ghost use Rattle.card_core.specs.Card.{Stands};
+ghost use Rattle.card_core.specs.Kept.{AreCards};
+ghost use Rattle.card_core.specs.PowerOn.{PowerFails};
 ghost use Rattle.card_core.specs.declared.held.Held.TheVariants as holding;
-ghost use Rattle.card_core.specs.Kept.{Kept, Stands};
-ghost use Rattle.card_types.specs.Factory.{factory_registry};
 ghost use Rattle.card_types.specs.InOrder.{IsInOrder};
 ghost use Rattle.card_types.specs.Registry.{Registry};
-ghost use Rattle.card_types.specs.Says.{Says};
-ghost use Rattle.card_types.specs.Well.{Well};
+ghost use Rattle.flash_core.specs.Faults.{HasCause};
+ghost use Rattle.page_journal.specs.Moments.{Always, LeavesOnly};
 ghost use Rattle.policy_rules.specs.State.{State, powered_on};
-ghost use Rattle.policy_rules.specs.Step.{Step};
+ghost use Rattle.policy_rules.specs.Step.{Outcome, Step};
+ghost use Rattle.rec_store.specs.Reopens.{Reopens, ReopensAsOne};
 
 use crate::held::Held;
-use crate::reply::REPLY_LIMIT;
+use crate::power::{PowerCause, PowerError};
+use crate::reply::{REPLY_LIMIT, write_status};
 use crate::serve::serve;
+use apdu_core::Status;
 use arrayvec::ArrayVec;
 use card_types::Tables;
+use flash_core::{Flash, FlashFailed};
 use policy_rules::{CHANNELS, Live, Rule};
-use std::alloc::{AllocError, Global};
+use rec_store::Records;
+use std::alloc::Global;
 use std::marker::Model;
 
-/// A card: its registry, and its volatile state.
+/// The status word of a command that the device cut off.
+const FAILED: Status = Status(0x6581);
+
+/// A card: its registry, which a device keeps, and its volatile state.
 #[derive(Drop)]
-pub struct Card {
-    tables: Tables,
-    live: Live,
-    held: [Held; CHANNELS],
+pub struct Card<F: Flash> {
+    pub(crate) records: Records<F>,
+    pub(crate) live: Live,
+    pub(crate) held: [Held; CHANNELS],
+    pub(crate) up: bool,
 }
 
-impl Model for Card {
-    ghost use Rattle.card_core.specs.Kept.{Kept};
-    ghost use Rattle.card_types.specs.InOrder.{IsInOrder};
+// Contracts see the device, the tables, the channels and what they hold, and whether no call on the device has failed.
+impl<F: Flash> Model for Card<F> {
+    ghost use Rattle.std.specs.Prelude.{◌≡◌, [], true};
+    ghost use Rattle.card_core.specs.Card.{CardOver};
+    ghost use Rattle.card_core.specs.Kept.{AreCards};
 
-    ghost Value = { Kept };
+    ghost Value = { CardOver F };
 
-    ghost view = { λ card. record { tables = card.tables; live = card.live; held = card.held } };
+    ghost view = { λ card. record { flash = card.records.flash; tables = card.records.tables; live = card.live; held = card.held; up = card.up } };
 
-    ghost invariant = { λ card. IsInOrder card.tables };
+    ghost invariant = { λ card. AreCards card.records.tables × (card.up ≡ true → (card.records.live ≡ true) × (card.records.staged ≡ [])) };
 }
 
 // What the channels hold after power on.
@@ -46,56 +59,102 @@ fn nothing_held() -> [Held; CHANNELS]
     [Held::Nothing, Held::Nothing, Held::Nothing, Held::Nothing]
 }
 
-impl Card {
-    /// A card with this registry, just powered on.
-    pub fn powered_on(tables: Tables) -> Card
-        requires in_order { IsInOrder tables }
-        ensures stands { (page : ℕ → List ℕ) (said : Registry) → Says page tables said → Well said → Stands result (powered_on said) }
-        ensures tables { result.tables ≡ tables }
+impl<F: Flash> Card<F> {
+    /// Powers a card on: its registry is read from a device, where a commit that was cut off is ended first, and channel 0
+    /// alone is open, with the Issuer Security Domain selected. `PowerCause::Memory` is want of memory for the tables and the
+    /// staged pages, before any call on the device.
+    pub fn power_on(alloc: Global, flash: F) -> Result<Card<F>, PowerError<F>>
+        ensures stands { IfOk result (λ card. (registry : Registry) × (F.tells → Reopens (F.pages flash) registry)
+            × Stands F.tells F.pages F.may_leave card (powered_on registry)) }
+        // Power lost at any moment leaves no registry that it could not leave before.
+        ensures moments { F.tells → (registries : List Registry) → Always (F.may_leave flash) (ReopensAsOne registries)
+            → IfOk result (λ card. LeavesOnly F.moment F.left_since flash card.flash (ReopensAsOne registries)) }
+        ensures later { IfOk result (λ card. F.faults flash ≤ F.faults card.flash) }
+        ensures err_later { IfErr result (λ e. F.faults flash ≤ F.faults e.flash) }
+        ensures err_moments { F.tells → (registries : List Registry) → Always (F.may_leave flash) (ReopensAsOne registries)
+            → IfErr result (λ e. LeavesOnly F.moment F.left_since flash e.flash (ReopensAsOne registries)) }
+        ensures err { IfErr result (λ e. PowerFails F.tells F.faults F.pages flash e.cause e.flash) }
     {
-        Card {
-            tables,
-            live: Live::powered_on(),
-            held: nothing_held(),
+        match Records::mount(alloc, flash) {
+            Ok(records) => Ok(Card {
+                records,
+                live: Live::powered_on(),
+                held: nothing_held(),
+                up: true,
+            }),
+            Err(refused) => Err(PowerError {
+                cause: PowerCause::of(refused.cause),
+                flash: refused.flash,
+            }),
         }
     }
 
-    /// The card as it leaves the factory, just powered on. An error is want of memory.
-    pub fn factory(alloc: Global) -> Result<Card, AllocError>
-        ensures stands { IfOk result (λ card. Stands card (powered_on factory_registry)) }
-    {
-        Ok(Card::powered_on(Tables::factory(alloc)?))
-    }
-
-    /// Answers a command: `reply` becomes the whole reply. It says which rule refused the command, if one did, and takes
-    /// no memory.
-    pub fn process(&mut self, command: &[u8], reply: &mut ArrayVec<u8, REPLY_LIMIT>) -> Option<Rule>
-        ensures step { (state : State) → Stands self.old state → (next : State) × Stands self.new next
-            × Step state command.now (record { state = next; reply = reply.new.items; rule = result }) }
+    /// Answers a command: `reply` becomes the whole reply, and what the command changes is committed before. It says which
+    /// rule refused the command, if one did, and takes no memory. Where the device fails, `reply` is 6581.
+    pub fn process(
+        &mut self,
+        command: &[u8],
+        reply: &mut ArrayVec<u8, REPLY_LIMIT>,
+    ) -> Result<Option<Rule>, FlashFailed>
+        requires up { self.old.up ≡ true }
+        // What comes of the command is one outcome of the policy machine, also where the device fails. Power lost at any
+        // moment leaves the registry from before or that of the outcome, and after an answer the latter.
+        ensures step { (state : State) → Stands F.tells F.pages F.may_leave self.old state → (outcome : Outcome) × Step state command.now outcome
+            × (F.tells → LeavesOnly F.moment F.left_since self.old.flash self.new.flash (λ pages. Reopens pages state.registry ⊎ Reopens pages outcome.state.registry))
+            × IfOk result (λ rule. Stands F.tells F.pages F.may_leave self.new outcome.state × (reply.new.items ≡ outcome.reply) × (rule ≡ outcome.rule)) }
+        ensures ok { OnOk result (self.new.up ≡ true) }
+        ensures failed { OnErr result ((reply.new.items ≡ status_bytes 0x6581) × (self.new.up ≡ false)) }
+        ensures cause { HasCause (F.faults self.old.flash) (F.faults self.new.flash) result }
     {
         reply.clear();
-        serve(
-            &mut self.tables,
+        let rule = serve(
+            &mut self.records,
             &mut self.live,
             &mut self.held,
             command,
             reply,
-        )
+        );
+        match self.records.commit() {
+            Ok(()) => Ok(rule),
+            Err(failed) => {
+                self.up = false;
+                reply.clear();
+                write_status(FAILED, reply);
+                Err(failed)
+            }
+        }
     }
 
     /// Takes the power away and gives it back: channel 0 alone is open then, with the Issuer Security Domain selected.
     pub fn reset(&mut self)
-        ensures stands { (state : State) → Stands self.old state → Stands self.new (powered_on state.registry) }
+        requires up { self.old.up ≡ true }
+        ensures stands { (state : State) → Stands F.tells F.pages F.may_leave self.old state → Stands F.tells F.pages F.may_leave self.new (powered_on state.registry) }
+        ensures same { (self.new.flash ≡ self.old.flash) × (self.new.tables ≡ self.old.tables) × (self.new.up ≡ true) }
     {
         self.live = Live::powered_on();
         self.held = nothing_held();
     }
 
+    /// Whether no call on the device has failed.
+    pub fn live(&self) -> bool
+        ensures { result ≡ self.now.up }
+    {
+        self.up
+    }
+
     /// The registry.
     pub fn tables(&self) -> &Tables
         ensures tables { result.now ≡ self.now.tables }
+        ensures cards { AreCards result.now }
         ensures in_order { IsInOrder result.now }
     {
-        &self.tables
+        self.records.tables()
+    }
+
+    /// The device.
+    pub fn into_flash(self) -> F
+        ensures { result ≡ self.flash }
+    {
+        self.records.into_flash()
     }
 }

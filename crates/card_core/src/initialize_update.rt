@@ -1,9 +1,11 @@
 //! INITIALIZE UPDATE: a session is offered.
 
-ghost use Rattle.std.specs.Prelude.{◌≡◌, ◌≤◌, ℕ, List, [], length, None, Some, IfSome, IfNone};
+ghost use Rattle.std.specs.Prelude.{◌≡◌, ◌≤◌, ◌<◌, ℕ, true, List, [], length, None, Some, IfSome, IfNone};
 ghost use Rattle.card_core.specs.Domains.{HasSelected};
+ghost use Rattle.card_core.specs.Kept.{AreCards};
 ghost use Rattle.card_core.specs.Offers.{OffersAs};
 ghost use Rattle.card_types.specs.Ascending.{IsAscending};
+ghost use Rattle.card_types.specs.Counters.{raised_key};
 ghost use Rattle.card_types.specs.InOrder.{IsInOrder};
 ghost use Rattle.card_types.specs.NamedKeys.{HaveKeyLength};
 ghost use Rattle.card_types.specs.Registry.{Registry, object_named};
@@ -12,6 +14,7 @@ ghost use Rattle.card_types.specs.Slots.{held as held_in};
 ghost use Rattle.card_types.specs.Well.{Well};
 ghost use Rattle.card_types.specs.declared.limits.TheConstants.{COUNTER_LIMIT};
 ghost use Rattle.card_types.specs.declared.tables.Entry.{Entry};
+ghost use Rattle.card_types.specs.declared.tables.KeyRec.{KeyRec as Key};
 ghost use Rattle.policy_rules.specs.Admission.{Admitted};
 ghost use Rattle.policy_rules.specs.GetData.{IsDataObject};
 ghost use Rattle.policy_rules.specs.InitializeUpdate.{diversification_of, offer_body};
@@ -26,8 +29,10 @@ use crate::reply::REPLY_LIMIT;
 use aes_block::{Aes128, BlockKey};
 use apdu_core::Status;
 use arrayvec::ArrayVec;
-use card_types::{Aid, KeySet, Object, Tables, in_slot, keys_of_set};
+use card_types::{Aid, KeyRec, KeySet, Object, Tables, in_slot, keys_of_set};
+use flash_core::Flash;
 use policy_rules::{Datum, Rule, RuleIU, judge_get_data, judge_initialize_update};
+use rec_store::Records;
 use scp03_card::{Offer, StaticKeys, offer};
 
 /// The tag of key diversification data.
@@ -110,27 +115,46 @@ fn write_offer(
     reply.try_extend_from_slice(&[high, middle, low]).unwrap();
 }
 
-/// Offers a session for the domain in a slot, and draws the counter of the key set.
-pub fn initialize_update(
-    tables: &mut Tables,
+// The key with the next sequence counter.
+fn with_next_counter(key: &KeyRec) -> KeyRec
+    requires { key.now.counter < COUNTER_LIMIT }
+    ensures { result ≡ raised_key key.now }
+{
+    let mut bytes = ArrayVec::new();
+    bytes.try_extend_from_slice(&key.bytes).unwrap();
+    KeyRec {
+        owner: key.owner,
+        version: key.version,
+        identifier: key.identifier,
+        bytes,
+        counter: key.counter + 1,
+    }
+}
+
+/// Offers a session for the domain in a slot, and draws the counter of the key set. It commits nothing.
+pub fn initialize_update<F: Flash>(
+    records: &mut Records<F>,
     held: &mut Held,
     domain: u8,
     version: u8,
     challenge: &[u8],
     reply: &mut ArrayVec<u8, REPLY_LIMIT>,
 ) -> Result<Status, Rule>
-    requires in_order { IsInOrder tables.old }
+    requires up { records.old.live ≡ true }
+    requires clean { records.old.staged ≡ [] }
+    requires cards { AreCards records.old.tables }
     requires challenge { length challenge.now ≡ 8 }
     requires empty { reply.old.items ≡ [] }
-    ensures done { (page : ℕ → List ℕ) (admitted : Admitted) (entry : Entry) → Says page tables.old admitted.at.registry → Well admitted.at.registry
-        → IsAscending admitted.at.registry → HasSelected tables.old domain entry admitted
+    ensures done { (page : ℕ → List ℕ) (admitted : Admitted) (entry : Entry) → Says page records.old.tables admitted.at.registry → Well admitted.at.registry
+        → IsAscending admitted.at.registry → HasSelected records.old.tables domain entry admitted
         → IsRequestOf (Initialize version challenge.entry) admitted.command
-        → OffersAs admitted page tables.old tables.new held.old held.new reply.new.items result }
-    ensures in_order { IsInOrder tables.new }
-    ensures entries { tables.new.entries ≡ tables.old.entries }
-    ensures life { tables.new.life ≡ tables.old.life }
+        → OffersAs admitted page records.old.tables records.new.tables held.old held.new reply.new.items result }
+    ensures entries { records.new.tables.entries.items ≡ records.old.tables.entries.items }
+    ensures cards { AreCards records.new.tables }
+    ensures same { (records.new.flash ≡ records.old.flash) × (records.new.live ≡ true) }
     ensures room { length reply.new.items ≤ 239 }
 {
+    let tables = records.tables();
     let found = judge_initialize_update(tables, domain, version)?;
     let slot = found.slot;
     let owner = found.thing.owner;
@@ -146,7 +170,8 @@ pub fn initialize_update(
     host.copy_from_slice(challenge);
     let offer = offer_of(&set, counter, &entry.aid, &host);
     write_offer(tables, owner, version, counter, &offer, reply);
-    tables.draw_counter(slot);
+    let drawn = with_next_counter(found.thing);
+    records.set_key(slot, Some(drawn));
     *held = Held::Offered(offer);
     Ok(Status(0x9000))
 }

@@ -5,12 +5,14 @@
 
 mod admit;
 mod card;
+mod digest;
 mod external_authenticate;
 mod get_data;
 mod held;
 mod initialize_update;
 mod manage_channel;
 mod pinned;
+mod power;
 mod reply;
 mod secure_messaging;
 mod select;
@@ -18,6 +20,7 @@ mod serve;
 
 pub use card::Card;
 pub use pinned::constants;
+pub use power::{PowerCause, PowerError};
 pub use reply::REPLY_LIMIT;
 
 #[cfg(test)]

@@ -1,7 +1,7 @@
 //! MANAGE CHANNEL: a channel is opened or closed.
 
-ghost use Rattle.std.specs.Prelude.{◌≡◌, ◌≤◌, ◌<◌, List, [], length};
-ghost use Rattle.card_core.specs.Kept.{Stands};
+ghost use Rattle.std.specs.Prelude.{◌≡◌, ◌≤◌, ◌<◌, ℕ, List, [], length};
+ghost use Rattle.card_core.specs.Kept.{StandsOn};
 ghost use Rattle.card_core.specs.Serves.{CarriesOut};
 ghost use Rattle.card_core.specs.declared.held.Held.{Held};
 ghost use Rattle.card_types.specs.Layout.{HasLayout};
@@ -20,10 +20,10 @@ use policy_rules::{CHANNELS, Live, Rule, judge_more_channel};
 /// Opens the lowest closed channel, with the Issuer Security Domain selected, and answers its number.
 pub fn open_channel(live: &mut Live, reply: &mut ArrayVec<u8, REPLY_LIMIT>) -> Result<Status, Rule>
     requires empty { reply.old.items ≡ [] }
-    ensures done { (tables : Tables) (all : List Held) (admitted : Admitted) → HasLayout tables
-        → Stands (record { tables = tables; live = live.old; held = all }) admitted.at → length all ≡ CHANNELS
+    ensures done { (page : ℕ → List ℕ) (tables : Tables) (all : List Held) (admitted : Admitted) → HasLayout tables
+        → StandsOn page (record { tables = tables; live = live.old; held = all }) admitted.at → length all ≡ CHANNELS
         → IsRequestOf MoreChannel admitted.command
-        → CarriesOut admitted (record { tables = tables; live = live.new; held = all }) reply.new.items result }
+        → CarriesOut page admitted (record { tables = tables; live = live.new; held = all }) reply.new.items result }
     ensures room { length reply.new.items ≤ 239 }
 {
     match judge_more_channel(live) {
@@ -44,9 +44,9 @@ pub fn close_channel(
 ) -> Result<Status, Rule>
     requires low { 1 ≤ number }
     requires high { number < CHANNELS }
-    ensures done { (tables : Tables) (admitted : Admitted) → Stands (record { tables = tables; live = live.old; held = held.old }) admitted.at
+    ensures done { (page : ℕ → List ℕ) (tables : Tables) (admitted : Admitted) → StandsOn page (record { tables = tables; live = live.old; held = held.old }) admitted.at
         → IsRequestOf (LessChannel number) admitted.command
-        → CarriesOut admitted (record { tables = tables; live = live.new; held = held.new }) [] result }
+        → CarriesOut page admitted (record { tables = tables; live = live.new; held = held.new }) [] result }
 {
     let place = usize::from(number);
     if live.selected[place].is_none() {

@@ -1,8 +1,8 @@
 //! SELECT: an entry is selected on a channel.
 
-ghost use Rattle.std.specs.Prelude.{◌≡◌, ◌≤◌, ◌<◌, List, [], length, slice_index_or, slice_set};
+ghost use Rattle.std.specs.Prelude.{◌≡◌, ◌≤◌, ◌<◌, ℕ, List, [], length, slice_index_or, slice_set};
 ghost use Rattle.card_types.specs.InOrder.{IsInOrder};
-ghost use Rattle.card_core.specs.Kept.{Stands};
+ghost use Rattle.card_core.specs.Kept.{StandsOn};
 ghost use Rattle.card_core.specs.Serves.{CarriesOut};
 ghost use Rattle.card_core.specs.declared.held.Held.{Held};
 ghost use Rattle.card_core.specs.declared.held.Held.TheVariants as holding;
@@ -92,10 +92,10 @@ pub fn select(
     requires in_order { IsInOrder tables.now }
     requires channel { channel < CHANNELS }
     requires empty { reply.old.items ≡ [] }
-    ensures done { (all : List Held) (admitted : Admitted) → Stands (record { tables = tables.now; live = live.old; held = all }) admitted.at
+    ensures done { (page : ℕ → List ℕ) (all : List Held) (admitted : Admitted) → StandsOn page (record { tables = tables.now; live = live.old; held = all }) admitted.at
         → length all ≡ CHANNELS → channel ≡ admitted.channel → slice_index_or all channel holding.Nothing ≡ held.old
         → IsRequestOf (Select partial.entry) admitted.command
-        → CarriesOut admitted (record { tables = tables.now; live = live.new; held = slice_set all channel held.new }) reply.new.items result }
+        → CarriesOut page admitted (record { tables = tables.now; live = live.new; held = slice_set all channel held.new }) reply.new.items result }
     ensures room { length reply.new.items ≤ 239 }
 {
     match judge_select(tables, partial) {

@@ -1,12 +1,11 @@
 //! What is done with a command.
 
-ghost use Rattle.std.specs.Prelude.{◌≡◌, ◌<◌, ◌≤◌, ◌++◌, ◌==◌, [], length, false, None, Some, IsSome, OnOk, OnErr, IfErr, slice_index_or};
+ghost use Rattle.std.specs.Prelude.{◌≡◌, ◌<◌, ◌≤◌, ◌++◌, ◌==◌, ℕ, List, [], length, false, true, None, Some, IsSome, OnOk, OnErr, IfErr, slice_index_or};
 ghost use Rattle.apdu_core.specs.Apdu.{apdu_of};
 ghost use Rattle.apdu_core.specs.Reply.{status_bytes};
 ghost use Rattle.card_core.specs.Holds.{HoldsAs, held_passed};
-ghost use Rattle.card_core.specs.Kept.{Stands};
+ghost use Rattle.card_core.specs.Kept.{AreCards, StandsOn};
 ghost use Rattle.card_core.specs.Serves.{CarriesOut, IsOver, Serves, rule_of, word_of};
-ghost use Rattle.card_types.specs.InOrder.{IsInOrder};
 ghost use Rattle.policy_rules.specs.Admission.{Admitted as Judged};
 ghost use Rattle.policy_rules.specs.Instructions.{instruction_of};
 ghost use Rattle.policy_rules.specs.State.{State};
@@ -26,10 +25,12 @@ use crate::secure_messaging::{close_reply, open_command};
 use crate::select::select;
 use apdu_core::{Command, Status};
 use arrayvec::ArrayVec;
-use card_types::{CardLife, Tables};
+use card_types::CardLife;
+use flash_core::Flash;
 use policy_rules::{
     CHANNELS, EXTERNAL_AUTHENTICATE, Live, Request, Rule, RuleG, is_protected, parse,
 };
+use rec_store::Records;
 
 // Checks the life cycle state of the card, and drops an offer that the command doesn't answer.
 fn pass_class(card_life: CardLife, admitted: &Admitted<'_>, held: &mut Held) -> Result<(), RuleG>
@@ -47,24 +48,27 @@ fn pass_class(card_life: CardLife, admitted: &Admitted<'_>, held: &mut Held) -> 
 }
 
 // Does what a command asks for, and appends the reply's data.
-fn act(
-    tables: &mut Tables,
+fn act<F: Flash>(
+    records: &mut Records<F>,
     live: &mut Live,
     held: &mut [Held; CHANNELS],
     admitted: &Admitted<'_>,
     command: &Command<'_>,
     reply: &mut ArrayVec<u8, REPLY_LIMIT>,
 ) -> Result<Status, Rule>
-    requires in_order { IsInOrder tables.old }
+    requires up { records.old.live ≡ true }
+    requires clean { records.old.staged ≡ [] }
+    requires cards { AreCards records.old.tables }
     requires known { IsSome (instruction_of command.now.ins) }
     requires channel { admitted.now.channel < CHANNELS }
     requires selected { slice_index_or live.old.selected admitted.now.channel None ≡ Some admitted.now.selected }
     requires short { length command.now.body.now ≤ 255 }
     requires empty { reply.old.items ≡ [] }
-    ensures done { (judged : Judged) → Stands (record { tables = tables.old; live = live.old; held = held.old }) judged.at
+    ensures done { (page : ℕ → List ℕ) (judged : Judged) → StandsOn page (record { tables = records.old.tables; live = live.old; held = held.old }) judged.at
         → admitted.now.channel ≡ judged.channel → judged.command ≡ apdu_of command.now
-        → CarriesOut judged (record { tables = tables.new; live = live.new; held = held.new }) reply.new.items result }
-    ensures in_order { IsInOrder tables.new }
+        → CarriesOut page judged (record { tables = records.new.tables; live = live.new; held = held.new }) reply.new.items result }
+    ensures cards { AreCards records.new.tables }
+    ensures same { (records.new.flash ≡ records.old.flash) × (records.new.live ≡ true) }
     ensures kept { command.now.ins ≡ GET_DATA → held.new ≡ held.old }
     ensures room { length reply.new.items ≤ 239 }
 {
@@ -76,13 +80,27 @@ fn act(
     }
     match parse(command.ins, command.p1, command.p2, command.body)? {
         Request::Select { partial } => {
-            select(tables, live, &mut held[place], channel, partial, reply)
+            select(
+                records.tables(),
+                live,
+                &mut held[place],
+                channel,
+                partial,
+                reply,
+            )
         }
         Request::MoreChannel => open_channel(live, reply),
         Request::LessChannel { number } => close_channel(live, held, number),
-        Request::Get { tag } => get_data(tables, live, channel, admitted.selected, tag, reply),
+        Request::Get { tag } => get_data(
+            records.tables(),
+            live,
+            channel,
+            admitted.selected,
+            tag,
+            reply,
+        ),
         Request::Initialize { version, challenge } => initialize_update(
-            tables,
+            records,
             &mut held[place],
             admitted.selected,
             version,
@@ -134,30 +152,34 @@ fn close_protected(
     }
 }
 
-/// Does what the bytes ask for, and makes the whole reply. It answers the rule that refused them, if one did.
-pub fn serve(
-    tables: &mut Tables,
+/// Does what the bytes ask for, and makes the whole reply. It answers the rule that refused them, if one did. It commits
+/// nothing.
+pub fn serve<F: Flash>(
+    records: &mut Records<F>,
     live: &mut Live,
     held: &mut [Held; CHANNELS],
     bytes: &[u8],
     reply: &mut ArrayVec<u8, REPLY_LIMIT>,
 ) -> Option<Rule>
-    requires in_order { IsInOrder tables.old }
+    requires up { records.old.live ≡ true }
+    requires clean { records.old.staged ≡ [] }
+    requires cards { AreCards records.old.tables }
     requires empty { reply.old.items ≡ [] }
-    ensures served { (state : State) → Stands (record { tables = tables.old; live = live.old; held = held.old }) state
-        → Serves state bytes.now (record { tables = tables.new; live = live.new; held = held.new }) reply.new.items result }
-    ensures in_order { IsInOrder tables.new }
+    ensures served { (page : ℕ → List ℕ) (state : State) → StandsOn page (record { tables = records.old.tables; live = live.old; held = held.old }) state
+        → Serves page state bytes.now (record { tables = records.new.tables; live = live.new; held = held.new }) reply.new.items result }
+    ensures cards { AreCards records.new.tables }
+    ensures same { (records.new.flash ≡ records.old.flash) × (records.new.live ≡ true) }
 {
-    let admitted = match admit(tables, live, bytes) {
+    let admitted = match admit(records.tables(), live, bytes) {
         Ok(admitted) => admitted,
         Err(rule) => return close_plain(Err(Rule::G(rule)), reply),
     };
     let channel = usize::from(admitted.channel);
-    if let Err(rule) = pass_class(tables.life, &admitted, &mut held[channel]) {
+    if let Err(rule) = pass_class(records.tables().life, &admitted, &mut held[channel]) {
         return close_plain(Err(Rule::G(rule)), reply);
     }
     if !is_protected(admitted.class, admitted.command.ins) {
-        let served = act(tables, live, held, &admitted, &admitted.command, reply);
+        let served = act(records, live, held, &admitted, &admitted.command, reply);
         return close_plain(served, reply);
     }
     let mut plain = [0; 255];
@@ -167,7 +189,7 @@ pub fn serve(
                 body: &plain[..count],
                 ..admitted.command
             };
-            let served = act(tables, live, held, &admitted, &command, reply);
+            let served = act(records, live, held, &admitted, &command, reply);
             close_protected(served, &mut held[channel], reply)
         }
         Err(rule) => close_plain(Err(Rule::G(rule)), reply),

@@ -11,12 +11,12 @@ use Rattle.card_core.proofs.Carrying.{does_as, refusal_shows}
 use Rattle.card_core.proofs.get_data.get_data.Goals as goal
 
 pub returns-in-Ok-clause-done : goal.returns-in-Ok-clause-done
-returns-in-Ok-clause-done c all admitted stands here request =
+returns-in-Ok-clause-done c page all admitted stands here request =
     let says = stands.shows.says in
     let means = request.means in
-    let on = selected_entry c.args.tables.now c.args.live.now admitted.at c.args.channel c.args.domain says c.requires.channel c.requires.selected in
-    let found = c.in-Ok.ensures.found says.page admitted.at.registry on.0 says.registry stands.sound.well on.1 in
-    let written = c.write_datum.ensures.written c.args.domain says.page admitted.at.registry on.0 says.registry stands.sound.well on.1 found in
+    let on = selected_entry page c.args.tables.now c.args.live.now admitted.at c.args.channel c.args.domain says c.requires.channel c.requires.selected in
+    let found = c.in-Ok.ensures.found page admitted.at.registry on.0 says.registry stands.sound.well on.1 in
+    let written = c.write_datum.ensures.written c.args.domain page admitted.at.registry on.0 says.registry stands.sound.well on.1 found in
     let asked = asks admitted _ c.args.tag written.0 (ap (selected_on admitted.at.volatile) (sym here) ∙ on.2) means.1 written.1 in (
       record { state = admitted.at; body = c.write_datum.new.reply.items; status = 0x9000 },
       stands.shows,
@@ -33,12 +33,12 @@ returns-in-Ok-clause-done c all admitted stands here request =
     )
 
 pub returns-in-Err-clause-done : goal.returns-in-Err-clause-done
-returns-in-Err-clause-done c all admitted stands here request =
+returns-in-Err-clause-done c page all admitted stands here request =
     let says = stands.shows.says in
     let means = request.means in
-    let on = selected_entry c.args.tables.now c.args.live.now admitted.at c.args.channel c.args.domain says c.requires.channel c.requires.selected in
-    let none = c.in-Err.ensures.none says.page admitted.at.registry on.0 says.registry stands.sound.well on.1 in (
-      refusal_shows (record { tables = c.args.tables.now; live = c.args.live.now; held = all }) admitted (ap (λ (ins : ℕ). ins == EXTERNAL_AUTHENTICATE) means.0) stands.shows,
+    let on = selected_entry page c.args.tables.now c.args.live.now admitted.at c.args.channel c.args.domain says c.requires.channel c.requires.selected in
+    let none = c.in-Err.ensures.none page admitted.at.registry on.0 says.registry stands.sound.well on.1 in (
+      refusal_shows page (record { tables = c.args.tables.now; live = c.args.live.now; held = all }) admitted (ap (λ (ins : ℕ). ins == EXTERNAL_AUTHENTICATE) means.0) stands.shows,
       only_get admitted c.in-Err.rule (get_refused admitted means.0 request.data_field
           (λ value asked. none value (asked_for admitted _ c.args.tag value (ap (selected_on admitted.at.volatile) (sym here) ∙ on.2) means.1 asked))),
       c.requires.empty,

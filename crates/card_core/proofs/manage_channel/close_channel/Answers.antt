@@ -11,7 +11,7 @@ use Rattle.card_core.proofs.manage_channel.close_channel.Goals as goal
 
 pub returns-then-is_none : goal.returns-then-is_none
 returns-then-is_none c = record {
-  done = λ tables admitted stands request.
+  done = λ page tables admitted stands request.
       (let means = request.means in
       let test : is_none (slice_index_or c.args.live.now.selected c.args.number None) ≡ true = search rules in
       let none = none_selected tables.entries.items _ _ (stands.shows.says.selected c.args.number c.requires.high) test in (
@@ -26,7 +26,7 @@ returns-then-is_none c = record {
 
 pub returns : goal.returns
 returns c = record {
-  done = λ tables admitted stands request.
+  done = λ page tables admitted stands request.
       (let means = request.means in
       let test : is_none (slice_index_or c.args.live.now.selected c.args.number None) ≡ false = search rules in
       let four : length c.args.live.now.selected ≡ CHANNELS = search rules in
@@ -37,7 +37,7 @@ returns c = record {
           body = [];
           status = 0x9000;
         },
-        rw (c.from-place.ensures, c.end.ensures) (channel_shows tables c.args.live.now c.args.held.now admitted.at stands.shows
+        rw (c.from-place.ensures, c.end.ensures) (channel_shows page tables c.args.live.now c.args.held.now admitted.at stands.shows
             (record { held = held_four; channels = stands.sound.fits.channels })
             c.args.number c.requires.high four None holding.Nothing None (without_channel admitted.at.volatile c.args.number) tt tt tt refl
             (ap (load_of_others c.args.number) stands.shows.holds.load)),

@@ -12,10 +12,10 @@ use Rattle.card_core.proofs.Standing.{channel_shows, held_same}
 use Rattle.card_core.proofs.select.select.Goals as goal
 
 pub returns-in-Ok-clause-done : goal.returns-in-Ok-clause-done
-returns-in-Ok-clause-done c all admitted stands four here same request =
+returns-in-Ok-clause-done c page all admitted stands four here same request =
     let means = request.means in
     let says = stands.shows.says in
-    let found = c.in-Ok.ensures.found says.page admitted.at.registry says.registry in
+    let found = c.in-Ok.ensures.found page admitted.at.registry says.registry in
     let passes = select_passes admitted c.args.partial.now means.0 means.1 request.parameters request.data_field _ found in
     let live_four : length c.args.live.now.selected ≡ CHANNELS = search rules in
     let entry = c.in-Ok.found.thing.now in (
@@ -24,7 +24,7 @@ returns-in-Ok-clause-done c all admitted stands four here same request =
         body = c.write_control_information.new.reply.items;
         status = c.selected_status.result.0;
       },
-      rw (c.from.ensures, here, c.end.ensures) (channel_shows c.args.tables.now c.args.live.now all admitted.at stands.shows
+      rw (c.from.ensures, here, c.end.ensures) (channel_shows page c.args.tables.now c.args.live.now all admitted.at stands.shows
           (record { held = four; channels = stands.sound.fits.channels })
           admitted.channel (subst (λ (n : ℕ). n < CHANNELS) here c.requires.channel) live_four (Some c.in-Ok.found.slot) held.Nothing (Some (fresh entry.aid))
           (with_selected admitted.at.volatile admitted.channel entry.aid) (entry, c.in-Ok.ensures.at, refl) tt refl refl
@@ -41,12 +41,12 @@ returns-in-Ok-clause-done c all admitted stands four here same request =
     )
 
 pub returns-in-Err-clause-done : goal.returns-in-Err-clause-done
-returns-in-Err-clause-done c all admitted stands four here same request =
+returns-in-Err-clause-done c page all admitted stands four here same request =
     let means = request.means in
     let says = stands.shows.says in
-    let none = c.in-Err.ensures.none says.page admitted.at.registry says.registry in (
-      held_same (record { tables = c.args.tables.now; live = c.args.live.now; held = all }) _ c.args.channel c.args.held.now same
-          (refusal_shows (record { tables = c.args.tables.now; live = c.args.live.now; held = all }) admitted (ap (λ (ins : ℕ). ins == EXTERNAL_AUTHENTICATE) means.0) stands.shows),
+    let none = c.in-Err.ensures.none page admitted.at.registry says.registry in (
+      held_same page (record { tables = c.args.tables.now; live = c.args.live.now; held = all }) _ c.args.channel c.args.held.now same
+          (refusal_shows page (record { tables = c.args.tables.now; live = c.args.live.now; held = all }) admitted (ap (λ (ins : ℕ). ins == EXTERNAL_AUTHENTICATE) means.0) stands.shows),
       only_select admitted c.in-Err.rule (select_refused admitted c.args.partial.now means.0 means.1 request.parameters request.data_field none),
       c.requires.empty,
     )
