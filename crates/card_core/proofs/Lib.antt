@@ -1,5 +1,6 @@
 pub mod Acting
 pub mod Admitting
+pub mod Cards
 pub mod Carrying
 pub mod Listing
 pub mod OfferMade

@@ -10,6 +10,7 @@ use Rattle.policy_rules.specs.Admission.{Admitted, admitted_as, class_passed}
 use Rattle.policy_rules.proofs.Passing.{channel_is_low}
 use Rattle.policy_rules.specs.Classes.{channel_of, class_of}
 use Rattle.policy_rules.specs.Volatile.{Secured, Standing, channel_at, standing_of}
+use Rattle.policy_rules.specs.Means.{Says}
 use Rattle.card_core.proofs.Passed.{goes_on, holds_passed, opened_so, opened_stands, over_served, passed_as, passed_held, passed_there, placed, plain_stands, protects_so, read_at, refused_served, session_of, written_at}
 use Rattle.card_core.proofs.Serving.{admits_opened, admits_plain, barred, carried_out, protected_gets}
 use Rattle.card_core.specs.Holds.{HoldsAs, without_offer_held}
@@ -21,74 +22,74 @@ use Rattle.card_core.proofs.serve.serve.Goals as goal
 
 -- a rule on class, channel or instruction refuses the bytes
 pub returns-in-Err-clause-served : goal.returns-in-Err-clause-served
-returns-in-Err-clause-served c = λ page state stands.
+returns-in-Err-clause-served g c = λ page state stands.
     rw c.close_plain.ensures.rule (
-    barred page (record { tables = c.args.tables.now; live = c.args.live.now; held = c.args.held.now }) state c.args.bytes.now c.close_plain.new.reply.items c.in-Err.rule
-    state.volatile stands.sound (c.in-Err.ensures.refused state stands.shows.says) (c.in-Err.ensures.leaves state) stands.shows
+    barred page (record { tables = c.args.records.now.tables; live = c.args.live.now; held = c.args.held.now }) state c.args.bytes.now c.close_plain.new.reply.items c.in-Err.rule
+    state.volatile stands.sound (c.in-Err.ensures.refused page state (subst (λ t. Says page t c.args.live.now state) (sym c.tables.ensures.tables) stands.shows.says)) (c.in-Err.ensures.leaves state) stands.shows
     (c.close_plain.ensures.closed ∙ rw c.requires.empty refl))
 
 -- the card is terminated
 pub returns-in-Err-pass_class-clause-served : goal.returns-in-Err-pass_class-clause-served
-returns-in-Err-pass_class-clause-served c = λ page state stands.
+returns-in-Err-pass_class-clause-served g c = λ page state stands.
     let over = c.in-Err-pass_class.ensures.over in
     let lost : c.pass_class.new.held ≡ without_offer_held (slice_index_or c.args.held.now (channel_of c.in-Ok.admitted.command.class) held.Nothing) = c.in-Err-pass_class.ensures.lost ∙ ap without_offer_held
     (read_at c.args.held.now c.from-channel.result (channel_of c.in-Ok.admitted.command.class) c.index-held-channel.result c.told-held (channel_is_low c.in-Ok.admitted.command.class)
     (c.from-channel.ensures ∙ c.in-Ok.ensures.channel)) in
-    let served = over_served page c.args.tables.now c.args.live.now c.args.held.now state stands c.told-held (apdu_of c.in-Ok.admitted.command) c.args.bytes.now c.close_plain-in-Err-pass_class.new.reply.items
-    c.in-Ok.ensures.spelled c.in-Ok.admitted.class c.in-Ok.ensures.class c.in-Ok.ensures.known (c.in-Ok.ensures.passed state stands.shows.says)
-    (subst (λ (life : CardLife). IsOver life c.in-Ok.admitted.class c.in-Ok.admitted.command.ins) stands.shows.says.registry.life over.1)
+    let served = over_served page c.args.records.now.tables c.args.live.now c.args.held.now state stands c.told-held (apdu_of c.in-Ok.admitted.command) c.args.bytes.now c.close_plain-in-Err-pass_class.new.reply.items
+    c.in-Ok.ensures.spelled c.in-Ok.admitted.class c.in-Ok.ensures.class c.in-Ok.ensures.known (c.in-Ok.ensures.passed page state (subst (λ t. Says page t c.args.live.now state) (sym c.tables.ensures.tables) stands.shows.says))
+    (subst (λ (life : CardLife). IsOver life c.in-Ok.admitted.class c.in-Ok.admitted.command.ins) (ap (λ t. t.life) c.tables-2.ensures.tables ∙ stands.shows.says.registry.life) over.1)
     (c.close_plain-in-Err-pass_class.ensures.closed ∙ rw (c.requires.empty, over.0) refl) in
     rw (c.close_plain-in-Err-pass_class.ensures.rule, over.0, lost, c.from-channel.ensures, c.in-Ok.ensures.channel) served
 
 -- a command in plain
 pub act-served-requires-clause-short : goal.act-served-requires-clause-short
-act-served-requires-clause-short c = length-body (apdu_of c.in-Ok.admitted.command) c.args.bytes.now c.in-Ok.ensures.spelled
+act-served-requires-clause-short g c = length-body (apdu_of c.in-Ok.admitted.command) c.args.bytes.now c.in-Ok.ensures.spelled
 
 pub returns-then-not-is_protected-clause-served : goal.returns-then-not-is_protected-clause-served
-returns-then-not-is_protected-clause-served c = λ page state stands.
+returns-then-not-is_protected-clause-served g c = λ page state stands.
     let command : Apdu = apdu_of c.in-Ok.admitted.command in
     let here = c.from-channel.ensures ∙ c.in-Ok.ensures.channel in
     let passed = passed_as c.args.held.now c.told-held command c.from-channel.result c.index-held-channel.result c.pass_class.new.held here c.in_default.ensures.kept in
-    let front = c.in-Ok.ensures.passed state stands.shows.says in
-    let not_over = goes_on page c.args.tables.now c.args.live.now c.args.held.now state stands c.told-held command c.in-Ok.admitted.class c.in_default.ensures.ok in
+    let front = c.in-Ok.ensures.passed page state (subst (λ t. Says page t c.args.live.now state) (sym c.tables.ensures.tables) stands.shows.says) in
+    let not_over = goes_on page c.args.records.now.tables c.args.live.now c.args.held.now state stands c.told-held command c.in-Ok.admitted.class (subst (λ t. IsOver t.life c.in-Ok.admitted.class c.in-Ok.admitted.command.ins → ⊥) c.tables-2.ensures.tables c.in_default.ensures.ok) in
     let plain = protects_so command c.in-Ok.admitted.class c.is_protected.result false c.in-Ok.ensures.class c.is_protected.ensures c.if-not-is_protected.true in
-    let at = plain_stands page c.args.tables.now c.args.live.now c.args.held.now state stands c.told-held command plain in
-    let done = c.act-served.ensures.done (admitted_as state command None command.body) (rw (passed, here) at) c.in-Ok.ensures.channel refl in
+    let at = plain_stands page c.args.records.now.tables c.args.live.now c.args.held.now state stands c.told-held command plain in
+    let done = c.act-served.ensures.done page (admitted_as state command None command.body) (rw (passed, here) at) c.in-Ok.ensures.channel refl in
     rw c.close_plain-then-not-is_protected.ensures.rule (
     carried_out page state c.args.bytes.now command None command.body
-    (record { tables = c.act-served.new.tables; live = c.act-served.new.live; held = c.act-served.new.held }) c.act-served.new.reply.items
+    (record { tables = c.act-served.new.records.tables; live = c.act-served.new.live; held = c.act-served.new.held }) c.act-served.new.reply.items
     c.close_plain-then-not-is_protected.new.reply.items c.act-served.result stands.sound
     (admits_plain state c.args.bytes.now command c.in-Ok.ensures.spelled c.in-Ok.ensures.known c.in-Ok.admitted.class c.in-Ok.ensures.class front not_over plain)
     done c.close_plain-then-not-is_protected.ensures.closed)
 
 -- a protected command
 pub open_command-requires : goal.open_command-requires
-open_command-requires c = length-body (apdu_of c.in-Ok.admitted.command) c.args.bytes.now c.in-Ok.ensures.spelled
+open_command-requires g c = length-body (apdu_of c.in-Ok.admitted.command) c.args.bytes.now c.in-Ok.ensures.spelled
 
 -- that opens
 pub returns-in-Ok-open_command-clause-served : goal.returns-in-Ok-open_command-clause-served
-returns-in-Ok-open_command-clause-served c = λ page state stands.
+returns-in-Ok-open_command-clause-served g c = λ page state stands.
     let command : Apdu = apdu_of c.in-Ok.admitted.command in
     let here = c.from-channel.ensures ∙ c.in-Ok.ensures.channel in
     let passed = passed_as c.args.held.now c.told-held command c.from-channel.result c.index-held-channel.result c.pass_class.new.held here c.in_default.ensures.kept in
-    let front = c.in-Ok.ensures.passed state stands.shows.says in
-    let not_over = goes_on page c.args.tables.now c.args.live.now c.args.held.now state stands c.told-held command c.in-Ok.admitted.class c.in_default.ensures.ok in
+    let front = c.in-Ok.ensures.passed page state (subst (λ t. Says page t c.args.live.now state) (sym c.tables.ensures.tables) stands.shows.says) in
+    let not_over = goes_on page c.args.records.now.tables c.args.live.now c.args.held.now state stands c.told-held command c.in-Ok.admitted.class (subst (λ t. IsOver t.life c.in-Ok.admitted.class c.in-Ok.admitted.command.ins → ⊥) c.tables-2.ensures.tables c.in_default.ensures.ok) in
     let protected = protects_so command c.in-Ok.admitted.class c.is_protected.result true c.in-Ok.ensures.class c.is_protected.ensures c.if-not-is_protected.false in
     let opened = opened_so c.args.live.now command c.in-Ok.admitted.channel c.in-Ok.admitted.selected c.in-Ok.ensures.channel c.in-Ok.ensures.selected in
     let old = passed_there c.args.held.now c.told-held command c.from-channel.result c.pass_class.new.held c.index-held-channel-2.result here passed in
     let standing : Standing = standing_of (channel_at (class_passed state.volatile command) (channel_of command.class)) in
     let holds = subst (λ (h : Held). HoldsAs h standing) (sym old)
-    (holds_passed page c.args.tables.now c.args.live.now c.args.held.now state stands c.told-held command) in
+    (holds_passed page c.args.records.now.tables c.args.live.now c.args.held.now state stands c.told-held command) in
     let plain : List ℕ = take c.in-Ok-open_command.count c.open_command.new.plain in
-    let found = session_of page c.args.tables.now c.args.live.now c.args.held.now state stands c.told-held command
+    let found = session_of page c.args.records.now.tables c.args.live.now c.args.held.now state stands c.told-held command
     (λ session. Opens session command plain × HoldsAs c.open_command.new.held (Secured (accepting session command)))
     (c.in-Ok-open_command.ensures.opens standing holds) in
     let session : Session = found.0 in
     let admitted : Admitted = admitted_as state command (Some (accepting session command)) plain in
-    let at = opened_stands page c.args.tables.now c.args.live.now c.args.held.now state stands c.told-held command c.in-Ok.admitted.selected
+    let at = opened_stands page c.args.records.now.tables c.args.live.now c.args.held.now state stands c.told-held command c.in-Ok.admitted.selected
     opened protected session found.1 c.open_command.new.held plain found.2.0 found.2.1 in
-    let done = c.act-served-in-Ok-open_command.ensures.done admitted
-    (placed page c.args.tables.now c.args.live.now c.args.held.now admitted.at c.from-channel.result (channel_of command.class) c.pass_class.new.held
+    let done = c.act-served-in-Ok-open_command.ensures.done page admitted
+    (placed page c.args.records.now.tables c.args.live.now c.args.held.now admitted.at c.from-channel.result (channel_of command.class) c.pass_class.new.held
     (passed_held c.args.held.now c.told-held command) c.open_command.new.held here passed at) c.in-Ok.ensures.channel refl in
     let same = c.act-served-in-Ok-open_command.ensures.kept (protected_gets (class_of command.class) command.ins c.in-Ok.ensures.known protected) in
     let there = ap (λ (all : List Held). slice_index_or all c.from-channel.result c.index-held-channel-in-Ok-open_command.result) same
@@ -99,30 +100,30 @@ returns-in-Ok-open_command-clause-served c = λ page state stands.
     (subst (λ (h : Held). HoldsAs h (Secured (accepting session command))) (sym there) found.2.1) in
     let kept = ap (slice_set c.act-served-in-Ok-open_command.new.held c.from-channel.result) c.close_protected.ensures.same
     ∙ set-get_or c.act-served-in-Ok-open_command.new.held c.from-channel.result c.index-held-channel-in-Ok-open_command.result in
-    subst (λ (all : List Held). Serves page state c.args.bytes.now (record { tables = c.act-served-in-Ok-open_command.new.tables; live = c.act-served-in-Ok-open_command.new.live; held = all })
+    subst (λ (all : List Held). Serves page state c.args.bytes.now (record { tables = c.act-served-in-Ok-open_command.new.records.tables; live = c.act-served-in-Ok-open_command.new.live; held = all })
     c.close_protected.new.reply.items c.close_protected.result) (sym kept)
     (rw c.close_protected.ensures.rule (
     carried_out page state c.args.bytes.now command (Some (accepting session command)) plain
-    (record { tables = c.act-served-in-Ok-open_command.new.tables; live = c.act-served-in-Ok-open_command.new.live; held = c.act-served-in-Ok-open_command.new.held }) c.act-served-in-Ok-open_command.new.reply.items c.close_protected.new.reply.items c.act-served-in-Ok-open_command.result stands.sound
+    (record { tables = c.act-served-in-Ok-open_command.new.records.tables; live = c.act-served-in-Ok-open_command.new.live; held = c.act-served-in-Ok-open_command.new.held }) c.act-served-in-Ok-open_command.new.reply.items c.close_protected.new.reply.items c.act-served-in-Ok-open_command.result stands.sound
     (admits_opened state c.args.bytes.now command c.in-Ok.ensures.spelled c.in-Ok.ensures.known c.in-Ok.admitted.class c.in-Ok.ensures.class front not_over
     protected session found.1 plain found.2.0) done closed))
 
 -- that a rule on secure messaging refuses
 pub returns-in-Err-open_command-clause-served : goal.returns-in-Err-open_command-clause-served
-returns-in-Err-open_command-clause-served c = λ page state stands.
+returns-in-Err-open_command-clause-served g c = λ page state stands.
     let command : Apdu = apdu_of c.in-Ok.admitted.command in
     let here = c.from-channel.ensures ∙ c.in-Ok.ensures.channel in
     let passed = passed_as c.args.held.now c.told-held command c.from-channel.result c.index-held-channel.result c.pass_class.new.held here c.in_default.ensures.kept in
-    let front = c.in-Ok.ensures.passed state stands.shows.says in
-    let not_over = goes_on page c.args.tables.now c.args.live.now c.args.held.now state stands c.told-held command c.in-Ok.admitted.class c.in_default.ensures.ok in
+    let front = c.in-Ok.ensures.passed page state (subst (λ t. Says page t c.args.live.now state) (sym c.tables.ensures.tables) stands.shows.says) in
+    let not_over = goes_on page c.args.records.now.tables c.args.live.now c.args.held.now state stands c.told-held command c.in-Ok.admitted.class (subst (λ t. IsOver t.life c.in-Ok.admitted.class c.in-Ok.admitted.command.ins → ⊥) c.tables-2.ensures.tables c.in_default.ensures.ok) in
     let protected = protects_so command c.in-Ok.admitted.class c.is_protected.result true c.in-Ok.ensures.class c.is_protected.ensures c.if-not-is_protected.false in
     let opened = opened_so c.args.live.now command c.in-Ok.admitted.channel c.in-Ok.admitted.selected c.in-Ok.ensures.channel c.in-Ok.ensures.selected in
     let old = passed_there c.args.held.now c.told-held command c.from-channel.result c.pass_class.new.held c.index-held-channel-2.result here passed in
     let standing : Standing = standing_of (channel_at (class_passed state.volatile command) (channel_of command.class)) in
     let holds = subst (λ (h : Held). HoldsAs h standing) (sym old)
-    (holds_passed page c.args.tables.now c.args.live.now c.args.held.now state stands c.told-held command) in
+    (holds_passed page c.args.records.now.tables c.args.live.now c.args.held.now state stands c.told-held command) in
     let opens = c.in-Err-open_command.ensures.opens standing holds in
-    let served = refused_served page c.args.tables.now c.args.live.now c.args.held.now state stands c.told-held command c.in-Ok.admitted.selected
+    let served = refused_served page c.args.records.now.tables c.args.live.now c.args.held.now state stands c.told-held command c.in-Ok.admitted.selected
     opened protected c.args.bytes.now c.in-Ok.ensures.spelled c.in-Ok.ensures.known c.in-Ok.admitted.class c.in-Ok.ensures.class
     front not_over c.open_command.new.held c.open_command.new.plain c.close_plain-in-Err-open_command.new.reply.items c.in-Err-open_command.rule
     (subst (λ (h : Held). OpensAs command standing h c.open_command.new.held c.open_command.new.plain (Err c.in-Err-open_command.rule)) old opens)
