@@ -73,6 +73,17 @@ one_named_list : {X : Type 0} (name : X → List ℕ) (all xs ys : List X) → I
 one_named_list name all xs ys first second sorted also =
     one_list (on name aid_order) (on_total name nat_list_cmp_total) all xs ys first second (sorted_by_name aid_order name xs sorted) (sorted_by_name aid_order name ys also)
 
+-- tables say at most one registry
+pub said_once : (load : ℕ → List ℕ) (t : Tables) (a b : registry.Registry) → Says load t a → Says load t b → a ≡ b
+said_once load t a b says other =
+    let entries : a.entries ≡ b.entries = one_named_list (λ entry. entry.aid) _ a.entries b.entries says.entries other.entries says.ascending.entries other.ascending.entries in
+    let files : a.files ≡ b.files = one_named_list (λ file. file.aid) _ a.files b.files says.files other.files says.ascending.files other.ascending.files in
+    let keys : a.keys ≡ b.keys = one_list key_order key_order_total _ a.keys b.keys says.keys other.keys says.ascending.keys other.ascending.keys in
+    let counters : a.counters ≡ b.counters = one_list counter_order counter_order_total _ a.counters b.counters says.counters other.counters says.ascending.counters other.ascending.counters in
+    let objects : a.objects ≡ b.objects = one_list object_order object_order_total _ a.objects b.objects says.objects other.objects says.ascending.objects other.ascending.objects in
+    let life : a.life ≡ b.life = sym says.life ∙ other.life in
+    λ i. record { life = life i; entries = entries i; files = files i; keys = keys i; counters = counters i; objects = objects i }
+
 -- entries of a card have privileges with names
 card_entry : (load : ℕ → List ℕ) (tables : Tables) → IsCard load tables → (i : ℕ) → AreThreeBytes (held tables.entries.items i)
 card_entry load tables card i = of (held tables.entries.items i) refl
@@ -142,19 +153,6 @@ module _ (store load : ℕ → List ℕ) (t u : Tables) (first : HoldsTables sto
         λ i. record { aid = aid i; domain = domain_aid t.entries.items (domain i); bytes = take (size i) (concat (map load (pages i))) }))
         ∙ ap (λ entries. map (file_of load entries) (used u.files.items)) same
 
-    pub one_said : (a b : registry.Registry) → Says load t a → Says load u b → a ≡ b
-    one_said a b says other =
-        let life : a.life ≡ b.life = sym says.life ∙ one_card_life (store 0) t.life u.life first.life second.life ∙ other.life in
-        let entries : a.entries ≡ b.entries = one_named_list (λ entry. entry.aid) _ a.entries b.entries says.entries (subst (λ all. IsPermutation all b.entries) (sym shown_entries) other.entries) says.ascending.entries other.ascending.entries in
-        let files : a.files ≡ b.files = one_named_list (λ file. file.aid) _ a.files b.files says.files (subst (λ all. IsPermutation all b.files) (sym shown_files) other.files) says.ascending.files other.ascending.files in
-        let keys : a.keys ≡ b.keys = one_list key_order key_order_total _ a.keys b.keys says.keys
-        (subst (λ all. IsPermutation all b.keys) (sym (ap (λ entries. map (key_of entries) (used t.keys.items)) same ∙ ap (λ keys. map (key_of u.entries.items) (used keys)) same_keys)) other.keys) says.ascending.keys other.ascending.keys in
-        let counters : a.counters ≡ b.counters = one_list counter_order counter_order_total _ a.counters b.counters says.counters
-        (subst (λ all. IsPermutation all b.counters) (sym (ap (λ entries. map (counter_of entries) (filter keeps_counter (used t.keys.items))) same ∙ ap (λ keys. map (counter_of u.entries.items) (filter keeps_counter (used keys))) same_keys)) other.counters) says.ascending.counters other.ascending.counters in
-        let objects : a.objects ≡ b.objects = one_list object_order object_order_total _ a.objects b.objects says.objects
-        (subst (λ all. IsPermutation all b.objects) (sym (ap (λ entries. map (object_of entries) (used t.objects.items)) same ∙ ap (λ objects. map (object_of u.entries.items) (used objects)) same_objects)) other.objects) says.ascending.objects other.ascending.objects in
-        λ i. record { life = life i; entries = entries i; files = files i; keys = keys i; counters = counters i; objects = objects i }
-
     -- what the one say, the others do
     says_alike : (said : registry.Registry) → Says load u said → Says load t said
     says_alike said says = record {
@@ -166,6 +164,9 @@ module _ (store load : ℕ → List ℕ) (t u : Tables) (first : HoldsTables sto
       objects = subst (λ all. IsPermutation all said.objects) (sym (ap (λ entries. map (object_of entries) (used t.objects.items)) same ∙ ap (λ objects. map (object_of u.entries.items) (used objects)) same_objects)) says.objects;
       ascending = says.ascending;
     }
+
+    pub one_said : (a b : registry.Registry) → Says load t a → Says load u b → a ≡ b
+    one_said a b says other = said_once load t a b says (says_alike b other)
 
     factory_alike : (a b : Option LoadFile) → AreSameFiles a b → MatchOption b ⊥ (λ file. (file.aid ≡ FACTORY_FILE) × (file.len ≡ 0)) → MatchOption a ⊥ (λ file. (file.aid ≡ FACTORY_FILE) × (file.len ≡ 0))
     factory_alike None None alike is = is
