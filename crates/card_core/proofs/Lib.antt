@@ -4,6 +4,7 @@ pub mod Cards
 pub mod Carrying
 pub mod Listing
 pub mod OfferMade
+pub mod Over
 pub mod Passed
 pub mod Serving
 pub mod Standing

@@ -3,11 +3,11 @@ mod Causes
 mod ChangedTables
 mod Committing
 mod Kept
-mod OneRegistry
+pub mod OneRegistry
 mod OneThing
 mod Places
 mod Readings
-mod Reopening
+pub mod Reopening
 mod Rooms
 mod Roomy
 mod Staging

@@ -1,0 +1,55 @@
+-- The states that a card on a device stands for.
+use Rattle.std.proofs.Common.{◌≡◌, ℕ, List, true, [], ◌∷◌, None, Some, refl, sym, subst, ◌∙◌}
+use Rattle.card_check.specs.IsCard.{HasPages}
+use Rattle.card_types.specs.Registry.{Registry}
+use Rattle.card_types.specs.Says.{Says}
+use Rattle.card_types.specs.declared.tables.TheConstants.{ISSUER_SLOT}
+use Rattle.card_types.specs.declared.tables.Tables.{Tables}
+use Rattle.flash_core.specs.declared.page.Page.{Page}
+use Rattle.page_journal.specs.Journal.{stored}
+use Rattle.policy_rules.specs.State.{State, powered_on}
+use Rattle.policy_rules.specs.declared.live.Live.{Live}
+use Rattle.rec_store.proofs.OneRegistry.{said_once}
+use Rattle.rec_store.proofs.Reopening.{has_pages}
+use Rattle.rec_store.specs.Reopens.{Keeps, Reopens, load_page}
+use Rattle.card_core.proofs.Cards.{in_order}
+use Rattle.card_core.proofs.Standing.{powered_on_stands}
+use Rattle.card_core.specs.Card.{CardOver, Stands}
+use Rattle.card_core.specs.Kept.{AreCards, StandsOn}
+use Rattle.card_core.specs.declared.held.Held.{Held}
+use Rattle.card_core.specs.declared.held.Held.TheVariants as held
+
+module _ {F : Type 0} (tells : Type 0) (pages : F → List Page) (may_leave : F → List Page → Type 0) (live : Live) (all : List Held)
+    (first : live.selected ≡ Some ISSUER_SLOT ∷ None ∷ None ∷ None ∷ []) (nothing : all ≡ held.Nothing ∷ held.Nothing ∷ held.Nothing ∷ held.Nothing ∷ []) where
+  -- a card that was just powered on, over the tables that were read
+  pub mounted_stands : (old new : F) (tables : Tables) → AreCards tables
+      → (tells → (registry : Registry) × Reopens (pages old) registry × Says (load_page (pages new)) tables registry × Keeps (pages new) (may_leave new) registry)
+      → (registry : Registry) × (tells → Reopens (pages old) registry)
+      × Stands tells pages may_leave (record { flash = new; tables = tables; live = live; held = all; up = true }) (powered_on registry)
+  mounted_stands old new tables cards read =
+      let page : ℕ → List ℕ = load_page (pages new) in
+      let is = cards page (has_pages (stored (pages new))) in
+      let same = λ (told : tells). said_once page tables (read told).0 is.said (read told).2 is.says in (
+        is.said,
+        (λ told. subst (Reopens (pages old)) (same told) (read told).1),
+        record {
+          up = refl;
+          page = page;
+          whole = has_pages (stored (pages new));
+          on = powered_on_stands page tables live all is.said is.layout is.says is.well first nothing;
+          load = λ told. refl;
+          keeps = λ told. subst (Keeps (pages new) (may_leave new)) (same told) (read told).3;
+        },
+      )
+
+  -- and one that was reset
+  pub reset_stands : (card : CardOver F) (state : State) → AreCards card.tables → Stands tells pages may_leave card state
+      → Stands tells pages may_leave (record { flash = card.flash; tables = card.tables; live = live; held = all; up = card.up }) (powered_on state.registry)
+  reset_stands card state cards stands = record {
+    up = stands.up;
+    page = stands.page;
+    whole = stands.whole;
+    on = powered_on_stands stands.page card.tables live all state.registry (in_order card.tables cards).layout stands.on.shows.says.registry stands.on.sound.well first nothing;
+    load = stands.load;
+    keeps = stands.keeps;
+  }
