@@ -3,6 +3,7 @@ pub mod Admitting
 pub mod Cards
 pub mod Carrying
 pub mod Listing
+pub mod LoadReads
 pub mod OfferMade
 pub mod Over
 pub mod Passed

@@ -1,5 +1,5 @@
 -- The states that a card on a device stands for.
-use Rattle.std.proofs.Common.{◌≡◌, ℕ, List, true, [], ◌∷◌, None, Some, refl, sym, subst, ◌∙◌}
+use Rattle.std.proofs.Common.{◌≡◌, ℕ, List, true, [], ◌∷◌, None, Some, refl, ap, sym, subst, ◌∙◌}
 use Rattle.card_check.specs.IsCard.{HasPages}
 use Rattle.card_types.specs.Registry.{Registry}
 use Rattle.card_types.specs.Says.{Says}
@@ -53,3 +53,15 @@ module _ {F : Type 0} (tells : Type 0) (pages : F → List Page) (may_leave : F 
     load = stands.load;
     keeps = stands.keeps;
   }
+
+-- after a command was served, before its changes are committed
+module _ {F : Type 0} (tells : Type 0) (pages : F → List Page) (may_leave : F → List Page → Type 0) (card : CardOver F) (state : State)
+    (stands : Stands tells pages may_leave card state) (served : F) (same : served ≡ card.flash) where
+  pub served_keeps : tells → Keeps (pages served) (may_leave served) state.registry
+  served_keeps told = subst (λ flash. Keeps (pages flash) (may_leave flash) state.registry) (sym same) (stands.keeps told)
+
+  pub served_load : tells → load_page (pages served) ≡ stands.page
+  served_load told = ap (λ flash. load_page (pages flash)) same ∙ stands.load told
+
+  pub served_says : (tables : Tables) (said : Registry) → Says stands.page tables said → tells → Says (load_page (pages served)) tables said
+  served_says tables said says told = subst (λ page. Says page tables said) (sym (served_load told)) says

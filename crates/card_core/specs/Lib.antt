@@ -2,6 +2,7 @@ pub mod Card
 pub mod Domains
 pub mod Holds
 pub mod Kept
+pub mod LoadRead
 pub mod Offers
 pub mod PowerOn
 pub mod Secured

@@ -1,17 +1,63 @@
 //! The digest of an Executable Load File.
 
-ghost use Rattle.std.specs.Prelude.{◌≡◌, ℕ, false, true, IfOk, IfSome, IsSome, OnErr, OnOk};
+ghost use Rattle.std.specs.Prelude.{◌≡◌, ◌<◌, ◌≤◌, ◌++◌, ◌+◌, ◌/◌, ℕ, List, false, true, map, take, IfOk, IfSome, IsSome, OnErr, OnOk};
+ghost use Rattle.std.specs.List.{concat};
+ghost use Rattle.card_check.specs.IsCard.{IsInLoadPages};
 ghost use Rattle.card_core.specs.Card.{Stands};
+ghost use Rattle.card_core.specs.LoadRead.{IsLoadRead};
 ghost use Rattle.card_types.specs.Says.{file_of};
 ghost use Rattle.card_types.specs.Slots.{held};
-ghost use Rattle.flash_core.specs.Faults.{HasCause};
+ghost use Rattle.flash_core.specs.Faults.{HasCause, Rose};
 ghost use Rattle.page_journal.specs.Moments.{LeavesOnly};
 ghost use Rattle.policy_rules.specs.State.{State};
 ghost use Rattle.rec_store.specs.Reopens.{Reopens, load_page};
+ghost use Rattle.sha2.specs.Hashers.{Holds256};
 ghost use Rattle.sha2.specs.Sha256.{sha256};
 
 use crate::card::Card;
-use flash_core::{Flash, FlashFailed};
+use card_types::{LoadFile, in_slot};
+use flash_core::{Flash, FlashFailed, Page};
+use rec_store::Records;
+use sha2::{Digest, Sha256};
+
+// Feeds a hasher the first bytes of a load page.
+fn feed_page<F: Flash>(
+    records: &mut Records<F>,
+    page: u16,
+    count: usize,
+    hasher: &mut Sha256,
+) -> Result<(), FlashFailed>
+    requires up { records.old.live ≡ true }
+    requires range { (96 ≤ page) × (page < 608) }
+    requires count { count ≤ 256 }
+    ensures fed { F.tells → (message : List ℕ) → Holds256 hasher.old message
+        → OnOk result (Holds256 hasher.new (message ++ take count (load_page (F.pages records.old.flash) page))) }
+    ensures read { IsLoadRead F.tells F.pages F.moment F.may_leave F.left_since F.faults records.old records.new }
+    ensures failed { OnErr result (Rose (F.faults records.old.flash) (F.faults records.new.flash)) }
+{
+    let mut into = Page { bytes: [0; 256] };
+    records.read_load(page, &mut into)?;
+    hasher.update(&into.bytes[..count]);
+    Ok(())
+}
+
+// The digest of a file, read page by page.
+fn digest_of<F: Flash>(records: &mut Records<F>, file: LoadFile) -> Result<[u8; 32], FlashFailed>
+    requires up { records.old.live ≡ true }
+    requires file { IsInLoadPages file }
+    ensures digest { F.tells → IfOk result (λ digest.
+        digest ≡ sha256 (take file.len (concat (map (load_page (F.pages records.old.flash)) (take ((file.len + 255) / 256) file.pages))))) }
+    ensures read { IsLoadRead F.tells F.pages F.moment F.may_leave F.left_since F.faults records.old records.new }
+    ensures failed { OnErr result (Rose (F.faults records.old.flash) (F.faults records.new.flash)) }
+{
+    let len = usize::from(file.len);
+    let mut hasher = Sha256::new();
+    for index in 0..len.div_ceil(256) {
+        let count = (len - 256 * index).min(256);
+        feed_page(records, file.pages[index], count, &mut hasher)?;
+    }
+    Ok(hasher.finalize())
+}
 
 impl<F: Flash> Card<F> {
     /// SHA-256 (FIPS 180-4) over the bytes of the Executable Load File in a slot.
@@ -30,7 +76,13 @@ impl<F: Flash> Card<F> {
         ensures failed { OnErr result (self.new.up ≡ false) }
         ensures cause { HasCause (F.faults self.old.flash) (F.faults self.new.flash) result }
     {
-        self.up = false;
-        Err(FlashFailed)
+        let file = *in_slot(&self.records.tables().files, slot).unwrap();
+        match digest_of(&mut self.records, file) {
+            Ok(digest) => Ok(digest),
+            Err(failed) => {
+                self.up = false;
+                Err(failed)
+            }
+        }
     }
 }

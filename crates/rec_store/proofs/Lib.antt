@@ -6,8 +6,8 @@ mod Kept
 pub mod OneRegistry
 mod OneThing
 mod Places
-mod Readings
+pub mod Readings
 pub mod Reopening
 mod Rooms
-mod Roomy
+pub mod Roomy
 mod Staging

@@ -4,7 +4,7 @@ use Rattle.page_journal.specs.Journal.{stored}
 use Rattle.page_journal.specs.Moments.{LeavesOnly}
 use Rattle.rec_store.proofs.Reopening.{has_pages}
 use Rattle.rec_store.specs.Reopens.{Keeps, Reopens, load_page}
-use Rattle.card_core.specs.Card.{CardOver}
+use Rattle.card_core.proofs.Over.{served_keeps, served_load, served_says}
 use Rattle.card_core.specs.Kept.{AreCards}
 use Rattle.card_core.proofs.card.Card.process.Goals as goal
 
@@ -21,30 +21,25 @@ invariant_of-self-in-Err g c = (subst AreCards (sym c.in-Err.ensures.tables) c.s
 pub returns-in-Ok-clause-step : goal.returns-in-Ok-clause-step
 returns-in-Ok-clause-step g c state stood =
     let F = g.F.Flash in
-    let flash = c.self.inside.records.flash in
-    let served_flash = c.serve-rule.new.records.flash in
-    let tables = c.serve-rule.new.records.tables in
     let new = c.commit.new.self.flash in
     let stands = rw (← c.self.view_is) at stood in
     let served = c.serve-rule.ensures.served stands.page state stands.on in
     let next = served.0 in
-    let same : served_flash ≡ flash = c.serve-rule.ensures.same.0 in
-    let says : F.tells → Says (load_page (F.pages served_flash)) tables next.registry = λ told.
-    subst (λ page. Says page tables next.registry) (sym (ap (λ f. load_page (F.pages f)) same ∙ stands.load told)) served.1.shows.says.registry in
-    let keeps : F.tells → Keeps (F.pages served_flash) (F.may_leave served_flash) state.registry = λ told.
-    subst (λ f. Keeps (F.pages f) (F.may_leave f) state.registry) (sym same) (stands.keeps told) in (
+    let same = c.serve-rule.ensures.same.0 in
+    let keeps = served_keeps F.tells F.pages F.may_leave _ state stands c.serve-rule.new.records.flash same in
+    let load = served_load F.tells F.pages F.may_leave _ state stands c.serve-rule.new.records.flash same in
+    let says = served_says F.tells F.pages F.may_leave _ state stands c.serve-rule.new.records.flash same c.serve-rule.new.records.tables next.registry served.1.shows.says.registry in (
       record { state = next; reply = c.serve-rule.new.reply.items; rule = c.serve-rule.result },
       served.2,
-      (λ told. subst (λ (card : CardOver g.row.F.Denot). LeavesOnly F.moment F.left_since card.flash new (λ pages. Reopens pages state.registry ⊎ Reopens pages next.registry)) c.self.view_is
-          (subst (λ f. LeavesOnly F.moment F.left_since f new (λ pages. Reopens pages state.registry ⊎ Reopens pages next.registry)) same
-          (c.in-Ok.ensures.moments told state.registry next.registry (keeps told) (says told)))),
+      (λ told. subst (λ flash. LeavesOnly F.moment F.left_since flash new (λ pages. Reopens pages state.registry ⊎ Reopens pages next.registry))
+          (same ∙ ap (λ card. card.flash) c.self.view_is) (c.in-Ok.ensures.moments told state.registry next.registry (keeps told) (says told))),
       (
         record {
           up = stands.up;
           page = stands.page;
           whole = stands.whole;
           on = rw c.in-Ok.ensures.tables served.1;
-          load = λ told. c.in-Ok.ensures.load told ∙ ap (λ f. load_page (F.pages f)) same ∙ stands.load told;
+          load = λ told. c.in-Ok.ensures.load told ∙ load told;
           keeps = λ told. c.in-Ok.ensures.keeps told state.registry next.registry (keeps told) (says told);
         },
         refl,
@@ -55,22 +50,16 @@ returns-in-Ok-clause-step g c state stood =
 pub returns-in-Err-clause-step : goal.returns-in-Err-clause-step
 returns-in-Err-clause-step g c state stood =
     let F = g.F.Flash in
-    let flash = c.self.inside.records.flash in
-    let served_flash = c.serve-rule.new.records.flash in
-    let tables = c.serve-rule.new.records.tables in
     let new = c.commit.new.self.flash in
     let stands = rw (← c.self.view_is) at stood in
     let served = c.serve-rule.ensures.served stands.page state stands.on in
     let next = served.0 in
-    let same : served_flash ≡ flash = c.serve-rule.ensures.same.0 in
-    let says : F.tells → Says (load_page (F.pages served_flash)) tables next.registry = λ told.
-    subst (λ page. Says page tables next.registry) (sym (ap (λ f. load_page (F.pages f)) same ∙ stands.load told)) served.1.shows.says.registry in
-    let keeps : F.tells → Keeps (F.pages served_flash) (F.may_leave served_flash) state.registry = λ told.
-    subst (λ f. Keeps (F.pages f) (F.may_leave f) state.registry) (sym same) (stands.keeps told) in (
+    let same = c.serve-rule.ensures.same.0 in
+    let keeps = served_keeps F.tells F.pages F.may_leave _ state stands c.serve-rule.new.records.flash same in
+    let says = served_says F.tells F.pages F.may_leave _ state stands c.serve-rule.new.records.flash same c.serve-rule.new.records.tables next.registry served.1.shows.says.registry in (
       record { state = next; reply = c.serve-rule.new.reply.items; rule = c.serve-rule.result },
       served.2,
-      (λ told. subst (λ (card : CardOver g.row.F.Denot). LeavesOnly F.moment F.left_since card.flash new (λ pages. Reopens pages state.registry ⊎ Reopens pages next.registry)) c.self.view_is
-          (subst (λ f. LeavesOnly F.moment F.left_since f new (λ pages. Reopens pages state.registry ⊎ Reopens pages next.registry)) same
-          (c.in-Err.ensures.moments told state.registry next.registry (keeps told) (says told)))),
+      (λ told. subst (λ flash. LeavesOnly F.moment F.left_since flash new (λ pages. Reopens pages state.registry ⊎ Reopens pages next.registry))
+          (same ∙ ap (λ card. card.flash) c.self.view_is) (c.in-Err.ensures.moments told state.registry next.registry (keeps told) (says told))),
       tt,
     )

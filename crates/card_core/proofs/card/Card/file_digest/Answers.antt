@@ -1,0 +1,58 @@
+use Rattle.std.proofs.Common.{◌≡◌, List, true, Some, sym, ap, subst, ◌∙◌}
+use Rattle.std.specs.Prelude.{IfSome}
+use Rattle.card_check.specs.IsCard.{IsInLoadPages}
+use Rattle.card_types.specs.Slots.{held}
+use Rattle.card_types.specs.declared.tables.LoadFile.{LoadFile}
+use Rattle.page_journal.specs.Journal.{stored}
+use Rattle.page_journal.specs.Moments.{LeavesOnly}
+use Rattle.rec_store.proofs.Reopening.{has_pages}
+use Rattle.rec_store.proofs.Roomy.{of_slot}
+use Rattle.rec_store.specs.Reopens.{Reopens, load_page}
+use Rattle.card_core.specs.Card.{CardOver}
+use Rattle.card_core.specs.Kept.{AreCards}
+use Rattle.card_core.proofs.card.Card.file_digest.Goals as goal
+
+pub digest_of-requires-clause-file : goal.digest_of-requires-clause-file
+digest_of-requires-clause-file g c =
+    let pages = g.F.Flash.pages c.self.inside.records.flash in
+    let files = c.self.inside.records.tables.files.items in
+    let all = (c.self.invariant.0 (load_page pages) (has_pages (stored pages))).files in
+    let there = rw c.unwrap-file.ensures at c.in_slot.ensures in
+    let same : c.deref.result.now ≡ files = c.deref.ensures.value ∙ ap (λ t. t.files.items) c.tables.ensures.tables in
+    let at : held files c.args.slot ≡ Some c.unwrap-file.result.now = subst (λ slots. held slots c.args.slot ≡ Some c.unwrap-file.result.now) same there in
+    subst (λ file. IfSome file IsInLoadPages) at (of_slot IsInLoadPages files c.args.slot all)
+
+pub invariant_of-self : goal.invariant_of-self
+invariant_of-self g c =
+    let read = c.digest_of.ensures.read in
+    (subst AreCards (sym read.tables) c.self.invariant.0, λ up. let was = c.self.invariant.1 up in (read.live ∙ was.0, read.staged ∙ was.1))
+
+pub invariant_of-self-in-Err : goal.invariant_of-self-in-Err
+invariant_of-self-in-Err g c = (subst AreCards (sym c.digest_of.ensures.read.tables) c.self.invariant.0, λ up. cc)
+
+pub returns-in-Ok-clause-moments : goal.returns-in-Ok-clause-moments
+returns-in-Ok-clause-moments g c told state stood =
+    let F = g.F.Flash in
+    let stands = rw (← c.self.view_is) at stood in
+    subst (λ (card : CardOver g.row.F.Denot). LeavesOnly F.moment F.left_since card.flash c.digest_of.new.records.flash (λ outcome. Reopens outcome state.registry)) c.self.view_is
+    (c.digest_of.ensures.read.moments told state.registry (stands.keeps told))
+
+pub returns-in-Err-clause-moments : goal.returns-in-Err-clause-moments
+returns-in-Err-clause-moments g c told state stood =
+    let F = g.F.Flash in
+    let stands = rw (← c.self.view_is) at stood in
+    subst (λ (card : CardOver g.row.F.Denot). LeavesOnly F.moment F.left_since card.flash c.digest_of.new.records.flash (λ outcome. Reopens outcome state.registry)) c.self.view_is
+    (c.digest_of.ensures.read.moments told state.registry (stands.keeps told))
+
+pub returns-in-Ok-clause-stands : goal.returns-in-Ok-clause-stands
+returns-in-Ok-clause-stands g c state stood =
+    let stands = rw (← c.self.view_is) at stood in
+    let read = c.digest_of.ensures.read in
+    record {
+      up = stands.up;
+      page = stands.page;
+      whole = stands.whole;
+      on = rw read.tables stands.on;
+      load = λ told. ap load_page (read.seen told) ∙ stands.load told;
+      keeps = λ told. read.keeps told state.registry (stands.keeps told);
+    }
