@@ -36,7 +36,8 @@ pub const FACTORY_KEY: [u8; 16] = [
     0x40, 0x41, 0x42, 0x43, 0x44, 0x45, 0x46, 0x47, 0x48, 0x49, 0x4A, 0x4B, 0x4C, 0x4D, 0x4E, 0x4F,
 ];
 
-fn issuer() -> Entry
+/// The Issuer Security Domain of the factory card.
+pub fn issuer_domain() -> Entry
     ensures { result ≡ factory_entry }
 {
     Entry {
@@ -53,7 +54,8 @@ fn issuer() -> Entry
     }
 }
 
-fn file() -> LoadFile
+/// Its Executable Load File, which has no bytes.
+pub fn factory_file() -> LoadFile
     ensures { result ≡ factory_file }
 {
     LoadFile {
@@ -64,7 +66,8 @@ fn file() -> LoadFile
     }
 }
 
-fn key(identifier: u8) -> KeyRec
+/// The key of its key set with this key identifier.
+pub fn factory_key(identifier: u8) -> KeyRec
     ensures { IsFactoryKey identifier result }
 {
     let mut bytes = ArrayVec::new();
@@ -97,13 +100,13 @@ impl Tables {
         ensures well { IfOk result (λ _. Well factory_registry) }
     {
         let mut entries = Vec::new(alloc);
-        entries.push(Some(issuer()))?;
+        entries.push(Some(issuer_domain()))?;
         let mut files = Vec::new(alloc);
-        files.push(Some(file()))?;
+        files.push(Some(factory_file()))?;
         let mut keys = Vec::new(alloc);
-        keys.push(Some(key(1)))?;
-        keys.push(Some(key(2)))?;
-        keys.push(Some(key(3)))?;
+        keys.push(Some(factory_key(1)))?;
+        keys.push(Some(factory_key(2)))?;
+        keys.push(Some(factory_key(3)))?;
         Ok(Tables {
             life: CardLife::OpReady,
             entries: fill(entries, ENTRIES - 1)?,

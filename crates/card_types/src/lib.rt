@@ -17,7 +17,10 @@ mod tables;
 
 pub use aid::Aid;
 pub use card_life::CardLife;
-pub use factory::{FACTORY_FILE, FACTORY_KEY, FACTORY_MODULE, FACTORY_VERSION, ISSUER};
+pub use factory::{
+    FACTORY_FILE, FACTORY_KEY, FACTORY_MODULE, FACTORY_VERSION, ISSUER, factory_file, factory_key,
+    issuer_domain,
+};
 pub use found::{Found, Kind, find, next_after};
 pub use key_set::{KeySet, keys_of_set, set_of};
 pub use level::Level;

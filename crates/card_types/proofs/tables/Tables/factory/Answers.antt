@@ -7,14 +7,14 @@ use Rattle.card_types.proofs.tables.Tables.factory.Goals as goal
 pub returns-clause-slots : goal.returns-clause-slots
 returns-clause-slots c = record {
   life = refl;
-  entries = rw (c.in_ok-fill.ensures, c.in_ok-push.ensures.items, c.new-entries.ensures.items, c.issuer.ensures) refl;
-  files = rw (c.in_ok-fill-2.ensures, c.in_ok-push-2.ensures.items, c.new-files.ensures.items, c.file.ensures) refl;
-  first = c.key.result;
-  second = c.key-2.result;
-  third = c.key-3.result;
-  first_key = c.key.ensures;
-  second_key = c.key-2.ensures;
-  third_key = c.key-3.ensures;
+  entries = rw (c.in_ok-fill.ensures, c.in_ok-push.ensures.items, c.new-entries.ensures.items, c.issuer_domain.ensures) refl;
+  files = rw (c.in_ok-fill-2.ensures, c.in_ok-push-2.ensures.items, c.new-files.ensures.items, c.factory_file.ensures) refl;
+  first = c.factory_key.result;
+  second = c.factory_key-2.result;
+  third = c.factory_key-3.result;
+  first_key = c.factory_key.ensures;
+  second_key = c.factory_key-2.ensures;
+  third_key = c.factory_key-3.ensures;
   keys = rw (c.in_ok-fill-3.ensures, c.in_ok-push-5.ensures.items, c.in_ok-push-4.ensures.items, c.in_ok-push-3.ensures.items, c.new-keys.ensures.items) refl;
   objects = rw (c.in_ok-fill-4.ensures, c.new.ensures.items) refl;
 }
