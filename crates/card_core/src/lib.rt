@@ -7,6 +7,7 @@ mod admit;
 mod card;
 mod digest;
 mod external_authenticate;
+mod formatting;
 mod get_data;
 mod held;
 mod initialize_update;
@@ -19,6 +20,7 @@ mod select;
 mod serve;
 
 pub use card::Card;
+pub use formatting::format;
 pub use pinned::constants;
 pub use power::{PowerCause, PowerError};
 pub use reply::REPLY_LIMIT;

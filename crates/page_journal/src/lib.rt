@@ -43,4 +43,5 @@ mod store;
 mod tests;
 
 pub use cause::{MountCause, MountError};
+pub use steps::GATE;
 pub use store::PageStore;

@@ -6,6 +6,7 @@ pub mod KeySlot
 pub mod ObjectSlot
 pub mod Superblock
 pub mod StoredTables
+pub mod FirstSlots
 pub mod Reopens
 pub mod Room
 pub mod Reading

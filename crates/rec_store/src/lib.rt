@@ -28,6 +28,7 @@ mod entry_slot;
 mod file_slot;
 mod key_slot;
 mod laws;
+mod layout;
 mod load_pages;
 mod mount;
 mod object_slot;
@@ -38,6 +39,7 @@ mod slots;
 mod superblock;
 
 pub use laws::{one_registry, room_stays};
+pub use layout::lay_out;
 pub use open::{OpenCause, OpenError};
 pub use records::Records;
 

@@ -1,13 +1,13 @@
 //! All slots of one kind.
 
-ghost use Rattle.std.specs.Prelude.{◌≡◌, ◌≢◌, ◌⊎◌, ◌+◌, ◌*◌, ◌/◌, ◌%◌, ◌<◌, ◌≤◌, ℕ, List, [], Option, true, length, All, IsSome, IfSome, IfOk, OnOk, OnErr, IfErr};
+ghost use Rattle.std.specs.Prelude.{◌≡◌, ◌≢◌, ◌⊎◌, ◌+◌, ◌*◌, ◌/◌, ◌%◌, ◌<◌, ◌≤◌, ℕ, List, [], Option, true, length, slice_get, All, IsSome, IfSome, IfOk, OnOk, OnErr, IfErr};
 ghost use Rattle.card_types.specs.Says.{used};
 ghost use Rattle.card_types.specs.Slots.{held};
 ghost use Rattle.flash_core.specs.declared.page.Page.{Page as PageOf};
-ghost use Rattle.flash_core.specs.Faults.{Rose};
+ghost use Rattle.flash_core.specs.Faults.{HasCause, Rose};
 ghost use Rattle.frame_pool.specs.Staged.{staged, with_page};
 ghost use Rattle.rec_store.specs.Contents.{SlotsFail};
-ghost use Rattle.rec_store.specs.Reopens.{store_page};
+ghost use Rattle.rec_store.specs.Reopens.{store_in, store_page};
 ghost use Rattle.rec_store.specs.Places.{slot_at, slot_from};
 ghost use Rattle.rec_store.specs.Reading.{IsRead};
 ghost use Rattle.rec_store.specs.StoredTables.{AreHeld, HoldsPage};
@@ -37,6 +37,19 @@ fn write_at<T: Slot>(thing: &Option<T>, bytes: &mut [u8; 256], place: usize)
 {
     let at = place * T::SIZE;
     T::write(thing, &mut bytes[at..at + T::SIZE]);
+}
+
+// Makes the slot at a place of a page hold what is in this slot of a list, past whose end all are free.
+fn write_held<T: Slot>(slots: &[Option<T>], slot: usize, bytes: &mut [u8; 256], place: usize)
+    requires place { place < 256 / T.SIZE }
+    requires roomy { All T.is_roomy (used slots.now) }
+    ensures put { T.holds (slot_at bytes.new T.SIZE place) (held slots.now slot) }
+    ensures others { (other : ℕ) → other < 256 / T.SIZE → other ≢ place → slot_at bytes.new T.SIZE other ≡ slot_at bytes.old T.SIZE other }
+{
+    match slots.get(slot) {
+        Some(thing) => write_at(thing, bytes, place),
+        None => write_at::<T>(&None, bytes, place),
+    }
 }
 
 // Reads the slots of a page, which is the one with this number of those.
@@ -115,14 +128,36 @@ pub fn stage_slots<F: Flash, T: Slot>(store: &mut PageStore<F>, slots: &[Option<
 
 // The page of slots with this number.
 fn page_of<T: Slot>(slots: &[Option<T>], number: usize) -> [u8; 256]
-    requires range { number * (256 / T.SIZE) + 256 / T.SIZE ≤ length slots.now }
+    requires range { number < 45 }
     requires roomy { All T.is_roomy (used slots.now) }
     ensures { HoldsPage T.holds T.SIZE result number slots.now }
 {
     let mut bytes = [0; 256];
     let each = 256 / T::SIZE;
     for place in 0..each {
-        write_at(&slots[number * each + place], &mut bytes, place);
+        write_held(slots, number * each + place, &mut bytes, place);
     }
     bytes
+}
+
+/// Writes the pages of so many slots of one kind. Those past the end of the list are free.
+pub fn write_slots<F: Flash, T: Slot>(
+    flash: &mut F,
+    slots: &[Option<T>],
+    count: usize,
+) -> Result<(), FlashFailed>
+    requires whole { count % (256 / T.SIZE) ≡ 0 }
+    requires range { T.FIRST * (256 / T.SIZE) + count ≤ 45 * (256 / T.SIZE) }
+    requires roomy { All T.is_roomy (used slots.now) }
+    ensures held { F.tells → OnOk result (AreHeld T.holds (slot_from (store_in (slice_get (F.pages flash.new))) T.FIRST T.SIZE) count slots.now) }
+    ensures others { F.tells → (page : ℕ) → (page < T.FIRST) ⊎ (45 ≤ page) → slice_get (F.pages flash.new) page ≡ slice_get (F.pages flash.old) page }
+    ensures cause { HasCause (F.faults flash.old) (F.faults flash.new) result }
+{
+    for number in 0..count / (256 / T::SIZE) {
+        let page = Page {
+            bytes: page_of(slots, number),
+        };
+        flash.write(T::FIRST + number as u16, &page)?;
+    }
+    Ok(())
 }

@@ -1,0 +1,71 @@
+//! A card laid out on a device.
+
+ghost use Rattle.std.specs.Prelude.{◌≡◌, ◌≤◌, ℕ, All, OnOk, slice_get};
+ghost use Rattle.card_check.specs.IsCard.{IsCard, IsInLoadPages};
+ghost use Rattle.card_types.specs.Registry.{Registry};
+ghost use Rattle.card_types.specs.Says.{Says, used};
+ghost use Rattle.card_types.specs.declared.tables.Tables.{Tables};
+ghost use Rattle.flash_core.specs.Faults.{HasCause};
+ghost use Rattle.rec_store.specs.FirstSlots.{HasFirst, HaveRoom};
+ghost use Rattle.rec_store.specs.KeySlot.{IsRoomyKey};
+ghost use Rattle.rec_store.specs.Reopens.{Keeps, load_page, store_in};
+ghost use Rattle.rec_store.specs.StoredTables.{HoldsTables};
+
+use crate::slots::write_slots;
+use crate::superblock::superblock;
+use card_types::{CardLife, ENTRIES, Entry, FILES, KEYS, KeyRec, LoadFile, OBJECTS, Object};
+use flash_core::{Flash, FlashFailed, Page};
+use page_journal::GATE;
+
+/// Lays out a card on a device: its store pages, and a closed journal. The slots past the end of a list are free. Nothing is
+/// said of the device where power is lost before the call's end.
+pub fn lay_out<F: Flash>(
+    flash: &mut F,
+    life: CardLife,
+    entries: &[Option<Entry>],
+    files: &[Option<LoadFile>],
+    keys: &[Option<KeyRec>],
+    objects: &[Option<Object>],
+) -> Result<(), FlashFailed>
+    requires room { HaveRoom entries.now files.now keys.now objects.now }
+    requires roomy_files { All IsInLoadPages (used files.now) }
+    requires roomy_keys { All IsRoomyKey (used keys.now) }
+    // Power lost from then on leaves each registry that tables with these things in their first slots say.
+    ensures keeps { F.tells → (tables : Tables) (registry : Registry) → HasFirst tables life entries.now files.now keys.now objects.now
+        → IsCard (load_page (F.pages flash.new)) tables → Says (load_page (F.pages flash.new)) tables registry
+        → OnOk result (Keeps (F.pages flash.new) (F.may_leave flash.new) registry) }
+    ensures load { F.tells → (page : ℕ) → 96 ≤ page → slice_get (F.pages flash.new) page ≡ slice_get (F.pages flash.old) page }
+    ensures cause { HasCause (F.faults flash.old) (F.faults flash.new) result }
+{
+    write_tables(flash, life, entries, files, keys, objects)?;
+    flash.write(GATE, &Page { bytes: [0; 256] })?;
+    flash.sync()
+}
+
+// Writes the superblock and all slots.
+fn write_tables<F: Flash>(
+    flash: &mut F,
+    life: CardLife,
+    entries: &[Option<Entry>],
+    files: &[Option<LoadFile>],
+    keys: &[Option<KeyRec>],
+    objects: &[Option<Object>],
+) -> Result<(), FlashFailed>
+    requires roomy_files { All IsInLoadPages (used files.now) }
+    requires roomy_keys { All IsRoomyKey (used keys.now) }
+    ensures held { F.tells → (tables : Tables) → HasFirst tables life entries.now files.now keys.now objects.now
+        → OnOk result (HoldsTables (store_in (slice_get (F.pages flash.new))) tables) }
+    ensures others { F.tells → (page : ℕ) → 45 ≤ page → slice_get (F.pages flash.new) page ≡ slice_get (F.pages flash.old) page }
+    ensures cause { HasCause (F.faults flash.old) (F.faults flash.new) result }
+{
+    flash.write(
+        0,
+        &Page {
+            bytes: superblock(life),
+        },
+    )?;
+    write_slots(flash, entries, ENTRIES)?;
+    write_slots(flash, files, FILES)?;
+    write_slots(flash, keys, KEYS)?;
+    write_slots(flash, objects, OBJECTS)
+}
