@@ -11,3 +11,4 @@ pub mod Reopening
 mod Rooms
 pub mod Roomy
 mod Staging
+mod Written

@@ -81,3 +81,16 @@ slot_in_page store first size number place lt =
 
 pub all_pages : (all each : ℕ) → all % each ≡ 0 → all / each * each ≡ all
 all_pages all each whole = omega (arith, whole, mod-eq-sub-div-mul all each, div-mul-le_self all each)
+
+-- a page with all its slots is one of those that there are
+pub page_of_all : (size read number all : ℕ) → read ≡ size → all % (256 / size) ≡ 0 → number < all / (256 / read) → number * (256 / size) + 256 / size ≤ all
+page_of_all size read number all same even lt =
+    let each : all / (256 / read) ≡ all / (256 / size) = ap (λ n. all / (256 / n)) same in
+    omega (arith, before number (all / (256 / size)) (256 / size) (omega (arith, lt, each)), all_pages all (256 / size) even)
+
+-- a slot before a page is in an earlier one
+pub earlier_page : (slot number each : ℕ) → slot < number * each → slot / each < number
+earlier_page slot number each lt = elim (cases_lt (slot / each) number) [
+  | inl less ↦ less
+  | inr more ↦ absurd (omega (arith, at_most number (slot / each) each more, div-mul-le_self slot each, lt))
+]

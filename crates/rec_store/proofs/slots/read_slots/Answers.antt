@@ -4,16 +4,10 @@ use Rattle.card_types.specs.Slots.{held}
 use Rattle.rec_store.specs.Reopens.{store_page}
 use Rattle.rec_store.specs.Places.{slot_at, slot_from}
 use Rattle.rec_store.proofs.Causes.{no_card}
-use Rattle.rec_store.proofs.Places.{all_pages, before, page_more, page_within, slot_in_page, some_each}
+use Rattle.rec_store.proofs.Places.{all_pages, page_more, page_of_all, page_within, slot_in_page, some_each}
 use Rattle.rec_store.proofs.Readings.{reads_on}
 use Rattle.rec_store.proofs.Roomy.{of_all}
 use Rattle.rec_store.proofs.slots.read_slots.Goals as goal
-
--- a page with all its slots is one of those that are read
-whole : (size result number all : ℕ) → result ≡ size → all % (256 / size) ≡ 0 → number < all / (256 / result) → number * (256 / size) + 256 / size ≤ all
-whole size result number all same even lt =
-    let each : all / (256 / result) ≡ all / (256 / size) = ap (λ n. all / (256 / n)) same in
-    omega (arith, before number (all / (256 / size)) (256 / size) (omega (arith, lt, each)), all_pages all (256 / size) even)
 
 pub read_store-requires-clause-range : goal.read_store-requires-clause-range
 read_store-requires-clause-range g c =
@@ -23,7 +17,7 @@ read_store-requires-clause-range g c =
       arith,
       c.FIRST.ensures,
       page_within g.T.Slot.FIRST c.loop-number.number all (256 / size) c.requires.range
-          (whole size c.SIZE.result c.loop-number.number all c.SIZE.ensures c.requires.whole (omega (arith, c.loop-number-test.true))) (some_each size g.met.T.Slot.sizes.1),
+          (page_of_all size c.SIZE.result c.loop-number.number all c.SIZE.ensures c.requires.whole (omega (arith, c.loop-number-test.true))) (some_each size g.met.T.Slot.sizes.1),
     )
 
 pub returns-in_err-read_page-clause-err : goal.returns-in_err-read_page-clause-err
@@ -43,7 +37,7 @@ returns-in_err-read_page-clause-err g c =
     ∙ c.in_ok-page.ensures.page told in
     let here = slot_in_page store g.T.Slot.FIRST size number bad.0 bad.1 ∙ ap (λ bytes. slot_at bytes size bad.0) seen in (
       number * (256 / size) + bad.0,
-      omega (arith, bad.1, whole size c.SIZE.result number (length c.args.slots.now) c.SIZE.ensures c.requires.whole (omega (arith, c.loop-number-test.true))),
+      omega (arith, bad.1, page_of_all size c.SIZE.result number (length c.args.slots.now) c.SIZE.ensures c.requires.whole (omega (arith, c.loop-number-test.true))),
       λ thing holds. bad.2 thing (subst (λ bytes. g.T.Slot.holds bytes thing) here holds),
     ))
 
