@@ -3,6 +3,7 @@ mod Causes
 mod ChangedTables
 mod Committing
 mod Kept
+mod LaidOut
 pub mod OneRegistry
 mod OneThing
 mod Places

@@ -15,7 +15,7 @@ use Rattle.card_types.specs.Slots.{held}
 use Rattle.card_types.specs.declared.limits.TheConstants.{ENTRIES, FILES, KEYS, OBJECTS}
 use Rattle.card_types.specs.declared.tables.LoadFile.{LoadFile}
 use Rattle.card_types.specs.declared.tables.Tables.{Tables}
-use Rattle.flash_core.specs.Device.{NoneNew}
+use Rattle.flash_core.specs.Device.{NoneNew, Only}
 use Rattle.flash_core.specs.declared.page.Page.{Page}
 use Rattle.page_journal.specs.Journal.{IsSound, bytes_of, stored}
 use Rattle.page_journal.specs.Moments.{Always, Leaves, current, first_of}
@@ -197,3 +197,8 @@ always_ok (Err error) P holds = tt
 -- a page of no list is loose
 pub none_loose : (t : Tables) (n : ℕ) → Contains [] n → IsFree t n
 none_loose t n among = absurd (omega (arith, among.1))
+
+-- the pages as read are all that power loss may leave
+pub only_leaves : (pages : List Page) (may_leave : List Page → Type 0) → IsSound pages → Only pages may_leave → Always may_leave (Leaves (stored pages) [])
+only_leaves pages may_leave sound only outcome possible =
+    subst (Leaves (stored pages) []) (sym (only outcome possible)) (record { sound = sound; store = λ n lt. refl; load = λ n high tight. refl })

@@ -1,12 +1,10 @@
-use Rattle.std.proofs.Common.{List, [], refl, sym, subst}
-use Rattle.flash_core.specs.declared.page.Page.{Page}
-use Rattle.flash_core.specs.Device.{Only}
-use Rattle.page_journal.specs.Journal.{IsSound, stored}
+use Rattle.std.proofs.Common.{[], subst}
+use Rattle.page_journal.specs.Journal.{stored}
 use Rattle.page_journal.specs.Moments.{Always, Leaves, LeavesOnly}
 use Rattle.rec_store.specs.Reopens.{load_page, store_page}
 use Rattle.rec_store.proofs.OneRegistry.{read_card}
 use Rattle.rec_store.proofs.Readings.{joined, weaker}
-use Rattle.rec_store.proofs.Reopening.{has_pages}
+use Rattle.rec_store.proofs.Reopening.{has_pages, only_leaves}
 use Rattle.rec_store.proofs.mount.read_card.Goals as goal
 
 pub returns-then-not-is_card-clause-err : goal.returns-then-not-is_card-clause-err
@@ -20,11 +18,6 @@ returns-then-not-is_card-clause-err g c told =
           absurd (cc (is, not_it)),
       c.read_tables.ensures.read.seen told,
     )
-
--- the pages that were read are all that power loss may leave
-only_leaves : (pages : List Page) (may_leave : List Page → Type 0) → IsSound pages → Only pages may_leave → Always may_leave (Leaves (stored pages) [])
-only_leaves pages may_leave sound only outcome possible =
-    subst (Leaves (stored pages) []) (sym (only outcome possible)) (record { sound = sound; store = λ n lt. refl; load = λ n high tight. refl })
 
 pub returns-in_err-settle-clause-moments : goal.returns-in_err-settle-clause-moments
 returns-in_err-settle-clause-moments g c told =

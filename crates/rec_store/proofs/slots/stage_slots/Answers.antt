@@ -1,4 +1,4 @@
-use Rattle.std.proofs.Common.{◌≡◌, ◌+◌, ◌/◌, ◌<◌, ap, ◌∙◌, length, arith}
+use Rattle.std.proofs.Common.{◌≡◌, ◌/◌, ap, ◌∙◌, length, arith}
 use Rattle.rec_store.proofs.Places.{page_within, some_each, whole_page}
 use Rattle.rec_store.proofs.slots.stage_slots.Goals as goal
 

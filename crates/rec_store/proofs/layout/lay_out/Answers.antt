@@ -1,0 +1,18 @@
+use Rattle.std.proofs.Common.{refl}
+use Rattle.flash_core.specs.Device.{Only}
+use Rattle.rec_store.specs.Reopens.{Keeps}
+use Rattle.rec_store.proofs.LaidOut.{laid_out}
+use Rattle.rec_store.proofs.Reopening.{on_ok}
+use Rattle.rec_store.proofs.layout.lay_out.Goals as goal
+
+pub returns-clause-keeps : goal.returns-clause-keeps
+returns-clause-keeps g c told tables registry first card says =
+    let F = g.F.Flash in
+    let written = F.pages c.write_tables.new.flash in
+    let shut = F.pages c.write.new.self in
+    let device = c.sync.new.self in
+    let gate = c.in_ok-write.ensures in
+    let synced = c.sync.ensures in
+    on_ok c.sync.result (Only shut (F.may_leave device)) (Keeps (F.pages device) (F.may_leave device) registry)
+    (λ only. laid_out written shut (F.pages device) _ (F.may_leave device) tables registry (c.in_ok-write_tables.ensures.held told tables first) (gate.torn told) (gate.written told) refl (synced.torn told) only card says)
+    (synced.written told)
