@@ -1,0 +1,94 @@
+use Rattle.std.proofs.Common.{◌≡◌, ℕ, zero, suc, ◌<◌, ◌^◌, List, [], ◌∷◌, ◌++◌, length, Option, None, Some, refl, ap, arith}
+use Rattle.std.specs.Global.{Vec}
+use Rattle.std.specs.List.{IsDistinct}
+use Rattle.std.specs.Prelude.{replicate}
+use Rattle.std.proofs.lemmas.List.Elements.{All-cons, All-nil}
+use denote.RawPtr.{null_ptr}
+use Rattle.card_check.specs.IsCard.{IsCard, IsInLoadPages, IsLoadPage}
+use Rattle.card_types.proofs.FactoryRegistry.{factory_layout, factory_says}
+use Rattle.card_types.proofs.FactoryWell.{factory_well}
+use Rattle.card_types.specs.Factory.{IsFactory, IsFactoryKey, factory_entry, factory_file, factory_registry}
+use Rattle.card_types.specs.Slots.{held}
+use Rattle.card_types.specs.declared.card_life.CardLife.TheVariants.{OpReady}
+use Rattle.card_types.specs.declared.tables.Entry.{Entry}
+use Rattle.card_types.specs.declared.tables.KeyRec.{KeyRec}
+use Rattle.card_types.specs.declared.tables.LoadFile.{LoadFile}
+use Rattle.card_types.specs.declared.tables.Tables.{Tables}
+use Rattle.rec_store.specs.FirstSlots.{HasFirst}
+use Rattle.rec_store.specs.Reopens.{load_page}
+use Rattle.card_core.proofs.formatting.format.Goals as goal
+
+-- a vector of these things
+abbrev vec_of : {T : Type 0} (items : List T) (count : ℕ) → count ≡ length items → count < 2 ^ 63 → Vec T
+vec_of items count is small = record { ptr = null_ptr; len = count; cap = count; alloc = record { memory = record { seal = tt } }; items = items; ok = (is, omega arith); small = small }
+
+free : {T : Type 0} (count slot : ℕ) → held {T = T} (replicate count None) slot ≡ None
+free zero slot = refl
+free (suc count) zero = refl
+free (suc count) (suc slot) = free count slot
+
+-- things in the first slots, and free slots behind them
+behind : {T : Type 0} (things : List (Option T)) (count slot : ℕ) → held (things ++ replicate count None) slot ≡ held things slot
+behind [] count slot = free count slot
+behind (thing ∷ things) count zero = refl
+behind (thing ∷ things) count (suc slot) = behind things count slot
+
+module _ (domain : Entry) (file : LoadFile) (first second third : KeyRec) where
+  abbrev tables : Tables
+  tables = record {
+    life = OpReady;
+    entries = vec_of (Some domain ∷ replicate 31 None) 32 refl (omega arith);
+    files = vec_of (Some file ∷ replicate 15 None) 16 refl (omega arith);
+    keys = vec_of (Some first ∷ Some second ∷ Some third ∷ replicate 45 None) 48 refl (omega arith);
+    objects = vec_of (replicate 16 None) 16 refl (omega arith);
+  }
+
+  in_first : HasFirst tables OpReady (Some domain ∷ []) (Some file ∷ []) (Some first ∷ Some second ∷ Some third ∷ []) []
+  in_first = record {
+    slots = record { entries = refl; files = refl; keys = refl; objects = refl };
+    life = refl;
+    entries = behind (Some domain ∷ []) 31;
+    files = behind (Some file ∷ []) 15;
+    keys = behind (Some first ∷ Some second ∷ Some third ∷ []) 45;
+    objects = behind [] 16;
+  }
+
+  is_factory : domain ≡ factory_entry → file ≡ factory_file → IsFactoryKey 1 first → IsFactoryKey 2 second → IsFactoryKey 3 third → IsFactory tables
+  is_factory is_domain is_file is_first is_second is_third = record {
+    life = refl;
+    entries = ap (λ (entry : Entry). Some entry ∷ replicate 31 None) is_domain;
+    files = ap (λ (one : LoadFile). Some one ∷ replicate 15 None) is_file;
+    first = first;
+    second = second;
+    third = third;
+    first_key = is_first;
+    second_key = is_second;
+    third_key = is_third;
+    keys = refl;
+    objects = refl;
+  }
+
+-- the tables of the factory card are a card's
+factory_card : (load : ℕ → List ℕ) (t : Tables) → IsFactory t → IsCard load t
+unfolding IsDistinct
+factory_card load t is = record {
+  layout = factory_layout t is;
+  factory_file = rw is.files (refl, refl);
+  files = rw is.files (All-cons IsInLoadPages factory_file [] (record { size = omega arith; pages = All-nil IsLoadPage }) (All-nil IsInLoadPages));
+  apart = rw is.files tt;
+  said = factory_registry;
+  says = factory_says load t is;
+  well = factory_well;
+}
+
+pub returns-clause-keeps : goal.returns-clause-keeps
+returns-clause-keeps g c told =
+    let load = load_page (g.F.Flash.pages c.lay_out.new.flash) in
+    let domain = c.issuer_domain.result in
+    let file = c.factory_file.result in
+    let first = c.factory_key.result in
+    let second = c.factory_key-2.result in
+    let third = c.factory_key-3.result in
+    let t = tables domain file first second third in
+    let is = is_factory domain file first second third c.issuer_domain.ensures c.factory_file.ensures c.factory_key.ensures c.factory_key-2.ensures c.factory_key-3.ensures in
+    c.lay_out.ensures.keeps told t factory_registry (in_first domain file first second third) (factory_card load t is) (factory_says load t is)
