@@ -4,6 +4,7 @@ use policy_rules::Rule;
 use std::test::Fail;
 
 mod endings;
+mod formatted;
 mod sessions;
 
 /// In the place of a rule: the command is accepted.

@@ -10,6 +10,8 @@ use flash_core::{Flash, FuseFlash, MemFlash, OnceFlash, Page};
 use std::alloc::Global;
 use std::test::Fail;
 
+mod laid_out;
+
 /// The Issuer Security Domain, in its slot.
 const ISSUER: [u8; 43] = [
     0x01, 0x08, 0xA0, 0x00, 0x00, 0x01, 0x51, 0x00, 0x00, 0x00, 0, 0, 0, 0, 0, 0, 0, 0, 0x00, 0x00,
