@@ -1,10 +1,12 @@
-use crate::Card;
+use self::cards::{answer, new_card, reset};
 use arrayvec::ArrayVec;
 use policy_rules::Rule;
 use std::test::Fail;
 
+mod cards;
 mod endings;
 mod formatted;
+mod power;
 mod sessions;
 
 /// In the place of a rule: the command is accepted.
@@ -45,15 +47,15 @@ fn answers_commands(rt: HostRuntime) -> Result<(), Fail> {
         (b"\x00\x70\x80\x01", DONE, b"\x62\x00"),
         (b"\x81\xCA\x00\xE0", "G3", b"\x68\x81"),
     ];
-    let mut card = Card::factory(rt.alloc())?;
+    let mut card = new_card(rt.alloc())?;
     let mut reply = ArrayVec::new();
     for (command, rule, wanted) in turns {
-        let found = card.process(command, &mut reply);
+        let found = answer(&mut card, command, &mut reply)?;
         assert_eq!(rt; name(found), rule, "{command:?}");
         assert_eq!(rt; reply.as_slice(), wanted, "{command:?}");
     }
-    card.reset();
-    assert_eq!(rt; card.process(b"\x00\xA4\x04\x00", &mut reply), None);
+    reset(&mut card)?;
+    assert_eq!(rt; answer(&mut card, b"\x00\xA4\x04\x00", &mut reply)?, None);
     assert!(rt; card_types::in_slot(&card.tables().entries, 0).is_some());
     Ok(())
 }

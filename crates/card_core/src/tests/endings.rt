@@ -2,8 +2,8 @@
 // script over the CMAC and the AES of OpenSSL.
 
 use super::DONE;
+use super::cards::{new_card, reset};
 use super::sessions::{OFFERED, Turn, UPDATE, miss};
-use crate::Card;
 use std::test::Fail;
 
 /// EXTERNAL AUTHENTICATE at level 33: it answers the offer of a new card.
@@ -224,7 +224,7 @@ const UNKNOWN: &[Turn] = &[
 #[test]
 fn sessions_end(rt: HostRuntime) -> Result<(), Fail> {
     for turns in ENDINGS {
-        let mut card = Card::factory(rt.alloc())?;
+        let mut card = new_card(rt.alloc())?;
         assert_eq!(rt; miss(&mut card, BEGUN), None);
         assert_eq!(rt; miss(&mut card, turns), None, "{turns:?}");
         assert_eq!(rt;
@@ -239,7 +239,7 @@ fn sessions_end(rt: HostRuntime) -> Result<(), Fail> {
 #[test]
 fn sessions_stay(rt: HostRuntime) -> Result<(), Fail> {
     for turns in LEAVINGS {
-        let mut card = Card::factory(rt.alloc())?;
+        let mut card = new_card(rt.alloc())?;
         assert_eq!(rt; miss(&mut card, BEGUN), None);
         assert_eq!(rt; miss(&mut card, turns), None, "{turns:?}");
         assert_eq!(rt;
@@ -254,7 +254,7 @@ fn sessions_stay(rt: HostRuntime) -> Result<(), Fail> {
 #[test]
 fn offers_are_lost(rt: HostRuntime) -> Result<(), Fail> {
     for turns in LOSSES {
-        let mut card = Card::factory(rt.alloc())?;
+        let mut card = new_card(rt.alloc())?;
         assert_eq!(rt; miss(&mut card, &[(UPDATE, DONE, OFFERED)]), None);
         assert_eq!(rt; miss(&mut card, turns), None, "{turns:?}");
         assert_eq!(rt;
@@ -268,7 +268,7 @@ fn offers_are_lost(rt: HostRuntime) -> Result<(), Fail> {
 
 #[test]
 fn offers_stay(rt: HostRuntime) -> Result<(), Fail> {
-    let mut card = Card::factory(rt.alloc())?;
+    let mut card = new_card(rt.alloc())?;
     assert_eq!(rt; miss(&mut card, &[(UPDATE, DONE, OFFERED)]), None);
     assert_eq!(rt; miss(&mut card, UNKNOWN), None);
     assert_eq!(rt; miss(&mut card, &[(ANSWER, DONE, b"9000")]), None);
@@ -290,7 +290,7 @@ fn a_padding_alone_is_opened(rt: HostRuntime) -> Result<(), Fail> {
             b"556b30765a3ba23331e3d525037aed6c3d023ed46c628f8d7548cf013866de836801c4991ec64fb39000",
         ),
     ];
-    let mut card = Card::factory(rt.alloc())?;
+    let mut card = new_card(rt.alloc())?;
     assert_eq!(rt; miss(&mut card, BEGUN), None);
     assert_eq!(rt; miss(&mut card, &turns), None);
     Ok(())
@@ -303,14 +303,14 @@ fn reset_ends_all(rt: HostRuntime) -> Result<(), Fail> {
         (b"80ca00c1", DONE, b"c1030000019000"),
         (b"81ca00c1", "G3", b"6881"),
     ];
-    let mut card = Card::factory(rt.alloc())?;
+    let mut card = new_card(rt.alloc())?;
     assert_eq!(rt; miss(&mut card, &[(b"00700000", DONE, b"019000")]), None);
     assert_eq!(rt; miss(&mut card, BEGUN), None);
-    card.reset();
+    reset(&mut card)?;
     assert_eq!(rt; miss(&mut card, &after), None);
-    let mut card = Card::factory(rt.alloc())?;
+    let mut card = new_card(rt.alloc())?;
     assert_eq!(rt; miss(&mut card, &[(UPDATE, DONE, OFFERED)]), None);
-    card.reset();
+    reset(&mut card)?;
     assert_eq!(rt; miss(&mut card, &[(ANSWER, "EA1", b"6985")]), None);
     Ok(())
 }

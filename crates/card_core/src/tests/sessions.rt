@@ -1,9 +1,11 @@
 // Sessions with the factory keys, the host challenge 00 to 07 and the selected AID A000000151000000. All values were
 // computed apart from this project, by a script over the CMAC and the AES of OpenSSL.
 
+use super::cards::{answer, new_card};
 use super::{DONE, name};
 use crate::Card;
 use arrayvec::ArrayVec;
+use flash_core::MemFlash;
 use std::test::Fail;
 
 /// A command in digits, the rule that refuses it or DONE, and its whole reply in digits.
@@ -237,10 +239,12 @@ fn bytes(digits: &[u8]) -> ArrayVec<u8, 261> {
 }
 
 /// Gives commands to a card, up to the first that it doesn't answer so: the number of that one.
-pub(super) fn miss(card: &mut Card, turns: &[Turn]) -> Option<usize> {
+pub(super) fn miss(card: &mut Card<MemFlash>, turns: &[Turn]) -> Option<usize> {
     let mut reply = ArrayVec::new();
     for (number, (command, rule, wanted)) in turns.iter().enumerate() {
-        let found = card.process(&bytes(command), &mut reply);
+        let Ok(found) = answer(card, &bytes(command), &mut reply) else {
+            return Some(number);
+        };
         if name(found) != *rule || reply.as_slice() != bytes(wanted).as_slice() {
             return Some(number);
         }
@@ -251,7 +255,7 @@ pub(super) fn miss(card: &mut Card, turns: &[Turn]) -> Option<usize> {
 #[test]
 fn transcripts_at_each_level(rt: HostRuntime) -> Result<(), Fail> {
     for turns in TRANSCRIPTS {
-        let mut card = Card::factory(rt.alloc())?;
+        let mut card = new_card(rt.alloc())?;
         assert_eq!(rt; miss(&mut card, &[(UPDATE, DONE, OFFERED)]), None);
         assert_eq!(rt; miss(&mut card, turns), None, "{turns:?}");
     }
@@ -261,7 +265,7 @@ fn transcripts_at_each_level(rt: HostRuntime) -> Result<(), Fail> {
 #[test]
 fn offers_and_channels(rt: HostRuntime) -> Result<(), Fail> {
     for turns in [CHANNELS, CLOSED, OFFERS] {
-        let mut card = Card::factory(rt.alloc())?;
+        let mut card = new_card(rt.alloc())?;
         assert_eq!(rt; miss(&mut card, turns), None, "{turns:?}");
     }
     Ok(())
@@ -270,10 +274,10 @@ fn offers_and_channels(rt: HostRuntime) -> Result<(), Fail> {
 /// The sequence counter of the last offer is 000100.
 #[test]
 fn the_counter_rises_by_one(rt: HostRuntime) -> Result<(), Fail> {
-    let mut card = Card::factory(rt.alloc())?;
+    let mut card = new_card(rt.alloc())?;
     let mut reply = ArrayVec::new();
     for _ in 0..256 {
-        assert_eq!(rt; card.process(&bytes(UPDATE), &mut reply), None);
+        assert_eq!(rt; answer(&mut card, &bytes(UPDATE), &mut reply)?, None);
     }
     let offered: Turn = (
         UPDATE,
@@ -292,13 +296,13 @@ fn the_longest_field_is_opened(rt: HostRuntime) -> Result<(), Fail> {
         (b"848201001076857f0738ab14222d8dc8e0cddd3b2a", DONE, b"9000"),
     ];
     let next: Turn = (b"84ca00c108d198efdf5fecd283", DONE, b"c1030000019000");
-    let mut card = Card::factory(rt.alloc())?;
+    let mut card = new_card(rt.alloc())?;
     assert_eq!(rt; miss(&mut card, &begun), None);
     let mut command: ArrayVec<u8, 261> = bytes(b"84ca00c1ff");
     command.try_extend_from_slice(&[0; 247])?;
     command.try_extend_from_slice(&bytes(b"498f91e98a68fe04"))?;
     let mut reply = ArrayVec::new();
-    assert_eq!(rt; name(card.process(&command, &mut reply)), "S");
+    assert_eq!(rt; name(answer(&mut card, &command, &mut reply)?), "S");
     assert_eq!(rt; reply.as_slice(), b"\x6a\x80".as_slice());
     assert_eq!(rt; miss(&mut card, &[next]), None);
     Ok(())
