@@ -16,9 +16,8 @@ ghost use Rattle.rec_store.specs.Reopens.{Reopens, ReopensAsOne};
 
 use crate::held::Held;
 use crate::power::{PowerCause, PowerError};
-use crate::reply::{REPLY_LIMIT, write_status};
+use crate::reply::{REPLY_LIMIT, write_failure};
 use crate::serve::serve;
-use apdu_core::Status;
 use arrayvec::ArrayVec;
 use card_types::Tables;
 use flash_core::{Flash, FlashFailed};
@@ -26,9 +25,6 @@ use policy_rules::{CHANNELS, Live, Rule};
 use rec_store::Records;
 use std::alloc::Global;
 use std::marker::Model;
-
-/// The status word of a command that the device cut off.
-const FAILED: Status = Status(0x6581);
 
 /// A card: its registry, which a device keeps, and its volatile state.
 #[derive(Drop)]
@@ -118,8 +114,7 @@ impl<F: Flash> Card<F> {
             Ok(()) => Ok(rule),
             Err(failed) => {
                 self.up = false;
-                reply.clear();
-                write_status(FAILED, reply);
+                write_failure(reply);
                 Err(failed)
             }
         }

@@ -17,3 +17,11 @@ pub fn write_status(status: Status, reply: &mut ArrayVec<u8, REPLY_LIMIT>)
 {
     reply.try_extend_from_slice(&status.to_bytes()).unwrap();
 }
+
+/// Makes a reply that of a command which the device cut off.
+pub fn write_failure(reply: &mut ArrayVec<u8, REPLY_LIMIT>)
+    ensures written { reply.new.items ≡ status_bytes 0x6581 }
+{
+    reply.clear();
+    write_status(Status(0x6581), reply);
+}
