@@ -1,6 +1,7 @@
 //! An interpreter of scripts, which knows the commands that the card has: what each line sends to a card, by the
 //! host, and what it prints.
 
+mod card;
 mod channel;
 mod form;
 mod host;
@@ -8,14 +9,16 @@ mod outcome;
 
 use apdu_core::{Command, Reply, Status};
 use arrayvec::ArrayVec;
-use card_core::{Card, REPLY_LIMIT};
+use card::CardEnd;
+use card_core::REPLY_LIMIT;
 use card_types::Aid;
 use channel::Channel;
 use form::{Form, Line, Opening, Plain};
 use host::Host;
 use outcome::{Outcome, Text};
 use scp03_host::BeginRefusal;
-use std::alloc::{AllocError, Global};
+use std::alloc::Global;
+use std::test::Fail;
 
 const DONE: Status = Status(0x9000);
 
@@ -25,7 +28,7 @@ const LOCKED: Status = Status(0x6283);
 /// A host, and a card.
 #[derive(Drop)]
 pub struct Driver {
-    card: Card,
+    card: CardEnd,
     host: Host,
     channel: Channel,
     sent: ArrayVec<u8, 261>,
@@ -36,10 +39,10 @@ pub struct Driver {
 }
 
 impl Driver {
-    /// With a card as it leaves the factory. An error is want of memory.
-    pub fn new(alloc: Global) -> Result<Driver, AllocError> {
+    /// With a card as it leaves the factory.
+    pub fn new(alloc: Global) -> Result<Driver, Fail> {
         Ok(Driver {
-            card: Card::factory(alloc)?,
+            card: CardEnd::new(alloc)?,
             host: Host::new(),
             channel: Channel::Basic,
             sent: ArrayVec::new(),
@@ -92,7 +95,7 @@ impl Driver {
     }
 
     fn transmit(&mut self) {
-        self.card.process(&self.sent, &mut self.reply);
+        self.card.answer(&self.sent, &mut self.reply);
     }
 
     fn select(&mut self, aid: &Option<Aid>) -> Outcome {
@@ -188,7 +191,7 @@ impl Driver {
         if spoiled {
             spoil_mac(self.sent.as_mut_slice());
         }
-        self.card.process(&self.sent, &mut self.reply);
+        self.card.answer(&self.sent, &mut self.reply);
         let mut field = ArrayVec::new();
         match session.unwrap(&self.reply, &mut field) {
             Ok(status) => Outcome::Reply { field, status },
