@@ -40,7 +40,7 @@ fn played(alloc: Global, flash: FuseFlash<MemFlash>) -> Result<(u8, MemFlash), F
 /// The counter is that of the commands that were answered, or of one more.
 #[test]
 fn power_is_lost_at_each_call(rt: HostRuntime) -> Result<(), Fail> {
-    let mut whole = 0;
+    let mut is_played = false;
     for calls in 0..90u64 {
         for seed in 0..3u64 {
             let (answered, mut flash) = played(
@@ -54,12 +54,10 @@ fn power_is_lost_at_each_call(rt: HostRuntime) -> Result<(), Fail> {
             let counter = *reply.get(4).ok_or("a counter")?;
             let kept = counter == answered || answered < COMMANDS && counter == answered + 1;
             assert!(rt; kept, "{calls} {seed} {answered} {counter}");
-            if answered == COMMANDS {
-                whole += 1;
-            }
+            is_played = is_played || answered == COMMANDS;
         }
     }
-    assert!(rt; whole > 0, "{whole}");
+    assert!(rt; is_played);
     Ok(())
 }
 
