@@ -5,13 +5,14 @@
 #   bench/lines.sh         two measures: SELECT alone, and a mix of commands
 #   bench/lines.sh FILE    the lines of FILE instead
 #
-# The lines of a measure are repeated to 60 MB. TRIES says how many times each run is
-# timed, 3 if unset: more on a busy machine.
+# The lines of a measure are repeated to 60 MB, for a card that was just formatted. TRIES
+# says how many times each run is timed, 3 if unset: more on a busy machine.
 set -euo pipefail
 
 here=$(dirname "$(readlink -f "${BASH_SOURCE[0]}")")
 gp=$here/../crates/gp/out/gp
 tries=${TRIES:-3}
+file=${1:+$(readlink -f "$1")}
 
 # The program takes fewer than 67,108,864 bytes, so the whole input stays below that.
 readonly whole_bytes=60000000
@@ -116,8 +117,12 @@ peak() {
 "$here/../gp" >/dev/null || (($? == 1))
 gcc -std=c99 -O2 -o "$tmp/lines" "$here/lines.c"
 
-if (($# > 0)); then
-    measure "$1" none <"$1"
+# The card stands in the folder that the program starts in.
+cd "$tmp"
+"$gp" format
+
+if [[ -n $file ]]; then
+    measure "$1" none <"$file"
 else
     measure "SELECT" "at least 0.5" <<<00A4040008A000000151000000
     echo

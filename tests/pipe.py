@@ -7,6 +7,7 @@ import os
 import select
 import subprocess
 import sys
+import tempfile
 import time
 
 # Each line that is sent, and the reply that must come. The card is behind the last line
@@ -66,14 +67,16 @@ def talk(program):
 def main():
     if not os.access(PROGRAM, os.X_OK):
         fail(f"{PROGRAM} is not built: ./gp builds it")
-    pipes = dict.fromkeys(("stdin", "stdout", "stderr"), subprocess.PIPE)
-    with subprocess.Popen([PROGRAM, "run"], bufsize=0, **pipes) as program:
-        try:
-            talk(program)
-        except BrokenPipeError:
-            fail("the program took no more lines")
-        finally:
-            program.kill()
+    with tempfile.TemporaryDirectory() as folder:
+        subprocess.run([PROGRAM, "format"], cwd=folder, check=True)
+        pipes = dict.fromkeys(("stdin", "stdout", "stderr"), subprocess.PIPE)
+        with subprocess.Popen([PROGRAM, "run"], bufsize=0, cwd=folder, **pipes) as program:
+            try:
+                talk(program)
+            except BrokenPipeError:
+                fail("the program took no more lines")
+            finally:
+                program.kill()
 
 
 main()
