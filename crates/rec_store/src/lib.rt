@@ -18,7 +18,9 @@
 //!  5. While changes are committed, power lost leaves the registry from before or the one with all changes (`commit`,
 //!     `moments`), and once they are, the latter (`commit`, `keeps`).
 //!  6. A load page that no Executable Load File has may be written, and power lost leaves the registry (`write_load`).
-//!  7. A call fails only where the device's count of faults rose (`cause` on each call, and `mount`, `err`).
+//!  7. A card is laid out on a device whatever the device held, and once it is, power lost leaves the registry of its tables
+//!     (`lay_out`, `keeps`). No load page is written (`lay_out`, `load`).
+//!  8. A call fails only where the device's count of faults rose (`cause` on each call, and `mount`, `err`).
 #![tactic(auto)]
 
 mod bytes;
