@@ -6,11 +6,12 @@ use Rattle.io_edge.specs.Faults.{Rose}
 use Rattle.io_edge.specs.Lines.{IsLine, IsCut}
 use Rattle.io_edge.specs.declared.line.TheConstants.{INPUT_LIMIT}
 use Rattle.policy_rules.specs.State.{State}
+use Rattle.policy_rules.specs.Step.{Outcome}
 use Rattle.gp_tool.proofs.ComeFirst.{lines_come, shrinks}
-use Rattle.gp_tool.specs.Ends.{Outside, Reached, Ends, EndCause, IsBad, room_for}
+use Rattle.gp_tool.specs.Ends.{Outside, Reached, Ends, EndCause, Faults, IsBad, room_for}
 use Rattle.gp_tool.specs.Good.{AreGood, IsGood}
 use Rattle.gp_tool.specs.declared.ending.Ending.{Ending}
-use Rattle.gp_tool.specs.declared.ending.Ending.TheVariants.{Finished, BadLine, ReadFault, WriteFault, InputTooLong}
+use Rattle.gp_tool.specs.declared.ending.Ending.TheVariants.{Finished, BadLine, FlashFault, ReadFault, WriteFault, InputTooLong}
 
 good_after : (given : List (List ℕ)) (line : List ℕ) (more : List (List ℕ)) → AreGood (given ++ line ∷ more) → IsGood line
 good_after [] line more good = good.0
@@ -48,15 +49,16 @@ never_bad input given ahead reached good short (line, inr long) =
       | inr cut ↦ never_cut input given ahead line reached short cut
     ]
 
-pub finishes : (reads writes : Type 0) (first : State) (ending : Ending) (before later : Outside) (taken taken' given given' : ℕ)
-    → EndCause ending taken taken' given given' → Ends reads writes first ending before later → reads
-    → AreGood (lines before.left) → length before.left < INPUT_LIMIT → (Rose taken taken' → ⊥) → (Rose given given' → ⊥)
-    → ending ≡ Finished
-finishes reads writes first Finished before later taken taken' given given' cause ends told good short no_read no_write = refl
-finishes reads writes first BadLine before later taken taken' given given' cause ends told good short no_read no_write =
-    absurd (never_bad before.left ends.given ends.ahead (ends.reached told) good short (ends.bad told))
-finishes reads writes first ReadFault before later taken taken' given given' cause ends told good short no_read no_write = absurd (no_read cause)
-finishes reads writes first WriteFault before later taken taken' given given' cause ends told good short no_read no_write = absurd (no_write cause.1)
-finishes reads writes first InputTooLong before later taken taken' given given' cause ends told good short no_read no_write =
-    let cut = ends.cut told in
-    absurd (never_cut before.left ends.given ends.ahead cut.0 (ends.reached told) short cut.1)
+module _ (reads writes : Type 0) (Rests : List Outcome → State → Type 0) (Fails : List Outcome → State → Outcome → Type 0) (first : State) (before later : Outside) (old new : Faults) where
+  pub finishes : (ending : Ending) → EndCause ending old new → Ends reads writes Rests Fails first ending before later → reads
+      → AreGood (lines before.left) → length before.left < INPUT_LIMIT
+      → (Rose old.source new.source → ⊥) → (Rose old.sink new.sink → ⊥) → (Rose old.device new.device → ⊥) → ending ≡ Finished
+  finishes Finished cause ends told good short no_read no_write no_flash = refl
+  finishes BadLine cause ends told good short no_read no_write no_flash =
+      absurd (never_bad before.left ends.given ends.ahead (ends.reached told) good short (ends.bad told))
+  finishes FlashFault cause ends told good short no_read no_write no_flash = absurd (no_flash cause.2)
+  finishes ReadFault cause ends told good short no_read no_write no_flash = absurd (no_read cause)
+  finishes WriteFault cause ends told good short no_read no_write no_flash = absurd (no_write cause.1)
+  finishes InputTooLong cause ends told good short no_read no_write no_flash =
+      let cut = ends.cut told in
+      absurd (never_cut before.left ends.given ends.ahead cut.0 (ends.reached told) short cut.1)

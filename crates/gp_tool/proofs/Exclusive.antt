@@ -9,13 +9,13 @@ use Rattle.policy_rules.specs.Step.{Outcome}
 use Rattle.gp_tool.proofs.ComeFirst.{room_further, room_left, room_whole}
 use Rattle.gp_tool.proofs.Complete.{never_bad, never_cut}
 use Rattle.gp_tool.proofs.OneText.{plays_once}
-use Rattle.gp_tool.specs.Ends.{AreShort, ComeFirst, Course, Ends, IsBad, Outside}
+use Rattle.gp_tool.specs.Ends.{AreShort, ComeFirst, Course, IsBad, Outside}
 use Rattle.gp_tool.specs.Form.{AreSpelled, Spells}
 use Rattle.gp_tool.specs.Good.{AreGood, IsGood}
-use Rattle.gp_tool.specs.Laws.{IsFaultless}
+use Rattle.gp_tool.specs.Laws.{EndsTold, IsFaultless}
 use Rattle.gp_tool.specs.Plays.{Plays, bad_line, text_of}
 use Rattle.gp_tool.specs.declared.ending.Ending.{Ending}
-use Rattle.gp_tool.specs.declared.ending.Ending.TheVariants.{Finished, BadLine, ReadFault, WriteFault, InputTooLong}
+use Rattle.gp_tool.specs.declared.ending.Ending.TheVariants.{Finished, BadLine, FlashFault, ReadFault, WriteFault, InputTooLong}
 
 good_spelled : (given : List (List ℕ)) (inputs : List Input) → AreSpelled given inputs → AreShort given → AreGood given
 good_spelled [] inputs spelled short = tt
@@ -88,13 +88,10 @@ halts_once room input (line ∷ given) (other ∷ others) ahead another halts ag
     (subst (λ (bytes : List ℕ). HaltsBehind (room_left room input bytes) bytes others another) (sym same.1) further) in
     (ap (λ l. l ∷ given) same.0 ∙ ap (λ ls. other ∷ ls) more.0, more.1)
 
-abbrev Told : Type 0
-Told = Unit {0}
-
-halts_bad : (first : State) (old new : Outside) (ends : Ends Told Told first BadLine old new) → HaltsBehind INPUT_LIMIT old.left ends.given ends.ahead
+halts_bad : (first : State) (old new : Outside) (ends : EndsTold first BadLine old new) → HaltsBehind INPUT_LIMIT old.left ends.given ends.ahead
 halts_bad first old new ends = (ends.reached tt, are_good first ends.given ends.outcomes ends.state ends.course, inl (ends.bad tt))
 
-halts_cut : (first : State) (old new : Outside) (ends : Ends Told Told first InputTooLong old new) → HaltsBehind INPUT_LIMIT old.left ends.given ends.ahead
+halts_cut : (first : State) (old new : Outside) (ends : EndsTold first InputTooLong old new) → HaltsBehind INPUT_LIMIT old.left ends.given ends.ahead
 halts_cut first old new ends = (ends.reached tt, are_good first ends.given ends.outcomes ends.state ends.course, inr (ends.cut tt))
 
 -- the same lines, the same outcomes
@@ -104,16 +101,16 @@ outcomes_once first given others some more last another course other same =
     let played = plays_once first others some more last another (subst (λ (ls : List (List ℕ)). Plays first ls some last) same course.plays) other.plays in
     played.0
 
-no_bad_end : (first : State) (old new other : Outside) → Ends Told Told first Finished old new → Ends Told Told first BadLine old other → ⊥
+no_bad_end : (first : State) (old new other : Outside) → EndsTold first Finished old new → EndsTold first BadLine old other → ⊥
 no_bad_end first old new other done bad =
     never_bad old.left bad.given bad.ahead (bad.reached tt) (rw (done.all tt) (are_good first done.given done.outcomes done.state done.course)) (done.short tt) (bad.bad tt)
 
-no_cut_end : (first : State) (old new other : Outside) → Ends Told Told first Finished old new → Ends Told Told first InputTooLong old other → ⊥
+no_cut_end : (first : State) (old new other : Outside) → EndsTold first Finished old new → EndsTold first InputTooLong old other → ⊥
 no_cut_end first old new other done cut =
     let is_cut = cut.cut tt in
     never_cut old.left cut.given cut.ahead is_cut.0 (cut.reached tt) (done.short tt) is_cut.1
 
-no_bad_cut : (first : State) (old new other : Outside) → Ends Told Told first BadLine old new → Ends Told Told first InputTooLong old other → ⊥
+no_bad_cut : (first : State) (old new other : Outside) → EndsTold first BadLine old new → EndsTold first InputTooLong old other → ⊥
 no_bad_cut first old new other bad cut =
     let same = halts_once INPUT_LIMIT old.left bad.given cut.given bad.ahead cut.ahead (halts_bad first old new bad) (halts_cut first old other cut) in
     bad_not_cut (room_left INPUT_LIMIT old.left cut.ahead) cut.ahead
@@ -121,7 +118,7 @@ no_bad_cut first old new other bad cut =
 
 -- they end alike, and have written the same
 pub ends_once : (first : State) (ending another : Ending) (old new other : Outside) → IsFaultless ending → IsFaultless another
-    → Ends Told Told first ending old new → Ends Told Told first another old other → (ending ≡ another) × (new.written ≡ other.written)
+    → EndsTold first ending old new → EndsTold first another old other → (ending ≡ another) × (new.written ≡ other.written)
 ends_once first Finished Finished old new other clean clear done again =
     let given = sym (done.all tt) ∙ again.all tt in
     let outcomes = outcomes_once first done.given again.given done.outcomes again.outcomes done.state again.state done.course again.course given in
@@ -143,7 +140,9 @@ ends_once first InputTooLong InputTooLong old new other clean clear cut again =
     let same = halts_once INPUT_LIMIT old.left cut.given again.given cut.ahead again.ahead (halts_cut first old new cut) (halts_cut first old other again) in
     let outcomes = outcomes_once first cut.given again.given cut.outcomes again.outcomes cut.state again.state cut.course again.course same.0 in
     (refl, cut.written tt ∙ ap (λ o. old.written ++ text_of o) outcomes ∙ sym (again.written tt))
+ends_once first FlashFault another old new other clean clear ends again = absurd clean
 ends_once first ReadFault another old new other clean clear ends again = absurd clean
 ends_once first WriteFault another old new other clean clear ends again = absurd clean
+ends_once first ending FlashFault old new other clean clear ends again = absurd clear
 ends_once first ending ReadFault old new other clean clear ends again = absurd clear
 ends_once first ending WriteFault old new other clean clear ends again = absurd clear

@@ -1,125 +1,195 @@
 -- A run behind its flush.
-use Rattle.std.proofs.Common.{◌≡◌, ℕ, ◌+◌, List, [], ◌++◌, length, take, refl, sym, ap, ◌∙◌, inl, inr}
+use Rattle.std.proofs.Common.{◌≡◌, ◌⊎◌, ℕ, ◌+◌, List, [], ◌∷◌, ◌++◌, length, take, refl, sym, ap, ◌∙◌, inl, inr}
+use Rattle.std.proofs.lemmas.List.{append-nil}
 use Rattle.std.proofs.Math.Seq.{take-length}
 use Rattle.policy_rules.specs.State.{State}
-use Rattle.gp_tool.specs.Ends.{Ends, Flushes, Outside}
+use Rattle.policy_rules.specs.Step.{Outcome}
+use Rattle.gp_tool.proofs.PlaysMore.{text_more}
+use Rattle.gp_tool.specs.Ends.{Ends, Flushes, IsText, Outside}
 use Rattle.gp_tool.specs.Flush.{AfterFlush}
-use Rattle.gp_tool.specs.Plays.{bad_line, text_of}
+use Rattle.gp_tool.specs.Plays.{bad_line, reply_line, text_of}
 use Rattle.gp_tool.specs.declared.ending.Ending.{Ending}
-use Rattle.gp_tool.specs.declared.ending.Ending.TheVariants.{Finished, BadLine, ReadFault, WriteFault, InputTooLong}
+use Rattle.gp_tool.specs.declared.ending.Ending.TheVariants.{Finished, BadLine, FlashFault, ReadFault, WriteFault, InputTooLong}
 
 -- what is left and written stays over a flush
 pub record IsLeft (writes : Type 0) (now later : Outside) : Type 0 where
   pub left : later.left ≡ now.left
   pub written : writes → later.written ≡ now.written
 
--- all of a text is a front of it
-front : (old text now : List ℕ) → now ≡ old ++ text → (count : ℕ) × (now ≡ old ++ take count text)
-front old text now written = (length text, written ∙ ap (λ t. old ++ t) (sym (take-length text)))
+-- a text before its last line, and that line
+record Split (outcomes : List Outcome) : Type 0 where
+  pub before : List ℕ
+  pub line : List ℕ
+  pub is_text : IsText outcomes before line
+  pub whole : text_of outcomes ≡ before ++ line
 
-pub after_flush : (reads writes : Type 0) (first : State) (ending result : Ending) (before now later : Outside) → IsLeft writes now later
-    → now.flushes ≡ before.flushes → AfterFlush writes ending before.flushes later.flushes later.written later.handed_on result
-    → Ends reads writes first ending before now → Ends reads writes first result before later
-after_flush reads writes first Finished result before now later left none (inl done) ends =
-    rw done.0 (record {
-      given = ends.given;
-      outcomes = ends.outcomes;
-      state = ends.state;
-      course = ends.course;
-      reached = ends.reached;
-      all = ends.all;
-      short = ends.short;
-      read = λ told. left.left ∙ ends.read told;
-      written = λ told. left.written told ∙ ends.written told;
-    })
-after_flush reads writes first Finished result before now later left none (inr fault) ends =
-    rw fault.0 (record {
-      given = ends.given;
-      outcomes = ends.outcomes;
-      state = ends.state;
-      ahead = [];
-      whole = text_of ends.outcomes;
-      course = ends.course;
-      reached = ends.reached;
-      is_whole = inl refl;
-      written = λ told. front before.written (text_of ends.outcomes) later.written (left.written told ∙ ends.written told);
-      flushes = inr (fault.1, λ told. left.written told ∙ ends.written told);
-    })
-after_flush reads writes first BadLine result before now later left none (inl done) ends =
-    rw done.0 (record {
-      given = ends.given;
-      outcomes = ends.outcomes;
-      state = ends.state;
-      ahead = ends.ahead;
-      course = ends.course;
-      reached = ends.reached;
-      bad = ends.bad;
-      written = λ told. left.written told ∙ ends.written told;
-    })
-after_flush reads writes first BadLine result before now later left none (inr fault) ends =
-    let text : List ℕ = text_of ends.outcomes ++ bad_line (length ends.given + 1) in
-    rw fault.0 (record {
-      given = ends.given;
-      outcomes = ends.outcomes;
-      state = ends.state;
-      ahead = ends.ahead;
-      whole = text;
-      course = ends.course;
-      reached = ends.reached;
-      is_whole = inr (ends.bad, refl);
-      written = λ told. front before.written text later.written (left.written told ∙ ends.written told);
-      flushes = inr (fault.1, λ told. left.written told ∙ ends.written told);
-    })
-after_flush reads writes first InputTooLong result before now later left none (inl done) ends =
-    rw done.0 (record {
-      given = ends.given;
-      outcomes = ends.outcomes;
-      state = ends.state;
-      ahead = ends.ahead;
-      course = ends.course;
-      reached = ends.reached;
-      cut = ends.cut;
-      written = λ told. left.written told ∙ ends.written told;
-    })
-after_flush reads writes first InputTooLong result before now later left none (inr fault) ends =
-    rw fault.0 (record {
-      given = ends.given;
-      outcomes = ends.outcomes;
-      state = ends.state;
-      ahead = ends.ahead;
-      whole = text_of ends.outcomes;
-      course = ends.course;
-      reached = ends.reached;
-      is_whole = inl refl;
-      written = λ told. front before.written (text_of ends.outcomes) later.written (left.written told ∙ ends.written told);
-      flushes = inr (fault.1, λ told. left.written told ∙ ends.written told);
-    })
-after_flush reads writes first ReadFault result before now later left none done ends =
-    rw done.0 (record {
-      given = ends.given;
-      outcomes = ends.outcomes;
-      state = ends.state;
-      held = ends.held;
-      course = ends.course;
-      reached = λ told. rw left.left (ends.reached told);
-      no_line = ends.no_line;
-      short = ends.short;
-      within = λ told. rw left.left (ends.within told);
-      written = λ told. left.written told ∙ ends.written told;
-    })
-after_flush reads writes first WriteFault result before now later left none done ends =
-    rw done.0 (record {
-      given = ends.given;
-      outcomes = ends.outcomes;
-      state = ends.state;
-      ahead = ends.ahead;
-      whole = ends.whole;
-      course = ends.course;
-      reached = ends.reached;
-      is_whole = ends.is_whole;
-      written = λ told. (let part = ends.written told in (part.0, left.written told ∙ part.1));
-      flushes = inl done.1;
-    })
+-- the same, of one outcome more
+split_more : (first : Outcome) (outcomes : List Outcome) → Split outcomes → Split (first ∷ outcomes)
+split_more first outcomes split = elim split.is_text [
+  | inl none ↦
+      record {
+        before = [];
+        line = reply_line first;
+        is_text = inr ([], first, ap (λ more. first ∷ more) none.0, refl, refl);
+        whole = ap (λ more. reply_line first ++ text_of more) none.0 ∙ append-nil (reply_line first);
+      }
+  | inr some ↦
+      record {
+        before = text_of (first ∷ some.0);
+        line = reply_line some.1;
+        is_text = inr (first ∷ some.0, some.1, ap (λ more. first ∷ more) some.2, refl, refl);
+        whole = ap (λ more. text_of (first ∷ more)) some.2 ∙ text_more (first ∷ some.0) (some.1 ∷ []) ∙ ap (λ line. text_of (first ∷ some.0) ++ line) (append-nil (reply_line some.1));
+      }
+]
+
+split : (outcomes : List Outcome) → Split outcomes
+split [] = record { before = []; line = []; is_text = inl (refl, refl, refl); whole = refl }
+split (first ∷ outcomes) = split_more first outcomes (split outcomes)
+
+-- all of a line is a front of it
+front : (old before line now : List ℕ) → now ≡ old ++ (before ++ line) → (count : ℕ) × (now ≡ old ++ (before ++ take count line))
+front old before line now written = (length line, written ∙ ap (λ t. old ++ (before ++ t)) (sym (take-length line)))
+
+module _ (reads writes : Type 0) (Rests : List Outcome → State → Type 0) (Fails : List Outcome → State → Outcome → Type 0) (first : State) (before now later : Outside) (left : IsLeft writes now later) where
+  pub after_flush : (ending result : Ending) → AfterFlush writes ending before.flushes later.flushes later.written later.handed_on result
+      → now.flushes ≡ before.flushes → Ends reads writes Rests Fails first ending before now → Ends reads writes Rests Fails first result before later
+  after_flush Finished result (inl done) none ends =
+      rw done.0 (record {
+        given = ends.given;
+        outcomes = ends.outcomes;
+        state = ends.state;
+        course = ends.course;
+        reached = ends.reached;
+        all = ends.all;
+        short = ends.short;
+        read = λ told. left.left ∙ ends.read told;
+        written = λ told. left.written told ∙ ends.written told;
+        device = ends.device;
+      })
+  after_flush Finished result (inr fault) none ends =
+      let text = split ends.outcomes in
+      let written : writes → later.written ≡ before.written ++ (text.before ++ text.line)
+      = λ told. left.written told ∙ ends.written told ∙ ap (λ t. before.written ++ t) text.whole in
+      rw fault.0 (record {
+        given = ends.given;
+        outcomes = ends.outcomes;
+        state = ends.state;
+        ahead = [];
+        before = text.before;
+        line = text.line;
+        course = ends.course;
+        reached = ends.reached;
+        is_text = inl text.is_text;
+        written = λ told. front before.written text.before text.line later.written (written told);
+        flushes = inr (fault.1, written);
+        device = ends.device;
+      })
+  after_flush BadLine result (inl done) none ends =
+      rw done.0 (record {
+        given = ends.given;
+        outcomes = ends.outcomes;
+        state = ends.state;
+        ahead = ends.ahead;
+        course = ends.course;
+        reached = ends.reached;
+        bad = ends.bad;
+        written = λ told. left.written told ∙ ends.written told;
+        device = ends.device;
+      })
+  after_flush BadLine result (inr fault) none ends =
+      let line : List ℕ = bad_line (length ends.given + 1) in
+      let written : writes → later.written ≡ before.written ++ (text_of ends.outcomes ++ line) = λ told. left.written told ∙ ends.written told in
+      rw fault.0 (record {
+        given = ends.given;
+        outcomes = ends.outcomes;
+        state = ends.state;
+        ahead = ends.ahead;
+        before = text_of ends.outcomes;
+        line = line;
+        course = ends.course;
+        reached = ends.reached;
+        is_text = inr (ends.bad, refl, refl);
+        written = λ told. front before.written (text_of ends.outcomes) line later.written (written told);
+        flushes = inr (fault.1, written);
+        device = ends.device;
+      })
+  after_flush InputTooLong result (inl done) none ends =
+      rw done.0 (record {
+        given = ends.given;
+        outcomes = ends.outcomes;
+        state = ends.state;
+        ahead = ends.ahead;
+        course = ends.course;
+        reached = ends.reached;
+        cut = ends.cut;
+        written = λ told. left.written told ∙ ends.written told;
+        device = ends.device;
+      })
+  after_flush InputTooLong result (inr fault) none ends =
+      let text = split ends.outcomes in
+      let written : writes → later.written ≡ before.written ++ (text.before ++ text.line)
+      = λ told. left.written told ∙ ends.written told ∙ ap (λ t. before.written ++ t) text.whole in
+      rw fault.0 (record {
+        given = ends.given;
+        outcomes = ends.outcomes;
+        state = ends.state;
+        ahead = ends.ahead;
+        before = text.before;
+        line = text.line;
+        course = ends.course;
+        reached = ends.reached;
+        is_text = inl text.is_text;
+        written = λ told. front before.written text.before text.line later.written (written told);
+        flushes = inr (fault.1, written);
+        device = ends.device;
+      })
+  after_flush FlashFault result done none ends =
+      rw done.0 (record {
+        given = ends.given;
+        outcomes = ends.outcomes;
+        state = ends.state;
+        ahead = ends.ahead;
+        line = ends.line;
+        bytes = ends.bytes;
+        next = ends.next;
+        course = ends.course;
+        reached = ends.reached;
+        comes = ends.comes;
+        fits = ends.fits;
+        spelled = ends.spelled;
+        step = ends.step;
+        written = λ told. left.written told ∙ ends.written told;
+        device = ends.device;
+      })
+  after_flush ReadFault result done none ends =
+      rw done.0 (record {
+        given = ends.given;
+        outcomes = ends.outcomes;
+        state = ends.state;
+        held = ends.held;
+        course = ends.course;
+        reached = λ told. rw left.left (ends.reached told);
+        no_line = ends.no_line;
+        short = ends.short;
+        within = λ told. rw left.left (ends.within told);
+        written = λ told. left.written told ∙ ends.written told;
+        device = ends.device;
+      })
+  after_flush WriteFault result done none ends =
+      rw done.0 (record {
+        given = ends.given;
+        outcomes = ends.outcomes;
+        state = ends.state;
+        ahead = ends.ahead;
+        before = ends.before;
+        line = ends.line;
+        course = ends.course;
+        reached = ends.reached;
+        is_text = ends.is_text;
+        written = λ told. (let part = ends.written told in (part.0, left.written told ∙ part.1));
+        flushes = inl done.1;
+        device = ends.device;
+      })
 
 pub flushed : (writes : Type 0) (ending result : Ending) (before later : Outside)
     → AfterFlush writes ending before.flushes later.flushes later.written later.handed_on result → Flushes writes result before later
@@ -129,5 +199,6 @@ flushed writes BadLine result before later (inl done) = rw done.0 done.1
 flushed writes BadLine result before later (inr fault) = rw fault.0 tt
 flushed writes InputTooLong result before later (inl done) = rw done.0 done.1
 flushed writes InputTooLong result before later (inr fault) = rw fault.0 tt
+flushed writes FlashFault result before later done = rw done.0 done.1
 flushed writes ReadFault result before later done = rw done.0 done.1
 flushed writes WriteFault result before later done = rw done.0 tt

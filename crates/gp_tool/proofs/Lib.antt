@@ -5,5 +5,7 @@ pub mod Exclusive
 pub mod Flush
 pub mod One
 pub mod OneText
+pub mod Moments
 pub mod PlaysMore
+pub mod Powered
 pub mod Turns

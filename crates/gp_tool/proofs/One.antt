@@ -1,5 +1,5 @@
 -- One line on a card.
-use Rattle.std.proofs.Common.{◌≡◌, ℕ, List, [], ◌∷◌, ◌++◌, take, refl, sym, ap, ◌∙◌}
+use Rattle.std.proofs.Common.{◌≡◌, ℕ, List, [], ◌∷◌, ◌++◌, refl, sym, ap, ◌∙◌}
 use Rattle.std.proofs.lemmas.List.{append-nil}
 use Rattle.policy_rules.specs.Run.{Command, Reset}
 use Rattle.policy_rules.specs.State.{State, powered_on}
@@ -24,6 +24,3 @@ plays_command state line bytes outcome spells step = record {
 -- the text of one command is its reply's line
 pub line_written : (old new : List ℕ) (outcome : Outcome) → new ≡ old ++ reply_line outcome → new ≡ old ++ text_of (outcome ∷ [])
 line_written old new outcome written = written ∙ ap (λ text. old ++ text) (sym (append-nil (reply_line outcome)))
-
-pub part_of_line : (old new : List ℕ) (n : ℕ) (outcome : Outcome) → new ≡ old ++ take n (reply_line outcome) → new ≡ old ++ take n (text_of (outcome ∷ []))
-part_of_line old new n outcome written = written ∙ ap (λ text. old ++ take n text) (sym (append-nil (reply_line outcome)))

@@ -1,27 +1,28 @@
 -- How a turn ends.
 use Rattle.std.proofs.Common.{◌≡◌, ◌+◌, ◌++◌, ◌≤◌, List, ℕ, length, take, ap, ◌∙◌, inl, inr}
+use Rattle.card_types.specs.Registry.{Registry}
 use Rattle.io_edge.specs.Lines.{Reading, GivesLine, ahead, room}
 use Rattle.io_edge.specs.declared.line.Line.{Line}
 use Rattle.io_edge.specs.declared.line.TheConstants.{LINE_LIMIT}
-use Rattle.card_core.specs.Kept.{Kept}
 use Rattle.policy_rules.specs.State.{State}
 use Rattle.gp_tool.specs.Form.{HasNoForm}
 use Rattle.gp_tool.specs.Ends.{Outside, IsBad}
 use Rattle.gp_tool.specs.Plays.{bad_line}
-use Rattle.gp_tool.specs.Serve.{PlaysLine}
-use Rattle.gp_tool.specs.Turn.{EndsWith, Refuses, TakesLine}
+use Rattle.gp_tool.specs.Serve.{FailsLine, PlaysLine}
+use Rattle.gp_tool.specs.Turn.{EndsWith, FailsNext, Refuses, TakesLine}
 use Rattle.gp_tool.specs.declared.ending.Ending.{Ending}
-use Rattle.gp_tool.specs.declared.ending.Ending.TheVariants.{Finished, BadLine, ReadFault, WriteFault, InputTooLong}
+use Rattle.gp_tool.specs.declared.ending.Ending.TheVariants.{Finished, BadLine, FlashFault, ReadFault, WriteFault, InputTooLong}
 
 -- a run ends with a bad line as its number was written
-pub refusal_ends : (reads writes : Type 0) (card : Kept) (old : Reading) (before now : Outside) (ending : Ending)
-    → (reads → IsBad (room old) (ahead old before.left)) → Refuses writes (old.number + 1) before.written now.written ending
-    → EndsWith reads writes card old before now ending
-refusal_ends reads writes card old before now BadLine bad refuses = (bad, refuses)
-refusal_ends reads writes card old before now WriteFault bad refuses = inr (bad, refuses)
-refusal_ends reads writes card old before now Finished bad refuses = absurd refuses
-refusal_ends reads writes card old before now ReadFault bad refuses = absurd refuses
-refusal_ends reads writes card old before now InputTooLong bad refuses = absurd refuses
+pub refusal_ends : (reads writes Same : Type 0) (Before After : State → Type 0) (Leaving : List Registry → Type 0) (count count' : ℕ) (old : Reading) (before now : Outside) (ending : Ending)
+    → Same → (reads → IsBad (room old) (ahead old before.left)) → Refuses writes (old.number + 1) before.written now.written ending
+    → EndsWith reads writes Same Before After Leaving count count' old before now ending
+refusal_ends reads writes Same Before After Leaving count count' old before now BadLine same bad refuses = (same, bad, refuses)
+refusal_ends reads writes Same Before After Leaving count count' old before now WriteFault same bad refuses = inr (same, bad, refuses)
+refusal_ends reads writes Same Before After Leaving count count' old before now Finished same bad refuses = absurd refuses
+refusal_ends reads writes Same Before After Leaving count count' old before now FlashFault same bad refuses = absurd refuses
+refusal_ends reads writes Same Before After Leaving count count' old before now ReadFault same bad refuses = absurd refuses
+refusal_ends reads writes Same Before After Leaving count count' old before now InputTooLong same bad refuses = absurd refuses
 
 -- what was written before stays
 pub refuses_from : (writes : Type 0) (number : ℕ) (before mid now : List ℕ) (ending : Ending) → (writes → mid ≡ before)
@@ -30,14 +31,26 @@ refuses_from writes number before mid now BadLine same refuses = λ told. refuse
 refuses_from writes number before mid now WriteFault same refuses =
     λ told. (let part = refuses told in (part.0, part.1 ∙ ap (λ w. w ++ take part.0 (bad_line number)) (same told)))
 refuses_from writes number before mid now Finished same refuses = absurd refuses
+refuses_from writes number before mid now FlashFault same refuses = absurd refuses
 refuses_from writes number before mid now ReadFault same refuses = absurd refuses
 refuses_from writes number before mid now InputTooLong same refuses = absurd refuses
 
 -- the line that was given is the next one ahead
-unfoldable pub given_line : (reads : Type 0) (old new : Reading) (left left' : List ℕ) (line : Line) (card : Kept) (state : State)
+unfoldable pub given_line : (reads : Type 0) (old new : Reading) (left left' : List ℕ) (line : Line) (After : State → Type 0) (Leaving : List Registry → Type 0) (count count' : ℕ) (state : State)
     → GivesLine reads old new left left' line → length line.text.now ≤ LINE_LIMIT
-    → PlaysLine line.text.now card state → TakesLine reads card state (room old) (ahead old left) (ahead new left')
-given_line reads old new left left' line card state gives fits played = record { line = line.text.now; next = gives.line; fits = fits; played = played }
+    → PlaysLine line.text.now After Leaving count count' state → TakesLine reads After Leaving count count' state (room old) (ahead old left) (ahead new left')
+given_line reads old new left left' line After Leaving count count' state gives fits played = record { line = line.text.now; next = gives.line; fits = fits; played = played }
+
+-- the device failed in its command
+pub failing_line : (reads : Type 0) (old new : Reading) (left left' : List ℕ) (line : Line) (Leaving : List Registry → Type 0) (state : State)
+    → GivesLine reads old new left left' line → length line.text.now ≤ LINE_LIMIT → FailsLine line.text.now Leaving state
+    → FailsNext reads Leaving state (room old) (ahead old left)
+failing_line reads old new left left' line Leaving state gives fits fails = record {
+  line = line.text.now;
+  next = λ told. (ahead new left', gives.line told);
+  fits = fits;
+  fails = fails;
+}
 
 -- a line of no form that was given is a bad one
 pub bad_form : (reads : Type 0) (old new : Reading) (left left' : List ℕ) (line : Line)

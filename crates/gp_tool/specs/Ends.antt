@@ -5,13 +5,14 @@ use Rattle.std.specs.Str.Lines.{lines, strip_carriage_return}
 use Rattle.io_edge.specs.Faults.{Rose, next_count}
 use Rattle.io_edge.specs.Lines.{NoNewline, IsLine, IsCut, IsNextText}
 use Rattle.io_edge.specs.declared.line.TheConstants.{INPUT_LIMIT, LINE_LIMIT}
+use Rattle.policy_rules.specs.Run.{Command}
 use Rattle.policy_rules.specs.State.{State}
-use Rattle.policy_rules.specs.Step.{Outcome}
+use Rattle.policy_rules.specs.Step.{Outcome, Step}
 use Rattle.gp_tool.specs.Flush.{FlushesLast, IsHandedOn}
-use Rattle.gp_tool.specs.Form.{HasNoForm}
-use Rattle.gp_tool.specs.Plays.{Plays, bad_line, text_of}
+use Rattle.gp_tool.specs.Form.{HasNoForm, Spells}
+use Rattle.gp_tool.specs.Plays.{Plays, bad_line, reply_line, text_of}
 use Rattle.gp_tool.specs.declared.ending.Ending.{Ending}
-use Rattle.gp_tool.specs.declared.ending.Ending.TheVariants.{Finished, BadLine, ReadFault, WriteFault, InputTooLong}
+use Rattle.gp_tool.specs.declared.ending.Ending.TheVariants.{Finished, BadLine, FlashFault, ReadFault, WriteFault, InputTooLong}
 
 -- What is seen of a source and a sink: the bytes left, the bytes written and handed on, and how often the sink was flushed.
 pub record Outside : Type 0 where
@@ -53,10 +54,18 @@ abbrev pub IsBad : ℕ → List ℕ → Type 0
 IsBad room ahead =
     (text : List ℕ) × (((after : List ℕ) × IsLine room ahead text after × HasNoForm text) ⊎ (IsNextText room ahead text × (LINE_LIMIT < length text)))
 
+-- the text of the replies to some commands is what stands before its last line, and that line; they are empty where it is
+abbrev pub IsText : List Outcome → List ℕ → List ℕ → Type 0
+IsText outcomes before line =
+    ((outcomes ≡ []) × (before ≡ []) × (line ≡ []))
+    ⊎ ((some : List Outcome) × (last : Outcome) × (outcomes ≡ some ++ last ∷ []) × (before ≡ text_of some) × (line ≡ reply_line last))
+
 -- In what follows `reads` and `writes` are facts where the source and the sink tell their bytes, and `⊥` where they don't.
+-- `Rests` is what holds of the device after some commands and at the state behind them, and `Fails` what holds where it
+-- failed in the next one.
 
 -- The input was read to its end, each line has a form and is not too long, and the text of all lines was written.
-pub record IsFinished (reads writes : Type 0) (first : State) (old new : Outside) : Type 0 where
+pub record IsFinished (reads writes : Type 0) (Rests : List Outcome → State → Type 0) (first : State) (old new : Outside) : Type 0 where
   pub given : List (List ℕ)
   pub outcomes : List Outcome
   pub state : State
@@ -66,9 +75,10 @@ pub record IsFinished (reads writes : Type 0) (first : State) (old new : Outside
   pub short : reads → length old.left < INPUT_LIMIT
   pub read : reads → new.left ≡ []
   pub written : writes → new.written ≡ old.written ++ text_of outcomes
+  pub device : Rests outcomes state
 
 -- The next line is bad: the text of the lines before it was written, and then the line's number.
-pub record IsAtBadLine (reads writes : Type 0) (first : State) (old new : Outside) : Type 0 where
+pub record IsAtBadLine (reads writes : Type 0) (Rests : List Outcome → State → Type 0) (first : State) (old new : Outside) : Type 0 where
   pub given : List (List ℕ)
   pub outcomes : List Outcome
   pub state : State
@@ -77,10 +87,11 @@ pub record IsAtBadLine (reads writes : Type 0) (first : State) (old new : Outsid
   pub reached : reads → Reached old.left given ahead
   pub bad : reads → IsBad (room_for old.left ahead) ahead
   pub written : writes → new.written ≡ old.written ++ (text_of outcomes ++ bad_line (length given + 1))
+  pub device : Rests outcomes state
 
 -- A read was refused: the text of the whole lines of the bytes taken was written. The bytes behind them are no line that is
 -- too long already.
-pub record IsAtReadFault (reads writes : Type 0) (first : State) (old new : Outside) : Type 0 where
+pub record IsAtReadFault (reads writes : Type 0) (Rests : List Outcome → State → Type 0) (first : State) (old new : Outside) : Type 0 where
   pub given : List (List ℕ)
   pub outcomes : List Outcome
   pub state : State
@@ -91,9 +102,10 @@ pub record IsAtReadFault (reads writes : Type 0) (first : State) (old new : Outs
   pub short : reads → length (strip_carriage_return held) ≤ LINE_LIMIT
   pub within : reads → length held ≤ room_for old.left (held ++ new.left)
   pub written : writes → new.written ≡ old.written ++ text_of outcomes
+  pub device : Rests outcomes state
 
 -- The limit of the input comes before the next line's end.
-pub record IsAtLimit (reads writes : Type 0) (first : State) (old new : Outside) : Type 0 where
+pub record IsAtLimit (reads writes : Type 0) (Rests : List Outcome → State → Type 0) (first : State) (old new : Outside) : Type 0 where
   pub given : List (List ℕ)
   pub outcomes : List Outcome
   pub state : State
@@ -102,48 +114,89 @@ pub record IsAtLimit (reads writes : Type 0) (first : State) (old new : Outside)
   pub reached : reads → Reached old.left given ahead
   pub cut : reads → (text : List ℕ) × IsCut (room_for old.left ahead) ahead text × (length text ≤ LINE_LIMIT)
   pub written : writes → new.written ≡ old.written ++ text_of outcomes
+  pub device : Rests outcomes state
 
--- A write or the flush was refused: a prefix of the text was written, to which the number of a bad line belongs.
-pub record IsAtWriteFault (reads writes : Type 0) (first : State) (old new : Outside) : Type 0 where
+-- The device failed in the command of the next line: the text of the lines before it was written, and nothing of its reply.
+pub record IsAtFlashFault (reads writes : Type 0) (Fails : List Outcome → State → Outcome → Type 0) (first : State) (old new : Outside) : Type 0 where
   pub given : List (List ℕ)
   pub outcomes : List Outcome
   pub state : State
   pub ahead : List ℕ
-  pub whole : List ℕ
+  pub line : List ℕ
+  pub bytes : List ℕ
+  pub next : Outcome
   pub course : Course first given outcomes state
   pub reached : reads → Reached old.left given ahead
-  pub is_whole : (whole ≡ text_of outcomes) ⊎ ((reads → IsBad (room_for old.left ahead) ahead) × (whole ≡ text_of outcomes ++ bad_line (length given + 1)))
-  pub written : writes → (count : ℕ) × (new.written ≡ old.written ++ take count whole)
-  pub flushes : FlushesLast writes old.flushes new.flushes old.written whole new.written
+  pub comes : reads → (after : List ℕ) × IsLine (room_for old.left ahead) ahead line after
+  pub fits : length line ≤ LINE_LIMIT
+  pub spelled : Spells line (Command bytes ∷ [])
+  pub step : Step state bytes next
+  pub written : writes → new.written ≡ old.written ++ text_of outcomes
+  pub device : Fails outcomes state next
+
+-- A write or the flush was refused: of the text no more than its last line is missing or cut. That is the reply to the last
+-- command, or the number of a bad line behind them all.
+pub record IsAtWriteFault (reads writes : Type 0) (Rests : List Outcome → State → Type 0) (first : State) (old new : Outside) : Type 0 where
+  pub given : List (List ℕ)
+  pub outcomes : List Outcome
+  pub state : State
+  pub ahead : List ℕ
+  pub before : List ℕ
+  pub line : List ℕ
+  pub course : Course first given outcomes state
+  pub reached : reads → Reached old.left given ahead
+  pub is_text : IsText outcomes before line
+      ⊎ ((reads → IsBad (room_for old.left ahead) ahead) × (before ≡ text_of outcomes) × (line ≡ bad_line (length given + 1)))
+  pub written : writes → (count : ℕ) × (new.written ≡ old.written ++ (before ++ take count line))
+  pub flushes : FlushesLast writes old.flushes new.flushes old.written (before ++ line) new.written
+  pub device : Rests outcomes state
 
 -- what holds at each ending of a run from a first state
-abbrev pub Ends : Type 0 → Type 0 → State → Ending → Outside → Outside → Type 0
-Ends reads writes first Finished old new = IsFinished reads writes first old new
-Ends reads writes first BadLine old new = IsAtBadLine reads writes first old new
-Ends reads writes first ReadFault old new = IsAtReadFault reads writes first old new
-Ends reads writes first WriteFault old new = IsAtWriteFault reads writes first old new
-Ends reads writes first InputTooLong old new = IsAtLimit reads writes first old new
+abbrev pub Ends : Type 0 → Type 0 → (List Outcome → State → Type 0) → (List Outcome → State → Outcome → Type 0) → State → Ending → Outside → Outside → Type 0
+Ends reads writes Rests Fails first Finished old new = IsFinished reads writes Rests first old new
+Ends reads writes Rests Fails first BadLine old new = IsAtBadLine reads writes Rests first old new
+Ends reads writes Rests Fails first FlashFault old new = IsAtFlashFault reads writes Fails first old new
+Ends reads writes Rests Fails first ReadFault old new = IsAtReadFault reads writes Rests first old new
+Ends reads writes Rests Fails first WriteFault old new = IsAtWriteFault reads writes Rests first old new
+Ends reads writes Rests Fails first InputTooLong old new = IsAtLimit reads writes Rests first old new
 
 -- What was done with the text at each ending. At a refused write `Ends` says it.
 abbrev pub Flushes : Type 0 → Ending → Outside → Outside → Type 0
 Flushes writes Finished old new = IsHandedOn writes old.flushes new.flushes new.written new.handed_on
 Flushes writes BadLine old new = IsHandedOn writes old.flushes new.flushes new.written new.handed_on
 Flushes writes InputTooLong old new = IsHandedOn writes old.flushes new.flushes new.written new.handed_on
+Flushes writes FlashFault old new = new.flushes ≡ next_count old.flushes
 Flushes writes ReadFault old new = new.flushes ≡ next_count old.flushes
 Flushes writes WriteFault old new = Unit {0}
 
--- Whose count of faults has risen at an ending: the source's, from one number to another, or the sink's.
-abbrev pub EndCause : Ending → ℕ → ℕ → ℕ → ℕ → Type 0
-EndCause ReadFault reads reads' writes writes' = Rose reads reads'
-EndCause WriteFault reads reads' writes writes' = (reads' ≡ reads) × Rose writes writes'
-EndCause Finished reads reads' writes writes' = (reads' ≡ reads) × (writes' ≡ writes)
-EndCause BadLine reads reads' writes writes' = (reads' ≡ reads) × (writes' ≡ writes)
-EndCause InputTooLong reads reads' writes writes' = (reads' ≡ reads) × (writes' ≡ writes)
+-- The counts of faults of a source, a sink and a device.
+pub record Faults : Type 0 where
+  pub source : ℕ
+  pub sink : ℕ
+  pub device : ℕ
+
+-- what they show by their meanings
+abbrev pub faults_of : {S K F : Type 0} → (S → ℕ) → (K → ℕ) → (F → ℕ) → S → K → F → Faults
+faults_of of_source of_sink of_device source sink device = record { source = of_source source; sink = of_sink sink; device = of_device device }
+
+-- the counts of source and sink are as they were
+abbrev pub NoneRose : Faults → Faults → Type 0
+NoneRose old new = (new.source ≡ old.source) × (new.sink ≡ old.sink)
+
+-- Whose count has risen at an ending. A flush that is refused behind a failed device raises the sink's too.
+abbrev pub EndCause : Ending → Faults → Faults → Type 0
+EndCause Finished old new = NoneRose old new
+EndCause BadLine old new = NoneRose old new
+EndCause FlashFault old new = (new.source ≡ old.source) × ((new.sink ≡ old.sink) ⊎ Rose old.sink new.sink) × Rose old.device new.device
+EndCause ReadFault old new = Rose old.source new.source
+EndCause WriteFault old new = (new.source ≡ old.source) × Rose old.sink new.sink
+EndCause InputTooLong old new = NoneRose old new
 
 -- the status of a program that ends so
 abbrev pub exit_status : Ending → ℕ
 exit_status Finished = 0
 exit_status BadLine = 2
+exit_status FlashFault = 3
 exit_status ReadFault = 5
 exit_status WriteFault = 6
 exit_status InputTooLong = 9

@@ -1,14 +1,16 @@
 -- A run that goes on, between two lines.
 use Rattle.std.specs.Prelude.{◌≡◌, ℕ, ◌+◌, List, ◌++◌, length}
 use Rattle.io_edge.specs.Lines.{Reading, ahead}
-use Rattle.card_core.specs.Kept.{Kept, Stands}
+use Rattle.card_types.specs.Registry.{Registry}
 use Rattle.policy_rules.specs.State.{State}
 use Rattle.policy_rules.specs.Step.{Outcome}
-use Rattle.gp_tool.specs.Plays.{text_of}
+use Rattle.gp_tool.specs.Device.{registries}
 use Rattle.gp_tool.specs.Ends.{Course, Outside, Reached}
+use Rattle.gp_tool.specs.Plays.{text_of}
 
--- The lines that were given have their text written, and the reading and the card stand behind them.
-pub record Going (reads writes : Type 0) (first : State) (card : Kept) (before now : Outside) (reading : Reading) : Type 0 where
+-- The lines that were given have their text written, and the reading and the card stand behind them. `Now` says which states the
+-- card stands for, and `Leaving` which registries power lost since the first line may leave.
+pub record Going (reads writes : Type 0) (first : State) (Now : State → Type 0) (Leaving : List Registry → Type 0) (count : ℕ) (before now : Outside) (reading : Reading) : Type 0 where
   pub given : List (List ℕ)
   pub outcomes : List Outcome
   pub state : State
@@ -16,5 +18,7 @@ pub record Going (reads writes : Type 0) (first : State) (card : Kept) (before n
   pub passed : reads → reading.passed + length (ahead reading now.left) ≡ length before.left
   pub course : Course first given outcomes state
   pub reached : reads → Reached before.left given (ahead reading now.left)
-  pub stands : Stands card state
+  pub stands : Now state
+  pub leaves : Leaving (registries first outcomes)
+  pub done : count ≡ length outcomes
   pub written : writes → now.written ≡ before.written ++ text_of outcomes

@@ -5,7 +5,7 @@ use Rattle.policy_rules.specs.Step.{Outcome}
 use Rattle.gp_tool.specs.Ends.{Ends, Outside}
 use Rattle.gp_tool.specs.Plays.{Plays, text_of}
 use Rattle.gp_tool.specs.declared.ending.Ending.{Ending}
-use Rattle.gp_tool.specs.declared.ending.Ending.TheVariants.{Finished, BadLine, ReadFault, WriteFault, InputTooLong}
+use Rattle.gp_tool.specs.declared.ending.Ending.TheVariants.{Finished, BadLine, FlashFault, ReadFault, WriteFault, InputTooLong}
 
 -- from one state the same lines write one text
 abbrev pub OneText : Type 0
@@ -19,19 +19,24 @@ OneLast =
     (first : State) (lines : List (List ℕ)) (some others : List Outcome) (last another : State)
     → Plays first lines some last → Plays first lines others another → last ≡ another
 
--- nothing was refused by source or sink
+-- nothing was refused by source, sink or device
 abbrev pub IsFaultless : Ending → Type 0
 IsFaultless Finished = Unit {0}
 IsFaultless BadLine = Unit {0}
 IsFaultless InputTooLong = Unit {0}
+IsFaultless FlashFault = ⊥
 IsFaultless ReadFault = ⊥
 IsFaultless WriteFault = ⊥
+
+-- what holds at the ending of a run over bytes that are told, whatever is said of the device
+abbrev pub EndsTold : State → Ending → Outside → Outside → Type 0
+EndsTold first ending old new = Ends (Unit {0}) (Unit {0}) (λ outcomes last. Unit {0}) (λ outcomes last next. Unit {0}) first ending old new
 
 -- what two runs from one state over the same bytes, without faults, have in common
 abbrev pub OfRuns : (Ending → Outside → Ending → Outside → Type 0) → Type 0
 OfRuns holds =
     (first : State) (ending another : Ending) (old new other : Outside) → IsFaultless ending → IsFaultless another
-    → Ends (Unit {0}) (Unit {0}) first ending old new → Ends (Unit {0}) (Unit {0}) first another old other → holds ending new another other
+    → EndsTold first ending old new → EndsTold first another old other → holds ending new another other
 
 -- they end alike
 abbrev pub OneEnding : Type 0

@@ -1,3 +1,4 @@
+pub mod Device
 pub mod Ends
 pub mod Flush
 pub mod Form

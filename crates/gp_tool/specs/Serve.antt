@@ -1,32 +1,60 @@
 -- What comes of one line.
-use Rattle.std.specs.Prelude.{◌≡◌, ℕ, List, [], ◌∷◌, ◌++◌, take}
+use Rattle.std.specs.Prelude.{◌≡◌, ℕ, ◌+◌, List, [], ◌∷◌, ◌++◌, length, take}
+use Rattle.card_types.specs.Registry.{Registry}
 use Rattle.io_edge.specs.Faults.{Rose}
-use Rattle.card_core.specs.Kept.{Kept, Stands}
+use Rattle.policy_rules.specs.Run.{Command}
 use Rattle.policy_rules.specs.State.{State}
-use Rattle.policy_rules.specs.Step.{Outcome}
-use Rattle.gp_tool.specs.Form.{HasNoForm}
-use Rattle.gp_tool.specs.Plays.{Plays, text_of}
+use Rattle.policy_rules.specs.Step.{Outcome, Step}
+use Rattle.gp_tool.specs.Device.{registries}
+use Rattle.gp_tool.specs.Form.{HasNoForm, Spells}
+use Rattle.gp_tool.specs.Plays.{Plays, reply_line, text_of}
 use Rattle.gp_tool.specs.declared.serve.Served.{Served}
-use Rattle.gp_tool.specs.declared.serve.Served.TheVariants.{Done, NoForm, WriteFault}
+use Rattle.gp_tool.specs.declared.serve.Served.TheVariants.{Done, NoForm, WriteFault, FlashFault}
+
+-- In what follows `Before` and `After` say which states a card stands for, `Leaving` which registries power lost in between
+-- may leave on its device, and `count` and `count'` are how many commands were processed.
 
 -- The card plays the line: it stands for the state behind it.
-pub record PlaysLine (line : List ℕ) (card : Kept) (state : State) : Type 0 where
+pub record PlaysLine (line : List ℕ) (After : State → Type 0) (Leaving : List Registry → Type 0) (count count' : ℕ) (state : State) : Type 0 where
   pub outcomes : List Outcome
   pub last : State
   pub plays : Plays state (line ∷ []) outcomes last
-  pub stands : Stands card last
+  pub stands : After last
+  pub leaves : Leaving (registries state outcomes)
+  pub done : count' ≡ count + length outcomes
 
--- how the card stands after a line, and what has been written where the sink tells it
-abbrev pub ServesLine : Type 0 → List ℕ → Kept → Kept → List ℕ → List ℕ → Served → Type 0
-ServesLine writes line card card' old new Done =
-    (state : State) → Stands card state
-    → (played : PlaysLine line card' state) × (writes → new ≡ old ++ text_of played.outcomes)
-ServesLine writes line card card' old new NoForm = HasNoForm line × (writes → new ≡ old)
-ServesLine writes line card card' old new WriteFault =
-    (state : State) → Stands card state
-    → (played : PlaysLine line card' state) × (writes → (n : ℕ) × (new ≡ old ++ take n (text_of played.outcomes)))
+-- The device failed in the command of the line.
+pub record FailsLine (line : List ℕ) (Leaving : List Registry → Type 0) (state : State) : Type 0 where
+  pub bytes : List ℕ
+  pub next : Outcome
+  pub spelled : Spells line (Command bytes ∷ [])
+  pub step : Step state bytes next
+  pub leaves : Leaving (state.registry ∷ next.state.registry ∷ [])
 
-abbrev pub ServeCause : ℕ → ℕ → Served → Type 0
-ServeCause before now Done = now ≡ before
-ServeCause before now NoForm = now ≡ before
-ServeCause before now WriteFault = Rose before now
+-- How the card stands after a line, and what has been written where the sink tells it. `Same` says that the card and the count are
+-- as they were.
+abbrev pub ServesLine : Type 0 → List ℕ → Type 0 → (State → Type 0) → (State → Type 0) → (List Registry → Type 0) → ℕ → ℕ → List ℕ → List ℕ → Served → Type 0
+ServesLine writes line Same Before After Leaving count count' old new Done =
+    (state : State) → Before state
+    → (played : PlaysLine line After Leaving count count' state) × (writes → new ≡ old ++ text_of played.outcomes)
+ServesLine writes line Same Before After Leaving count count' old new NoForm = HasNoForm line × Same × (writes → new ≡ old)
+ServesLine writes line Same Before After Leaving count count' old new WriteFault =
+    (state : State) → Before state
+    → (played : PlaysLine line After Leaving count count' state) × (outcome : Outcome) × (played.outcomes ≡ outcome ∷ [])
+    × (writes → (n : ℕ) × (new ≡ old ++ take n (reply_line outcome)))
+ServesLine writes line Same Before After Leaving count count' old new FlashFault =
+    (count' ≡ count) × (writes → new ≡ old) × ((state : State) → Before state → FailsLine line Leaving state)
+
+-- whose count of faults has risen: the sink's, from one number to another, or the device's
+abbrev pub ServeCause : ℕ → ℕ → ℕ → ℕ → Served → Type 0
+ServeCause sink sink' device device' Done = sink' ≡ sink
+ServeCause sink sink' device device' NoForm = sink' ≡ sink
+ServeCause sink sink' device device' WriteFault = Rose sink sink'
+ServeCause sink sink' device device' FlashFault = (sink' ≡ sink) × Rose device device'
+
+-- the run goes on with the next line only where this holds
+abbrev pub GoesAhead : Served → Type 0 → Type 0
+GoesAhead Done holds = holds
+GoesAhead NoForm holds = Unit {0}
+GoesAhead WriteFault holds = Unit {0}
+GoesAhead FlashFault holds = Unit {0}

@@ -1,33 +1,41 @@
 -- What one more line does to a run, and how a run ends with it. `reads` and `writes` are facts where source and sink tell
--- their bytes.
-use Rattle.std.specs.Prelude.{◌≡◌, ◌⊎◌, ℕ, ◌+◌, ◌<◌, ◌≤◌, List, [], ◌++◌, length, take, None}
+-- their bytes. `Same`, `Before`, `After`, `Leaving`, `count` and `count'` are as in `ServesLine`.
+use Rattle.std.specs.Prelude.{◌≡◌, ◌⊎◌, ℕ, ◌+◌, ◌<◌, ◌≤◌, List, [], ◌∷◌, ◌++◌, length, take, None}
 use Rattle.std.specs.Str.Lines.{strip_carriage_return}
 use Rattle.io_edge.specs.Lines.{Reading, NoNewline, IsLine, IsCut, IsWithin, ahead, room}
 use Rattle.io_edge.specs.declared.line.TheConstants.{LINE_LIMIT}
-use Rattle.card_core.specs.Kept.{Kept, Stands}
+use Rattle.card_types.specs.Registry.{Registry}
 use Rattle.policy_rules.specs.State.{State}
+use Rattle.policy_rules.specs.Step.{Outcome}
 use Rattle.gp_tool.specs.Ends.{Outside, IsBad}
-use Rattle.gp_tool.specs.Plays.{bad_line, text_of}
-use Rattle.gp_tool.specs.Serve.{PlaysLine}
+use Rattle.gp_tool.specs.Plays.{bad_line, reply_line, text_of}
+use Rattle.gp_tool.specs.Serve.{FailsLine, PlaysLine}
 use Rattle.gp_tool.specs.declared.ending.Ending.{Ending}
-use Rattle.gp_tool.specs.declared.ending.Ending.TheVariants.{Finished, BadLine, ReadFault, WriteFault, InputTooLong}
+use Rattle.gp_tool.specs.declared.ending.Ending.TheVariants.{Finished, BadLine, FlashFault, ReadFault, WriteFault, InputTooLong}
 
 -- The next line of what is ahead, within the room, was played: the card stands behind it.
-pub record TakesLine (reads : Type 0) (card : Kept) (state : State) (room : ℕ) (ahead after : List ℕ) : Type 0 where
+pub record TakesLine (reads : Type 0) (After : State → Type 0) (Leaving : List Registry → Type 0) (count count' : ℕ) (state : State) (room : ℕ) (ahead after : List ℕ) : Type 0 where
   pub line : List ℕ
   pub next : reads → IsLine room ahead line after
   pub fits : length line ≤ LINE_LIMIT
-  pub played : PlaysLine line card state
+  pub played : PlaysLine line After Leaving count count' state
+
+-- The device failed in the command of the next line.
+pub record FailsNext (reads : Type 0) (Leaving : List Registry → Type 0) (state : State) (room : ℕ) (ahead : List ℕ) : Type 0 where
+  pub line : List ℕ
+  pub next : reads → (after : List ℕ) × IsLine room ahead line after
+  pub fits : length line ≤ LINE_LIMIT
+  pub fails : FailsLine line Leaving state
 
 -- The run goes on after a line, whose text was written.
-pub record GoesOn (reads writes : Type 0) (card card' : Kept) (old new : Reading) (before now : Outside) : Type 0 where
+pub record GoesOn (reads writes : Type 0) (Before After : State → Type 0) (Leaving : List Registry → Type 0) (count count' : ℕ) (old new : Reading) (before now : Outside) : Type 0 where
   pub stop : new.stop ≡ None
   pub number : new.number ≡ old.number + 1
   pub within : IsWithin new
   pub further : old.passed < new.passed
   pub passed : reads → new.passed + length (ahead new now.left) ≡ old.passed + length (ahead old before.left)
-  pub line : (state : State) → Stands card state
-      → (takes : TakesLine reads card' state (room old) (ahead old before.left) (ahead new now.left))
+  pub line : (state : State) → Before state
+      → (takes : TakesLine reads After Leaving count count' state (room old) (ahead old before.left) (ahead new now.left))
       × (writes → now.written ≡ before.written ++ text_of takes.played.outcomes)
 
 -- what is written of a bad line, whole or up to a fault
@@ -35,26 +43,31 @@ abbrev pub Refuses : Type 0 → ℕ → List ℕ → List ℕ → Ending → Typ
 Refuses writes number old new BadLine = writes → new ≡ old ++ bad_line number
 Refuses writes number old new WriteFault = writes → (n : ℕ) × (new ≡ old ++ take n (bad_line number))
 Refuses writes number old new Finished = ⊥
+Refuses writes number old new FlashFault = ⊥
 Refuses writes number old new ReadFault = ⊥
 Refuses writes number old new InputTooLong = ⊥
 
 -- the next line is bad, and was refused
-abbrev pub RefusesNext : Type 0 → Type 0 → Reading → Outside → Outside → Ending → Type 0
-RefusesNext reads writes old before now ending =
-    (reads → IsBad (room old) (ahead old before.left)) × Refuses writes (old.number + 1) before.written now.written ending
+abbrev pub RefusesNext : Type 0 → Type 0 → Type 0 → Reading → Outside → Outside → Ending → Type 0
+RefusesNext reads writes Same old before now ending =
+    Same × (reads → IsBad (room old) (ahead old before.left)) × Refuses writes (old.number + 1) before.written now.written ending
 
 -- The run ends with what is ahead.
-abbrev pub EndsWith : Type 0 → Type 0 → Kept → Reading → Outside → Outside → Ending → Type 0
-EndsWith reads writes card old before now Finished =
-    (reads → ahead old before.left ≡ []) × (reads → 0 < room old) × (reads → now.left ≡ []) × (writes → now.written ≡ before.written)
-EndsWith reads writes card old before now BadLine = RefusesNext reads writes old before now BadLine
-EndsWith reads writes card old before now ReadFault =
-    (held : List ℕ) × NoNewline held × (length (strip_carriage_return held) ≤ LINE_LIMIT) × (length held ≤ room old)
+abbrev pub EndsWith : Type 0 → Type 0 → Type 0 → (State → Type 0) → (State → Type 0) → (List Registry → Type 0) → ℕ → ℕ → Reading → Outside → Outside → Ending → Type 0
+EndsWith reads writes Same Before After Leaving count count' old before now Finished =
+    Same × (reads → ahead old before.left ≡ []) × (reads → 0 < room old) × (reads → now.left ≡ []) × (writes → now.written ≡ before.written)
+EndsWith reads writes Same Before After Leaving count count' old before now BadLine = RefusesNext reads writes Same old before now BadLine
+EndsWith reads writes Same Before After Leaving count count' old before now FlashFault =
+    (count' ≡ count) × (writes → now.written ≡ before.written)
+    × ((state : State) → Before state → FailsNext reads Leaving state (room old) (ahead old before.left))
+EndsWith reads writes Same Before After Leaving count count' old before now ReadFault =
+    Same × (held : List ℕ) × NoNewline held × (length (strip_carriage_return held) ≤ LINE_LIMIT) × (length held ≤ room old)
     × (reads → ahead old before.left ≡ held ++ now.left) × (writes → now.written ≡ before.written)
-EndsWith reads writes card old before now InputTooLong =
-    (reads → (text : List ℕ) × IsCut (room old) (ahead old before.left) text × (length text ≤ LINE_LIMIT)) × (writes → now.written ≡ before.written)
-EndsWith reads writes card old before now WriteFault =
-    ((state : State) → Stands card state
-    → (after : List ℕ) × (card' : Kept) × (takes : TakesLine reads card' state (room old) (ahead old before.left) after)
-    × (writes → (n : ℕ) × (now.written ≡ before.written ++ take n (text_of takes.played.outcomes))))
-    ⊎ RefusesNext reads writes old before now WriteFault
+EndsWith reads writes Same Before After Leaving count count' old before now InputTooLong =
+    Same × (reads → (text : List ℕ) × IsCut (room old) (ahead old before.left) text × (length text ≤ LINE_LIMIT)) × (writes → now.written ≡ before.written)
+EndsWith reads writes Same Before After Leaving count count' old before now WriteFault =
+    ((state : State) → Before state
+    → (after : List ℕ) × (takes : TakesLine reads After Leaving count count' state (room old) (ahead old before.left) after)
+    × (outcome : Outcome) × (takes.played.outcomes ≡ outcome ∷ [])
+    × (writes → (n : ℕ) × (now.written ≡ before.written ++ take n (reply_line outcome))))
+    ⊎ RefusesNext reads writes Same old before now WriteFault

@@ -1,10 +1,24 @@
 -- The words of the command line.
 use Rattle.std.specs.Prelude.{◌≡◌, ℕ, List, [], ◌∷◌, ◌++◌, codes, map, String, string_bytes}
 use Rattle.std.specs.declared.alloc.Global.{Global}
+use Rattle.gp_tool.specs.declared.verb.Verb.{Verb}
+use Rattle.gp_tool.specs.declared.verb.Verb.TheVariants.{Run}
+
+-- a verb's word
+abbrev pub word_of : Verb → List ℕ
+word_of Run = codes "run"
+
+-- the words are the verb's alone
+abbrev pub Name : Verb → List (String Global) → Type 0
+Name verb words = map string_bytes words ≡ word_of verb ∷ []
 
 abbrev pub AreRun : List (String Global) → Type 0
-AreRun words = map string_bytes words ≡ codes "run" ∷ []
+AreRun words = Name Run words
+
+-- the words have a form
+abbrev pub HaveForm : List (String Global) → Type 0
+HaveForm words = (verb : Verb) × Name verb words
 
 -- what is written where the words have no form
 abbrev pub usage_line : List ℕ
-usage_line = codes "usage: gp run" ++ 10 ∷ []
+usage_line = codes "usage: gp format | run | show" ++ 10 ∷ []

@@ -10,6 +10,8 @@ pub enum Ending {
     Finished,
     /// A line has no form or is too long, and its number was written: 2.
     BadLine,
+    /// The device of the card failed: 3.
+    FlashFault,
     /// The source refused a read: 5.
     ReadFault,
     /// The sink refused a write or a flush: 6.
@@ -26,6 +28,7 @@ impl Ending {
         match self {
             Ending::Finished => 0,
             Ending::BadLine => 2,
+            Ending::FlashFault => 3,
             Ending::ReadFault => 5,
             Ending::WriteFault => 6,
             Ending::InputTooLong => 9,

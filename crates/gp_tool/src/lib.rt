@@ -1,27 +1,31 @@
-//! What the program `gp` does, over any source, sink and words.
+//! What the program `gp` does, over any source, sink, device and words.
 //!
-//! The word `run` makes a card as it leaves the factory, and gives it the lines of the source, one by one. A
+//! The word `run` powers on the card that a device holds, and gives it the lines of the source, one by one. A
 //! command in hexadecimal digits writes its reply as a line: of the lines `00700000`, `00700000`, `# x`, `reset`,
 //! `00700000` come the lines `019000`, `029000` and `019000`. A blank line and a comment that begins with `#` do
 //! nothing. `reset` takes the card's power away and gives it back, and writes nothing.
 //!
-//! Other words are refused by the usage line. Where there is no memory for the card, nothing is read. A line of no
-//! other form, or of more than 522 bytes, ends the run by its number, as in `line 3`. A read or a write that fails
-//! ends it too, and so does an input of which 67,108,864 bytes hold no further whole line. The status of the
-//! program says which it was.
+//! Other words are refused by the usage line. Where there is no memory for the card, the device fails or it holds no
+//! card, nothing is read. A line of no other form, or of more than 522 bytes, ends the run by its number, as in `line 3`.
+//! A read or a write that fails ends it too, and so does a device that fails in a command, and an input of which
+//! 67,108,864 bytes hold no further whole line. The status of the program says which it was.
 #![tactic(auto)]
 
+mod ended;
 mod ending;
 mod form;
 mod laws;
 mod pinned;
 mod reply;
 mod run;
+mod run_verb;
 mod serve;
 #[cfg(test)]
 mod tests;
 mod top;
+mod verb;
 
+pub use ended::Ended;
 pub use ending::Ending;
 pub use laws::{one_ending, one_text};
 pub use pinned::constants;

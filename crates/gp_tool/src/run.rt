@@ -1,9 +1,10 @@
 //! A run over the lines of a source.
 
-ghost use Rattle.std.specs.Prelude.{◌≡◌, ℕ, None, IfNone, IfSome};
-ghost use Rattle.card_core.specs.Kept.{Stands};
+ghost use Rattle.std.specs.Prelude.{◌≡◌, ◌≤◌, ◌+◌, ℕ, None, true, IfNone, IfSome};
+ghost use Rattle.card_core.specs.Card.{Stands};
 ghost use Rattle.policy_rules.specs.State.{State};
-ghost use Rattle.gp_tool.specs.Ends.{Ends, EndCause, Flushes, outside};
+ghost use Rattle.gp_tool.specs.Device.{HasFailed, HasRun, LeavesOneOf};
+ghost use Rattle.gp_tool.specs.Ends.{Ends, EndCause, Faults, Flushes, faults_of, outside};
 ghost use Rattle.gp_tool.specs.Flush.{AfterFlush};
 ghost use Rattle.gp_tool.specs.Turn.{GoesOn, EndsWith, Refuses};
 
@@ -13,13 +14,23 @@ use crate::reply::{REPLY_LINE_LIMIT, write_bad_line};
 use crate::serve::{Served, Workspace, serve_line};
 use arrayvec::ArrayVec;
 use card_core::Card;
+use flash_core::Flash;
 use io_edge::{LineStop, Lines, Sink, Source};
+
+/// How a run has ended.
+#[derive(Clone, Copy)]
+pub struct RunEnd {
+    pub ending: Ending,
+    /// How many commands the card has answered.
+    pub done: u32,
+}
 
 // Writes the number of a line that has no form or is too long.
 fn refuse_line<K: Sink>(number: u32, sink: &mut K) -> Ending
     ensures refused { Refuses K.tells number (K.written sink.old) (K.written sink.new) result }
     ensures flushes { K.flushes sink.new ≡ K.flushes sink.old }
-    ensures cause { (reads : ℕ) → EndCause result reads reads (K.faults sink.old) (K.faults sink.new) }
+    ensures cause { (reads device device' : ℕ) → EndCause result
+        (record { source = reads; sink = K.faults sink.old; device = device }) (record { source = reads; sink = K.faults sink.new; device = device' }) }
 {
     match write_bad_line(number, sink) {
         Ok(()) => Ending::BadLine,
@@ -28,27 +39,41 @@ fn refuse_line<K: Sink>(number: u32, sink: &mut K) -> Ending
 }
 
 // Takes the next line and gives it to the card. It answers how the run ends, if it does.
-fn take_turn<S: Source, K: Sink>(
+fn take_turn<S: Source, K: Sink, F: Flash>(
     lines: &mut Lines,
     source: &mut S,
-    card: &mut Card,
+    card: &mut Card<F>,
+    done: &mut u32,
     space: &mut Workspace,
     sink: &mut K,
 ) -> Option<Ending>
-    requires { lines.old.stop ≡ None }
-    ensures goes_on { IfNone result (GoesOn S.tells K.tells card.old card.new lines.old lines.new
+    requires stop { lines.old.stop ≡ None }
+    requires up { card.old.up ≡ true }
+    requires few { done.old ≤ lines.old.passed }
+    ensures goes_on { IfNone result (GoesOn S.tells K.tells
+        (Stands F.tells F.pages F.may_leave card.old) (Stands F.tells F.pages F.may_leave card.new)
+        (LeavesOneOf F.tells F.moment F.left_since card.old.flash card.new.flash)
+        done.old done.new lines.old lines.new
         (outside S.left K.written K.handed_on K.flushes source.old sink.old) (outside S.left K.written K.handed_on K.flushes source.new sink.new)) }
-    ensures ends { IfSome result (EndsWith S.tells K.tells card.old lines.old
+    ensures ends { IfSome result (EndsWith S.tells K.tells ((card.new ≡ card.old) × (done.new ≡ done.old))
+        (Stands F.tells F.pages F.may_leave card.old) (Stands F.tells F.pages F.may_leave card.new)
+        (LeavesOneOf F.tells F.moment F.left_since card.old.flash card.new.flash)
+        done.old done.new lines.old
         (outside S.left K.written K.handed_on K.flushes source.old sink.old) (outside S.left K.written K.handed_on K.flushes source.new sink.new)) }
+    ensures up { IfNone result (card.new.up ≡ true) }
+    ensures few { done.new ≤ done.old + 1 }
     ensures flushes { K.flushes sink.new ≡ K.flushes sink.old }
     ensures quiet { IfNone result ((S.faults source.new ≡ S.faults source.old) × (K.faults sink.new ≡ K.faults sink.old)) }
-    ensures cause { IfSome result (λ ending. EndCause ending (S.faults source.old) (S.faults source.new) (K.faults sink.old) (K.faults sink.new)) }
+    ensures later { F.faults card.old.flash ≤ F.faults card.new.flash }
+    ensures cause { IfSome result (λ ending. EndCause ending
+        (faults_of S.faults K.faults F.faults source.old sink.old card.old.flash) (faults_of S.faults K.faults F.faults source.new sink.new card.new.flash)) }
 {
     match lines.next_line(source) {
-        Ok(line) => match serve_line(line.text, card, space, sink) {
+        Ok(line) => match serve_line(line.text, card, done, space, sink) {
             Served::Done => None,
             Served::NoForm => Some(refuse_line(line.number, sink)),
             Served::WriteFault => Some(Ending::WriteFault),
+            Served::FlashFault => Some(Ending::FlashFault),
         },
         Err(LineStop::End) => Some(Ending::Finished),
         Err(LineStop::ReadFailed) => Some(Ending::ReadFault),
@@ -58,21 +83,32 @@ fn take_turn<S: Source, K: Sink>(
 }
 
 // Takes lines until the run ends.
-fn take_lines<S: Source, K: Sink>(card: &mut Card, source: &mut S, sink: &mut K) -> Ending
+fn take_lines<S: Source, K: Sink, F: Flash>(
+    card: &mut Card<F>,
+    source: &mut S,
+    sink: &mut K,
+) -> RunEnd
+    requires up { card.old.up ≡ true }
     ensures flushes { K.flushes sink.new ≡ K.flushes sink.old }
-    ensures ends { (first : State) → Stands card.old first → Ends S.tells K.tells first result
+    ensures ends { (first : State) → Stands F.tells F.pages F.may_leave card.old first → Ends S.tells K.tells
+        (HasRun F.tells F.pages F.moment F.may_leave F.left_since card.old.flash card.new.flash first result.done)
+        (HasFailed F.tells F.moment F.may_leave F.left_since card.old.flash card.new.flash first result.done)
+        first result.ending
         (outside S.left K.written K.handed_on K.flushes source.old sink.old) (outside S.left K.written K.handed_on K.flushes source.new sink.new) }
-    ensures cause { EndCause result (S.faults source.old) (S.faults source.new) (K.faults sink.old) (K.faults sink.new) }
+    ensures later { F.faults card.old.flash ≤ F.faults card.new.flash }
+    ensures cause { EndCause result.ending
+        (faults_of S.faults K.faults F.faults source.old sink.old card.old.flash) (faults_of S.faults K.faults F.faults source.new sink.new card.new.flash) }
 {
     let mut lines = Lines::new();
+    let mut done = 0;
     let mut space = Workspace {
         command: [0; COMMAND_LIMIT],
         reply: ArrayVec::new(),
         text: [0; REPLY_LINE_LIMIT],
     };
     loop {
-        if let Some(ending) = take_turn(&mut lines, source, card, &mut space, sink) {
-            return ending;
+        if let Some(ending) = take_turn(&mut lines, source, card, &mut done, &mut space, sink) {
+            return RunEnd { ending, done };
         }
     }
 }
@@ -81,11 +117,13 @@ fn take_lines<S: Source, K: Sink>(card: &mut Card, source: &mut S, sink: &mut K)
 fn flush_at_end<K: Sink>(ending: Ending, sink: &mut K) -> Ending
     ensures same { K.tells → K.written sink.new ≡ K.written sink.old }
     ensures ending { AfterFlush K.tells ending (K.flushes sink.old) (K.flushes sink.new) (K.written sink.new) (K.handed_on sink.new) result }
-    ensures cause { (reads reads' writes : ℕ) → EndCause ending reads reads' writes (K.faults sink.old) → EndCause result reads reads' writes (K.faults sink.new) }
+    ensures cause { (reads reads' writes device device' : ℕ)
+        → EndCause ending (record { source = reads; sink = writes; device = device }) (record { source = reads'; sink = K.faults sink.old; device = device' })
+        → EndCause result (record { source = reads; sink = writes; device = device }) (record { source = reads'; sink = K.faults sink.new; device = device' }) }
 {
     match ending {
         Ending::WriteFault => ending,
-        Ending::ReadFault => {
+        Ending::ReadFault | Ending::FlashFault => {
             let _ = sink.flush();
             ending
         }
@@ -97,13 +135,26 @@ fn flush_at_end<K: Sink>(ending: Ending, sink: &mut K) -> Ending
 }
 
 /// Gives the lines of a source to a card, and writes each reply before the next line is taken.
-pub fn run<S: Source, K: Sink>(card: &mut Card, source: &mut S, sink: &mut K) -> Ending
-    ensures flushes { Flushes K.tells result
+pub fn run<S: Source, K: Sink, F: Flash>(
+    card: &mut Card<F>,
+    source: &mut S,
+    sink: &mut K,
+) -> RunEnd
+    requires up { card.old.up ≡ true }
+    ensures flushes { Flushes K.tells result.ending
         (outside S.left K.written K.handed_on K.flushes source.old sink.old) (outside S.left K.written K.handed_on K.flushes source.new sink.new) }
-    ensures ends { (first : State) → Stands card.old first → Ends S.tells K.tells first result
+    ensures ends { (first : State) → Stands F.tells F.pages F.may_leave card.old first → Ends S.tells K.tells
+        (HasRun F.tells F.pages F.moment F.may_leave F.left_since card.old.flash card.new.flash first result.done)
+        (HasFailed F.tells F.moment F.may_leave F.left_since card.old.flash card.new.flash first result.done)
+        first result.ending
         (outside S.left K.written K.handed_on K.flushes source.old sink.old) (outside S.left K.written K.handed_on K.flushes source.new sink.new) }
-    ensures cause { EndCause result (S.faults source.old) (S.faults source.new) (K.faults sink.old) (K.faults sink.new) }
+    ensures later { F.faults card.old.flash ≤ F.faults card.new.flash }
+    ensures cause { EndCause result.ending
+        (faults_of S.faults K.faults F.faults source.old sink.old card.old.flash) (faults_of S.faults K.faults F.faults source.new sink.new card.new.flash) }
 {
-    let ending = take_lines(card, source, sink);
-    flush_at_end(ending, sink)
+    let end = take_lines(card, source, sink);
+    RunEnd {
+        ending: flush_at_end(end.ending, sink),
+        done: end.done,
+    }
 }

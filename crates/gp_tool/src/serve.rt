@@ -1,12 +1,16 @@
 //! What is done with one line.
 
-ghost use Rattle.std.specs.Prelude.{◌≡◌, ◌≤◌, length};
-ghost use Rattle.gp_tool.specs.Serve.{ServesLine, ServeCause};
+ghost use Rattle.std.specs.Prelude.{◌≡◌, ◌≤◌, ◌<◌, ◌+◌, true, length};
+ghost use Rattle.card_core.specs.Card.{Stands};
+ghost use Rattle.io_edge.specs.declared.line.TheConstants.{INPUT_LIMIT};
+ghost use Rattle.gp_tool.specs.Device.{LeavesOneOf};
+ghost use Rattle.gp_tool.specs.Serve.{GoesAhead, ServesLine, ServeCause};
 
 use crate::form::{COMMAND_LIMIT, Form, read_form};
 use crate::reply::{REPLY_LINE_LIMIT, write_reply};
 use arrayvec::ArrayVec;
 use card_core::{Card, REPLY_LIMIT};
+use flash_core::{Flash, FlashFailed};
 use io_edge::{LINE_LIMIT, Sink};
 
 /// Room for a command, its reply and the reply's line.
@@ -26,19 +30,30 @@ pub enum Served {
     NoForm,
     /// The sink refused its reply.
     WriteFault,
+    /// The device failed in its command, and nothing was written.
+    FlashFault,
 }
 
-/// Gives a line to the card, and writes the reply.
-pub fn serve_line<K: Sink>(
+/// Gives a line to the card, and writes the reply. `done` counts the commands that the card has answered.
+pub fn serve_line<K: Sink, F: Flash>(
     line: &[u8],
-    card: &mut Card,
+    card: &mut Card<F>,
+    done: &mut u32,
     space: &mut Workspace,
     sink: &mut K,
 ) -> Served
-    requires { length line.now ≤ LINE_LIMIT }
-    ensures served { ServesLine K.tells line.now card.old card.new (K.written sink.old) (K.written sink.new) result }
+    requires line { length line.now ≤ LINE_LIMIT }
+    requires up { card.old.up ≡ true }
+    requires few { done.old < INPUT_LIMIT }
+    ensures served { ServesLine K.tells line.now ((card.new ≡ card.old) × (done.new ≡ done.old))
+        (Stands F.tells F.pages F.may_leave card.old) (Stands F.tells F.pages F.may_leave card.new)
+        (LeavesOneOf F.tells F.moment F.left_since card.old.flash card.new.flash)
+        done.old done.new (K.written sink.old) (K.written sink.new) result }
+    ensures up { GoesAhead result (card.new.up ≡ true) }
+    ensures few { done.new ≤ done.old + 1 }
     ensures flushes { K.flushes sink.new ≡ K.flushes sink.old }
-    ensures cause { ServeCause (K.faults sink.old) (K.faults sink.new) result }
+    ensures later { F.faults card.old.flash ≤ F.faults card.new.flash }
+    ensures cause { ServeCause (K.faults sink.old) (K.faults sink.new) (F.faults card.old.flash) (F.faults card.new.flash) result }
 {
     match read_form(line, &mut space.command) {
         None => Served::NoForm,
@@ -48,7 +63,10 @@ pub fn serve_line<K: Sink>(
             Served::Done
         }
         Some(Form::Command(count)) => {
-            card.process(&space.command[..count], &mut space.reply);
+            match card.process(&space.command[..count], &mut space.reply) {
+                Ok(_) => *done += 1,
+                Err(FlashFailed) => return Served::FlashFault,
+            }
             match write_reply(&space.reply, &mut space.text, sink) {
                 Ok(()) => Served::Done,
                 Err(_) => Served::WriteFault,

@@ -1,39 +1,27 @@
 //! The top call.
 
-ghost use Rattle.std.specs.Prelude.{◌≡◌, ◌≢◌, ◌⊎◌, ◌<◌, ◌++◌, ℕ, List, length, take, codes, string_bytes, IsTrue, OnOk, OnErr, ◌↔◌};
+ghost use Rattle.std.specs.Prelude.{◌≡◌, ◌≢◌, ◌⊎◌, ◌≤◌, ◌<◌, ◌++◌, ℕ, List, length, take, OnOk, OnErr};
 ghost use Rattle.std.specs.Str.Lines.{lines};
-ghost use Rattle.card_types.specs.Factory.{factory_registry};
-ghost use Rattle.policy_rules.specs.State.{powered_on};
+ghost use Rattle.card_types.specs.Registry.{Registry};
 ghost use Rattle.io_edge.specs.Faults.{HasCause, Rose};
 ghost use Rattle.io_edge.specs.declared.line.TheConstants.{INPUT_LIMIT};
-ghost use Rattle.gp_tool.specs.Ends.{Ends, EndCause, Flushes, outside, exit_status};
+ghost use Rattle.policy_rules.specs.State.{powered_on};
+ghost use Rattle.rec_store.specs.Reopens.{Reopens};
+ghost use Rattle.gp_tool.specs.Device.{HasFailed, HasRun, IsNotPowered};
+ghost use Rattle.gp_tool.specs.Ends.{Ends, EndCause, Flushes, exit_status, faults_of, outside};
 ghost use Rattle.gp_tool.specs.Flush.{FlushesLast, IsHandedOn};
 ghost use Rattle.gp_tool.specs.Good.{AreGood};
-ghost use Rattle.gp_tool.specs.Words.{AreRun, usage_line};
+ghost use Rattle.gp_tool.specs.Words.{AreRun, HaveForm, usage_line};
 ghost use Rattle.gp_tool.specs.declared.ending.Ending.{Ending};
 
-use crate::run::run;
-use card_core::Card;
+use crate::ended::Ended;
+use crate::run_verb::run_verb;
+use crate::verb::{Verb, read_verb};
+use flash_core::Flash;
 use io_edge::{Sink, Source, WriteFailed};
 use std::alloc::Global;
 
-const USAGE: &[u8] = b"usage: gp run\n";
-
-fn is_run(word: &String) -> bool
-    ensures { IsTrue result ↔ (string_bytes word.now ≡ codes "run") }
-{
-    word.as_bytes() == b"run".as_slice()
-}
-
-// Whether the words are `run` alone.
-fn are_run(words: &[String]) -> bool
-    ensures { IsTrue result ↔ AreRun words.now }
-{
-    match words {
-        [word] => is_run(word),
-        _ => false,
-    }
-}
+const USAGE: &[u8] = b"usage: gp format | run | show\n";
 
 // Writes the usage line, and hands it on.
 fn write_usage<K: Sink>(sink: &mut K) -> Result<(), WriteFailed>
@@ -63,44 +51,61 @@ fn refuse_words<K: Sink>(sink: &mut K) -> u8
     }
 }
 
-/// Does what the words say, and answers the status of the program.
+/// Does what the words say, and answers the status of the program, how many commands the card has answered, and the device.
 ///
-/// 0: the input was read to its end. 1: words that have no form. 2: a line that has no form or is too long. 5: the source
-/// refused a read. 6: the sink refused a write or its flush. 7: want of memory for the card. 9: the input is too
-/// long.
-pub fn gp<S: Source, K: Sink>(alloc: Global, words: &[String], source: &mut S, sink: &mut K) -> u8
-    // The words have no form: the usage line is written, and nothing is read.
-    ensures usage { (AreRun words.now → ⊥) → ((result ≡ 1) ⊎ (result ≡ 6)) × (source.new ≡ source.old) }
-    ensures usage_written { (AreRun words.now → ⊥) → K.tells → result ≡ 1 → K.written sink.new ≡ K.written sink.old ++ usage_line }
-    ensures usage_part { (AreRun words.now → ⊥) → K.tells → result ≡ 6 → (n : ℕ) × (K.written sink.new ≡ K.written sink.old ++ take n usage_line) }
-    ensures usage_handed_on { (AreRun words.now → ⊥) → result ≡ 1 → IsHandedOn K.tells (K.flushes sink.old) (K.flushes sink.new) (K.written sink.new) (K.handed_on sink.new) }
-    ensures usage_flushes { (AreRun words.now → ⊥) → result ≡ 6 → FlushesLast K.tells (K.flushes sink.old) (K.flushes sink.new) (K.written sink.old) usage_line (K.written sink.new) }
-    ensures usage_quiet { (AreRun words.now → ⊥) → result ≡ 1 → K.faults sink.new ≡ K.faults sink.old }
-    ensures usage_cause { (AreRun words.now → ⊥) → result ≡ 6 → Rose (K.faults sink.old) (K.faults sink.new) }
+/// 0: the input was read to its end. 1: words that have no form. 2: a line that has no form or is too long. 3: the device
+/// failed. 4: the device holds no card. 5: the source refused a read. 6: the sink refused a write or its flush. 7: want of
+/// memory for the card. 9: the input is too long.
+pub fn gp<S: Source, K: Sink, F: Flash>(
+    alloc: Global,
+    words: &[String],
+    source: &mut S,
+    sink: &mut K,
+    flash: F,
+) -> Ended<F>
+    // The words have no form: the usage line is written, nothing is read, and no call is made on the device.
+    ensures usage { (HaveForm words.now → ⊥) → ((result.status ≡ 1) ⊎ (result.status ≡ 6)) × (source.new ≡ source.old) × (result.done ≡ 0) × (result.flash ≡ flash) }
+    ensures usage_written { (HaveForm words.now → ⊥) → K.tells → result.status ≡ 1 → K.written sink.new ≡ K.written sink.old ++ usage_line }
+    ensures usage_part { (HaveForm words.now → ⊥) → K.tells → result.status ≡ 6 → (n : ℕ) × (K.written sink.new ≡ K.written sink.old ++ take n usage_line) }
+    ensures usage_handed_on { (HaveForm words.now → ⊥) → result.status ≡ 1 → IsHandedOn K.tells (K.flushes sink.old) (K.flushes sink.new) (K.written sink.new) (K.handed_on sink.new) }
+    ensures usage_flushes { (HaveForm words.now → ⊥) → result.status ≡ 6 → FlushesLast K.tells (K.flushes sink.old) (K.flushes sink.new) (K.written sink.old) usage_line (K.written sink.new) }
+    ensures usage_quiet { (HaveForm words.now → ⊥) → result.status ≡ 1 → K.faults sink.new ≡ K.faults sink.old }
+    ensures usage_cause { (HaveForm words.now → ⊥) → result.status ≡ 6 → Rose (K.faults sink.old) (K.faults sink.new) }
 
-    // Want of memory for the card: nothing is read or written.
-    ensures memory { AreRun words.now → result ≡ 7 → (source.new ≡ source.old) × (sink.new ≡ sink.old) }
+    // Want of memory for the card: nothing is read or written, and no call is made on the device.
+    ensures memory { HaveForm words.now → result.status ≡ 7 → (source.new ≡ source.old) × (sink.new ≡ sink.old) × (result.flash ≡ flash) × (result.done ≡ 0) }
 
-    // `run`: the status is that of an ending, which says what was read, written and handed on.
-    ensures run { AreRun words.now → result ≢ 7 → (ending : Ending) × (result ≡ exit_status ending)
-        × EndCause ending (S.faults source.old) (S.faults source.new) (K.faults sink.old) (K.faults sink.new)
+    // `run`: the card was not powered on, and nothing is read or written. Or the status is that of an ending, which says what
+    // was read, written and handed on, and what the device holds.
+    ensures run { AreRun words.now → result.status ≢ 7
+        → (IsNotPowered F.tells F.faults F.pages F.moment F.may_leave F.left_since result.status result.done flash result.flash
+        × (source.new ≡ source.old) × (sink.new ≡ sink.old))
+        ⊎ ((registry : Registry) × (F.tells → Reopens (F.pages flash) registry) × (ending : Ending) × (result.status ≡ exit_status ending)
+        × EndCause ending (faults_of S.faults K.faults F.faults source.old sink.old flash) (faults_of S.faults K.faults F.faults source.new sink.new result.flash)
         × Flushes K.tells ending
         (outside S.left K.written K.handed_on K.flushes source.old sink.old) (outside S.left K.written K.handed_on K.flushes source.new sink.new)
-        × Ends S.tells K.tells (powered_on factory_registry) ending
-        (outside S.left K.written K.handed_on K.flushes source.old sink.old) (outside S.left K.written K.handed_on K.flushes source.new sink.new) }
+        × Ends S.tells K.tells
+        (HasRun F.tells F.pages F.moment F.may_leave F.left_since flash result.flash (powered_on registry) result.done)
+        (HasFailed F.tells F.moment F.may_leave F.left_since flash result.flash (powered_on registry) result.done)
+        (powered_on registry) ending
+        (outside S.left K.written K.handed_on K.flushes source.old sink.old) (outside S.left K.written K.handed_on K.flushes source.new sink.new)) }
+    ensures no_card { F.tells → AreRun words.now → ((registry : Registry) → Reopens (F.pages flash) registry → ⊥)
+        → (result.status ≡ 3) ⊎ (result.status ≡ 4) ⊎ (result.status ≡ 7) }
 
     // Where each line has a form, the input is short enough and nothing fails, all is done. Only want of memory comes
     // then besides.
-    ensures complete { AreRun words.now → S.tells → AreGood (lines (S.left source.old)) → length (S.left source.old) < INPUT_LIMIT
+    ensures complete { AreRun words.now → S.tells → F.tells → (registry : Registry) → Reopens (F.pages flash) registry
+        → AreGood (lines (S.left source.old)) → length (S.left source.old) < INPUT_LIMIT
         → (Rose (S.faults source.old) (S.faults source.new) → ⊥) → (Rose (K.faults sink.old) (K.faults sink.new) → ⊥)
-        → (result ≡ 0) ⊎ (result ≡ 7) }
+        → (Rose (F.faults flash) (F.faults result.flash) → ⊥) → (result.status ≡ 0) ⊎ (result.status ≡ 7) }
+    ensures later { F.faults flash ≤ F.faults result.flash }
 {
-    if are_run(words) {
-        match Card::factory(alloc) {
-            Ok(mut card) => run(&mut card, source, sink).status(),
-            Err(_) => 7,
-        }
-    } else {
-        refuse_words(sink)
+    match read_verb(words) {
+        None => Ended {
+            status: refuse_words(sink),
+            done: 0,
+            flash,
+        },
+        Some(Verb::Run) => run_verb(alloc, source, sink, flash),
     }
 }

@@ -1,6 +1,6 @@
-use Rattle.std.proofs.Common.{◌∙◌, inl, inr}
+use Rattle.std.proofs.Common.{refl, ◌∙◌, inl, inr}
 use Rattle.gp_tool.specs.Ends.{outside}
-use Rattle.gp_tool.proofs.Turns.{given_line, bad_form, refusal_ends, refuses_from}
+use Rattle.gp_tool.proofs.Turns.{given_line, bad_form, failing_line, refusal_ends, refuses_from}
 use Rattle.gp_tool.proofs.run.take_turn.Goals as goal
 
 pub returns-in-Done-clause-goes_on : goal.returns-in-Done-clause-goes_on
@@ -15,19 +15,20 @@ returns-in-Done-clause-goes_on g c =
       passed = gives.passed;
       line = λ state stands.
           (let served = c.in-Done.ensures.served state stands in
-          (given_line g.S.Source.tells _ _ _ _ c.in-Ok.line _ state gives c.in-Ok.ensures.text served.0, served.1));
+          (given_line g.S.Source.tells _ _ _ _ c.in-Ok.line _ _ _ _ state gives c.in-Ok.ensures.text served.0, served.1));
     }
 
 pub returns-in-NoForm-clause-ends : goal.returns-in-NoForm-clause-ends
 returns-in-NoForm-clause-ends g c =
     let gives = rw c.in-Ok.is at c.next_line.follows.holds-at-none in
     let served = c.in-NoForm.ensures.served in
-    refusal_ends g.S.Source.tells g.K.Sink.tells _ c.args.lines.now
+    refusal_ends g.S.Source.tells g.K.Sink.tells _ _ _ _ _ _ c.args.lines.now
     (outside g.S.Source.left g.K.Sink.written g.K.Sink.handed_on g.K.Sink.flushes c.args.source.now c.args.sink.now)
     (outside g.S.Source.left g.K.Sink.written g.K.Sink.handed_on g.K.Sink.flushes c.next_line.new.source c.refuse_line.new.sink)
     c.refuse_line.result
+    served.1
     (bad_form g.S.Source.tells _ _ _ _ c.in-Ok.line gives served.0)
-    (refuses_from g.K.Sink.tells _ _ _ _ c.refuse_line.result served.1 (rw (← c.in-Ok.ensures.number) c.refuse_line.ensures.refused))
+    (refuses_from g.K.Sink.tells _ _ _ _ c.refuse_line.result served.2 (rw (← c.in-Ok.ensures.number) c.refuse_line.ensures.refused))
 
 pub returns-in-WriteFault-clause-ends : goal.returns-in-WriteFault-clause-ends
 unfolding given_line
@@ -35,14 +36,21 @@ returns-in-WriteFault-clause-ends g c =
     let gives = rw c.in-Ok.is at c.next_line.follows.holds-at-none in
     inl (λ state stands.
     (let served = c.in-WriteFault.ensures.served state stands in
-    (_, _, given_line g.S.Source.tells _ _ _ _ c.in-Ok.line _ state gives c.in-Ok.ensures.text served.0, served.1)))
+    (_, given_line g.S.Source.tells _ _ _ _ c.in-Ok.line _ _ _ _ state gives c.in-Ok.ensures.text served.0, served.1, served.2, served.3)))
+
+pub returns-in-FlashFault-clause-ends : goal.returns-in-FlashFault-clause-ends
+returns-in-FlashFault-clause-ends g c =
+    let gives = rw c.in-Ok.is at c.next_line.follows.holds-at-none in
+    let served = c.in-FlashFault.ensures.served in
+    (served.0, served.1, λ state stands. failing_line g.S.Source.tells _ _ _ _ c.in-Ok.line _ state gives c.in-Ok.ensures.text (served.2 state stands))
 
 pub returns-in-Err-TooLong-clause-ends : goal.returns-in-Err-TooLong-clause-ends
 returns-in-Err-TooLong-clause-ends g c =
-    refusal_ends g.S.Source.tells g.K.Sink.tells _ c.args.lines.now
+    refusal_ends g.S.Source.tells g.K.Sink.tells _ _ _ _ _ _ c.args.lines.now
     (outside g.S.Source.left g.K.Sink.written g.K.Sink.handed_on g.K.Sink.flushes c.args.source.now c.args.sink.now)
     (outside g.S.Source.left g.K.Sink.written g.K.Sink.handed_on g.K.Sink.flushes c.next_line.new.source c.refuse_line-in-Err-TooLong.new.sink)
     c.refuse_line-in-Err-TooLong.result
-    (λ told. (let stop = rw c.in-Err-TooLong.field-0-is at (c.in-Err-TooLong.ensures.stop told c.requires) in (stop.1.0, inr (stop.1.1, stop.1.2))))
-    (let number = rw c.in-Err-TooLong.field-0-is at (c.in-Err-TooLong.ensures.numbered c.requires) in
+    (refl, refl)
+    (λ told. (let stop = rw c.in-Err-TooLong.field-0-is at (c.in-Err-TooLong.ensures.stop told c.requires.stop) in (stop.1.0, inr (stop.1.1, stop.1.2))))
+    (let number = rw c.in-Err-TooLong.field-0-is at (c.in-Err-TooLong.ensures.numbered c.requires.stop) in
     rw (← number) c.refuse_line-in-Err-TooLong.ensures.refused)

@@ -1,0 +1,132 @@
+-- What power lost in a run may leave, from command to command.
+use Rattle.std.proofs.Common.{◌≡◌, ◌⊎◌, ◌≤◌, ℕ, List, [], ◌∷◌, ◌++◌, length, refl, sym, ap, subst, ◌∙◌, inl, inr, ⊎_elim, arith}
+use Rattle.std.specs.Prelude.{Contains, map}
+use Rattle.std.proofs.lemmas.List.{append-nil, map-append}
+use Rattle.std.proofs.lemmas.List.Elements.{Contains-append_left, Contains-append_right}
+use Rattle.card_core.specs.Card.{CardOver, Stands}
+use Rattle.card_types.proofs.Members.{contains_cases, contains_first, contains_later}
+use Rattle.card_types.specs.Registry.{Registry}
+use Rattle.flash_core.specs.declared.page.Page.{Page}
+use Rattle.page_journal.specs.Moments.{Always, LeavesOnly}
+use Rattle.policy_rules.specs.Run.{Command, Input, Reset, Run}
+use Rattle.policy_rules.specs.State.{State, powered_on}
+use Rattle.policy_rules.specs.Step.{Outcome}
+use Rattle.rec_store.specs.Reopens.{Reopens, ReopensAsOne}
+use Rattle.gp_tool.specs.Device.{HasFailed, HasRun, LeavesOneOf, registries}
+use Rattle.gp_tool.specs.Plays.{Plays}
+
+-- each of some registries is one of all
+abbrev pub Among : List Registry → List Registry → Type 0
+Among some all = (registry : Registry) → Contains some registry → Contains all registry
+
+-- What power lost before, between and since two moments may leave fits together.
+abbrev pub Joins : (List Registry → Type 0) → (List Registry → Type 0) → (List Registry → Type 0) → Type 0
+Joins Before Between Since = (some more all : List Registry) → Among some all → Among more all → Before some → Between more → Since all
+
+
+-- the last registry is one of the run's
+run_ends : (state : State) (inputs : List Input) (outcomes : List Outcome) (last : State) → Run state inputs outcomes last → Contains (registries state outcomes) last.registry
+run_ends state [] outcomes last run =
+    subst (λ (r : Registry). Contains (registries state outcomes) r) (ap (λ (s : State). s.registry) (sym run.1)) (contains_first state.registry (map (λ outcome. outcome.state.registry) outcomes))
+run_ends state (Command bytes ∷ inputs) [] last run = absurd run
+run_ends state (Command bytes ∷ inputs) (outcome ∷ outcomes) last run =
+    contains_later state.registry (registries outcome.state outcomes) last.registry (run_ends outcome.state inputs outcomes last run.1)
+run_ends state (Reset ∷ inputs) outcomes last run = run_ends (powered_on state.registry) inputs outcomes last run
+
+pub plays_ends : (first : State) (given : List (List ℕ)) (outcomes : List Outcome) (last : State) → Plays first given outcomes last → Contains (registries first outcomes) last.registry
+plays_ends first given outcomes last plays = run_ends first plays.inputs outcomes last plays.run
+
+module _ (first : State) (some more : List Outcome) where
+  -- those of the first commands
+  pub among_first : Among (registries first some) (registries first (some ++ more))
+  among_first registry there =
+      subst (λ (rs : List Registry). Contains (first.registry ∷ rs) registry) (sym (map-append (λ (o : Outcome). o.state.registry) some more))
+      (Contains-append_left (registries first some) (map (λ (o : Outcome). o.state.registry) more) registry there)
+
+  -- those of the commands behind them
+  pub among_more : (state : State) → Contains (registries first some) state.registry → Among (registries state more) (registries first (some ++ more))
+  among_more state there registry among = elim (contains_cases state.registry (map (λ (o : Outcome). o.state.registry) more) registry among) [
+    | inl same ↦ among_first registry (subst (Contains (registries first some)) same there)
+    | inr later ↦
+        subst (λ (rs : List Registry). Contains (first.registry ∷ rs) registry) (sym (map-append (λ (o : Outcome). o.state.registry) some more))
+        (Contains-append_right (registries first some) (map (λ (o : Outcome). o.state.registry) more) registry later)
+  ]
+
+module _ {F : Type 0} (moment : F → ℕ) (left_since : F → ℕ → List Page → Type 0) where
+  abbrev Only : F → F → (List Page → Type 0) → Type 0
+  Only old new P = LeavesOnly moment left_since old new P
+
+  -- what power lost between two moments may leave, with what it may leave since the second
+  pub joined : (old mid new : F) (P : List Page → Type 0) → Only old mid P → Only mid new P → Only old new P
+  joined old mid new P first second = record {
+    later = omega (arith, first.later, second.later);
+    each = λ c left. ⊎_elim (first.each c) (λ p. p) (second.before (moment old) c first.later left);
+    before = λ t c le left. ⊎_elim (first.before t c le) (λ p. inr p) (second.before t c (omega (arith, le, first.later)) left);
+  }
+
+  -- less is said
+  pub weaker : (old new : F) (P Q : List Page → Type 0) → Only old new P → ((c : List Page) → P c → Q c) → Only old new Q
+  weaker old new P Q was step = record {
+    later = was.later;
+    each = λ c left. step c (was.each c left);
+    before = λ t c le left. ⊎_elim (λ earlier. inl earlier) (λ p. inr (step c p)) (was.before t c le left);
+  }
+
+  -- a registry that is one of some is one of all
+  one_of : (some all : List Registry) → Among some all → (c : List Page) → ReopensAsOne some c → ReopensAsOne all c
+  one_of some all among c reopens = (reopens.0, among reopens.0 reopens.1, reopens.2)
+
+  pub joins : (tells : Type 0) (old mid new : F)
+      → Joins (LeavesOneOf tells moment left_since old mid) (LeavesOneOf tells moment left_since mid new) (LeavesOneOf tells moment left_since old new)
+  joins tells old mid new some more all first then before between told =
+      joined old mid new (ReopensAsOne all) (weaker old mid (ReopensAsOne some) (ReopensAsOne all) (before told) (one_of some all first))
+      (weaker mid new (ReopensAsOne more) (ReopensAsOne all) (between told) (one_of more all then))
+
+  -- where nothing was done power lost leaves the registry of the card
+  pub nothing_done : (tells : Type 0) (pages : F → List Page) (may_leave : F → List Page → Type 0)
+      → ((f : F) (c : List Page) → tells → left_since f (moment f) c → may_leave f c)
+      → (card : CardOver F) (state : State) → Stands tells pages may_leave card state → LeavesOneOf tells moment left_since card.flash card.flash (state.registry ∷ [])
+  nothing_done tells pages may_leave only card state stands told =
+      let keeps = stands.keeps told in
+      record {
+        later = omega arith;
+        each = λ c left. (state.registry, contains_first state.registry [], keeps.reopens c (only card.flash c told left));
+        before = λ t c le left. inl left;
+      }
+
+  -- the registry before a command or the one after it is one of the two
+  pub one_of_two : (tells : Type 0) (old new : F) (before after : Registry)
+      → (tells → Only old new (λ c. Reopens c before ⊎ Reopens c after)) → LeavesOneOf tells moment left_since old new (before ∷ after ∷ [])
+  one_of_two tells old new before after leaves told =
+      weaker old new (λ c. Reopens c before ⊎ Reopens c after) (ReopensAsOne (before ∷ after ∷ [])) (leaves told)
+      (λ c reopens. ⊎_elim (λ was. (before, contains_first before (after ∷ []), was))
+      (λ is. (after, contains_later before (after ∷ []) after (contains_first after []), is)) reopens)
+
+module _ {F : Type 0} (tells : Type 0) (pages : F → List Page) (moment : F → ℕ) (may_leave : F → List Page → Type 0) (left_since : F → ℕ → List Page → Type 0) where
+  -- a card that was not touched stands as before
+  pub stays : (first : F) (card card' : CardOver F) (count count' : ℕ) → (card' ≡ card) × (count' ≡ count)
+      → (count' ≡ count) × ((state : State) → Stands tells pages may_leave card state → Stands tells pages may_leave card' state)
+      × ((all : List Registry) → LeavesOneOf tells moment left_since first card.flash all → LeavesOneOf tells moment left_since first card'.flash all)
+  stays first card card' count count' same = (
+    same.1,
+    λ state stands. subst (λ (c : CardOver F). Stands tells pages may_leave c state) (sym same.0) stands,
+    λ all leaves. subst (λ (c : CardOver F). LeavesOneOf tells moment left_since first c.flash all) (sym same.0) leaves,
+  )
+
+  pub has_run : (old : F) (card : CardOver F) (first : State) (count : ℕ) (outcomes : List Outcome) (last : State) → count ≡ length outcomes
+      → Stands tells pages may_leave card last → LeavesOneOf tells moment left_since old card.flash (registries first outcomes)
+      → HasRun tells pages moment may_leave left_since old card.flash first count outcomes last
+  has_run old card first count outcomes last done stands leaves = record { done = done; keeps = stands.keeps; moments = λ told before. leaves told }
+
+  pub has_failed : ((f : F) (t : ℕ) (c : List Page) → tells → t ≤ moment f → may_leave f c → left_since f t c)
+      → (old mid new : F) (first : State) (count : ℕ) (outcomes : List Outcome) (last : State) (next : Outcome) → count ≡ length outcomes
+      → LeavesOneOf tells moment left_since mid new (last.registry ∷ next.state.registry ∷ [])
+      → LeavesOneOf tells moment left_since old new (registries first (outcomes ++ next ∷ []))
+      → HasFailed tells moment may_leave left_since old new first count outcomes last next
+  has_failed counts old mid new first count outcomes last next done between since = record {
+    done = done;
+    left = λ told c possible.
+        (let leaves = between told in
+        leaves.each c (counts new (moment mid) c told leaves.later possible));
+    moments = λ told before. since told;
+  }

@@ -1,0 +1,70 @@
+-- A run on a card that was powered on, from the device before.
+use Rattle.std.proofs.Common.{◌≡◌, ◌⊎◌, ◌≤◌, ℕ, List, [], ◌∷◌, ◌++◌, inl, inr, arith}
+use Rattle.card_core.specs.Card.{CardOver, Stands}
+use Rattle.card_core.specs.PowerOn.{PowerFails}
+use Rattle.card_core.specs.declared.power.PowerCause.{PowerCause}
+use Rattle.card_core.specs.declared.power.PowerCause.TheVariants.{Memory, FlashFailed, NotACard}
+use Rattle.card_types.proofs.Members.{contains_first}
+use Rattle.card_types.specs.Registry.{Registry}
+use Rattle.flash_core.specs.Faults.{Rose}
+use Rattle.flash_core.specs.declared.page.Page.{Page}
+use Rattle.page_journal.specs.Moments.{Always, LeavesOnly}
+use Rattle.policy_rules.specs.State.{State}
+use Rattle.policy_rules.specs.Step.{Outcome}
+use Rattle.rec_store.specs.Reopens.{Reopens, ReopensAsOne}
+use Rattle.gp_tool.proofs.Moments.{joined}
+use Rattle.gp_tool.specs.Device.{HasFailed, HasRun, refusal_status, registries}
+use Rattle.gp_tool.specs.Ends.{EndCause, Ends, Faults, Outside}
+use Rattle.gp_tool.specs.declared.ending.Ending.{Ending}
+use Rattle.gp_tool.specs.declared.ending.Ending.TheVariants.{Finished, BadLine, FlashFault, ReadFault, WriteFault, InputTooLong}
+
+-- something else may be said of the device
+module _ (reads writes : Type 0) (Rests Rests' : List Outcome → State → Type 0) (Fails Fails' : List Outcome → State → Outcome → Type 0)
+    (rests : (outcomes : List Outcome) (last : State) → Rests outcomes last → Rests' outcomes last)
+    (fails : (outcomes : List Outcome) (last : State) (next : Outcome) → Fails outcomes last next → Fails' outcomes last next)
+    (first : State) (old new : Outside) where
+  pub said_else : (ending : Ending) → Ends reads writes Rests Fails first ending old new → Ends reads writes Rests' Fails' first ending old new
+  said_else Finished ends = record ends { device = rests ends.outcomes ends.state ends.device }
+  said_else BadLine ends = record ends { device = rests ends.outcomes ends.state ends.device }
+  said_else FlashFault ends = record ends { device = fails ends.outcomes ends.state ends.next ends.device }
+  said_else ReadFault ends = record ends { device = rests ends.outcomes ends.state ends.device }
+  said_else WriteFault ends = record ends { device = rests ends.outcomes ends.state ends.device }
+  said_else InputTooLong ends = record ends { device = rests ends.outcomes ends.state ends.device }
+
+-- the device's count was no greater before
+pub cause_since : (ending : Ending) (source sink before device : ℕ) (new : Faults) → before ≤ device
+    → EndCause ending (record { source = source; sink = sink; device = device }) new → EndCause ending (record { source = source; sink = sink; device = before }) new
+cause_since Finished source sink before device new less cause = cause
+cause_since BadLine source sink before device new less cause = cause
+cause_since FlashFault source sink before device new less cause = (cause.0, cause.1, (let rose = cause.2 in omega (arith, rose, less)))
+cause_since ReadFault source sink before device new less cause = cause
+cause_since WriteFault source sink before device new less cause = cause
+cause_since InputTooLong source sink before device new less cause = cause
+
+module _ {F : Type 0} (tells : Type 0) (pages : F → List Page) (moment : F → ℕ) (may_leave : F → List Page → Type 0) (left_since : F → ℕ → List Page → Type 0)
+    (old : F) (card : CardOver F) (first : State) (stands : Stands tells pages may_leave card first)
+    (powered : tells → (all : List Registry) → Always (may_leave old) (ReopensAsOne all) → LeavesOnly moment left_since old card.flash (ReopensAsOne all)) where
+  since : (new : F) (outcomes : List Outcome)
+      → (tells → Always (may_leave card.flash) (λ outcome. Reopens outcome first.registry) → LeavesOnly moment left_since card.flash new (ReopensAsOne (registries first outcomes)))
+      → tells → Always (may_leave old) (λ outcome. Reopens outcome first.registry) → LeavesOnly moment left_since old new (ReopensAsOne (registries first outcomes))
+  since new outcomes moments told before =
+      let keeps = stands.keeps told in
+      joined moment left_since old card.flash new (ReopensAsOne (registries first outcomes))
+      (powered told (registries first outcomes) (λ c left. (first.registry, contains_first first.registry _, before c left)))
+      (moments told keeps.reopens)
+
+  pub run_since : (new : F) (count : ℕ) (outcomes : List Outcome) (last : State)
+      → HasRun tells pages moment may_leave left_since card.flash new first count outcomes last → HasRun tells pages moment may_leave left_since old new first count outcomes last
+  run_since new count outcomes last run = record { done = run.done; keeps = run.keeps; moments = since new outcomes run.moments }
+
+  pub failed_since : (new : F) (count : ℕ) (outcomes : List Outcome) (last : State) (next : Outcome)
+      → HasFailed tells moment may_leave left_since card.flash new first count outcomes last next → HasFailed tells moment may_leave left_since old new first count outcomes last next
+  failed_since new count outcomes last next failed = record { done = failed.done; left = failed.left; moments = since new (outcomes ++ next ∷ []) failed.moments }
+
+-- where the device holds a card and doesn't fail, want of memory alone is left
+pub no_other_cause : {F : Type 0} (tells : Type 0) (faults : F → ℕ) (pages : F → List Page) (old new : F) (cause : PowerCause) (status : ℕ)
+    → PowerFails tells faults pages old cause new → status ≡ refusal_status cause → tells → (registry : Registry) → Reopens (pages old) registry
+    → (Rose (faults old) (faults new) → ⊥) → (status ≡ 0) ⊎ (status ≡ 7)
+no_other_cause tells faults pages old new (Memory refused) status fails is told registry reopens no_flash = inr is
+no_other_cause tells faults pages old new FlashFailed status fails is told registry reopens no_flash = absurd (no_flash fails)
+no_other_cause tells faults pages old new NotACard status fails is told registry reopens no_flash = (let none = fails told in absurd (none.0 registry reopens))

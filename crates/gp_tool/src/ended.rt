@@ -1,0 +1,11 @@
+//! What a call of the program leaves.
+
+/// The status of the program, and what it leaves.
+#[derive(Drop)]
+pub struct Ended<F> {
+    pub status: u8,
+    /// How many commands the card has answered.
+    pub done: u32,
+    /// The device.
+    pub flash: F,
+}
