@@ -8,4 +8,5 @@ pub mod OneText
 pub mod Moments
 pub mod PlaysMore
 pub mod Powered
+pub mod SaidElse
 pub mod Turns

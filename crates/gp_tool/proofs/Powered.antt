@@ -14,22 +14,9 @@ use Rattle.policy_rules.specs.Step.{Outcome}
 use Rattle.rec_store.specs.Reopens.{Reopens, ReopensAsOne}
 use Rattle.gp_tool.proofs.Moments.{joined}
 use Rattle.gp_tool.specs.Device.{HasFailed, HasRun, refusal_status, registries}
-use Rattle.gp_tool.specs.Ends.{EndCause, Ends, Faults, Outside}
+use Rattle.gp_tool.specs.Ends.{EndCause, Faults}
 use Rattle.gp_tool.specs.declared.ending.Ending.{Ending}
 use Rattle.gp_tool.specs.declared.ending.Ending.TheVariants.{Finished, BadLine, FlashFault, ReadFault, WriteFault, InputTooLong}
-
--- something else may be said of the device
-module _ (reads writes : Type 0) (Rests Rests' : List Outcome → State → Type 0) (Fails Fails' : List Outcome → State → Outcome → Type 0)
-    (rests : (outcomes : List Outcome) (last : State) → Rests outcomes last → Rests' outcomes last)
-    (fails : (outcomes : List Outcome) (last : State) (next : Outcome) → Fails outcomes last next → Fails' outcomes last next)
-    (first : State) (old new : Outside) where
-  pub said_else : (ending : Ending) → Ends reads writes Rests Fails first ending old new → Ends reads writes Rests' Fails' first ending old new
-  said_else Finished ends = record ends { device = rests ends.outcomes ends.state ends.device }
-  said_else BadLine ends = record ends { device = rests ends.outcomes ends.state ends.device }
-  said_else FlashFault ends = record ends { device = fails ends.outcomes ends.state ends.next ends.device }
-  said_else ReadFault ends = record ends { device = rests ends.outcomes ends.state ends.device }
-  said_else WriteFault ends = record ends { device = rests ends.outcomes ends.state ends.device }
-  said_else InputTooLong ends = record ends { device = rests ends.outcomes ends.state ends.device }
 
 -- the device's count was no greater before
 pub cause_since : (ending : Ending) (source sink before device : ℕ) (new : Faults) → before ≤ device

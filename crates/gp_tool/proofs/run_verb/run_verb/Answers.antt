@@ -1,7 +1,8 @@
 use Rattle.std.proofs.Common.{ap, ◌∙◌, inl, inr}
 use Rattle.policy_rules.specs.State.{powered_on}
 use Rattle.gp_tool.proofs.Complete.{finishes}
-use Rattle.gp_tool.proofs.Powered.{cause_since, failed_since, no_other_cause, run_since, said_else}
+use Rattle.gp_tool.proofs.Powered.{cause_since, failed_since, no_other_cause, run_since}
+use Rattle.gp_tool.proofs.SaidElse.{said_else}
 use Rattle.gp_tool.specs.Device.{HasFailed, HasRun}
 use Rattle.gp_tool.specs.Ends.{exit_status}
 use Rattle.gp_tool.proofs.run_verb.run_verb.Goals as goal
