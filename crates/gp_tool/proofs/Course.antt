@@ -106,7 +106,7 @@ module _ (reads writes : Type 0) (first : State) (Now : State → Type 0) (Since
       (Rests : List Outcome → State → Type 0) (Fails : List Outcome → State → Outcome → Type 0)
       (rest : (outcomes : List Outcome) (last : State) → count' ≡ length outcomes → Now' last → Since' (registries first outcomes) → Rests outcomes last)
       (fail : (outcomes : List Outcome) (last : State) (next : Outcome) → count' ≡ length outcomes → Between (last.registry ∷ next.state.registry ∷ [])
-          → Since' (registries first (outcomes ++ next ∷ [])) → Fails outcomes last next) where
+      → Since' (registries first (outcomes ++ next ∷ [])) → Fails outcomes last next) where
     -- nothing was done on the card
     rested : Same → Rests going.outcomes going.state
     rested same =

@@ -23,7 +23,6 @@ Among some all = (registry : Registry) → Contains some registry → Contains a
 abbrev pub Joins : (List Registry → Type 0) → (List Registry → Type 0) → (List Registry → Type 0) → Type 0
 Joins Before Between Since = (some more all : List Registry) → Among some all → Among more all → Before some → Between more → Since all
 
-
 -- the last registry is one of the run's
 run_ends : (state : State) (inputs : List Input) (outcomes : List Outcome) (last : State) → Run state inputs outcomes last → Contains (registries state outcomes) last.registry
 run_ends state [] outcomes last run =

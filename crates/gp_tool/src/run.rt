@@ -135,11 +135,7 @@ fn flush_at_end<K: Sink>(ending: Ending, sink: &mut K) -> Ending
 }
 
 /// Gives the lines of a source to a card, and writes each reply before the next line is taken.
-pub fn run<S: Source, K: Sink, F: Flash>(
-    card: &mut Card<F>,
-    source: &mut S,
-    sink: &mut K,
-) -> RunEnd
+pub fn run<S: Source, K: Sink, F: Flash>(card: &mut Card<F>, source: &mut S, sink: &mut K) -> RunEnd
     requires up { card.old.up ≡ true }
     ensures flushes { Flushes K.tells result.ending
         (outside S.left K.written K.handed_on K.flushes source.old sink.old) (outside S.left K.written K.handed_on K.flushes source.new sink.new) }

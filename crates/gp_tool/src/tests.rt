@@ -1,14 +1,18 @@
-use crate::{Ending, gp};
+use crate::{Ended, Ending, gp};
+use flash_core::{Flash, MemFlash, Page};
 use io_edge::{MemSink, MemSource, StdSink, StdSource};
-use std::alloc::{AllocError, Global};
+use std::alloc::Global;
 use std::test::Fail;
+
+mod devices;
+mod flushes;
+mod runs;
 
 const SELECT: &[u8] = b"00A4040008A000000151000000\n";
 
 const SELECTED: &[u8] = b"6f108408a000000151000000a5049f6501ff9000\n";
 
-/// The reply to SELECT of the Issuer Security Domain.
-const ISSUER: &[u8] = b"6f108408a000000151000000a5049f6501ff9000";
+const USAGE: &[u8] = b"usage: gp format | run | show\n";
 
 /// How a sink is made: its room, and the numbers of the calls that it refuses.
 #[derive(Clone, Copy)]
@@ -22,37 +26,89 @@ const AMPLE: SinkPlan<'static> = SinkPlan {
     fails: &[],
 };
 
-/// The status, and the text that the sink holds.
-fn answer(
-    alloc: Global,
-    words: &[&str],
-    source: MemSource,
-    plan: SinkPlan<'_>,
-) -> Result<(u8, Vec<u8>), AllocError> {
-    let (status, sink) = answer_to(alloc, words, source, plan)?;
-    let text = Vec::from_slice(alloc, sink.written())?;
-    Ok((status, text))
+/// The Issuer Security Domain, in its slot.
+const ISSUER: [u8; 43] = [
+    0x01, 0x08, 0xA0, 0x00, 0x00, 0x01, 0x51, 0x00, 0x00, 0x00, 0, 0, 0, 0, 0, 0, 0, 0, 0x00, 0x00,
+    0x08, 0xA0, 0x00, 0x00, 0x01, 0x51, 0x53, 0x50, 0x41, 0, 0, 0, 0, 0, 0, 0, 0, 0x0F, 0x9E, 0xFE,
+    0x80, 0x00, 0x00,
+];
+
+/// The factory's Executable Load File, in its slot.
+const FILE: [u8; 21] = [
+    0x01, 0x07, 0xA0, 0x00, 0x00, 0x01, 0x51, 0x53, 0x50, 0, 0, 0, 0, 0, 0, 0, 0, 0, 0x00, 0x00,
+    0x00,
+];
+
+/// The first key of the factory's key set, in its slot.
+const KEY: [u8; 21] = [
+    0x01, 0x00, 0x30, 0x01, 0x10, 0x40, 0x41, 0x42, 0x43, 0x44, 0x45, 0x46, 0x47, 0x48, 0x49, 0x4A,
+    0x4B, 0x4C, 0x4D, 0x4E, 0x4F,
+];
+
+/// The pages of the factory card, on a device that has room for some commits.
+fn factory(alloc: Global) -> Result<MemFlash, Fail> {
+    let mut flash = MemFlash::new(alloc, 99)?;
+    let mut page = Page { bytes: [0; 256] };
+    page.bytes[..6].copy_from_slice(&[0x47, 0x50, 0x43, 0x44, 0x02, 0x01]);
+    flash.write(0, &page)?;
+    page = Page { bytes: [0; 256] };
+    page.bytes[..43].copy_from_slice(&ISSUER);
+    flash.write(1, &page)?;
+    page = Page { bytes: [0; 256] };
+    page.bytes[..21].copy_from_slice(&FILE);
+    flash.write(9, &page)?;
+    page = Page { bytes: [0; 256] };
+    for place in 0..3usize {
+        page.bytes[64 * place..64 * place + 21].copy_from_slice(&KEY);
+        page.bytes[64 * place + 3] = place as u8 + 1;
+    }
+    flash.write(25, &page)?;
+    flash.sync()?;
+    Ok(flash)
 }
 
-/// The status, and the sink.
-fn answer_to(
+/// What `gp` leaves over a device, and the sink.
+fn answer_over<F: Flash + Drop>(
     alloc: Global,
     words: &[&str],
     mut source: MemSource,
     plan: SinkPlan<'_>,
-) -> Result<(u8, MemSink), AllocError> {
+    flash: F,
+) -> Result<(Ended<F>, MemSink), Fail> {
     let mut given = Vec::new(alloc);
     for word in words {
         given.push(String::from_str(alloc, word)?)?;
     }
     let mut sink = MemSink::new(alloc, plan.room, plan.fails)?;
-    let status = gp(alloc, &given, &mut source, &mut sink);
-    Ok((status, sink))
+    let ended = gp(alloc, &given, &mut source, &mut sink, flash);
+    Ok((ended, sink))
+}
+
+/// The status on the factory card, and the sink.
+fn answer_to(
+    alloc: Global,
+    words: &[&str],
+    source: MemSource,
+    plan: SinkPlan<'_>,
+) -> Result<(u8, MemSink), Fail> {
+    let (ended, sink) = answer_over(alloc, words, source, plan, factory(alloc)?)?;
+    Ok((ended.status, sink))
+}
+
+/// The status on the factory card, and the text that the sink holds.
+fn answer(
+    alloc: Global,
+    words: &[&str],
+    source: MemSource,
+    plan: SinkPlan<'_>,
+) -> Result<(u8, Vec<u8>), Fail> {
+    let (status, sink) = answer_to(alloc, words, source, plan)?;
+    let text = Vec::from_slice(alloc, sink.written())?;
+    Ok((status, text))
 }
 
 #[test]
 fn refuses_words_that_are_not_run(rt: HostRuntime) -> Result<(), Fail> {
-    let usage: &[u8] = b"usage: gp run\n";
     let cases: [&[&str]; 7] = [
         &[],
         &[""],
@@ -66,12 +122,12 @@ fn refuses_words_that_are_not_run(rt: HostRuntime) -> Result<(), Fail> {
         let source = MemSource::new(rt.alloc(), SELECT, 64, &[0])?;
         let (status, text) = answer(rt.alloc(), words, source, AMPLE)?;
         assert_eq!(rt; status, 1, "{words:?}");
-        assert_eq!(rt; text.as_slice(), usage, "{words:?}");
+        assert_eq!(rt; text.as_slice(), USAGE, "{words:?}");
     }
-    let faults: [(&[u32], u8, &[u8]); 3] = [(&[0], 6, b""), (&[1], 6, usage), (&[2], 1, usage)];
+    let faults: [(&[u32], u8, &[u8]); 3] = [(&[0], 6, b""), (&[1], 6, USAGE), (&[2], 1, USAGE)];
     for (fails, status, text) in faults {
         let source = MemSource::new(rt.alloc(), SELECT, 64, &[])?;
-        let plan = SinkPlan { room: 14, fails };
+        let plan = SinkPlan { room: 30, fails };
         let (got, written) = answer(rt.alloc(), &["walk"], source, plan)?;
         assert_eq!(rt; got, status, "{fails:?}");
         assert_eq!(rt; written.as_slice(), text, "{fails:?}");
@@ -119,149 +175,6 @@ fn answers_each_line(rt: HostRuntime) -> Result<(), Fail> {
             assert_eq!(rt; written.as_slice(), text, "{input:?} by {piece}");
             assert_eq!(rt; got, status, "{input:?} by {piece}");
         }
-    }
-    Ok(())
-}
-
-/// Runs of one card each: its lines, and the line that each writes, if it writes one.
-const RUNS: [&[(&[u8], &[u8])]; 12] = [
-    // Commands that are refused alike each time.
-    &[
-        (b"00A404", b"6700"),
-        (b"00A4040008A0000001510000", b"6700"),
-        (b"00A404000000", b"6700"),
-        (b"10A40400", b"6e00"),
-        (b"01A4040000", b"6881"),
-        (b"00B0000000", b"6d00"),
-        (b"00A4000000", b"6a86"),
-        (b"80F28002024F00", b"6d00"),
-        (b"848201001000000000000000000000000000000000", b"6985"),
-        (b"00A4040005D200000001", b"6a82"),
-    ],
-    // SELECT by a partial AID.
-    &[
-        (b"00A4040000", ISSUER),
-        (b"00A40400", ISSUER),
-        (b"00A4040005A000000151", ISSUER),
-    ],
-    // Channels are opened and closed.
-    &[
-        (b"00700000", b"019000"),
-        (b"00700000", b"029000"),
-        (b"00700000", b"039000"),
-        (b"00700000", b"6a81"),
-        (b"00708001", b"9000"),
-        (b"00708001", b"6200"),
-        (b"00708000", b"6a86"),
-    ],
-    // GET DATA.
-    &[
-        (
-            b"80CA00E000",
-            b"e012c00401308810c00402308810c004033088109000",
-        ),
-        (b"80CA00C100", b"c1030000009000"),
-        (b"80CA004200", b"6a88"),
-        (b"80CA004201AA", b"6a80"),
-    ],
-    // A closed channel's number is opened again, the lowest first.
-    &[
-        (b"00700000", b"019000"),
-        (b"00700000", b"029000"),
-        (b"00700000", b"039000"),
-        (b"00708003", b"9000"),
-        (b"00708001", b"9000"),
-        (b"00700000", b"019000"),
-        (b"00700000", b"039000"),
-        (b"00700000", b"6a81"),
-    ],
-    // A channel answers only while it is open.
-    &[
-        (b"01A4040000", b"6881"),
-        (b"81CA00C100", b"6881"),
-        (b"01700000", b"6881"),
-        (b"00700000", b"019000"),
-        (b"01A4040000", ISSUER),
-        (b"81CA00C100", b"c1030000009000"),
-        (b"01700000", b"029000"),
-        (b"00708001", b"9000"),
-        (b"01A4040000", b"6881"),
-        (b"81CA00C100", b"6881"),
-    ],
-    // A reset closes the channels but the base one.
-    &[
-        (b"00700000", b"019000"),
-        (b"reset", b""),
-        (b"00700000", b"019000"),
-    ],
-    &[
-        (b"00700000", b"019000"),
-        (b"01A4040000", ISSUER),
-        (b"reset", b""),
-        (b"01A4040000", b"6881"),
-        (b"00708001", b"6200"),
-    ],
-    // Lines that are no command change nothing.
-    &[
-        (b"00700000", b"019000"),
-        (b"", b""),
-        (b"# reset", b""),
-        (b"   ", b""),
-        (b"00700000", b"029000"),
-    ],
-    // A refused command opens no channel.
-    &[
-        (b"00700000", b"019000"),
-        (b"00A404", b"6700"),
-        (b"10700000", b"6e00"),
-        (b"00B00000", b"6d00"),
-        (b"00700001", b"6a86"),
-        (b"00700000", b"029000"),
-    ],
-    // A session at level 33, and GET DATA in it. The values of sessions were computed apart from this project.
-    &[
-        (
-            b"80500000080001020304050607",
-            b"000000000000000000003003704d2614d48b5a55725102ce101bd723570000009000",
-        ),
-        (b"848233001076857f0738ab1422cc3a9195e19f90a3", b"9000"),
-        (
-            b"84ca00c10839888bfe9333e491",
-            b"fd75588f5a63ef6905c90d099f369ee91e85fc9247a98b7c9000",
-        ),
-    ],
-    // A reset ends it, and leaves the sequence counter.
-    &[
-        (
-            b"80500000080001020304050607",
-            b"000000000000000000003003704d2614d48b5a55725102ce101bd723570000009000",
-        ),
-        (b"848233001076857f0738ab1422cc3a9195e19f90a3", b"9000"),
-        (b"reset", b""),
-        (b"84ca00c10839888bfe9333e491", b"6982"),
-        (b"80CA00C100", b"c1030000019000"),
-    ],
-];
-
-/// Each list of lines, with its replies, is given to a card just made. The status 0 shows that `gp` doesn't answer want
-/// of memory where there is enough.
-#[test]
-fn one_card_answers_the_commands_of_a_run(rt: HostRuntime) -> Result<(), Fail> {
-    for (number, run) in RUNS.iter().enumerate() {
-        let mut input = Vec::new(rt.alloc());
-        let mut text = Vec::new(rt.alloc());
-        for (line, reply) in *run {
-            input.extend_from_slice(line)?;
-            input.push(b'\n')?;
-            if !reply.is_empty() {
-                text.extend_from_slice(reply)?;
-                text.push(b'\n')?;
-            }
-        }
-        let source = MemSource::new(rt.alloc(), &input, 64, &[])?;
-        let (status, written) = answer(rt.alloc(), &["run"], source, AMPLE)?;
-        assert_eq!(rt; written.as_slice(), text.as_slice(), "run {number}");
-        assert_eq!(rt; status, 0, "run {number}");
     }
     Ok(())
 }
@@ -349,74 +262,31 @@ fn stops_at_a_refused_write(rt: HostRuntime) -> Result<(), Fail> {
     Ok(())
 }
 
-/// A run that flushes its sink: its input, the call on the source that is refused, and the status.
-const FLUSHED: [(&[u8], &[u32], &str, u8); 6] = [
-    (b"", &[], "run", 0),
-    (b"00B00000\n00B00000\n", &[], "run", 0),
-    (b"00B00000\nx\n", &[], "run", 2),
-    (b"x\n", &[], "run", 2),
-    (b"00B00000\n", &[1], "run", 5),
-    (b"", &[], "walk", 1),
-];
-
-/// The text is handed on by one flush, behind the last write.
-#[test]
-fn hands_the_text_on_once(rt: HostRuntime) -> Result<(), Fail> {
-    for (input, refused, word, status) in FLUSHED {
-        let source = MemSource::new(rt.alloc(), input, 64, refused)?;
-        let (got, sink) = answer_to(rt.alloc(), &[word], source, AMPLE)?;
-        assert_eq!(rt; got, status, "{input:?}");
-        assert_eq!(rt; sink.flushes(), 1, "{input:?}");
-        assert_eq!(rt; sink.handed_on(), sink.written(), "{input:?}");
-    }
-    Ok(())
-}
-
-/// Calls 0 and 1 on the sink are two replies, and call 2 is the flush: none follows a refused write.
-#[test]
-fn flushes_nothing_after_a_refused_write(rt: HostRuntime) -> Result<(), Fail> {
-    let cases: [(&str, &[u32], u64, &[u8]); 6] = [
-        ("run", &[0], 0, b""),
-        ("run", &[1], 0, b"6d00\n"),
-        ("run", &[2], 1, b"6d00\n6d00\n"),
-        ("run", &[0, 2], 0, b""),
-        ("walk", &[0], 0, b""),
-        ("walk", &[1], 1, b"usage: gp run\n"),
-    ];
-    for (word, fails, flushes, written) in cases {
-        let source = MemSource::new(rt.alloc(), b"00B00000\n00B00000\n", 64, &[])?;
-        let plan = SinkPlan { room: 64, fails };
-        let (status, sink) = answer_to(rt.alloc(), &[word], source, plan)?;
-        assert_eq!(rt; status, 6, "{word} {fails:?}");
-        assert_eq!(rt; sink.flushes(), flushes, "{word} {fails:?}");
-        assert_eq!(rt; sink.written(), written, "{word} {fails:?}");
-        assert_eq!(rt; sink.handed_on(), b"".as_slice(), "{word} {fails:?}");
-    }
-    Ok(())
-}
-
 #[test]
 fn runs_over_std(rt: HostRuntime) -> Result<(), Fail> {
     let mut words = Vec::new(rt.alloc());
     words.push(String::from_str(rt.alloc(), "run")?)?;
     let mut bytes = Vec::new(rt.alloc());
     let mut source = StdSource::new(SELECT);
-    let status = gp(
+    let ended = gp(
         rt.alloc(),
         &words,
         &mut source,
         &mut StdSink::new(&mut bytes),
+        factory(rt.alloc())?,
     );
-    assert_eq!(rt; status, 0);
+    assert_eq!(rt; ended.status, 0);
+    assert_eq!(rt; ended.done, 1);
     assert_eq!(rt; bytes.as_slice(), SELECTED);
     Ok(())
 }
 
 #[test]
 fn each_ending_has_its_status(rt: HostRuntime) {
-    let cases: [(Ending, u8); 5] = [
+    let cases: [(Ending, u8); 6] = [
         (Ending::Finished, 0),
         (Ending::BadLine, 2),
+        (Ending::FlashFault, 3),
         (Ending::ReadFault, 5),
         (Ending::WriteFault, 6),
         (Ending::InputTooLong, 9),
