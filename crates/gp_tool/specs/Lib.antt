@@ -5,8 +5,10 @@ pub mod Form
 pub mod Going
 pub mod Good
 pub mod Laws
+pub mod Listing
 pub mod Plays
 pub mod Read
 pub mod Serve
+pub mod Show
 pub mod Turn
 pub mod Words

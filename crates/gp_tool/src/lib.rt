@@ -20,6 +20,7 @@ mod reply;
 mod run;
 mod run_verb;
 mod serve;
+mod show;
 #[cfg(test)]
 mod tests;
 mod top;

@@ -1,0 +1,59 @@
+-- A registry as text: a line for each thing, and no bytes of keys.
+use Rattle.std.specs.Prelude.{ℕ, List, [], ◌∷◌, ◌++◌, codes, decimal, length, cond}
+use Rattle.std.specs.Int.{to_be_bytes, w16}
+use Rattle.std.specs.List.{flat_map}
+use Rattle.card_types.specs.CardLife as card_life
+use Rattle.card_types.specs.LifeMark.{code_of}
+use Rattle.card_types.specs.Privileges.{bytes_of, has, security_domain}
+use Rattle.card_types.specs.Registry.{Registry, Entry, LoadFile, Key, Counter, Object}
+use Rattle.card_types.specs.declared.card_life.CardLife.{CardLife}
+use Rattle.card_types.specs.declared.life.LifeMark.{LifeMark}
+use Rattle.card_types.specs.declared.privileges.Privileges.{Privileges}
+use Rattle.hex.specs.Hex.{encode_lower}
+use Rattle.scp03_card.specs.Offer.{counter_bytes}
+use Rattle.sha2.specs.Sha256.{sha256}
+
+abbrev pub card_line : CardLife → List ℕ
+card_line life = codes "card " ++ encode_lower (card_life.code_of life ∷ []) ++ 10 ∷ []
+
+abbrev pub entry_kind : Privileges → List ℕ
+entry_kind privileges = cond (has security_domain privileges) (codes "domain ") (codes "app ")
+
+-- an entry's AID, and those of its domain, its Executable Load File and its Module
+abbrev pub entry_names : Entry → List ℕ
+entry_names entry =
+    encode_lower entry.aid ++ codes " in " ++ encode_lower entry.domain ++ codes " from " ++ encode_lower entry.file
+    ++ codes " module " ++ encode_lower entry.module_
+
+abbrev pub entry_state : LifeMark → Privileges → ℕ → List ℕ
+entry_state life privileges receipts =
+    codes " life " ++ encode_lower (code_of life ∷ []) ++ codes " priv " ++ encode_lower (bytes_of privileges) ++ codes " receipts "
+    ++ encode_lower (to_be_bytes w16 receipts)
+
+abbrev pub entry_line : Entry → List ℕ
+entry_line entry = entry_kind entry.privileges ++ entry_names entry ++ entry_state entry.life entry.privileges entry.receipts ++ 10 ∷ []
+
+abbrev pub file_line : LoadFile → List ℕ
+file_line file =
+    codes "file " ++ encode_lower file.aid ++ codes " in " ++ encode_lower file.domain ++ codes " bytes " ++ decimal (length file.bytes)
+    ++ codes " sha256 " ++ encode_lower (sha256 file.bytes) ++ 10 ∷ []
+
+abbrev pub key_line : Key → List ℕ
+key_line key =
+    codes "key " ++ encode_lower key.owner ++ codes " " ++ encode_lower (key.version ∷ []) ++ codes " " ++ encode_lower (key.identifier ∷ [])
+    ++ codes " " ++ decimal (length key.bytes) ++ 10 ∷ []
+
+abbrev pub counter_line : Counter → List ℕ
+counter_line counter =
+    codes "counter " ++ encode_lower counter.owner ++ codes " " ++ encode_lower (counter.version ∷ []) ++ codes " "
+    ++ encode_lower (counter_bytes counter.number) ++ 10 ∷ []
+
+abbrev pub object_line : Object → List ℕ
+object_line object =
+    codes "object " ++ encode_lower object.owner ++ codes " " ++ encode_lower (to_be_bytes w16 object.tag) ++ codes " "
+    ++ encode_lower object.value ++ 10 ∷ []
+
+abbrev pub shown : Registry → List ℕ
+shown registry =
+    card_line registry.life ++ flat_map entry_line registry.entries ++ flat_map file_line registry.files ++ flat_map key_line registry.keys
+    ++ flat_map counter_line registry.counters ++ flat_map object_line registry.objects

@@ -1,0 +1,82 @@
+//! The lines of sequence counters.
+
+ghost use Rattle.std.specs.Prelude.{◌≡◌, ◌≤◌, ℕ, List};
+ghost use Rattle.std.specs.List.{flat_map};
+ghost use Rattle.card_types.proofs.KeyNames.{counter_order_total};
+ghost use Rattle.card_types.specs.Ascending.{counter_order};
+ghost use Rattle.card_types.specs.InOrder.{IsInOrder};
+ghost use Rattle.card_types.specs.Registry.{Counter, Registry};
+ghost use Rattle.card_types.specs.Says.{Says, counter_of, keeps_counter};
+ghost use Rattle.io_edge.specs.Faults.{HasCause};
+ghost use Rattle.card_types.specs.declared.limits.TheConstants.{COUNTER_LIMIT};
+ghost use Rattle.gp_tool.specs.Listing.{Writes};
+ghost use Rattle.gp_tool.specs.Show.{counter_line};
+
+use crate::show::line::{LINE_ROOM, push_hex, push_word};
+use crate::show::listing::{Lines, Listing, write_lines};
+use crate::show::owner::{aid_of_domain, owners_cmp};
+use arrayvec::ArrayVec;
+use card_types::{KeyRec, Tables};
+use io_edge::{Sink, WriteFailed};
+use std::cmp::Ordering;
+
+/// The lowest key version number of a key that belongs to no set.
+const LONE_VERSION: u8 = 0x70;
+
+/// The sequence counters, by their owners' AIDs and their key version numbers. A key keeps each.
+#[derive(Drop)]
+pub struct Counters<'a> {
+    pub tables: &'a Tables,
+}
+
+impl Listing<KeyRec> for Counters<'_> {
+    ghost Named = { Counter };
+
+    ghost named = { λ counters key. counter_of counters.tables.now.entries.items key };
+
+    ghost listed = { λ _ key. keeps_counter key };
+
+    ghost order = { counter_order };
+
+    fn is_listed(&self, thing: &KeyRec) -> bool {
+        thing.identifier == 1 && thing.version < LONE_VERSION
+    }
+
+    fn is_below(&self, a: &KeyRec, b: &KeyRec) -> bool {
+        match owners_cmp(&self.tables.entries, a.owner, b.owner) {
+            Ordering::Less => true,
+            Ordering::Equal => a.version < b.version,
+            Ordering::Greater => false,
+        }
+    }
+
+    ghost total = { counter_order_total };
+}
+
+impl Lines<KeyRec> for Counters<'_> {
+    ghost text = { λ counters key. counter_line (counter_of counters.tables.now.entries.items key) };
+
+    ghost can_spell = { λ _ key. key.counter ≤ COUNTER_LIMIT };
+
+    fn spell(&self, thing: &KeyRec, line: &mut ArrayVec<u8, LINE_ROOM>) {
+        let [_, high, middle, low] = thing.counter.to_be_bytes();
+        push_word(b"counter ", line);
+        push_hex(aid_of_domain(&self.tables.entries, thing.owner), line);
+        push_word(b" ", line);
+        push_hex(&[thing.version], line);
+        push_word(b" ", line);
+        push_hex(&[high, middle, low], line);
+        push_word(b"\n", line);
+    }
+}
+
+/// Writes the lines of the sequence counters.
+pub fn show_counters<K: Sink>(tables: &Tables, sink: &mut K) -> Result<(), WriteFailed>
+    requires { IsInOrder tables.now }
+    ensures written { (page : ℕ → List ℕ) (said : Registry) → Says page tables.now said
+        → Writes K.tells (K.written sink.old) (K.written sink.new) (flat_map counter_line said.counters) result }
+    ensures flushes { K.flushes sink.new ≡ K.flushes sink.old }
+    ensures cause { HasCause (K.faults sink.old) (K.faults sink.new) result }
+{
+    write_lines(&Counters { tables }, &tables.keys, sink)
+}

@@ -1,0 +1,114 @@
+//! The lines of entries.
+
+ghost use Rattle.std.specs.Prelude.{◌≡◌, ◌≤◌, ◌++◌, ℕ, List, [], true};
+ghost use Rattle.std.specs.List.{flat_map};
+ghost use Rattle.std.specs.Ordering.{on};
+ghost use Rattle.std.proofs.lemmas.Cmp.{nat_list_cmp_total, on_total};
+ghost use Rattle.arrayvec.specs.ArrayVec.{array_vec_len};
+ghost use Rattle.card_types.specs.AidOrder.{aid_order};
+ghost use Rattle.card_types.specs.InOrder.{IsInOrder};
+ghost use Rattle.card_types.specs.Registry.{Entry as NamedEntry, Registry};
+ghost use Rattle.card_types.specs.Says.{Says, entry_of};
+ghost use Rattle.io_edge.specs.Faults.{HasCause};
+ghost use Rattle.gp_tool.specs.Listing.{Writes};
+ghost use Rattle.gp_tool.specs.Show.{entry_kind, entry_line, entry_names, entry_state};
+
+use crate::show::line::{LINE_ROOM, push_hex, push_word};
+use crate::show::listing::{Lines, Listing, write_lines};
+use crate::show::owner::{aid_of_domain, aid_of_file};
+use arrayvec::ArrayVec;
+use bitflags::Flags;
+use card_types::{Entry, Privileges, Tables};
+use io_edge::{Sink, WriteFailed};
+
+/// The entries, in ascending order of their AIDs.
+#[derive(Drop)]
+pub struct Entries<'a> {
+    pub tables: &'a Tables,
+}
+
+impl Listing<Entry> for Entries<'_> {
+    ghost Named = { NamedEntry };
+
+    ghost named = { λ entries entry. entry_of entries.tables.now.entries.items entries.tables.now.files.items entry };
+
+    ghost listed = { λ _ _. true };
+
+    ghost order = { on (λ (entry : NamedEntry). entry.aid) aid_order };
+
+    fn is_listed(&self, _thing: &Entry) -> bool {
+        true
+    }
+
+    fn is_below(&self, a: &Entry, b: &Entry) -> bool {
+        a.aid.is_below(&b.aid)
+    }
+
+    ghost total = { on_total (λ (entry : NamedEntry). entry.aid) nat_list_cmp_total };
+}
+
+impl Lines<Entry> for Entries<'_> {
+    ghost text = { λ entries entry. entry_line (entry_of entries.tables.now.entries.items entries.tables.now.files.items entry) };
+
+    ghost can_spell = { λ _ _. Unit {0} };
+
+    fn spell(&self, thing: &Entry, line: &mut ArrayVec<u8, LINE_ROOM>) {
+        push_kind(thing, line);
+        push_names(self.tables, thing, line);
+        push_state(thing, line);
+        push_word(b"\n", line);
+    }
+}
+
+// Whether it is a domain or an application.
+fn push_kind(entry: &Entry, line: &mut ArrayVec<u8, LINE_ROOM>)
+    requires empty { line.old.items ≡ [] }
+    ensures written { line.new.items ≡ entry_kind entry.now.privileges }
+    ensures size { array_vec_len line.new ≤ 7 }
+{
+    if entry.privileges.contains(Privileges::SECURITY_DOMAIN) {
+        push_word(b"domain ", line);
+    } else {
+        push_word(b"app ", line);
+    }
+}
+
+// Its AID, and those of its domain, its Executable Load File and its Module.
+fn push_names(tables: &Tables, entry: &Entry, line: &mut ArrayVec<u8, LINE_ROOM>)
+    requires room { array_vec_len line.old ≤ 7 }
+    ensures written { line.new.items ≡ line.old.items ++ entry_names (entry_of tables.now.entries.items tables.now.files.items entry.now) }
+    ensures size { array_vec_len line.new ≤ 153 }
+{
+    push_hex(entry.aid.as_bytes(), line);
+    push_word(b" in ", line);
+    push_hex(aid_of_domain(&tables.entries, entry.domain), line);
+    push_word(b" from ", line);
+    push_hex(aid_of_file(&tables.files, entry.file), line);
+    push_word(b" module ", line);
+    push_hex(entry.module.as_bytes(), line);
+}
+
+// Its life cycle state, its privileges and its last receipt number.
+fn push_state(entry: &Entry, line: &mut ArrayVec<u8, LINE_ROOM>)
+    requires room { array_vec_len line.old ≤ 153 }
+    ensures written { line.new.items ≡ line.old.items ++ entry_state entry.now.life entry.now.privileges entry.now.receipts }
+    ensures size { array_vec_len line.new ≤ 200 }
+{
+    push_word(b" life ", line);
+    push_hex(&[entry.life.code()], line);
+    push_word(b" priv ", line);
+    push_hex(&entry.privileges.to_bytes(), line);
+    push_word(b" receipts ", line);
+    push_hex(&entry.receipts.to_be_bytes(), line);
+}
+
+/// Writes the lines of the entries.
+pub fn show_entries<K: Sink>(tables: &Tables, sink: &mut K) -> Result<(), WriteFailed>
+    requires cards { IsInOrder tables.now }
+    ensures written { (page : ℕ → List ℕ) (said : Registry) → Says page tables.now said
+        → Writes K.tells (K.written sink.old) (K.written sink.new) (flat_map entry_line said.entries) result }
+    ensures flushes { K.flushes sink.new ≡ K.flushes sink.old }
+    ensures cause { HasCause (K.faults sink.old) (K.faults sink.new) result }
+{
+    write_lines(&Entries { tables }, &tables.entries, sink)
+}

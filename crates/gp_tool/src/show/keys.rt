@@ -1,0 +1,81 @@
+//! The lines of keys.
+
+ghost use Rattle.std.specs.Prelude.{◌≡◌, ℕ, List, true};
+ghost use Rattle.std.specs.List.{flat_map};
+ghost use Rattle.card_types.proofs.KeyNames.{key_order_total};
+ghost use Rattle.card_types.specs.Ascending.{key_order};
+ghost use Rattle.card_types.specs.InOrder.{IsInOrder};
+ghost use Rattle.card_types.specs.Registry.{Key, Registry};
+ghost use Rattle.card_types.specs.Says.{Says, key_of};
+ghost use Rattle.io_edge.specs.Faults.{HasCause};
+ghost use Rattle.gp_tool.specs.Listing.{Writes};
+ghost use Rattle.gp_tool.specs.Show.{key_line};
+
+use crate::show::line::{LINE_ROOM, push_decimal, push_hex, push_word};
+use crate::show::listing::{Lines, Listing, write_lines};
+use crate::show::owner::{aid_of_domain, owners_cmp};
+use arrayvec::ArrayVec;
+use card_types::{KeyRec, Tables};
+use io_edge::{Sink, WriteFailed};
+use std::cmp::Ordering;
+
+/// The keys, by their owners' AIDs, their key version numbers and their key identifiers.
+#[derive(Drop)]
+pub struct Keys<'a> {
+    pub tables: &'a Tables,
+}
+
+impl Listing<KeyRec> for Keys<'_> {
+    ghost Named = { Key };
+
+    ghost named = { λ keys key. key_of keys.tables.now.entries.items key };
+
+    ghost listed = { λ _ _. true };
+
+    ghost order = { key_order };
+
+    fn is_listed(&self, _thing: &KeyRec) -> bool {
+        true
+    }
+
+    fn is_below(&self, a: &KeyRec, b: &KeyRec) -> bool {
+        match owners_cmp(&self.tables.entries, a.owner, b.owner) {
+            Ordering::Less => true,
+            Ordering::Equal => {
+                a.version < b.version || a.version == b.version && a.identifier < b.identifier
+            }
+            Ordering::Greater => false,
+        }
+    }
+
+    ghost total = { key_order_total };
+}
+
+impl Lines<KeyRec> for Keys<'_> {
+    ghost text = { λ keys key. key_line (key_of keys.tables.now.entries.items key) };
+
+    ghost can_spell = { λ _ _. Unit {0} };
+
+    fn spell(&self, thing: &KeyRec, line: &mut ArrayVec<u8, LINE_ROOM>) {
+        push_word(b"key ", line);
+        push_hex(aid_of_domain(&self.tables.entries, thing.owner), line);
+        push_word(b" ", line);
+        push_hex(&[thing.version], line);
+        push_word(b" ", line);
+        push_hex(&[thing.identifier], line);
+        push_word(b" ", line);
+        push_decimal(thing.bytes.len(), line);
+        push_word(b"\n", line);
+    }
+}
+
+/// Writes the lines of the keys.
+pub fn show_keys<K: Sink>(tables: &Tables, sink: &mut K) -> Result<(), WriteFailed>
+    requires { IsInOrder tables.now }
+    ensures written { (page : ℕ → List ℕ) (said : Registry) → Says page tables.now said
+        → Writes K.tells (K.written sink.old) (K.written sink.new) (flat_map key_line said.keys) result }
+    ensures flushes { K.flushes sink.new ≡ K.flushes sink.old }
+    ensures cause { HasCause (K.faults sink.old) (K.faults sink.new) result }
+{
+    write_lines(&Keys { tables }, &tables.keys, sink)
+}

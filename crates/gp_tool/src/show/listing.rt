@@ -1,0 +1,129 @@
+//! Things in slots, a line each, in ascending order.
+
+ghost use Rattle.std.specs.Prelude.{◌≡◌, ◌≤◌, ◌&&◌, ℕ, List, [], Bool, true, IfSome, IfNone, length, filter, map, option_copied};
+ghost use Rattle.std.specs.Cmp.{IsTotalOrder};
+ghost use Rattle.std.specs.List.{flat_map};
+ghost use Rattle.std.specs.List.Sorted.{IsPermutation, IsStrictlySortedBy};
+ghost use Rattle.std.specs.Option.{option_map};
+ghost use Rattle.std.specs.Ordering.{is_lt};
+ghost use Rattle.std.specs.declared.cmp.Ordering.{Ordering};
+ghost use Rattle.std.proofs.lemmas.Cmp.{on_total};
+ghost use Rattle.card_types.specs.Least.{NoneFits};
+ghost use Rattle.card_types.specs.Nearer.{IsLeastFound};
+ghost use Rattle.card_types.specs.Says.{used};
+ghost use Rattle.card_types.specs.Slots.{held};
+ghost use Rattle.io_edge.specs.Faults.{HasCause};
+ghost use Rattle.gp_tool.specs.Listing.{Writes, is_past};
+
+use crate::show::line::LINE_ROOM;
+use arrayvec::ArrayVec;
+use card_types::{InSlot, Search, least};
+use io_edge::{Sink, WriteFailed};
+
+/// Which of the things in slots are listed, what the registry has of one by names, and in which order.
+pub trait Listing<T> {
+    ghost Named: { Type 0 };
+
+    ghost named: { Self → T → Named };
+
+    ghost listed: { Self → T → Bool };
+
+    ghost order: { Named → Named → Ordering };
+
+    /// Whether the thing is listed.
+    fn is_listed(&self, thing: &T) -> bool
+        ensures { result ≡ listed self.now thing.now };
+
+    /// Whether `a` is listed before `b`.
+    fn is_below(&self, a: &T, b: &T) -> bool
+        ensures { result ≡ is_lt (order (named self.now a.now) (named self.now b.now)) };
+
+    ghost total: { IsTotalOrder order };
+}
+
+/// A listing that writes a line of each thing.
+pub trait Lines<T>: Listing<T> {
+    ghost text: { Self → T → List ℕ };
+
+    ghost can_spell: { Self → T → Type 0 };
+
+    /// The line of a thing.
+    fn spell(&self, thing: &T, line: &mut ArrayVec<u8, LINE_ROOM>)
+        requires fits { can_spell self.now thing.now }
+        requires empty { line.old.items ≡ [] }
+        ensures { line.new.items ≡ text self.now thing.now };
+}
+
+// The things of a listing past the last one, if there is one.
+#[derive(Drop)]
+struct Past<'a, T, L> {
+    listing: &'a L,
+    last: Option<&'a T>,
+}
+
+impl<T, L: Listing<T>> Search<T> for Past<'_, T, L> {
+    ghost fits = { λ past thing. L.listed past.listing.now thing
+        && is_past L.order (option_map (L.named past.listing.now) (option_copied past.last)) (L.named past.listing.now thing) };
+
+    ghost order = { λ past a b. L.order (L.named past.listing.now a) (L.named past.listing.now b) };
+
+    fn fits(&self, thing: &T) -> bool {
+        self.listing.is_listed(thing)
+            && match self.last {
+                Some(last) => self.listing.is_below(last, thing),
+                None => true,
+            }
+    }
+
+    fn is_below(&self, a: &T, b: &T) -> bool {
+        self.listing.is_below(a, b)
+    }
+
+    ghost total = { λ past. on_total (L.named past.listing.now) L.total };
+}
+
+/// The first thing of a listing past the last one.
+pub fn next<'a, T, L: Listing<T>>(
+    listing: &L,
+    slots: &'a [Option<T>],
+    last: Option<&T>,
+) -> Option<InSlot<'a, T>>
+    requires { length slots.now ≤ 256 }
+    ensures some { IfSome result (IsLeastFound
+        (λ thing. L.listed listing.now thing && is_past L.order (option_map (L.named listing.now) (option_copied last.entry)) (L.named listing.now thing))
+        (λ a b. L.order (L.named listing.now a) (L.named listing.now b)) slots.now) }
+    ensures none { IfNone result (NoneFits
+        (λ thing. L.listed listing.now thing && is_past L.order (option_map (L.named listing.now) (option_copied last.entry)) (L.named listing.now thing)) slots.now) }
+{
+    least(slots, &Past { listing, last })
+}
+
+/// Writes the lines of a listing.
+pub fn write_lines<T, L: Lines<T>, K: Sink>(
+    listing: &L,
+    slots: &[Option<T>],
+    sink: &mut K,
+) -> Result<(), WriteFailed>
+    requires few { length slots.now ≤ 256 }
+    requires fits { (slot : ℕ) (thing : T) → held slots.now slot ≡ Some thing → L.listed listing.now thing ≡ true → L.can_spell listing.now thing }
+    ensures written { (xs : List L.Named) (line_of : L.Named → List ℕ) → ((thing : T) → L.text listing.now thing ≡ line_of (L.named listing.now thing))
+        → IsPermutation (map (L.named listing.now) (filter (L.listed listing.now) (used slots.now))) xs → IsStrictlySortedBy L.order xs
+        → Writes K.tells (K.written sink.old) (K.written sink.new) (flat_map line_of xs) result }
+    ensures flushes { K.flushes sink.new ≡ K.flushes sink.old }
+    ensures cause { HasCause (K.faults sink.old) (K.faults sink.new) result }
+{
+    let mut last = None;
+    let mut line = ArrayVec::new();
+    for _ in 0..slots.len() {
+        match next(listing, slots, last) {
+            Some(found) => {
+                line.clear();
+                listing.spell(found.thing, &mut line);
+                sink.write_all(&line)?;
+                last = Some(found.thing);
+            }
+            None => return Ok(()),
+        }
+    }
+    Ok(())
+}

@@ -1,0 +1,77 @@
+//! The lines of data objects.
+
+ghost use Rattle.std.specs.Prelude.{◌≡◌, ℕ, List, true};
+ghost use Rattle.std.specs.List.{flat_map};
+ghost use Rattle.card_types.proofs.ObjectNames.{object_order_total};
+ghost use Rattle.card_types.specs.Ascending.{object_order};
+ghost use Rattle.card_types.specs.InOrder.{IsInOrder};
+ghost use Rattle.card_types.specs.Registry.{Object as NamedObject, Registry};
+ghost use Rattle.card_types.specs.Says.{Says, object_of};
+ghost use Rattle.io_edge.specs.Faults.{HasCause};
+ghost use Rattle.gp_tool.specs.Listing.{Writes};
+ghost use Rattle.gp_tool.specs.Show.{object_line};
+
+use crate::show::line::{LINE_ROOM, push_hex, push_word};
+use crate::show::listing::{Lines, Listing, write_lines};
+use crate::show::owner::{aid_of_domain, owners_cmp};
+use arrayvec::ArrayVec;
+use card_types::{Object, Tables};
+use io_edge::{Sink, WriteFailed};
+use std::cmp::Ordering;
+
+/// The data objects, by their owners' AIDs and their tags.
+#[derive(Drop)]
+pub struct Objects<'a> {
+    pub tables: &'a Tables,
+}
+
+impl Listing<Object> for Objects<'_> {
+    ghost Named = { NamedObject };
+
+    ghost named = { λ objects object. object_of objects.tables.now.entries.items object };
+
+    ghost listed = { λ _ _. true };
+
+    ghost order = { object_order };
+
+    fn is_listed(&self, _thing: &Object) -> bool {
+        true
+    }
+
+    fn is_below(&self, a: &Object, b: &Object) -> bool {
+        match owners_cmp(&self.tables.entries, a.owner, b.owner) {
+            Ordering::Less => true,
+            Ordering::Equal => a.tag < b.tag,
+            Ordering::Greater => false,
+        }
+    }
+
+    ghost total = { object_order_total };
+}
+
+impl Lines<Object> for Objects<'_> {
+    ghost text = { λ objects object. object_line (object_of objects.tables.now.entries.items object) };
+
+    ghost can_spell = { λ _ _. Unit {0} };
+
+    fn spell(&self, thing: &Object, line: &mut ArrayVec<u8, LINE_ROOM>) {
+        push_word(b"object ", line);
+        push_hex(aid_of_domain(&self.tables.entries, thing.owner), line);
+        push_word(b" ", line);
+        push_hex(&thing.tag.to_be_bytes(), line);
+        push_word(b" ", line);
+        push_hex(&thing.value, line);
+        push_word(b"\n", line);
+    }
+}
+
+/// Writes the lines of the data objects.
+pub fn show_objects<K: Sink>(tables: &Tables, sink: &mut K) -> Result<(), WriteFailed>
+    requires { IsInOrder tables.now }
+    ensures written { (page : ℕ → List ℕ) (said : Registry) → Says page tables.now said
+        → Writes K.tells (K.written sink.old) (K.written sink.new) (flat_map object_line said.objects) result }
+    ensures flushes { K.flushes sink.new ≡ K.flushes sink.old }
+    ensures cause { HasCause (K.faults sink.old) (K.faults sink.new) result }
+{
+    write_lines(&Objects { tables }, &tables.objects, sink)
+}
