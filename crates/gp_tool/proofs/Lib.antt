@@ -3,10 +3,13 @@ pub mod Complete
 pub mod Course
 pub mod Exclusive
 pub mod Flush
+pub mod Listed
 pub mod One
 pub mod OneText
 pub mod Moments
+pub mod Parts
 pub mod PlaysMore
 pub mod Powered
 pub mod SaidElse
 pub mod Turns
+pub mod Written

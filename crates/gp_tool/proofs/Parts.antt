@@ -1,0 +1,24 @@
+-- Text that is written part by part.
+use Rattle.std.proofs.Common.{◌≡◌, ℕ, ◌+◌, ◌≤◌, List, [], ◌∷◌, ◌++◌, length, min, take, refl, ap, sym, ◌∙◌, arith, append_assoc}
+use Rattle.std.proofs.Math.Seq.{take-append-add}
+use Rattle.std.proofs.lemmas.List.{take-append-le, take_min}
+
+-- what begins a text begins each longer one
+pub part_of_longer : (text more : List ℕ) (n : ℕ) → (m : ℕ) × (take n text ≡ take m (text ++ more))
+part_of_longer text more n =
+    let within : min n (length text) ≤ length text = omega arith in
+    (min n (length text), sym (take-append-le (min n (length text)) text more within ∙ take_min n text))
+
+-- a text, and a part of what stands behind it
+pub part_behind : (text more : List ℕ) (n : ℕ) → text ++ take n more ≡ take (length text + n) (text ++ more)
+part_behind text more n = sym (take-append-add text more n)
+
+-- the part of a text that was written behind another text
+pub part_written : (old front text more mid new : List ℕ) → mid ≡ old ++ front → (n : ℕ) × (new ≡ mid ++ take n text)
+    → (n : ℕ) × (new ≡ old ++ take n (front ++ (text ++ more)))
+part_written old front text more mid new before part =
+    let longer = part_of_longer text more part.0 in (
+      length front + longer.0,
+      part.1 ∙ ap (λ m. m ++ take part.0 text) before ∙ append_assoc old front (take part.0 text)
+      ∙ ap (λ t. old ++ (front ++ t)) longer.1 ∙ ap (λ t. old ++ t) (part_behind front (text ++ more) longer.0),
+    )
