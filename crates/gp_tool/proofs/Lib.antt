@@ -2,6 +2,8 @@ pub mod ComeFirst
 pub mod Complete
 pub mod Course
 pub mod Exclusive
+pub mod FileLine
+pub mod FilesInOrder
 pub mod Flush
 pub mod Listed
 pub mod One
@@ -11,5 +13,6 @@ pub mod Parts
 pub mod PlaysMore
 pub mod Powered
 pub mod SaidElse
+pub mod StandsOn
 pub mod Turns
 pub mod Written

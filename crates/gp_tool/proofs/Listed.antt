@@ -47,7 +47,7 @@ found_none p [] fits found = refl
 found_none p (y ∷ more) fits found = (let first = find_first p y more (fits y (contains_first y more)) in cc)
 
 contains_pushed : {X : Type 0} (done : List X) (x y : X) → Contains (done ++ x ∷ []) y → Contains done y ⊎ (x ≡ y)
-contains_pushed [] x y there = elim (contains_cases x [] y there) [ | inl same ↦ inr same | inr none ↦ no_member y none ]
+contains_pushed [] x y there = elim (contains_cases x [] y there) [ inl same ↦ inr same | inr none ↦ no_member y none ]
 contains_pushed (d ∷ done) x y there = elim (contains_cases d (done ++ x ∷ []) y there) [
   | inl same ↦ inl (subst (Contains (d ∷ done)) same (contains_first d done))
   | inr later ↦ elim (contains_pushed done x y later) [

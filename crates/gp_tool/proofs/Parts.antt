@@ -20,5 +20,5 @@ part_written old front text more mid new before part =
     let longer = part_of_longer text more part.0 in (
       length front + longer.0,
       part.1 ∙ ap (λ m. m ++ take part.0 text) before ∙ append_assoc old front (take part.0 text)
-      ∙ ap (λ t. old ++ (front ++ t)) longer.1 ∙ ap (λ t. old ++ t) (part_behind front (text ++ more) longer.0),
+          ∙ ap (λ t. old ++ (front ++ t)) longer.1 ∙ ap (λ t. old ++ t) (part_behind front (text ++ more) longer.0),
     )

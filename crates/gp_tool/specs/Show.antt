@@ -33,10 +33,16 @@ entry_state life privileges receipts =
 abbrev pub entry_line : Entry → List ℕ
 entry_line entry = entry_kind entry.privileges ++ entry_names entry ++ entry_state entry.life entry.privileges entry.receipts ++ 10 ∷ []
 
+-- a file's AID and that of its domain
+abbrev pub file_names : List ℕ → List ℕ → List ℕ
+file_names aid domain = codes "file " ++ encode_lower aid ++ codes " in " ++ encode_lower domain
+
+-- how many bytes it has, and their digest
+abbrev pub file_content : ℕ → List ℕ → List ℕ
+file_content size digest = codes " bytes " ++ decimal size ++ codes " sha256 " ++ encode_lower digest
+
 abbrev pub file_line : LoadFile → List ℕ
-file_line file =
-    codes "file " ++ encode_lower file.aid ++ codes " in " ++ encode_lower file.domain ++ codes " bytes " ++ decimal (length file.bytes)
-    ++ codes " sha256 " ++ encode_lower (sha256 file.bytes) ++ 10 ∷ []
+file_line file = file_names file.aid file.domain ++ file_content (length file.bytes) (sha256 file.bytes) ++ 10 ∷ []
 
 abbrev pub key_line : Key → List ℕ
 key_line key =

@@ -1,18 +1,19 @@
 //! The lines of Executable Load Files.
 
-ghost use Rattle.std.specs.Prelude.{◌≡◌, ◌≤◌, ◌++◌, ℕ, List, [], ◌∷◌, Some, None, true, OnOk, OnErr, IfErr, IfOk, IfSome, IfNone, codes, decimal, option_map};
+ghost use Rattle.std.specs.Prelude.{◌≡◌, ◌≤◌, ◌++◌, ℕ, List, [], ◌∷◌, Some, true, length, OnOk, IfErr, IfSome, IfNone};
 ghost use Rattle.std.specs.List.{flat_map};
 ghost use Rattle.std.proofs.lemmas.Cmp.{nat_list_cmp_total};
 ghost use Rattle.card_core.specs.Card.{Stands};
+ghost use Rattle.arrayvec.specs.ArrayVec.{array_vec_len};
 ghost use Rattle.card_types.specs.AidOrder.{aid_order};
+ghost use Rattle.card_types.specs.Least.{IsLeast, NoneFits};
 ghost use Rattle.card_types.specs.Says.{domain_aid, file_of};
-ghost use Rattle.hex.specs.Hex.{encode_lower};
 ghost use Rattle.card_types.specs.Slots.{held};
 ghost use Rattle.page_journal.specs.Moments.{LeavesOnly};
 ghost use Rattle.policy_rules.specs.State.{State};
 ghost use Rattle.rec_store.specs.Reopens.{Reopens, load_page};
-ghost use Rattle.gp_tool.specs.Listing.{ShowCause, Writes};
-ghost use Rattle.gp_tool.specs.Show.{file_line};
+ghost use Rattle.gp_tool.specs.Listing.{ShowCause, Writes, is_next_file};
+ghost use Rattle.gp_tool.specs.Show.{file_content, file_line, file_names};
 
 use crate::show::fault::ShowFault;
 use crate::show::line::{LINE_ROOM, push_decimal, push_hex, push_word};
@@ -48,32 +49,40 @@ impl Listing<LoadFile> for Files {
     ghost total = { nat_list_cmp_total };
 }
 
-// The line of a file with this digest.
-fn push_file(
-    tables: &Tables,
-    file: &LoadFile,
-    digest: &[u8; 32],
-    line: &mut ArrayVec<u8, LINE_ROOM>,
-)
+// Its AID and that of its domain.
+fn push_names(tables: &Tables, file: &LoadFile, line: &mut ArrayVec<u8, LINE_ROOM>)
     requires empty { line.old.items ≡ [] }
-    ensures written { line.new.items ≡ codes "file " ++ encode_lower file.now.aid ++ codes " in " ++ encode_lower (domain_aid tables.now.entries.items file.now.domain)
-        ++ codes " bytes " ++ decimal file.now.len ++ codes " sha256 " ++ encode_lower digest.now ++ 10 ∷ [] }
+    ensures written { line.new.items ≡ file_names file.now.aid (domain_aid tables.now.entries.items file.now.domain) }
+    ensures size { array_vec_len line.new ≤ 80 }
 {
     push_word(b"file ", line);
     push_hex(file.aid.as_bytes(), line);
     push_word(b" in ", line);
     push_hex(aid_of_domain(&tables.entries, file.domain), line);
+}
+
+// How many bytes it has, and their digest.
+fn push_content(len: u16, digest: &[u8; 32], line: &mut ArrayVec<u8, LINE_ROOM>)
+    requires room { array_vec_len line.old ≤ 80 }
+    ensures written { line.new.items ≡ line.old.items ++ file_content len digest.now ++ 10 ∷ [] }
+{
     push_word(b" bytes ", line);
-    push_decimal(usize::from(file.len), line);
+    push_decimal(usize::from(len), line);
     push_word(b" sha256 ", line);
     push_hex(digest, line);
     push_word(b"\n", line);
 }
 
-// The first file past the last one, and its slot.
-fn next_file(tables: &Tables, last: Option<LoadFile>) -> Option<(u8, LoadFile)> {
-    let found = next(&Files, &tables.files, last.as_ref())?;
-    Some((found.slot, *found.thing))
+// The first file past the last one, with its slot.
+fn next_file(tables: &Tables, last: Option<LoadFile>) -> Option<(u8, LoadFile)>
+    requires { length tables.now.files.items ≤ 256 }
+    ensures some { IfSome result (λ found. IsLeast (is_next_file last) (λ a b. aid_order a.aid b.aid) tables.now.files.items found.0 found.1) }
+    ensures none { IfNone result (NoneFits (is_next_file last) tables.now.files.items) }
+{
+    match next(&Files, &tables.files, last.as_ref()) {
+        Some(found) => Some((found.slot, *found.thing)),
+        None => None,
+    }
 }
 
 // Writes the line of the file in a slot.
@@ -85,10 +94,25 @@ fn write_file<F: Flash, K: Sink>(
 ) -> Result<(), ShowFault>
     requires up { card.old.up ≡ true }
     requires used { held card.old.tables.files.items slot ≡ Some file.now }
+    ensures written { F.tells → (state : State) → Stands F.tells F.pages F.may_leave card.old state
+        → Writes K.tells (K.written sink.old) (K.written sink.new) (file_line (file_of (load_page (F.pages card.old.flash)) card.old.tables.entries.items file.now)) result }
+    ensures moments { F.tells → (state : State) → Stands F.tells F.pages F.may_leave card.old state
+        → LeavesOnly F.moment F.left_since card.old.flash card.new.flash (λ outcome. Reopens outcome state.registry) }
+    ensures stands { (state : State) → Stands F.tells F.pages F.may_leave card.old state → OnOk result (Stands F.tells F.pages F.may_leave card.new state) }
+    ensures same { card.new.tables ≡ card.old.tables }
+    ensures up { OnOk result (card.new.up ≡ true) }
+    ensures pages { F.tells → F.pages card.new.flash ≡ F.pages card.old.flash }
+    ensures flushes { K.flushes sink.new ≡ K.flushes sink.old }
+    ensures later { F.faults card.old.flash ≤ F.faults card.new.flash }
+    ensures later_writes { K.faults sink.old ≤ K.faults sink.new }
+    ensures quiet { OnOk result (K.faults sink.new ≡ K.faults sink.old) }
+    ensures cause { IfErr result (ShowCause (F.faults card.old.flash) (F.faults card.new.flash) (K.faults sink.old) (K.faults sink.new)) }
 {
+    prove!(file.pages[..].len() == 128);
     let digest = card.file_digest(slot)?;
     let mut line = ArrayVec::new();
-    push_file(card.tables(), file, &digest, &mut line);
+    push_names(card.tables(), file, &mut line);
+    push_content(file.len, &digest, &mut line);
     sink.write_all(&line)?;
     Ok(())
 }
@@ -96,6 +120,18 @@ fn write_file<F: Flash, K: Sink>(
 /// Writes the lines of the Executable Load Files.
 pub fn show_files<F: Flash, K: Sink>(card: &mut Card<F>, sink: &mut K) -> Result<(), ShowFault>
     requires up { card.old.up ≡ true }
+    ensures written { F.tells → (state : State) → Stands F.tells F.pages F.may_leave card.old state
+        → Writes K.tells (K.written sink.old) (K.written sink.new) (flat_map file_line state.registry.files) result }
+    ensures moments { F.tells → (state : State) → Stands F.tells F.pages F.may_leave card.old state
+        → LeavesOnly F.moment F.left_since card.old.flash card.new.flash (λ outcome. Reopens outcome state.registry) }
+    ensures stands { (state : State) → Stands F.tells F.pages F.may_leave card.old state → OnOk result (Stands F.tells F.pages F.may_leave card.new state) }
+    ensures same { card.new.tables ≡ card.old.tables }
+    ensures pages { F.tells → F.pages card.new.flash ≡ F.pages card.old.flash }
+    ensures flushes { K.flushes sink.new ≡ K.flushes sink.old }
+    ensures later { F.faults card.old.flash ≤ F.faults card.new.flash }
+    ensures later_writes { K.faults sink.old ≤ K.faults sink.new }
+    ensures quiet { OnOk result (K.faults sink.new ≡ K.faults sink.old) }
+    ensures cause { IfErr result (ShowCause (F.faults card.old.flash) (F.faults card.new.flash) (K.faults sink.old) (K.faults sink.new)) }
 {
     let mut last = None;
     for _ in 0..FILES {

@@ -1,0 +1,29 @@
+use Rattle.std.proofs.Common.{◌≡◌, ◌≤◌, true}
+use Rattle.std.specs.Option.{option_map}
+use Rattle.card_core.specs.Card.{Stands}
+use Rattle.card_types.specs.Says.{file_of}
+use Rattle.page_journal.specs.Moments.{LeavesOnly}
+use Rattle.policy_rules.specs.State.{State}
+use Rattle.rec_store.specs.Reopens.{Reopens, load_page}
+use Rattle.gp_tool.proofs.FilesInOrder.{file_order}
+use Rattle.gp_tool.proofs.Written.{IsWritten}
+use Rattle.gp_tool.specs.Show.{file_line}
+use Rattle.gp_tool.proofs.show.files.show_files.Given as goal
+
+abbrev pub invariant-loop : goal.invariant-loop
+invariant-loop g l =
+    let F = g.F.Flash in
+    let first = l.initial.card in record {
+      up : l.card.up ≡ true;
+      tables : l.card.tables ≡ first.tables;
+      stands : (state : State) → Stands F.tells F.pages F.may_leave first state → Stands F.tells F.pages F.may_leave l.card state;
+      moments : F.tells → (state : State) → Stands F.tells F.pages F.may_leave first state
+          → LeavesOnly F.moment F.left_since first.flash l.card.flash (λ outcome. Reopens outcome state.registry);
+      pages : F.tells → F.pages l.card.flash ≡ F.pages first.flash;
+      written : F.tells → (state : State) → Stands F.tells F.pages F.may_leave first state
+          → IsWritten file_order file_line g.K.Sink.tells state.registry.files l.counter (option_map (file_of (load_page (F.pages first.flash)) first.tables.entries.items) l.last)
+          (g.K.Sink.written l.initial.sink) (g.K.Sink.written l.sink);
+      flushes : g.K.Sink.flushes l.sink ≡ g.K.Sink.flushes l.initial.sink;
+      later : F.faults first.flash ≤ F.faults l.card.flash;
+      faults : g.K.Sink.faults l.sink ≡ g.K.Sink.faults l.initial.sink;
+    }
