@@ -1,5 +1,5 @@
 -- What a card that stands for a state says, and what power lost leaves of it.
-use Rattle.std.proofs.Common.{◌≡◌, ℕ, List, inl, inr, ⊎_elim, sym, subst, arith}
+use Rattle.std.proofs.Common.{ℕ, List, inl, inr, ⊎_elim, sym, subst, arith}
 use Rattle.card_core.specs.Card.{CardOver, Stands}
 use Rattle.card_types.specs.Says.{Says}
 use Rattle.flash_core.specs.declared.page.Page.{Page}

@@ -1,12 +1,17 @@
 //! A registry as text.
 
 ghost use Rattle.std.specs.Prelude.{◌≡◌, ◌≤◌, ◌++◌, ℕ, List, take, true, OnOk, OnErr, IfErr};
+ghost use Rattle.std.specs.List.{flat_map};
 ghost use Rattle.card_core.specs.Card.{Stands};
+ghost use Rattle.card_types.specs.InOrder.{IsInOrder};
+ghost use Rattle.card_types.specs.Registry.{Registry};
+ghost use Rattle.card_types.specs.Says.{Says};
+ghost use Rattle.io_edge.specs.Faults.{HasCause};
 ghost use Rattle.page_journal.specs.Moments.{LeavesOnly};
 ghost use Rattle.policy_rules.specs.State.{State};
 ghost use Rattle.rec_store.specs.Reopens.{Reopens};
-ghost use Rattle.gp_tool.specs.Listing.{ShowCause};
-ghost use Rattle.gp_tool.specs.Show.{shown};
+ghost use Rattle.gp_tool.specs.Listing.{ShowCause, Writes};
+ghost use Rattle.gp_tool.specs.Show.{card_line, counter_line, entry_line, key_line, object_line, shown};
 
 mod counters;
 mod entries;
@@ -22,7 +27,7 @@ mod tests;
 
 use arrayvec::ArrayVec;
 use card_core::Card;
-use card_types::CardLife;
+use card_types::{CardLife, Tables};
 use counters::show_counters;
 use entries::show_entries;
 pub use fault::ShowFault;
@@ -34,12 +39,53 @@ use line::{push_hex, push_word};
 use objects::show_objects;
 
 // Writes the line of the card.
-fn show_life<K: Sink>(life: CardLife, sink: &mut K) -> Result<(), WriteFailed> {
+fn show_life<K: Sink>(life: CardLife, sink: &mut K) -> Result<(), WriteFailed>
+    ensures written { Writes K.tells (K.written sink.old) (K.written sink.new) (card_line life) result }
+    ensures flushes { K.flushes sink.new ≡ K.flushes sink.old }
+    ensures cause { HasCause (K.faults sink.old) (K.faults sink.new) result }
+{
     let mut line = ArrayVec::new();
     push_word(b"card ", &mut line);
     push_hex(&[life.code()], &mut line);
     push_word(b"\n", &mut line);
     sink.write_all(&line)
+}
+
+// Writes the lines that stand before those of Executable Load Files.
+fn show_front<K: Sink>(tables: &Tables, sink: &mut K) -> Result<(), WriteFailed>
+    requires { IsInOrder tables.now }
+    ensures written { (page : ℕ → List ℕ) (said : Registry) → Says page tables.now said
+        → Writes K.tells (K.written sink.old) (K.written sink.new) (card_line said.life ++ flat_map entry_line said.entries) result }
+    ensures flushes { K.flushes sink.new ≡ K.flushes sink.old }
+    ensures cause { HasCause (K.faults sink.old) (K.faults sink.new) result }
+{
+    show_life(tables.life, sink)?;
+    show_entries(tables, sink)
+}
+
+// Writes the lines of what domains own: keys, sequence counters and data objects.
+fn show_owned<K: Sink>(tables: &Tables, sink: &mut K) -> Result<(), WriteFailed>
+    requires { IsInOrder tables.now }
+    ensures written { (page : ℕ → List ℕ) (said : Registry) → Says page tables.now said
+        → Writes K.tells (K.written sink.old) (K.written sink.new)
+        (flat_map key_line said.keys ++ (flat_map counter_line said.counters ++ flat_map object_line said.objects)) result }
+    ensures flushes { K.flushes sink.new ≡ K.flushes sink.old }
+    ensures cause { HasCause (K.faults sink.old) (K.faults sink.new) result }
+{
+    show_keys(tables, sink)?;
+    show_data(tables, sink)
+}
+
+// Writes the lines of sequence counters and data objects.
+fn show_data<K: Sink>(tables: &Tables, sink: &mut K) -> Result<(), WriteFailed>
+    requires { IsInOrder tables.now }
+    ensures written { (page : ℕ → List ℕ) (said : Registry) → Says page tables.now said
+        → Writes K.tells (K.written sink.old) (K.written sink.new) (flat_map counter_line said.counters ++ flat_map object_line said.objects) result }
+    ensures flushes { K.flushes sink.new ≡ K.flushes sink.old }
+    ensures cause { HasCause (K.faults sink.old) (K.faults sink.new) result }
+{
+    show_counters(tables, sink)?;
+    show_objects(tables, sink)
 }
 
 /// Writes the registry of a card as text, a line at a time. Only the digests of Executable Load Files make calls on the device.
@@ -60,11 +106,8 @@ pub fn show<F: Flash, K: Sink>(card: &mut Card<F>, sink: &mut K) -> Result<(), S
     ensures quiet { OnOk result (K.faults sink.new ≡ K.faults sink.old) }
     ensures cause { IfErr result (ShowCause (F.faults card.old.flash) (F.faults card.new.flash) (K.faults sink.old) (K.faults sink.new)) }
 {
-    show_life(card.tables().life, sink)?;
-    show_entries(card.tables(), sink)?;
+    show_front(card.tables(), sink)?;
     show_files(card, sink)?;
-    show_keys(card.tables(), sink)?;
-    show_counters(card.tables(), sink)?;
-    show_objects(card.tables(), sink)?;
+    show_owned(card.tables(), sink)?;
     Ok(())
 }

@@ -1,0 +1,15 @@
+use Rattle.std.specs.List.{flat_map}
+use Rattle.std.proofs.lemmas.Result.{MatchResult-from_err}
+use Rattle.gp_tool.specs.Show.{counter_line, object_line}
+use Rattle.gp_tool.proofs.Parts.{part_of_both, then_writes}
+use Rattle.gp_tool.proofs.show.show_data.Goals as goal
+
+pub returns-in_err-show_counters-clause-written : goal.returns-in_err-show_counters-clause-written
+returns-in_err-show_counters-clause-written g c page said says =
+    MatchResult-from_err c.from_residual.result _ _ c.from_residual.ensures.0 (λ _ told.
+    part_of_both (g.K.Sink.written c.args.sink.now) (flat_map counter_line said.counters) (flat_map object_line said.objects) (g.K.Sink.written c.show_counters.new.sink) (c.in_err-show_counters.ensures.written page said says told))
+
+pub returns-clause-written : goal.returns-clause-written
+returns-clause-written g c page said says =
+    then_writes g.K.Sink.tells (g.K.Sink.written c.args.sink.now) (flat_map counter_line said.counters) (flat_map object_line said.objects) (g.K.Sink.written c.show_counters.new.sink) (g.K.Sink.written c.show_objects.new.sink) c.show_objects.result
+    (c.in_ok-show_counters.ensures.written page said says) (c.show_objects.ensures.written page said says)
