@@ -13,6 +13,7 @@ pub mod Parts
 pub mod PlaysMore
 pub mod Powered
 pub mod SaidElse
+pub mod ShownCard
 pub mod ShownText
 pub mod StandsOn
 pub mod Turns

@@ -21,10 +21,14 @@ pub record Outside : Type 0 where
   pub handed_on : List ℕ
   pub flushes : ℕ
 
--- what a source and a sink show by their meanings
+-- what a sink shows by its meanings, beside what is left of a source
+abbrev pub beside : {K : Type 0} → (K → List ℕ) → (K → List ℕ) → (K → ℕ) → List ℕ → K → Outside
+beside written handed_on flushes left sink =
+    record { left = left; written = written sink; handed_on = handed_on sink; flushes = flushes sink }
+
+-- what a source and a sink show
 abbrev pub outside : {S K : Type 0} → (S → List ℕ) → (K → List ℕ) → (K → List ℕ) → (K → ℕ) → S → K → Outside
-outside left written handed_on flushes source sink =
-    record { left = left source; written = written sink; handed_on = handed_on sink; flushes = flushes sink }
+outside left written handed_on flushes source sink = beside written handed_on flushes (left source) sink
 
 -- no line is too long
 abbrev pub AreShort : List (List ℕ) → Type 0

@@ -2,6 +2,7 @@ pub mod Device
 pub mod Ends
 pub mod Flush
 pub mod Form
+pub mod Formatted
 pub mod Going
 pub mod Good
 pub mod Laws
@@ -10,5 +11,6 @@ pub mod Plays
 pub mod Read
 pub mod Serve
 pub mod Show
+pub mod Shown
 pub mod Turn
 pub mod Words

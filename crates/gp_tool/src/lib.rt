@@ -14,6 +14,7 @@
 mod ended;
 mod ending;
 mod form;
+mod format_verb;
 mod laws;
 mod pinned;
 mod reply;
@@ -21,6 +22,7 @@ mod run;
 mod run_verb;
 mod serve;
 mod show;
+mod show_verb;
 #[cfg(test)]
 mod tests;
 mod top;

@@ -113,8 +113,8 @@ fn take_lines<S: Source, K: Sink, F: Flash>(
     }
 }
 
-// Flushes the sink at the end of a run, unless a write was refused.
-fn flush_at_end<K: Sink>(ending: Ending, sink: &mut K) -> Ending
+/// Flushes the sink at the end of a run, unless a write was refused.
+pub fn flush_at_end<K: Sink>(ending: Ending, sink: &mut K) -> Ending
     ensures same { K.tells → K.written sink.new ≡ K.written sink.old }
     ensures ending { AfterFlush K.tells ending (K.flushes sink.old) (K.flushes sink.new) (K.written sink.new) (K.handed_on sink.new) result }
     ensures cause { (reads reads' writes device device' : ℕ)

@@ -21,8 +21,8 @@ use flash_core::Flash;
 use io_edge::{Sink, Source};
 use std::alloc::Global;
 
-// The status where a card is not powered on.
-fn refusal(cause: &PowerCause) -> u8
+/// The status where a card is not powered on.
+pub fn refusal(cause: &PowerCause) -> u8
     ensures { result ≡ refusal_status cause.now }
 {
     match cause {

@@ -1,0 +1,83 @@
+-- How the verb `show` ends behind its flush, and what it leaves on the device.
+use Rattle.std.proofs.Common.{◌≡◌, ◌≤◌, ◌++◌, ℕ, List, [], ◌∷◌, length, take, refl, sym, ap, subst, ◌∙◌, inl, inr, arith}
+use Rattle.std.specs.Prelude.{Contains}
+use Rattle.std.proofs.Math.Seq.{take-length}
+use Rattle.card_core.specs.Card.{CardOver, Stands}
+use Rattle.card_types.proofs.Members.{contains_cases, contains_first}
+use Rattle.card_types.specs.Registry.{Registry}
+use Rattle.flash_core.specs.declared.page.Page.{Page}
+use Rattle.page_journal.specs.Moments.{Always, LeavesOnly}
+use Rattle.policy_rules.specs.State.{State}
+use Rattle.rec_store.specs.Reopens.{Reopens, ReopensAsOne}
+use Rattle.gp_tool.proofs.Moments.{joined, weaker}
+use Rattle.flash_core.specs.Faults.{Rose}
+use Rattle.gp_tool.specs.Ends.{EndCause, Faults, Outside, exit_status}
+use Rattle.gp_tool.specs.Flush.{AfterFlush}
+use Rattle.gp_tool.specs.Show.{shown}
+use Rattle.gp_tool.specs.Shown.{HasShown, ShowEnds}
+use Rattle.gp_tool.specs.declared.ending.Ending.{Ending}
+use Rattle.gp_tool.specs.declared.ending.Ending.TheVariants.{Finished, BadLine, FlashFault, ReadFault, WriteFault, InputTooLong}
+
+module _ (told writes : Type 0) (tells : told → writes) (registry : Registry) (old mid new : Outside) (same : writes → new.written ≡ mid.written) (none : mid.flushes ≡ old.flushes) where
+  abbrev Behind : Ending → Ending → Type 0
+  Behind ending result = AfterFlush writes ending mid.flushes new.flushes new.written new.handed_on result
+
+  -- all of the text was written
+  pub shown_whole : (result : Ending) → Behind Finished result → (told → mid.written ≡ old.written ++ shown registry) → ShowEnds told registry result old new
+  shown_whole result (inl done) wrote = subst (λ ending. ShowEnds told registry ending old new) (sym done.0) (λ t. same (tells t) ∙ wrote t)
+  shown_whole result (inr refused) wrote =
+      subst (λ ending. ShowEnds told registry ending old new) (sym refused.0) (
+        (λ t. (length (shown registry), same (tells t) ∙ wrote t ∙ ap (λ text. old.written ++ text) (sym (take-length (shown registry))))),
+        inr (rw none at refused.1, λ t. same (tells t) ∙ wrote t),
+      )
+
+  abbrev Part : Type 0
+  Part = told → (count : ℕ) × (mid.written ≡ old.written ++ take count (shown registry))
+
+  -- the device failed in the middle of it, or the sink
+  pub shown_failed : (result : Ending) → Behind FlashFault result → Part → ShowEnds told registry result old new
+  shown_failed result behind part =
+      subst (λ ending. ShowEnds told registry ending old new) (sym behind.0) (λ t. let some = part t in (some.0, same (tells t) ∙ some.1))
+
+  pub shown_refused : (result : Ending) → Behind WriteFault result → Part → ShowEnds told registry result old new
+  shown_refused result behind part =
+      subst (λ ending. ShowEnds told registry ending old new) (sym behind.0) (
+        (λ t. let some = part t in (some.0, same (tells t) ∙ some.1)),
+        inl (behind.1 ∙ none),
+      )
+
+-- one registry is that one
+alone : (registry : Registry) (outcome : List Page) → ReopensAsOne (registry ∷ []) outcome → Reopens outcome registry
+alone registry outcome (other, there, reopens) = elim (contains_cases registry [] other there) [
+  | inl same ↦ subst (Reopens outcome) (sym same) reopens
+  | inr none ↦ absurd (let low = none.1 in omega arith)
+]
+
+-- what was shown of a card that was powered on is left by the device
+pub has_shown : {F : Type 0} (tells : Type 0) (pages : F → List Page) (moment : F → ℕ) (may_leave : F → List Page → Type 0) (left_since : F → ℕ → List Page → Type 0)
+    → ((f : F) (t : ℕ) (c : List Page) → tells → t ≤ moment f → may_leave f c → left_since f t c)
+    → (old new : F) (card : CardOver F) (state : State) → Stands tells pages may_leave card state
+    → (tells → (all : List Registry) → Always (may_leave old) (ReopensAsOne all) → LeavesOnly moment left_since old card.flash (ReopensAsOne all))
+    → (tells → LeavesOnly moment left_since card.flash new (λ outcome. Reopens outcome state.registry)) → (tells → pages new ≡ pages card.flash)
+    → HasShown tells pages moment may_leave left_since old new state.registry
+has_shown tells pages moment may_leave left_since counts old new card state stands powered shows same =
+    let registry = state.registry in
+    record {
+      now = λ told. subst (λ p. Reopens p registry) (sym (same told)) (stands.keeps told).now;
+      left = λ told c possible. (let leaves = shows told in leaves.each c (counts new (moment card.flash) c told leaves.later possible));
+      moments = λ told before.
+          joined moment left_since old card.flash new (λ outcome. Reopens outcome registry)
+          (weaker moment left_since old card.flash (ReopensAsOne (registry ∷ [])) (λ outcome. Reopens outcome registry)
+          (powered told (registry ∷ []) (λ c possible. (registry, contains_first registry [], before c possible))) (alone registry))
+          (shows told);
+    }
+
+-- where nothing fails all is shown
+pub shows_all : (told : Type 0) (registry : Registry) (old new : Outside) (before after : Faults) (ending : Ending) → ShowEnds told registry ending old new → EndCause ending before after
+    → (Rose before.sink after.sink → ⊥) → (Rose before.device after.device → ⊥) → exit_status ending ≡ 0
+shows_all told registry old new before after Finished ends cause no_sink no_device = refl
+shows_all told registry old new before after BadLine ends cause no_sink no_device = absurd ends
+shows_all told registry old new before after FlashFault ends cause no_sink no_device = absurd (no_device cause.2)
+shows_all told registry old new before after ReadFault ends cause no_sink no_device = absurd ends
+shows_all told registry old new before after WriteFault ends cause no_sink no_device = absurd (no_sink cause.1)
+shows_all told registry old new before after InputTooLong ends cause no_sink no_device = absurd ends
