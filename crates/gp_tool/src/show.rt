@@ -10,6 +10,7 @@ ghost use Rattle.io_edge.specs.Faults.{HasCause};
 ghost use Rattle.page_journal.specs.Moments.{LeavesOnly};
 ghost use Rattle.policy_rules.specs.State.{State};
 ghost use Rattle.rec_store.specs.Reopens.{Reopens};
+ghost use Rattle.gp_tool.specs.declared.show.fault.ShowFault.TheVariants.{Write};
 ghost use Rattle.gp_tool.specs.Listing.{ShowCause, Writes};
 ghost use Rattle.gp_tool.specs.Show.{card_line, counter_line, entry_line, key_line, object_line, shown};
 
@@ -99,6 +100,8 @@ pub fn show<F: Flash, K: Sink>(card: &mut Card<F>, sink: &mut K) -> Result<(), S
     ensures moments { F.tells → (state : State) → Stands F.tells F.pages F.may_leave card.old state
         → LeavesOnly F.moment F.left_since card.old.flash card.new.flash (λ outcome. Reopens outcome state.registry) }
     ensures stands { (state : State) → Stands F.tells F.pages F.may_leave card.old state → OnOk result (Stands F.tells F.pages F.may_leave card.new state) }
+    ensures refused { (state : State) → Stands F.tells F.pages F.may_leave card.old state
+        → IfErr result (λ fault. fault ≡ Write → Stands F.tells F.pages F.may_leave card.new state) }
     ensures pages { F.tells → F.pages card.new.flash ≡ F.pages card.old.flash }
     ensures flushes { K.flushes sink.new ≡ K.flushes sink.old }
     ensures later { F.faults card.old.flash ≤ F.faults card.new.flash }

@@ -12,6 +12,7 @@ ghost use Rattle.card_types.specs.Slots.{held};
 ghost use Rattle.page_journal.specs.Moments.{LeavesOnly};
 ghost use Rattle.policy_rules.specs.State.{State};
 ghost use Rattle.rec_store.specs.Reopens.{Reopens, load_page};
+ghost use Rattle.gp_tool.specs.declared.show.fault.ShowFault.TheVariants.{Write};
 ghost use Rattle.gp_tool.specs.Listing.{ShowCause, Writes, is_next_file};
 ghost use Rattle.gp_tool.specs.Show.{file_content, file_line, file_names};
 
@@ -99,6 +100,8 @@ fn write_file<F: Flash, K: Sink>(
     ensures moments { F.tells → (state : State) → Stands F.tells F.pages F.may_leave card.old state
         → LeavesOnly F.moment F.left_since card.old.flash card.new.flash (λ outcome. Reopens outcome state.registry) }
     ensures stands { (state : State) → Stands F.tells F.pages F.may_leave card.old state → OnOk result (Stands F.tells F.pages F.may_leave card.new state) }
+    ensures refused { (state : State) → Stands F.tells F.pages F.may_leave card.old state
+        → IfErr result (λ fault. fault ≡ Write → Stands F.tells F.pages F.may_leave card.new state) }
     ensures same { card.new.tables ≡ card.old.tables }
     ensures up { OnOk result (card.new.up ≡ true) }
     ensures pages { F.tells → F.pages card.new.flash ≡ F.pages card.old.flash }
@@ -125,6 +128,8 @@ pub fn show_files<F: Flash, K: Sink>(card: &mut Card<F>, sink: &mut K) -> Result
     ensures moments { F.tells → (state : State) → Stands F.tells F.pages F.may_leave card.old state
         → LeavesOnly F.moment F.left_since card.old.flash card.new.flash (λ outcome. Reopens outcome state.registry) }
     ensures stands { (state : State) → Stands F.tells F.pages F.may_leave card.old state → OnOk result (Stands F.tells F.pages F.may_leave card.new state) }
+    ensures refused { (state : State) → Stands F.tells F.pages F.may_leave card.old state
+        → IfErr result (λ fault. fault ≡ Write → Stands F.tells F.pages F.may_leave card.new state) }
     ensures same { card.new.tables ≡ card.old.tables }
     ensures pages { F.tells → F.pages card.new.flash ≡ F.pages card.old.flash }
     ensures flushes { K.flushes sink.new ≡ K.flushes sink.old }
