@@ -1,5 +1,5 @@
 -- A run on a card that was powered on, from the device before.
-use Rattle.std.proofs.Common.{◌≡◌, ◌⊎◌, ◌≤◌, ℕ, List, [], ◌∷◌, ◌++◌, inl, inr, arith}
+use Rattle.std.proofs.Common.{◌≡◌, ◌⊎◌, ◌≤◌, ℕ, List, [], ◌∷◌, ◌++◌, inr, arith}
 use Rattle.card_core.specs.Card.{CardOver, Stands}
 use Rattle.card_core.specs.PowerOn.{PowerFails}
 use Rattle.card_core.specs.declared.power.PowerCause.{PowerCause}

@@ -4,7 +4,7 @@ ghost use Rattle.std.specs.Prelude.{◌≡◌, ◌≤◌, ◌+◌, ℕ, None, tr
 ghost use Rattle.card_core.specs.Card.{Stands};
 ghost use Rattle.policy_rules.specs.State.{State};
 ghost use Rattle.gp_tool.specs.Device.{HasFailed, HasRun, LeavesOneOf};
-ghost use Rattle.gp_tool.specs.Ends.{Ends, EndCause, Faults, Flushes, faults_of, outside};
+ghost use Rattle.gp_tool.specs.Ends.{Ends, EndCause, Flushes, faults_of, outside};
 ghost use Rattle.gp_tool.specs.Flush.{AfterFlush};
 ghost use Rattle.gp_tool.specs.Turn.{GoesOn, EndsWith, Refuses};
 

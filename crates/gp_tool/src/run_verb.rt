@@ -1,14 +1,12 @@
 //! The verb `run`.
 
-ghost use Rattle.std.specs.Prelude.{◌≡◌, ◌≢◌, ◌⊎◌, ◌≤◌, ◌<◌, ℕ, List, length};
+ghost use Rattle.std.specs.Prelude.{◌≡◌, ◌≢◌, ◌⊎◌, ◌≤◌, ◌<◌, length};
 ghost use Rattle.std.specs.Str.Lines.{lines};
-ghost use Rattle.card_core.specs.PowerOn.{PowerFails};
 ghost use Rattle.card_types.specs.Registry.{Registry};
 ghost use Rattle.io_edge.specs.Faults.{Rose};
 ghost use Rattle.io_edge.specs.declared.line.TheConstants.{INPUT_LIMIT};
-ghost use Rattle.page_journal.specs.Moments.{Always, LeavesOnly};
 ghost use Rattle.policy_rules.specs.State.{powered_on};
-ghost use Rattle.rec_store.specs.Reopens.{Reopens, ReopensAsOne};
+ghost use Rattle.rec_store.specs.Reopens.{Reopens};
 ghost use Rattle.gp_tool.specs.Device.{HasFailed, HasRun, IsNotPowered, refusal_status};
 ghost use Rattle.gp_tool.specs.Ends.{Ends, EndCause, Flushes, exit_status, faults_of, outside};
 ghost use Rattle.gp_tool.specs.Good.{AreGood};
