@@ -1,5 +1,6 @@
 use crate::{Ended, Ending, gp};
-use flash_core::{Flash, MemFlash, Page};
+use card_core::format;
+use flash_core::{Flash, MemFlash};
 use io_edge::{MemSink, MemSource, StdSink, StdSource};
 use std::alloc::Global;
 use std::test::Fail;
@@ -26,44 +27,10 @@ const AMPLE: SinkPlan<'static> = SinkPlan {
     fails: &[],
 };
 
-/// The Issuer Security Domain, in its slot.
-const ISSUER: [u8; 43] = [
-    0x01, 0x08, 0xA0, 0x00, 0x00, 0x01, 0x51, 0x00, 0x00, 0x00, 0, 0, 0, 0, 0, 0, 0, 0, 0x00, 0x00,
-    0x08, 0xA0, 0x00, 0x00, 0x01, 0x51, 0x53, 0x50, 0x41, 0, 0, 0, 0, 0, 0, 0, 0, 0x0F, 0x9E, 0xFE,
-    0x80, 0x00, 0x00,
-];
-
-/// The factory's Executable Load File, in its slot.
-const FILE: [u8; 21] = [
-    0x01, 0x07, 0xA0, 0x00, 0x00, 0x01, 0x51, 0x53, 0x50, 0, 0, 0, 0, 0, 0, 0, 0, 0, 0x00, 0x00,
-    0x00,
-];
-
-/// The first key of the factory's key set, in its slot.
-const KEY: [u8; 21] = [
-    0x01, 0x00, 0x30, 0x01, 0x10, 0x40, 0x41, 0x42, 0x43, 0x44, 0x45, 0x46, 0x47, 0x48, 0x49, 0x4A,
-    0x4B, 0x4C, 0x4D, 0x4E, 0x4F,
-];
-
-/// The pages of the factory card, on a device that has room for some commits.
+/// The factory card, on a device that has room for some commits.
 fn factory(alloc: Global) -> Result<MemFlash, Fail> {
     let mut flash = MemFlash::new(alloc, 99)?;
-    let mut page = Page { bytes: [0; 256] };
-    page.bytes[..6].copy_from_slice(&[0x47, 0x50, 0x43, 0x44, 0x02, 0x01]);
-    flash.write(0, &page)?;
-    page = Page { bytes: [0; 256] };
-    page.bytes[..43].copy_from_slice(&ISSUER);
-    flash.write(1, &page)?;
-    page = Page { bytes: [0; 256] };
-    page.bytes[..21].copy_from_slice(&FILE);
-    flash.write(9, &page)?;
-    page = Page { bytes: [0; 256] };
-    for place in 0..3usize {
-        page.bytes[64 * place..64 * place + 21].copy_from_slice(&KEY);
-        page.bytes[64 * place + 3] = place as u8 + 1;
-    }
-    flash.write(25, &page)?;
-    flash.sync()?;
+    format(&mut flash)?;
     Ok(flash)
 }
 
@@ -108,7 +75,7 @@ fn answer(
 }
 
 #[test]
-fn refuses_words_that_are_not_run(rt: HostRuntime) -> Result<(), Fail> {
+fn refuses_words_that_have_no_form(rt: HostRuntime) -> Result<(), Fail> {
     let cases: [&[&str]; 7] = [
         &[],
         &[""],
@@ -116,7 +83,7 @@ fn refuses_words_that_are_not_run(rt: HostRuntime) -> Result<(), Fail> {
         &["--help"],
         &["Run"],
         &["run "],
-        &["run", "run"],
+        &["run", "show"],
     ];
     for words in cases {
         let source = MemSource::new(rt.alloc(), SELECT, 64, &[0])?;

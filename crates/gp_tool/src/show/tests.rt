@@ -8,30 +8,6 @@ use std::test::Fail;
 /// Bytes on a device, by page and place.
 type Place = (u16, usize, &'static str);
 
-/// The factory card.
-const FACTORY: [Place; 8] = [
-    (0, 0, "475043440201"),
-    // The Issuer Security Domain.
-    (1, 0, "0108a000000151000000"),
-    (1, 18, "000008a000000151535041"),
-    (1, 37, "0f9efe800000"),
-    // The Executable Load File of security domains.
-    (9, 0, "0107a0000001515350"),
-    // The keys.
-    (25, 0, "0100300110404142434445464748494a4b4c4d4e4f"),
-    (25, 64, "0100300210404142434445464748494a4b4c4d4e4f"),
-    (25, 128, "0100300310404142434445464748494a4b4c4d4e4f"),
-];
-
-const FACTORY_TEXT: &str = "card 01
-domain a000000151000000 in a000000151000000 from a0000001515350 module a000000151535041 life 0f priv 9efe80 receipts 0000
-file a0000001515350 in a000000151000000 bytes 0 sha256 e3b0c44298fc1c149afbf4c8996fb92427ae41e4649b934ca495991b7852b855
-key a000000151000000 30 01 16
-key a000000151000000 30 02 16
-key a000000151000000 30 03 16
-counter a000000151000000 30 000000
-";
-
 /// A card with a domain, an application, two files with bytes, keys of two domains and data objects, with nothing in the order
 /// of its names.
 const BANK: [Place; 29] = [
@@ -140,12 +116,9 @@ fn written<F: Flash + Drop>(
 
 #[test]
 fn a_card_is_written_as_text(rt: HostRuntime) -> Result<(), Fail> {
-    let cases: [(&[Place], &str); 2] = [(&FACTORY, FACTORY_TEXT), (&BANK, BANK_TEXT)];
-    for (places, text) in cases {
-        let (result, bytes) = written(rt.alloc(), device(rt.alloc(), places)?, &[])?;
-        assert_eq!(rt; result, Ok(()));
-        assert_eq!(rt; bytes.as_slice(), text.as_bytes());
-    }
+    let (result, bytes) = written(rt.alloc(), device(rt.alloc(), &BANK)?, &[])?;
+    assert_eq!(rt; result, Ok(()));
+    assert_eq!(rt; bytes.as_slice(), BANK_TEXT.as_bytes());
     Ok(())
 }
 

@@ -1,6 +1,7 @@
-use crate::tests::{AMPLE, answer_over, factory};
+use crate::tests::{AMPLE, SinkPlan, answer_over, factory};
 use flash_core::{FuseFlash, MemFlash};
 use io_edge::MemSource;
+use std::alloc::Global;
 use std::test::Fail;
 
 /// A command that leaves the registry, and INITIALIZE UPDATE, which raises the sequence counter.
@@ -55,5 +56,89 @@ fn a_device_that_fails_ends_a_run(rt: HostRuntime) -> Result<(), Fail> {
         let is_old = sink.written() == b"c1030000009000\n".as_slice();
         assert!(rt; is_new && done > 0 || is_old && done < 3, "call {calls}");
     }
+    Ok(())
+}
+
+/// What is shown of the factory card.
+const FACTORY: &[u8] = b"card 01
+domain a000000151000000 in a000000151000000 from a0000001515350 module a000000151535041 life 0f priv 9efe80 receipts 0000
+file a0000001515350 in a000000151000000 bytes 0 sha256 e3b0c44298fc1c149afbf4c8996fb92427ae41e4649b934ca495991b7852b855
+key a000000151000000 30 01 16
+key a000000151000000 30 02 16
+key a000000151000000 30 03 16
+counter a000000151000000 30 000000
+";
+
+/// A source that would fail at its first call.
+fn unread(alloc: Global) -> Result<MemSource, Fail> {
+    Ok(MemSource::new(alloc, LINES, 64, &[0])?)
+}
+
+#[test]
+fn a_device_is_formatted_and_shown(rt: HostRuntime) -> Result<(), Fail> {
+    let zeros = MemFlash::new(rt.alloc(), 99)?;
+    let (ended, sink) = answer_over(rt.alloc(), &["show"], unread(rt.alloc())?, AMPLE, zeros)?;
+    assert_eq!(rt; ended.status, 4);
+    assert_eq!(rt; sink.flushes(), 0);
+    let (ended, sink) = answer_over(
+        rt.alloc(),
+        &["format"],
+        unread(rt.alloc())?,
+        AMPLE,
+        ended.flash,
+    )?;
+    assert_eq!(rt; ended.status, 0);
+    assert_eq!(rt; sink.written(), b"".as_slice());
+    assert_eq!(rt; sink.flushes(), 1);
+    let (ended, sink) = answer_over(
+        rt.alloc(),
+        &["show"],
+        unread(rt.alloc())?,
+        AMPLE,
+        ended.flash,
+    )?;
+    assert_eq!(rt; ended.status, 0);
+    assert_eq!(rt; ended.done, 0);
+    assert_eq!(rt; sink.written(), FACTORY);
+    assert_eq!(rt; sink.flushes(), 1);
+    Ok(())
+}
+
+/// Where the sink refuses the flush, the device is formatted already.
+#[test]
+fn a_refused_flush_ends_format_and_show(rt: HostRuntime) -> Result<(), Fail> {
+    let plan = SinkPlan {
+        room: 4096,
+        fails: &[0],
+    };
+    let zeros = MemFlash::new(rt.alloc(), 99)?;
+    let (ended, _sink) = answer_over(rt.alloc(), &["format"], unread(rt.alloc())?, plan, zeros)?;
+    assert_eq!(rt; ended.status, 6);
+    let plan = SinkPlan {
+        room: 4096,
+        fails: &[7],
+    };
+    let (ended, sink) = answer_over(
+        rt.alloc(),
+        &["show"],
+        unread(rt.alloc())?,
+        plan,
+        ended.flash,
+    )?;
+    assert_eq!(rt; ended.status, 6);
+    assert_eq!(rt; sink.written(), FACTORY);
+    Ok(())
+}
+
+#[test]
+fn a_device_that_fails_ends_format_and_show(rt: HostRuntime) -> Result<(), Fail> {
+    let flash = FuseFlash::new(MemFlash::new(rt.alloc(), 99)?, 46);
+    let (ended, sink) = answer_over(rt.alloc(), &["format"], unread(rt.alloc())?, AMPLE, flash)?;
+    assert_eq!(rt; ended.status, 3);
+    assert_eq!(rt; sink.flushes(), 1);
+    let flash = FuseFlash::new(factory(rt.alloc())?, 46);
+    let (ended, sink) = answer_over(rt.alloc(), &["show"], unread(rt.alloc())?, AMPLE, flash)?;
+    assert_eq!(rt; ended.status, 3);
+    assert_eq!(rt; sink.flushes(), 0);
     Ok(())
 }
