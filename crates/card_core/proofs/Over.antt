@@ -1,5 +1,5 @@
 -- The states that a card on a device stands for.
-use Rattle.std.proofs.Common.{◌≡◌, ℕ, List, true, [], ◌∷◌, None, Some, refl, ap, sym, subst, ◌∙◌}
+use Rattle.std.proofs.Common.{◌≡◌, ◌⊎◌, ℕ, List, true, [], ◌∷◌, None, Some, refl, ap, sym, subst, ◌∙◌}
 use Rattle.card_check.specs.IsCard.{HasPages}
 use Rattle.card_types.specs.Registry.{Registry}
 use Rattle.card_types.specs.Says.{Says}
@@ -7,6 +7,7 @@ use Rattle.card_types.specs.declared.tables.TheConstants.{ISSUER_SLOT}
 use Rattle.card_types.specs.declared.tables.Tables.{Tables}
 use Rattle.flash_core.specs.declared.page.Page.{Page}
 use Rattle.page_journal.specs.Journal.{stored}
+use Rattle.page_journal.specs.Moments.{LeavesOnly}
 use Rattle.policy_rules.specs.State.{State, powered_on}
 use Rattle.policy_rules.specs.declared.live.Live.{Live}
 use Rattle.rec_store.proofs.OneRegistry.{said_once}
@@ -54,7 +55,7 @@ module _ {F : Type 0} (tells : Type 0) (pages : F → List Page) (may_leave : F 
     keeps = stands.keeps;
   }
 
--- after a command was served, before its changes are committed
+-- between two calls on the records of a card
 module _ {F : Type 0} (tells : Type 0) (pages : F → List Page) (may_leave : F → List Page → Type 0) (card : CardOver F) (state : State)
     (stands : Stands tells pages may_leave card state) (served : F) (same : served ≡ card.flash) where
   pub served_keeps : tells → Keeps (pages served) (may_leave served) state.registry
@@ -65,3 +66,19 @@ module _ {F : Type 0} (tells : Type 0) (pages : F → List Page) (may_leave : F 
 
   pub served_says : (tables : Tables) (said : Registry) → Says stands.page tables said → tells → Says (load_page (pages served)) tables said
   served_says tables said says told = subst (λ page. Says page tables said) (sym (served_load told)) says
+
+  -- what power lost while the changes are committed leaves
+  pub committed : (moment : F → ℕ) (left_since : F → ℕ → List Page → Type 0) (new : F) (tables : Tables) (next : Registry) → Says stands.page tables next
+      → (tells → (before after : Registry) → Keeps (pages served) (may_leave served) before → Says (load_page (pages served)) tables after
+      → LeavesOnly moment left_since served new (λ outcome. Reopens outcome before ⊎ Reopens outcome after))
+      → tells → LeavesOnly moment left_since card.flash new (λ outcome. Reopens outcome state.registry ⊎ Reopens outcome next)
+  committed moment left_since new tables next says moments told =
+      subst (λ flash. LeavesOnly moment left_since flash new (λ outcome. Reopens outcome state.registry ⊎ Reopens outcome next)) same
+      (moments told state.registry next (served_keeps told) (served_says tables next says told))
+
+  -- and while load pages are read
+  pub reading : (moment : F → ℕ) (left_since : F → ℕ → List Page → Type 0) (new : F)
+      → (tells → (registry : Registry) → Keeps (pages served) (may_leave served) registry → LeavesOnly moment left_since served new (λ outcome. Reopens outcome registry))
+      → tells → LeavesOnly moment left_since card.flash new (λ outcome. Reopens outcome state.registry)
+  reading moment left_since new moments told =
+      subst (λ flash. LeavesOnly moment left_since flash new (λ outcome. Reopens outcome state.registry)) same (moments told state.registry (served_keeps told))

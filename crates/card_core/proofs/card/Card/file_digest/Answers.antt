@@ -4,11 +4,10 @@ use Rattle.card_check.specs.IsCard.{IsInLoadPages}
 use Rattle.card_types.specs.Slots.{held}
 use Rattle.card_types.specs.declared.tables.LoadFile.{LoadFile}
 use Rattle.page_journal.specs.Journal.{stored}
-use Rattle.page_journal.specs.Moments.{LeavesOnly}
 use Rattle.rec_store.proofs.Reopening.{has_pages}
 use Rattle.rec_store.proofs.Roomy.{of_slot}
-use Rattle.rec_store.specs.Reopens.{Reopens, load_page}
-use Rattle.card_core.specs.Card.{CardOver}
+use Rattle.rec_store.specs.Reopens.{load_page}
+use Rattle.card_core.proofs.Over.{reading}
 use Rattle.card_core.specs.Kept.{AreCards}
 use Rattle.card_core.proofs.card.Card.file_digest.Goals as goal
 
@@ -31,18 +30,16 @@ pub invariant_of-self-in-Err : goal.invariant_of-self-in-Err
 invariant_of-self-in-Err g c = (subst AreCards (sym c.digest_of.ensures.read.tables) c.self.invariant.0, λ up. cc)
 
 pub returns-in-Ok-clause-moments : goal.returns-in-Ok-clause-moments
-returns-in-Ok-clause-moments g c told state stood =
+returns-in-Ok-clause-moments g c told state stands =
     let F = g.F.Flash in
-    let stands = rw (← c.self.view_is) at stood in
-    subst (λ (card : CardOver g.row.F.Denot). LeavesOnly F.moment F.left_since card.flash c.digest_of.new.records.flash (λ outcome. Reopens outcome state.registry)) c.self.view_is
-    (c.digest_of.ensures.read.moments told state.registry (stands.keeps told))
+    reading F.tells F.pages F.may_leave c.args.self.now state stands c.self.inside.records.flash (ap (λ view. view.flash) c.self.view_is) F.moment F.left_since
+    c.digest_of.new.records.flash c.digest_of.ensures.read.moments told
 
 pub returns-in-Err-clause-moments : goal.returns-in-Err-clause-moments
-returns-in-Err-clause-moments g c told state stood =
+returns-in-Err-clause-moments g c told state stands =
     let F = g.F.Flash in
-    let stands = rw (← c.self.view_is) at stood in
-    subst (λ (card : CardOver g.row.F.Denot). LeavesOnly F.moment F.left_since card.flash c.digest_of.new.records.flash (λ outcome. Reopens outcome state.registry)) c.self.view_is
-    (c.digest_of.ensures.read.moments told state.registry (stands.keeps told))
+    reading F.tells F.pages F.may_leave c.args.self.now state stands c.self.inside.records.flash (ap (λ view. view.flash) c.self.view_is) F.moment F.left_since
+    c.digest_of.new.records.flash c.digest_of.ensures.read.moments told
 
 pub returns-in-Ok-clause-stands : goal.returns-in-Ok-clause-stands
 returns-in-Ok-clause-stands g c state stood =

@@ -1,10 +1,8 @@
-use Rattle.std.proofs.Common.{◌≡◌, ◌⊎◌, ℕ, List, true, refl, sym, ap, subst, ◌∙◌}
-use Rattle.card_types.specs.Says.{Says}
+use Rattle.std.proofs.Common.{refl, sym, ap, subst, ◌∙◌}
 use Rattle.page_journal.specs.Journal.{stored}
-use Rattle.page_journal.specs.Moments.{LeavesOnly}
 use Rattle.rec_store.proofs.Reopening.{has_pages}
-use Rattle.rec_store.specs.Reopens.{Keeps, Reopens, load_page}
-use Rattle.card_core.proofs.Over.{served_keeps, served_load, served_says}
+use Rattle.rec_store.specs.Reopens.{load_page}
+use Rattle.card_core.proofs.Over.{committed, served_keeps, served_load, served_says}
 use Rattle.card_core.specs.Kept.{AreCards}
 use Rattle.card_core.proofs.card.Card.process.Goals as goal
 
@@ -19,28 +17,25 @@ invariant_of-self-in-Err g c = (subst AreCards (sym c.in-Err.ensures.tables) c.s
 
 -- power lost at any moment leaves the registry from before, or the one after the command
 pub returns-in-Ok-clause-step : goal.returns-in-Ok-clause-step
-returns-in-Ok-clause-step g c state stood =
+returns-in-Ok-clause-step g c state stands =
     let F = g.F.Flash in
-    let new = c.commit.new.self.flash in
-    let stands = rw (← c.self.view_is) at stood in
-    let served = c.serve-rule.ensures.served stands.page state stands.on in
-    let next = served.0 in
-    let same = c.serve-rule.ensures.same.0 in
-    let keeps = served_keeps F.tells F.pages F.may_leave _ state stands c.serve-rule.new.records.flash same in
-    let load = served_load F.tells F.pages F.may_leave _ state stands c.serve-rule.new.records.flash same in
-    let says = served_says F.tells F.pages F.may_leave _ state stands c.serve-rule.new.records.flash same c.serve-rule.new.records.tables next.registry served.1.shows.says.registry in (
-      record { state = next; reply = c.serve-rule.new.reply.items; rule = c.serve-rule.result },
+    let card = c.args.self.now in
+    let rule = c.serve-rule in
+    let served = rule.ensures.served stands.page state (rw (← c.self.view_is) at stands.on) in
+    let says = served.1.shows.says.registry in
+    let same = rule.ensures.same.0 ∙ ap (λ view. view.flash) c.self.view_is in (
+      record { state = served.0; reply = rule.new.reply.items; rule = rule.result },
       served.2,
-      (λ told. subst (λ flash. LeavesOnly F.moment F.left_since flash new (λ pages. Reopens pages state.registry ⊎ Reopens pages next.registry))
-          (same ∙ ap (λ card. card.flash) c.self.view_is) (c.in-Ok.ensures.moments told state.registry next.registry (keeps told) (says told))),
+      committed F.tells F.pages F.may_leave card state stands rule.new.records.flash same F.moment F.left_since c.commit.new.self.flash rule.new.records.tables served.0.registry says c.in-Ok.ensures.moments,
       (
         record {
-          up = stands.up;
+          up = ap (λ view. view.up) c.self.view_is ∙ stands.up;
           page = stands.page;
           whole = stands.whole;
           on = rw c.in-Ok.ensures.tables served.1;
-          load = λ told. c.in-Ok.ensures.load told ∙ load told;
-          keeps = λ told. c.in-Ok.ensures.keeps told state.registry next.registry (keeps told) (says told);
+          load = λ told. c.in-Ok.ensures.load told ∙ served_load F.tells F.pages F.may_leave card state stands rule.new.records.flash same told;
+          keeps = λ told. c.in-Ok.ensures.keeps told state.registry served.0.registry (served_keeps F.tells F.pages F.may_leave card state stands rule.new.records.flash same told)
+              (served_says F.tells F.pages F.may_leave card state stands rule.new.records.flash same rule.new.records.tables served.0.registry says told);
         },
         refl,
         refl,
@@ -48,18 +43,14 @@ returns-in-Ok-clause-step g c state stood =
     )
 
 pub returns-in-Err-clause-step : goal.returns-in-Err-clause-step
-returns-in-Err-clause-step g c state stood =
+returns-in-Err-clause-step g c state stands =
     let F = g.F.Flash in
-    let new = c.commit.new.self.flash in
-    let stands = rw (← c.self.view_is) at stood in
-    let served = c.serve-rule.ensures.served stands.page state stands.on in
-    let next = served.0 in
-    let same = c.serve-rule.ensures.same.0 in
-    let keeps = served_keeps F.tells F.pages F.may_leave _ state stands c.serve-rule.new.records.flash same in
-    let says = served_says F.tells F.pages F.may_leave _ state stands c.serve-rule.new.records.flash same c.serve-rule.new.records.tables next.registry served.1.shows.says.registry in (
-      record { state = next; reply = c.serve-rule.new.reply.items; rule = c.serve-rule.result },
+    let rule = c.serve-rule in
+    let served = rule.ensures.served stands.page state (rw (← c.self.view_is) at stands.on) in
+    let same = rule.ensures.same.0 ∙ ap (λ view. view.flash) c.self.view_is in (
+      record { state = served.0; reply = rule.new.reply.items; rule = rule.result },
       served.2,
-      (λ told. subst (λ flash. LeavesOnly F.moment F.left_since flash new (λ pages. Reopens pages state.registry ⊎ Reopens pages next.registry))
-          (same ∙ ap (λ card. card.flash) c.self.view_is) (c.in-Err.ensures.moments told state.registry next.registry (keeps told) (says told))),
+      committed F.tells F.pages F.may_leave c.args.self.now state stands rule.new.records.flash same F.moment F.left_since c.commit.new.self.flash rule.new.records.tables served.0.registry
+          served.1.shows.says.registry c.in-Err.ensures.moments,
       tt,
     )
