@@ -10,7 +10,7 @@ use Rattle.card_check.specs.IsCard.{HasPages}
 use Rattle.card_types.specs.Registry.{Registry}
 use Rattle.flash_core.specs.declared.page.Page.{Page}
 use Rattle.page_journal.specs.Moments.{LeavesOnly}
-use Rattle.rec_store.proofs.Readings.{joined}
+use Rattle.rec_store.proofs.Leaving.{joined}
 use Rattle.rec_store.specs.Contents.{Contents}
 use Rattle.rec_store.specs.Reopens.{Reopens}
 use Rattle.card_core.specs.LoadRead.{IsLoadRead}
@@ -41,7 +41,7 @@ module _ {F : Type 0} (tells : Type 0) (pages : F → List Page) (moment : F →
     live = second.live ∙ first.live;
     seen = λ told. second.seen told ∙ first.seen told;
     moments = λ told registry keeps.
-        joined tells pages moment may_leave left_since faults old.flash mid.flash new.flash (λ outcome. Reopens outcome registry) (λ outcome. Reopens outcome registry)
+        joined moment left_since old.flash mid.flash new.flash (λ outcome. Reopens outcome registry) (λ outcome. Reopens outcome registry)
         (first.moments told registry keeps) (second.moments told registry (first.keeps told registry keeps)) (λ outcome reopens. reopens);
     keeps = λ told registry keeps. second.keeps told registry (first.keeps told registry keeps);
     later = omega (arith, first.later, second.later);

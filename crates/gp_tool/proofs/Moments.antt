@@ -11,6 +11,7 @@ use Rattle.page_journal.specs.Moments.{LeavesOnly}
 use Rattle.policy_rules.specs.Run.{Command, Input, Reset, Run}
 use Rattle.policy_rules.specs.State.{State, powered_on}
 use Rattle.policy_rules.specs.Step.{Outcome}
+use Rattle.rec_store.proofs.Leaving.{joined, weaker}
 use Rattle.rec_store.specs.Reopens.{Reopens, ReopensAsOne}
 use Rattle.gp_tool.specs.Device.{HasFailed, HasRun, LeavesOneOf, registries}
 use Rattle.gp_tool.specs.Plays.{Plays}
@@ -55,22 +56,6 @@ module _ {F : Type 0} (moment : F → ℕ) (left_since : F → ℕ → List Page
   abbrev Only : F → F → (List Page → Type 0) → Type 0
   Only old new P = LeavesOnly moment left_since old new P
 
-  -- what power lost between two moments may leave, with what it may leave since the second
-  pub joined : (old mid new : F) (P : List Page → Type 0) → Only old mid P → Only mid new P → Only old new P
-  joined old mid new P first second = record {
-    later = omega (arith, first.later, second.later);
-    each = λ c left. ⊎_elim (first.each c) (λ p. p) (second.before (moment old) c first.later left);
-    before = λ t c le left. ⊎_elim (first.before t c le) (λ p. inr p) (second.before t c (omega (arith, le, first.later)) left);
-  }
-
-  -- less is said
-  pub weaker : (old new : F) (P Q : List Page → Type 0) → Only old new P → ((c : List Page) → P c → Q c) → Only old new Q
-  weaker old new P Q was step = record {
-    later = was.later;
-    each = λ c left. step c (was.each c left);
-    before = λ t c le left. ⊎_elim (λ earlier. inl earlier) (λ p. inr (step c p)) (was.before t c le left);
-  }
-
   -- a registry that is one of some is one of all
   one_of : (some all : List Registry) → Among some all → (c : List Page) → ReopensAsOne some c → ReopensAsOne all c
   one_of some all among c reopens = (reopens.0, among reopens.0 reopens.1, reopens.2)
@@ -78,8 +63,8 @@ module _ {F : Type 0} (moment : F → ℕ) (left_since : F → ℕ → List Page
   pub joins : (tells : Type 0) (old mid new : F)
       → Joins (LeavesOneOf tells moment left_since old mid) (LeavesOneOf tells moment left_since mid new) (LeavesOneOf tells moment left_since old new)
   joins tells old mid new some more all first then before between told =
-      joined old mid new (ReopensAsOne all) (weaker old mid (ReopensAsOne some) (ReopensAsOne all) (before told) (one_of some all first))
-      (weaker mid new (ReopensAsOne more) (ReopensAsOne all) (between told) (one_of more all then))
+      joined moment left_since old mid new (ReopensAsOne all) (ReopensAsOne all) (weaker moment left_since old mid (ReopensAsOne some) (ReopensAsOne all) (before told) (one_of some all first))
+      (weaker moment left_since mid new (ReopensAsOne more) (ReopensAsOne all) (between told) (one_of more all then)) (λ c reopens. reopens)
 
   -- where nothing was done power lost leaves the registry of the card
   pub nothing_done : (tells : Type 0) (pages : F → List Page) (may_leave : F → List Page → Type 0)
@@ -97,7 +82,7 @@ module _ {F : Type 0} (moment : F → ℕ) (left_since : F → ℕ → List Page
   pub one_of_two : (tells : Type 0) (old new : F) (before after : Registry)
       → (tells → Only old new (λ c. Reopens c before ⊎ Reopens c after)) → LeavesOneOf tells moment left_since old new (before ∷ after ∷ [])
   one_of_two tells old new before after leaves told =
-      weaker old new (λ c. Reopens c before ⊎ Reopens c after) (ReopensAsOne (before ∷ after ∷ [])) (leaves told)
+      weaker moment left_since old new (λ c. Reopens c before ⊎ Reopens c after) (ReopensAsOne (before ∷ after ∷ [])) (leaves told)
       (λ c reopens. ⊎_elim (λ was. (before, contains_first before (after ∷ []), was))
       (λ is. (after, contains_later before (after ∷ []) after (contains_first after []), is)) reopens)
 

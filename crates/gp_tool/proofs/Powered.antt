@@ -12,7 +12,7 @@ use Rattle.page_journal.specs.Moments.{Always, LeavesOnly}
 use Rattle.policy_rules.specs.State.{State}
 use Rattle.policy_rules.specs.Step.{Outcome}
 use Rattle.rec_store.specs.Reopens.{Reopens, ReopensAsOne}
-use Rattle.gp_tool.proofs.Moments.{joined}
+use Rattle.rec_store.proofs.Leaving.{joined}
 use Rattle.gp_tool.specs.Device.{HasFailed, HasRun, refusal_status, registries}
 use Rattle.gp_tool.specs.Ends.{EndCause, Faults}
 use Rattle.gp_tool.specs.declared.ending.Ending.{Ending}
@@ -36,9 +36,9 @@ module _ {F : Type 0} (tells : Type 0) (pages : F → List Page) (moment : F →
       → tells → Always (may_leave old) (λ outcome. Reopens outcome first.registry) → LeavesOnly moment left_since old new (ReopensAsOne (registries first outcomes))
   since new outcomes moments told before =
       let keeps = stands.keeps told in
-      joined moment left_since old card.flash new (ReopensAsOne (registries first outcomes))
+      joined moment left_since old card.flash new (ReopensAsOne (registries first outcomes)) (ReopensAsOne (registries first outcomes))
       (powered told (registries first outcomes) (λ c left. (first.registry, contains_first first.registry _, before c left)))
-      (moments told keeps.reopens)
+      (moments told keeps.reopens) (λ c reopens. reopens)
 
   pub run_since : (new : F) (count : ℕ) (outcomes : List Outcome) (last : State)
       → HasRun tells pages moment may_leave left_since card.flash new first count outcomes last → HasRun tells pages moment may_leave left_since old new first count outcomes last

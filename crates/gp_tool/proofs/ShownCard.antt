@@ -9,7 +9,7 @@ use Rattle.flash_core.specs.declared.page.Page.{Page}
 use Rattle.page_journal.specs.Moments.{Always, LeavesOnly}
 use Rattle.policy_rules.specs.State.{State}
 use Rattle.rec_store.specs.Reopens.{Reopens, ReopensAsOne}
-use Rattle.gp_tool.proofs.Moments.{joined, weaker}
+use Rattle.rec_store.proofs.Leaving.{joined, weaker}
 use Rattle.flash_core.specs.Faults.{Rose}
 use Rattle.gp_tool.specs.Ends.{EndCause, Faults, Outside, exit_status}
 use Rattle.gp_tool.specs.Flush.{AfterFlush}
@@ -66,10 +66,10 @@ has_shown tells pages moment may_leave left_since counts old new card state stan
       now = λ told. subst (λ p. Reopens p registry) (sym (same told)) (stands.keeps told).now;
       left = λ told c possible. (let leaves = shows told in leaves.each c (counts new (moment card.flash) c told leaves.later possible));
       moments = λ told before.
-          joined moment left_since old card.flash new (λ outcome. Reopens outcome registry)
+          joined moment left_since old card.flash new (λ outcome. Reopens outcome registry) (λ outcome. Reopens outcome registry)
           (weaker moment left_since old card.flash (ReopensAsOne (registry ∷ [])) (λ outcome. Reopens outcome registry)
           (powered told (registry ∷ []) (λ c possible. (registry, contains_first registry [], before c possible))) (alone registry))
-          (shows told);
+          (shows told) (λ outcome reopens. reopens);
     }
 
 -- where nothing fails all is shown

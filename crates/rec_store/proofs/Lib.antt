@@ -4,6 +4,7 @@ mod ChangedTables
 mod Committing
 mod Kept
 mod LaidOut
+pub mod Leaving
 pub mod OneRegistry
 mod OneThing
 mod Places

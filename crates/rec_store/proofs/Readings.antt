@@ -1,8 +1,9 @@
 -- Runs of reads, one after the other.
-use Rattle.std.proofs.Common.{inl, inr, ⊎_elim, ℕ, ◌≤◌, List, refl, ◌∙◌, arith}
+use Rattle.std.proofs.Common.{inl, ℕ, ◌≤◌, List, refl, ◌∙◌, arith}
 use Rattle.flash_core.specs.declared.page.Page.{Page}
 use Rattle.page_journal.specs.Moments.{Always, LeavesOnly}
 use Rattle.page_journal.specs.Store.{Store}
+use Rattle.rec_store.proofs.Leaving.{joined}
 use Rattle.rec_store.specs.Reading.{IsRead}
 
 module _ {F : Type 0} (tells : Type 0) (pages : F → List Page) (moment : F → ℕ) (may_leave : F → List Page → Type 0) (left_since : F → ℕ → List Page → Type 0) (faults : F → ℕ) where
@@ -24,14 +25,6 @@ module _ {F : Type 0} (tells : Type 0) (pages : F → List Page) (moment : F →
     later = omega arith;
   }
 
-  -- what power lost may leave since the first, with what it may leave since the second
-  pub joined : (old mid new : F) (P Q : List Page → Type 0) → LeavesOnly moment left_since old mid P → LeavesOnly moment left_since mid new Q → ((c : List Page) → Q c → P c) → LeavesOnly moment left_since old new P
-  joined old mid new P Q first second within = record {
-    later = omega (arith, first.later, second.later);
-    each = λ c left. ⊎_elim (first.each c) (within c) (second.before (moment old) c first.later left);
-    before = λ t c le left. ⊎_elim (first.before t c le) (λ q. inr (within c q)) (second.before t c (omega (arith, le, first.later)) left);
-  }
-
   pub reads_on : (old mid new : Store F) → Reads old mid → Reads mid new → Reads old new
   reads_on old mid new first second = record {
     staged = second.staged ∙ first.staged;
@@ -39,16 +32,8 @@ module _ {F : Type 0} (tells : Type 0) (pages : F → List Page) (moment : F →
     live = second.live ∙ first.live;
     seen = λ told. second.seen told ∙ first.seen told;
     loss = λ told c left. first.loss told c (second.loss told c left);
-    moments = λ told. joined old.flash mid.flash new.flash (may_leave old.flash) (may_leave mid.flash) (first.moments told) (second.moments told) (first.loss told);
+    moments = λ told. joined moment left_since old.flash mid.flash new.flash (may_leave old.flash) (may_leave mid.flash) (first.moments told) (second.moments told) (first.loss told);
     later = omega (arith, first.later, second.later);
-  }
-
-  -- less is said
-  pub weaker : (old new : F) (P Q : List Page → Type 0) → LeavesOnly moment left_since old new P → ((c : List Page) → P c → Q c) → LeavesOnly moment left_since old new Q
-  weaker old new P Q was step = record {
-    later = was.later;
-    each = λ c left. step c (was.each c left);
-    before = λ t c le left. ⊎_elim (λ earlier. inl earlier) (λ p. inr (step c p)) (was.before t c le left);
   }
 
   -- this moment is one of those

@@ -3,7 +3,7 @@ use Rattle.page_journal.specs.Journal.{stored}
 use Rattle.page_journal.specs.Moments.{Always, Leaves, LeavesOnly}
 use Rattle.rec_store.specs.Reopens.{load_page, store_page}
 use Rattle.rec_store.proofs.OneRegistry.{read_card}
-use Rattle.rec_store.proofs.Readings.{joined, weaker}
+use Rattle.rec_store.proofs.Leaving.{joined, weaker}
 use Rattle.rec_store.proofs.Reopening.{has_pages, only_leaves}
 use Rattle.rec_store.proofs.mount.read_card.Goals as goal
 
@@ -28,9 +28,9 @@ returns-in_err-settle-clause-moments g c told =
     let read = c.read_tables.ensures.read in
     let P = Leaves (stored (F.pages s0)) [] in
     let leaves : Always (F.may_leave s0) P = only_leaves (F.pages s0) (F.may_leave s0) (c.requires.sound told) (c.requires.only told) in
-    let first = weaker F.tells F.pages F.moment F.may_leave F.left_since F.faults s0 s1 (F.may_leave s0) P (read.moments told) leaves in
+    let first = weaker F.moment F.left_since s0 s1 (F.may_leave s0) P (read.moments told) leaves in
     let second = subst (λ pages. Always (F.may_leave s1) (Leaves (stored pages) []) → LeavesOnly F.moment F.left_since s1 s2 (Leaves (stored pages) [])) (read.seen told) (c.settle.ensures.moments told []) (λ outcome possible. leaves outcome (read.loss told outcome possible)) in
-    joined F.tells F.pages F.moment F.may_leave F.left_since F.faults s0 s1 s2 P P first second (λ outcome p. p)
+    joined F.moment F.left_since s0 s1 s2 P P first second (λ outcome p. p)
 
 pub returns-clause-card : goal.returns-clause-card
 returns-clause-card g c page whole = let it = c.if-not-is_card.false in (c.is_card.ensures page whole).0 (cc it)
@@ -44,6 +44,6 @@ returns-clause-moments g c told =
     let read = c.read_tables.ensures.read in
     let P = Leaves (stored (F.pages s0)) [] in
     let leaves : Always (F.may_leave s0) P = only_leaves (F.pages s0) (F.may_leave s0) (c.requires.sound told) (c.requires.only told) in
-    let first = weaker F.tells F.pages F.moment F.may_leave F.left_since F.faults s0 s1 (F.may_leave s0) P (read.moments told) leaves in
+    let first = weaker F.moment F.left_since s0 s1 (F.may_leave s0) P (read.moments told) leaves in
     let second = subst (λ pages. Always (F.may_leave s1) (Leaves (stored pages) []) → LeavesOnly F.moment F.left_since s1 s2 (Leaves (stored pages) [])) (read.seen told) (c.settle.ensures.moments told []) (λ outcome possible. leaves outcome (read.loss told outcome possible)) in
-    joined F.tells F.pages F.moment F.may_leave F.left_since F.faults s0 s1 s2 P P first second (λ outcome p. p)
+    joined F.moment F.left_since s0 s1 s2 P P first second (λ outcome p. p)

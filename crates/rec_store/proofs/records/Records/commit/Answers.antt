@@ -9,7 +9,8 @@ use Rattle.page_journal.specs.Store.{IsListed, Store}
 use Rattle.rec_store.specs.Contents.{Contents}
 use Rattle.rec_store.specs.Reopens.{Keeps, Reopens, load_in, load_page}
 use Rattle.rec_store.proofs.Committing.{Either, done, either, idle, load_now, some_or_none}
-use Rattle.rec_store.proofs.Readings.{now_left, weaker}
+use Rattle.rec_store.proofs.Leaving.{weaker}
+use Rattle.rec_store.proofs.Readings.{now_left}
 use Rattle.rec_store.proofs.Reopening.{always_ok, both_ok, load_same, on_ok}
 use Rattle.rec_store.proofs.records.Records.commit.Goals as goal
 
@@ -25,7 +26,7 @@ returns-clause-moments g c told before after =
     subst (λ (r : Contents g.row.F.Denot). Keeps (F.pages r.flash) (F.may_leave r.flash) before → Says (load_page (F.pages r.flash)) r.tables after
     → LeavesOnly F.moment F.left_since r.flash new (λ outcome. Reopens outcome before ⊎ Reopens outcome after)) c.self.view_is
     (λ was says.
-    weaker F.tells F.pages F.moment F.may_leave F.left_since F.faults old new (Either store.staged (F.pages old) (F.may_leave old) tables before after c.self.invariant.2 held card says was)
+    weaker F.moment F.left_since old new (Either store.staged (F.pages old) (F.may_leave old) tables before after c.self.invariant.2 held card says was)
     (λ outcome. Reopens outcome before ⊎ Reopens outcome after) (c.commit.ensures.moments told was.loose was.leaves)
     (either store.staged (F.pages old) (F.may_leave old) tables before after c.self.invariant.2 held card says was))
 

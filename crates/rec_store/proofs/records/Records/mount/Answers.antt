@@ -12,7 +12,8 @@ use Rattle.rec_store.specs.Contents.{CardFails, OpenFails}
 use Rattle.rec_store.specs.Reopens.{Keeps, Reopens, ReopensAsOne, load_page, store_page}
 use Rattle.rec_store.specs.StoredTables.{HoldsTables}
 use Rattle.rec_store.proofs.Causes.{also_ok, each_error, each_ok, opens_later}
-use Rattle.rec_store.proofs.Readings.{joined, now_left, weaker}
+use Rattle.rec_store.proofs.Leaving.{joined, weaker}
+use Rattle.rec_store.proofs.Readings.{now_left}
 use Rattle.rec_store.proofs.Reopening.{has_pages, keeps_left, left, load_same, none_loose}
 use Rattle.rec_store.proofs.records.Records.mount.Goals as goal
 
@@ -64,10 +65,10 @@ returns-in-Ok-mount-clause-moments g c told registries always =
     let store = c.in-Ok-mount.store in
     let seen : F.pages store.flash ≡ F.pages flash = c.in-Ok-mount.ensures.pages told in
     let was = always (F.pages flash) (g.met.F.Flash.as_read flash told) in
-    let first = weaker F.tells F.pages F.moment F.may_leave F.left_since F.faults flash store.flash (F.may_leave flash) (ReopensAsOne registries) (c.in-Ok-mount.ensures.moments told) always in
+    let first = weaker F.moment F.left_since flash store.flash (F.may_leave flash) (ReopensAsOne registries) (c.in-Ok-mount.ensures.moments told) always in
     let P = Leaves (stored (F.pages store.flash)) [] in
     each_ok c.open.result (λ r. LeavesOnly F.moment F.left_since store.flash r.flash P) (λ r. LeavesOnly F.moment F.left_since flash r.flash (ReopensAsOne registries))
-    (λ r second. joined F.tells F.pages F.moment F.may_leave F.left_since F.faults flash store.flash r.flash (ReopensAsOne registries) P first second
+    (λ r second. joined F.moment F.left_since flash store.flash r.flash (ReopensAsOne registries) P first second
     (λ outcome leaves. one_of (F.pages flash) outcome registries was (subst (λ p. Leaves (stored p) [] outcome) seen leaves)))
     (c.open.ensures.moments told)
 
@@ -78,10 +79,10 @@ returns-in-Ok-mount-clause-err_moments g c told registries always =
     let store = c.in-Ok-mount.store in
     let seen : F.pages store.flash ≡ F.pages flash = c.in-Ok-mount.ensures.pages told in
     let was = always (F.pages flash) (g.met.F.Flash.as_read flash told) in
-    let first = weaker F.tells F.pages F.moment F.may_leave F.left_since F.faults flash store.flash (F.may_leave flash) (ReopensAsOne registries) (c.in-Ok-mount.ensures.moments told) always in
+    let first = weaker F.moment F.left_since flash store.flash (F.may_leave flash) (ReopensAsOne registries) (c.in-Ok-mount.ensures.moments told) always in
     let P = Leaves (stored (F.pages store.flash)) [] in
     each_error c.open.result (λ e. LeavesOnly F.moment F.left_since store.flash e.flash P) (λ e. LeavesOnly F.moment F.left_since flash e.flash (ReopensAsOne registries))
-    (λ e second. joined F.tells F.pages F.moment F.may_leave F.left_since F.faults flash store.flash e.flash (ReopensAsOne registries) P first second
+    (λ e second. joined F.moment F.left_since flash store.flash e.flash (ReopensAsOne registries) P first second
     (λ outcome leaves. one_of (F.pages flash) outcome registries was (subst (λ p. Leaves (stored p) [] outcome) seen leaves)))
     (c.open.ensures.err_moments told)
 

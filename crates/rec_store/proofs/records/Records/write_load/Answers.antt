@@ -11,7 +11,8 @@ use Rattle.page_journal.specs.Moments.{Leaves, LeavesOnly}
 use Rattle.rec_store.specs.Contents.{Contents}
 use Rattle.rec_store.specs.Reopens.{IsFree, Keeps, Reopens, current_page, load_page, store_page}
 use Rattle.rec_store.specs.StoredTables.{HoldsTables}
-use Rattle.rec_store.proofs.Readings.{now_left, weaker}
+use Rattle.rec_store.proofs.Leaving.{weaker}
+use Rattle.rec_store.proofs.Readings.{now_left}
 use Rattle.rec_store.proofs.Reopening.{free_of_held, keeps_left, left, load_read, load_same, on_ok, says_same}
 use Rattle.rec_store.proofs.Staging.{none_staged}
 use Rattle.rec_store.proofs.records.Records.write_load.Goals as goal
@@ -48,7 +49,7 @@ returns-clause-moments g c told none registry =
     (λ was.
     let on = was.now.holds in
     let free = freed (F.pages old) (F.may_leave old) c.self.inside.tables page (held_now g c told none) free_now was in
-    weaker F.tells F.pages F.moment F.may_leave F.left_since F.faults old new (Leaves (stored (F.pages old)) (page ∷ was.loose)) (λ outcome. Reopens outcome registry)
+    weaker F.moment F.left_since old new (Leaves (stored (F.pages old)) (page ∷ was.loose)) (λ outcome. Reopens outcome registry)
     (c.write_free.ensures.moments told was.loose was.leaves)
     (λ outcome leaves. left (stored (F.pages old)) (page ∷ was.loose) outcome on.tables leaves free on.card registry on.held on.says))
 

@@ -1,0 +1,21 @@
+-- What power lost between two moments may leave.
+use Rattle.std.proofs.Common.{inl, inr, ⊎_elim, ℕ, ◌≤◌, List, arith}
+use Rattle.flash_core.specs.declared.page.Page.{Page}
+use Rattle.page_journal.specs.Moments.{LeavesOnly}
+
+module _ {F : Type 0} (moment : F → ℕ) (left_since : F → ℕ → List Page → Type 0) where
+  -- what power lost may leave since the first, with what it may leave since the second
+  pub joined : (old mid new : F) (P Q : List Page → Type 0) → LeavesOnly moment left_since old mid P → LeavesOnly moment left_since mid new Q → ((c : List Page) → Q c → P c) → LeavesOnly moment left_since old new P
+  joined old mid new P Q first second within = record {
+    later = omega (arith, first.later, second.later);
+    each = λ c left. ⊎_elim (first.each c) (within c) (second.before (moment old) c first.later left);
+    before = λ t c le left. ⊎_elim (first.before t c le) (λ q. inr (within c q)) (second.before t c (omega (arith, le, first.later)) left);
+  }
+
+  -- less is said
+  pub weaker : (old new : F) (P Q : List Page → Type 0) → LeavesOnly moment left_since old new P → ((c : List Page) → P c → Q c) → LeavesOnly moment left_since old new Q
+  weaker old new P Q was step = record {
+    later = was.later;
+    each = λ c left. step c (was.each c left);
+    before = λ t c le left. ⊎_elim (λ earlier. inl earlier) (λ p. inr (step c p)) (was.before t c le left);
+  }
