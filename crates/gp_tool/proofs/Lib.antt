@@ -6,6 +6,7 @@ pub mod FileLine
 pub mod FilesInOrder
 pub mod Flush
 pub mod Listed
+pub mod ListedSlots
 pub mod One
 pub mod OneText
 pub mod Moments

@@ -1,18 +1,15 @@
 -- A list in strictly ascending order, and what of it stands past its things so far.
-use Rattle.std.proofs.Common.{◌≡◌, ◌≢◌, ◌⊎◌, inl, inr, ◌≤◌, Bool, true, List, [], ◌∷◌, ◌++◌, length, Option, None, Some, refl, ap, sym, subst, ◌∙◌, arith, append_assoc}
-use Rattle.std.specs.Prelude.{Contains, find, filter, map}
+use Rattle.std.proofs.Common.{◌≡◌, ◌≢◌, ◌⊎◌, inl, inr, Bool, true, List, [], ◌∷◌, ◌++◌, Option, None, Some, refl, ap, sym, subst, ◌∙◌, arith, append_assoc}
+use Rattle.std.specs.Prelude.{Contains, find}
 use Rattle.std.specs.Cmp.{IsTotalOrder}
-use Rattle.std.specs.List.Sorted.{IsPermutation, IsStrictlySortedBy}
+use Rattle.std.specs.List.Sorted.{IsStrictlySortedBy}
 use Rattle.std.specs.Option.{option_or}
 use Rattle.std.specs.Ordering.{is_lt}
 use Rattle.std.specs.declared.cmp.Ordering.{Ordering}
 use Rattle.std.specs.declared.cmp.Ordering.TheVariants.{Less, Equal, Greater}
-use Rattle.std.proofs.lemmas.Bool.{cases_Bool}
 use Rattle.std.proofs.lemmas.Cmp.{tied_itself}
-use Rattle.std.proofs.lemmas.List.{append-nil, length-map}
+use Rattle.std.proofs.lemmas.List.{append-nil}
 use Rattle.std.proofs.lemmas.List.Folds.{find-append}
-use Rattle.std.proofs.lemmas.List.Sorted.{length_permutation}
-use Rattle.card_types.specs.Says.{used}
 use Rattle.card_types.proofs.LeastOfList.{find_first, first_below, none_found, others_sorted}
 use Rattle.card_types.proofs.Members.{contains_cases, contains_first, contains_later}
 use Rattle.gp_tool.specs.Listing.{is_past}
@@ -95,31 +92,3 @@ module _ {X : Type 0} (c : X → X → Ordering) where
             past = λ y there. ap is_lt (first_below c x first.0 sorted y there);
           },
         )
-
--- no more are listed than there are slots
-filtered_few : {T : Type 0} (p : T → Bool) (ts : List T) → length (filter p ts) ≤ length ts
-filtered_few p [] = omega arith
-filtered_few p (t ∷ ts) = elim (cases_Bool (p t)) [
-  | inl fits ↦ (let rest = filtered_few p ts in rw fits (omega arith))
-  | inr misfits ↦ (let rest = filtered_few p ts in rw misfits (omega arith))
-]
-
-used_few : {T : Type 0} (slots : List (Option T)) → length (used slots) ≤ length slots
-used_few [] = omega arith
-used_few (None ∷ slots) = (let rest = used_few slots in omega arith)
-used_few (Some t ∷ slots) = (let rest = used_few slots in omega arith)
-
-pub listed_few : {T X : Type 0} (view : T → X) (keep : T → Bool) (slots : List (Option T)) (xs : List X)
-    → IsPermutation (map view (filter keep (used slots))) xs → length xs ≤ length slots
-listed_few view keep slots xs same =
-    let size = length_permutation (map view (filter keep (used slots))) xs same in
-    omega (arith, length-map (filter keep (used slots)) view, filtered_few keep (used slots), used_few slots)
-
--- where all are listed, all are
-pub all_listed : {T X : Type 0} (view : T → X) (slots : List (Option T)) (xs : List X) → IsPermutation (map view (used slots)) xs
-    → IsPermutation (map view (filter (λ _. true) (used slots))) xs
-all_listed {T} view slots xs same = subst (λ (ts : List T). IsPermutation (map view ts) xs) (sym (kept (used slots))) same
-  where
-    kept : (ts : List T) → filter (λ _. true) ts ≡ ts
-    kept [] = refl
-    kept (t ∷ ts) = ap (λ rest. t ∷ rest) (kept ts)

@@ -19,12 +19,9 @@ pub record IsWritten {X : Type 0} (c : X → X → Ordering) (line_of : X → Li
   pub counted : length done ≡ count
   pub text : tells → new ≡ old ++ flat_map line_of done
 
-module _ {X : Type 0} (c : X → X → Ordering) (line_of : X → List ℕ) (tells : Type 0) (xs : List X) where
-  abbrev Written : ℕ → Option X → List ℕ → List ℕ → Type 0
-  Written count last old new = IsWritten c line_of tells xs count last old new
-
-  pub none_written : (old : List ℕ) → IsStrictlySortedBy c xs → Written 0 None old old
-  none_written old sorted = record {
+module _ {X : Type 0} {c : X → X → Ordering} {line_of : X → List ℕ} {tells : Type 0} {xs : List X} where
+  pub none_written : {old : List ℕ} → IsStrictlySortedBy c xs → IsWritten c line_of tells xs 0 None old old
+  none_written {old} sorted = record {
     done = [];
     rest = xs;
     split = none_done c xs sorted;
@@ -32,15 +29,15 @@ module _ {X : Type 0} (c : X → X → Ordering) (line_of : X → List ℕ) (tel
     text = λ told. sym (append-nil old);
   }
 
-  pub all_written : (count : ℕ) (last : Option X) (old new : List ℕ) → Written count last old new → find (is_past c last) xs ≡ None
+  pub all_written : {count : ℕ} {last : Option X} {old new : List ℕ} → IsWritten c line_of tells xs count last old new → find (is_past c last) xs ≡ None
       → tells → new ≡ old ++ flat_map line_of xs
-  all_written count last old new written none told =
+  all_written {last = last} {old = old} written none told =
       written.text told ∙ ap (λ done. old ++ flat_map line_of done) (sym (end_of c xs last written.done written.rest written.split none))
 
   -- as many lines were written as there are, or more
-  pub enough_written : (count : ℕ) (last : Option X) (old new : List ℕ) → Written count last old new → length xs ≤ count
+  pub enough_written : {count : ℕ} {last : Option X} {old new : List ℕ} → IsWritten c line_of tells xs count last old new → length xs ≤ count
       → tells → new ≡ old ++ flat_map line_of xs
-  enough_written count last old new written enough told =
+  enough_written {old = old} written enough told =
       let none = no_rest written.rest (omega (arith, written.counted, ap (λ (x : List X). length x) written.split.all, length-append written.done written.rest)) in
       written.text told ∙ ap (λ done. old ++ flat_map line_of done) (sym (written.split.all ∙ ap (λ rest. written.done ++ rest) none ∙ append-nil written.done))
     where
@@ -48,25 +45,25 @@ module _ {X : Type 0} (c : X → X → Ordering) (line_of : X → List ℕ) (tel
       no_rest [] none = refl
       no_rest (x ∷ rest) none = absurd (omega arith)
 
-  module _ (total : IsTotalOrder c) (count : ℕ) (last : Option X) (old mid new : List ℕ) (written : Written count last old mid) (x : X)
-      (found : find (is_past c last) xs ≡ Some x) where
-    -- the next line was written
-    pub next_written : (tells → new ≡ mid ++ line_of x) → Written (count + 1) (Some x) old new
-    next_written wrote =
-        let next = next_of c total xs last written.done written.rest written.split x found in
-        record {
-          done = written.done ++ x ∷ [];
-          rest = next.0;
-          split = next.2;
-          counted = length-append written.done (x ∷ []) ∙ ap (λ n. n + 1) written.counted;
-          text = λ told. wrote told ∙ ap (λ m. m ++ line_of x) (written.text told) ∙ flat_map_more line_of old written.done x;
-        }
+  -- the next line was written
+  pub next_written : {count : ℕ} {last : Option X} {old mid new : List ℕ} → IsTotalOrder c → IsWritten c line_of tells xs count last old mid
+      → (x : X) → find (is_past c last) xs ≡ Some x → (tells → new ≡ mid ++ line_of x) → IsWritten c line_of tells xs (count + 1) (Some x) old new
+  next_written {last = last} {old = old} total written x found wrote =
+      let next = next_of c total xs last written.done written.rest written.split x found in
+      record {
+        done = written.done ++ x ∷ [];
+        rest = next.0;
+        split = next.2;
+        counted = length-append written.done (x ∷ []) ∙ ap (λ n. n + 1) written.counted;
+        text = λ told. wrote told ∙ ap (λ m. m ++ line_of x) (written.text told) ∙ flat_map_more line_of old written.done x;
+      }
 
-    -- or a part of it
-    pub part_of_lines : tells → (n : ℕ) × (new ≡ mid ++ take n (line_of x)) → (n : ℕ) × (new ≡ old ++ take n (flat_map line_of xs))
-    part_of_lines told part =
-        let next = next_of c total xs last written.done written.rest written.split x found in
-        let all : flat_map line_of xs ≡ flat_map line_of written.done ++ (line_of x ++ flat_map line_of next.0)
-        = ap (flat_map line_of) (written.split.all ∙ ap (λ rest. written.done ++ rest) next.1) ∙ flat_map-append line_of written.done (x ∷ next.0) in
-        let wrote = part_written old (flat_map line_of written.done) (line_of x) (flat_map line_of next.0) mid new (written.text told) part in
-        (wrote.0, wrote.1 ∙ ap (λ text. old ++ take wrote.0 text) (sym all))
+  -- or a part of it
+  pub part_of_lines : {count : ℕ} {last : Option X} {old mid new : List ℕ} → IsTotalOrder c → IsWritten c line_of tells xs count last old mid
+      → (x : X) → find (is_past c last) xs ≡ Some x → tells → (n : ℕ) × (new ≡ mid ++ take n (line_of x)) → (n : ℕ) × (new ≡ old ++ take n (flat_map line_of xs))
+  part_of_lines {last = last} {old = old} {mid = mid} {new = new} total written x found told part =
+      let next = next_of c total xs last written.done written.rest written.split x found in
+      let all : flat_map line_of xs ≡ flat_map line_of written.done ++ (line_of x ++ flat_map line_of next.0)
+      = ap (flat_map line_of) (written.split.all ∙ ap (λ rest. written.done ++ rest) next.1) ∙ flat_map-append line_of written.done (x ∷ next.0) in
+      let wrote = part_written old (flat_map line_of written.done) (line_of x) (flat_map line_of next.0) mid new (written.text told) part in
+      (wrote.0, wrote.1 ∙ ap (λ text. old ++ take wrote.0 text) (sym all))

@@ -1,5 +1,5 @@
--- A registry as text: a line for each thing, and no bytes of keys.
-use Rattle.std.specs.Prelude.{ℕ, List, [], ◌∷◌, ◌++◌, codes, decimal, length, cond}
+-- A registry as text: a line for each thing, and no bytes of keys. And why no more of it is written.
+use Rattle.std.specs.Prelude.{◌≡◌, ℕ, List, [], ◌∷◌, ◌++◌, codes, decimal, length, cond}
 use Rattle.std.specs.Int.{to_be_bytes, w16}
 use Rattle.std.specs.List.{flat_map}
 use Rattle.card_types.specs.CardLife as card_life
@@ -10,6 +10,9 @@ use Rattle.card_types.specs.declared.card_life.CardLife.{CardLife}
 use Rattle.card_types.specs.declared.life.LifeMark.{LifeMark}
 use Rattle.card_types.specs.declared.privileges.Privileges.{Privileges}
 use Rattle.hex.specs.Hex.{encode_lower}
+use Rattle.io_edge.specs.Faults.{Rose}
+use Rattle.gp_tool.specs.declared.show.fault.ShowFault.{ShowFault}
+use Rattle.gp_tool.specs.declared.show.fault.ShowFault.TheVariants.{Flash, Write}
 use Rattle.scp03_card.specs.Offer.{counter_bytes}
 use Rattle.sha2.specs.Sha256.{sha256}
 
@@ -63,3 +66,9 @@ abbrev pub shown : Registry → List ℕ
 shown registry =
     card_line registry.life ++ flat_map entry_line registry.entries ++ flat_map file_line registry.files ++ flat_map key_line registry.keys
     ++ flat_map counter_line registry.counters ++ flat_map object_line registry.objects
+
+-- Whose count of faults has risen, from one number to another: the device's, before a call on the sink was refused, or the
+-- sink's.
+abbrev pub ShowCause : ℕ → ℕ → ℕ → ℕ → ShowFault → Type 0
+ShowCause calls calls' writes writes' Flash = Rose calls calls' × (writes' ≡ writes)
+ShowCause calls calls' writes writes' Write = Rose writes writes'

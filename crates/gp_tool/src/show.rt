@@ -1,4 +1,7 @@
 //! A registry as text.
+//!
+//! The line of the card comes first, then a line each for its entries, Executable Load Files, keys, sequence counters and data
+//! objects, in ascending order of their names. No bytes of keys are shown.
 
 ghost use Rattle.std.specs.Prelude.{◌≡◌, ◌≤◌, ◌++◌, ℕ, List, take, true, OnOk, OnErr, IfErr};
 ghost use Rattle.std.specs.List.{flat_map};
@@ -11,8 +14,8 @@ ghost use Rattle.page_journal.specs.Moments.{LeavesOnly};
 ghost use Rattle.policy_rules.specs.State.{State};
 ghost use Rattle.rec_store.specs.Reopens.{Reopens};
 ghost use Rattle.gp_tool.specs.declared.show.fault.ShowFault.TheVariants.{Write};
-ghost use Rattle.gp_tool.specs.Listing.{ShowCause, Writes};
-ghost use Rattle.gp_tool.specs.Show.{card_line, counter_line, entry_line, key_line, object_line, shown};
+ghost use Rattle.gp_tool.specs.Listing.{Writes};
+ghost use Rattle.gp_tool.specs.Show.{card_line, counter_line, entry_line, key_line, object_line, ShowCause, shown};
 
 mod counters;
 mod entries;

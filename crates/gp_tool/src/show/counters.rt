@@ -13,12 +13,11 @@ ghost use Rattle.gp_tool.specs.Listing.{Writes};
 ghost use Rattle.gp_tool.specs.Show.{counter_line};
 
 use crate::show::line::{LINE_ROOM, push_hex, push_word};
-use crate::show::listing::{Lines, Listing, write_lines};
+use crate::show::listing::{Listing, TextListing, write_lines};
 use crate::show::owner::{aid_of_domain, owners_cmp};
 use arrayvec::ArrayVec;
 use card_types::{KeyRec, Tables};
 use io_edge::{Sink, WriteFailed};
-use std::cmp::Ordering;
 
 /// The lowest key version number of a key that belongs to no set.
 const LONE_VERSION: u8 = 0x70;
@@ -43,17 +42,15 @@ impl Listing<KeyRec> for Counters<'_> {
     }
 
     fn is_below(&self, a: &KeyRec, b: &KeyRec) -> bool {
-        match owners_cmp(&self.tables.entries, a.owner, b.owner) {
-            Ordering::Less => true,
-            Ordering::Equal => a.version < b.version,
-            Ordering::Greater => false,
-        }
+        owners_cmp(&self.tables.entries, a.owner, b.owner)
+            .then(a.version.cmp(&b.version))
+            .is_lt()
     }
 
     ghost total = { counter_order_total };
 }
 
-impl Lines<KeyRec> for Counters<'_> {
+impl TextListing<KeyRec> for Counters<'_> {
     ghost text = { λ counters key. counter_line (counter_of counters.tables.now.entries.items key) };
 
     ghost can_spell = { λ _ key. key.counter ≤ COUNTER_LIMIT };

@@ -14,7 +14,7 @@ ghost use Rattle.gp_tool.specs.Listing.{Writes};
 ghost use Rattle.gp_tool.specs.Show.{entry_kind, entry_line, entry_names, entry_state};
 
 use crate::show::line::{LINE_ROOM, push_hex, push_word};
-use crate::show::listing::{Lines, Listing, write_lines};
+use crate::show::listing::{Listing, TextListing, write_lines};
 use crate::show::owner::{aid_of_domain, aid_of_file};
 use arrayvec::ArrayVec;
 use bitflags::Flags;
@@ -47,7 +47,7 @@ impl Listing<Entry> for Entries<'_> {
     ghost total = { on_total (λ (entry : NamedEntry). entry.aid) nat_list_cmp_total };
 }
 
-impl Lines<Entry> for Entries<'_> {
+impl TextListing<Entry> for Entries<'_> {
     ghost text = { λ entries entry. entry_line (entry_of entries.tables.now.entries.items entries.tables.now.files.items entry) };
 
     ghost can_spell = { λ _ _. Unit {0} };

@@ -13,8 +13,8 @@ ghost use Rattle.page_journal.specs.Moments.{LeavesOnly};
 ghost use Rattle.policy_rules.specs.State.{State};
 ghost use Rattle.rec_store.specs.Reopens.{Reopens, load_page};
 ghost use Rattle.gp_tool.specs.declared.show.fault.ShowFault.TheVariants.{Write};
-ghost use Rattle.gp_tool.specs.Listing.{ShowCause, Writes, is_next_file};
-ghost use Rattle.gp_tool.specs.Show.{file_content, file_line, file_names};
+ghost use Rattle.gp_tool.specs.Listing.{Writes, is_next_file};
+ghost use Rattle.gp_tool.specs.Show.{ShowCause, file_content, file_line, file_names};
 
 use crate::show::fault::ShowFault;
 use crate::show::line::{LINE_ROOM, push_decimal, push_hex, push_word};

@@ -12,12 +12,11 @@ ghost use Rattle.gp_tool.specs.Listing.{Writes};
 ghost use Rattle.gp_tool.specs.Show.{key_line};
 
 use crate::show::line::{LINE_ROOM, push_decimal, push_hex, push_word};
-use crate::show::listing::{Lines, Listing, write_lines};
+use crate::show::listing::{Listing, TextListing, write_lines};
 use crate::show::owner::{aid_of_domain, owners_cmp};
 use arrayvec::ArrayVec;
 use card_types::{KeyRec, Tables};
 use io_edge::{Sink, WriteFailed};
-use std::cmp::Ordering;
 
 /// The keys, by their owners' AIDs, their key version numbers and their key identifiers.
 #[derive(Drop)]
@@ -39,19 +38,19 @@ impl Listing<KeyRec> for Keys<'_> {
     }
 
     fn is_below(&self, a: &KeyRec, b: &KeyRec) -> bool {
-        match owners_cmp(&self.tables.entries, a.owner, b.owner) {
-            Ordering::Less => true,
-            Ordering::Equal => {
-                a.version < b.version || a.version == b.version && a.identifier < b.identifier
-            }
-            Ordering::Greater => false,
-        }
+        let by_number = a
+            .version
+            .cmp(&b.version)
+            .then(a.identifier.cmp(&b.identifier));
+        owners_cmp(&self.tables.entries, a.owner, b.owner)
+            .then(by_number)
+            .is_lt()
     }
 
     ghost total = { key_order_total };
 }
 
-impl Lines<KeyRec> for Keys<'_> {
+impl TextListing<KeyRec> for Keys<'_> {
     ghost text = { λ keys key. key_line (key_of keys.tables.now.entries.items key) };
 
     ghost can_spell = { λ _ _. Unit {0} };

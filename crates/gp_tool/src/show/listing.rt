@@ -1,10 +1,9 @@
 //! Things in slots, a line each, in ascending order.
 
-ghost use Rattle.std.specs.Prelude.{◌≡◌, ◌≤◌, ◌&&◌, ℕ, List, [], Bool, true, IfSome, IfNone, length, filter, map, option_copied};
+ghost use Rattle.std.specs.Prelude.{◌≡◌, ◌≤◌, ℕ, List, [], Bool, true, IfSome, IfNone, length, filter, map, option_copied};
 ghost use Rattle.std.specs.Cmp.{IsTotalOrder};
 ghost use Rattle.std.specs.List.{flat_map};
 ghost use Rattle.std.specs.List.Sorted.{IsPermutation, IsStrictlySortedBy};
-ghost use Rattle.std.specs.Option.{option_map};
 ghost use Rattle.std.specs.Ordering.{is_lt};
 ghost use Rattle.std.specs.declared.cmp.Ordering.{Ordering};
 ghost use Rattle.std.proofs.lemmas.Cmp.{on_total};
@@ -13,7 +12,7 @@ ghost use Rattle.card_types.specs.Nearer.{IsLeastFound};
 ghost use Rattle.card_types.specs.Says.{used};
 ghost use Rattle.card_types.specs.Slots.{held};
 ghost use Rattle.io_edge.specs.Faults.{HasCause};
-ghost use Rattle.gp_tool.specs.Listing.{Writes, is_past};
+ghost use Rattle.gp_tool.specs.Listing.{Writes, comes_past};
 
 use crate::show::line::LINE_ROOM;
 use arrayvec::ArrayVec;
@@ -42,7 +41,7 @@ pub trait Listing<T> {
 }
 
 /// A listing that writes a line of each thing.
-pub trait Lines<T>: Listing<T> {
+pub trait TextListing<T>: Listing<T> {
     ghost text: { Self → T → List ℕ };
 
     ghost can_spell: { Self → T → Type 0 };
@@ -62,8 +61,7 @@ struct Past<'a, T, L> {
 }
 
 impl<T, L: Listing<T>> Search<T> for Past<'_, T, L> {
-    ghost fits = { λ past thing. L.listed past.listing.now thing
-        && is_past L.order (option_map (L.named past.listing.now) (option_copied past.last)) (L.named past.listing.now thing) };
+    ghost fits = { λ past thing. comes_past (L.named past.listing.now) (L.listed past.listing.now) L.order (option_copied past.last) thing };
 
     ghost order = { λ past a b. L.order (L.named past.listing.now a) (L.named past.listing.now b) };
 
@@ -89,17 +87,15 @@ pub fn next<'a, T, L: Listing<T>>(
     last: Option<&T>,
 ) -> Option<InSlot<'a, T>>
     requires { length slots.now ≤ 256 }
-    ensures some { IfSome result (IsLeastFound
-        (λ thing. L.listed listing.now thing && is_past L.order (option_map (L.named listing.now) (option_copied last.entry)) (L.named listing.now thing))
+    ensures some { IfSome result (IsLeastFound (comes_past (L.named listing.now) (L.listed listing.now) L.order (option_copied last.entry))
         (λ a b. L.order (L.named listing.now a) (L.named listing.now b)) slots.now) }
-    ensures none { IfNone result (NoneFits
-        (λ thing. L.listed listing.now thing && is_past L.order (option_map (L.named listing.now) (option_copied last.entry)) (L.named listing.now thing)) slots.now) }
+    ensures none { IfNone result (NoneFits (comes_past (L.named listing.now) (L.listed listing.now) L.order (option_copied last.entry)) slots.now) }
 {
     least(slots, &Past { listing, last })
 }
 
 /// Writes the lines of a listing.
-pub fn write_lines<T, L: Lines<T>, K: Sink>(
+pub fn write_lines<T, L: TextListing<T>, K: Sink>(
     listing: &L,
     slots: &[Option<T>],
     sink: &mut K,

@@ -12,12 +12,11 @@ ghost use Rattle.gp_tool.specs.Listing.{Writes};
 ghost use Rattle.gp_tool.specs.Show.{object_line};
 
 use crate::show::line::{LINE_ROOM, push_hex, push_word};
-use crate::show::listing::{Lines, Listing, write_lines};
+use crate::show::listing::{Listing, TextListing, write_lines};
 use crate::show::owner::{aid_of_domain, owners_cmp};
 use arrayvec::ArrayVec;
 use card_types::{Object, Tables};
 use io_edge::{Sink, WriteFailed};
-use std::cmp::Ordering;
 
 /// The data objects, by their owners' AIDs and their tags.
 #[derive(Drop)]
@@ -39,17 +38,15 @@ impl Listing<Object> for Objects<'_> {
     }
 
     fn is_below(&self, a: &Object, b: &Object) -> bool {
-        match owners_cmp(&self.tables.entries, a.owner, b.owner) {
-            Ordering::Less => true,
-            Ordering::Equal => a.tag < b.tag,
-            Ordering::Greater => false,
-        }
+        owners_cmp(&self.tables.entries, a.owner, b.owner)
+            .then(a.tag.cmp(&b.tag))
+            .is_lt()
     }
 
     ghost total = { object_order_total };
 }
 
-impl Lines<Object> for Objects<'_> {
+impl TextListing<Object> for Objects<'_> {
     ghost text = { λ objects object. object_line (object_of objects.tables.now.entries.items object) };
 
     ghost can_spell = { λ _ _. Unit {0} };

@@ -1,5 +1,4 @@
 use Rattle.std.proofs.Common.{◌≡◌, ◌++◌, List, take, refl, ap, ◌∙◌, arith}
-use Rattle.std.specs.Option.{option_map}
 use Rattle.std.proofs.lemmas.Result.{MatchResult-from_err}
 use Rattle.card_types.specs.Says.{file_of}
 use Rattle.card_types.specs.declared.tables.LoadFile.{LoadFile}
@@ -29,9 +28,7 @@ loop-init g c =
       stands = λ state stands. stands;
       moments = λ told state stands. still_leaves F.tells F.pages F.may_leave card state stands F.moment F.left_since g.met.F.Flash.only_now told;
       pages = λ told. refl;
-      written = λ told state stands.
-          none_written _ file_line g.K.Sink.tells state.registry.files (g.K.Sink.written c.args.sink.now)
-          (files_sorted (load_page (F.pages card.flash)) card.tables state.registry (says_told F.tells F.pages F.may_leave card state stands told));
+      written = λ told state stands. none_written (files_sorted _ card.tables state.registry (says_told F.tells F.pages F.may_leave card state stands told));
       flushes = refl;
       later = omega arith;
       faults = refl;
@@ -40,9 +37,9 @@ loop-init g c =
 pub loop-preserved : goal.loop-preserved
 loop-preserved g c =
     let F = g.F.Flash in
-    let K = g.K.Sink in
     let card = c.args.card.now in
     let now = c.loop.card in
+    let file = c.in-Some.file in
     let was = c.loop.invariant in
     let next = c.in_ok-write_file-in-Some.ensures in
     record {
@@ -50,19 +47,15 @@ loop-preserved g c =
       tables = c.write_file.ensures.same ∙ was.tables;
       stands = λ state stands. next.stands state (was.stands state stands);
       moments = λ told state stands.
-          leaves_on F.moment F.left_since (λ outcome. Reopens outcome state.registry) card.flash now.flash c.write_file.new.card.flash
-          (was.moments told state stands) (c.write_file.ensures.moments told state (was.stands state stands));
+          leaves_on F.moment F.left_since (λ outcome. Reopens outcome state.registry) card.flash now.flash c.write_file.new.card.flash (was.moments told state stands)
+          (c.write_file.ensures.moments told state (was.stands state stands));
       pages = λ told. c.write_file.ensures.pages told ∙ was.pages told;
       written = λ told state stands.
-          (let page = load_page (F.pages card.flash) in
-          let view = file_of page card.tables.entries.items in
-          let says = says_told F.tells F.pages F.may_leave card state stands told in
-          let found = file_found page card.tables state.registry says c.loop.last c.in-Some.slot c.in-Some.file (rw (c.tables.ensures.tables ∙ was.tables) at c.in-Some.ensures.some) in
-          next_written _ file_line K.tells state.registry.files file_order_total c.loop.counter (option_map view c.loop.last) (K.written c.args.sink.now) (K.written c.loop.sink)
-          (K.written c.write_file.new.sink) (was.written told state stands) (view c.in-Some.file) found
-          (λ tells. next.written told state (was.stands state stands) tells
-          ∙ ap (λ text. K.written c.loop.sink ++ text)
-          (same_file (F.pages card.flash) (F.pages now.flash) card.tables now.tables c.in-Some.file (was.pages told) was.tables)));
+          (let says = says_told F.tells F.pages F.may_leave card state stands told in
+          let found = file_found _ card.tables state.registry says c.loop.last c.in-Some.slot file (rw (c.tables.ensures.tables ∙ was.tables) at c.in-Some.ensures.some) in
+          next_written file_order_total (was.written told state stands) (file_of (load_page (F.pages card.flash)) card.tables.entries.items file) found (λ tells.
+          next.written told state (was.stands state stands) tells
+          ∙ ap (λ text. g.K.Sink.written c.loop.sink ++ text) (same_file (F.pages card.flash) (F.pages now.flash) card.tables now.tables file (was.pages told) was.tables)));
       flushes = c.write_file.ensures.flushes ∙ was.flushes;
       later = omega (arith, was.later, c.write_file.ensures.later);
       faults = next.quiet ∙ was.faults;
@@ -71,47 +64,34 @@ loop-preserved g c =
 pub returns-in_err-write_file-in-Some-clause-written : goal.returns-in_err-write_file-in-Some-clause-written
 returns-in_err-write_file-in-Some-clause-written g c told state stands =
     let F = g.F.Flash in
-    let K = g.K.Sink in
     let card = c.args.card.now in
     let now = c.loop.card in
+    let file = c.in-Some.file in
     let was = c.loop.invariant in
-    let page = load_page (F.pages card.flash) in
-    let view = file_of page card.tables.entries.items in
     let says = says_told F.tells F.pages F.may_leave card state stands told in
-    let found = file_found page card.tables state.registry says c.loop.last c.in-Some.slot c.in-Some.file (rw (c.tables.ensures.tables ∙ was.tables) at c.in-Some.ensures.some) in
+    let found = file_found _ card.tables state.registry says c.loop.last c.in-Some.slot file (rw (c.tables.ensures.tables ∙ was.tables) at c.in-Some.ensures.some) in
     MatchResult-from_err c.from_residual.result _ _ c.from_residual.ensures.0 (λ _ tells.
     (let part = c.in_err-write_file-in-Some.ensures.written told state (was.stands state stands) tells in
-    part_of_lines _ file_line K.tells state.registry.files file_order_total c.loop.counter (option_map view c.loop.last) (K.written c.args.sink.now) (K.written c.loop.sink)
-    (K.written c.write_file.new.sink) (was.written told state stands) (view c.in-Some.file) found tells (
-      part.0,
-      part.1 ∙ ap (λ text. K.written c.loop.sink ++ take part.0 text)
-          (same_file (F.pages card.flash) (F.pages now.flash) card.tables now.tables c.in-Some.file (was.pages told) was.tables),
-    )))
+    part_of_lines file_order_total (was.written told state stands) (file_of (load_page (F.pages card.flash)) card.tables.entries.items file) found tells
+    (part.0, part.1 ∙ ap (λ text. g.K.Sink.written c.loop.sink ++ take part.0 text) (same_file (F.pages card.flash) (F.pages now.flash) card.tables now.tables file (was.pages told) was.tables))))
 
 pub returns-in_err-write_file-in-Some-clause-moments : goal.returns-in_err-write_file-in-Some-clause-moments
 returns-in_err-write_file-in-Some-clause-moments g c told state stands =
-    let F = g.F.Flash in
-    leaves_on F.moment F.left_since (λ outcome. Reopens outcome state.registry) c.args.card.now.flash c.loop.card.flash c.write_file.new.card.flash
-    (c.loop.invariant.moments told state stands) (c.write_file.ensures.moments told state (c.loop.invariant.stands state stands))
+    let was = c.loop.invariant in
+    leaves_on g.F.Flash.moment g.F.Flash.left_since (λ outcome. Reopens outcome state.registry) c.args.card.now.flash c.loop.card.flash c.write_file.new.card.flash
+    (was.moments told state stands) (c.write_file.ensures.moments told state (was.stands state stands))
 
 pub returns-in-None-clause-written : goal.returns-in-None-clause-written
 returns-in-None-clause-written g c told state stands =
     let F = g.F.Flash in
-    let K = g.K.Sink in
     let card = c.args.card.now in
     let was = c.loop.invariant in
-    let page = load_page (F.pages card.flash) in
     let says = says_told F.tells F.pages F.may_leave card state stands told in
-    let none = no_file_found page card.tables state.registry says c.loop.last (rw (c.tables.ensures.tables ∙ was.tables) at c.in-None.ensures.none) in
-    all_written _ file_line K.tells state.registry.files c.loop.counter (option_map (file_of page card.tables.entries.items) c.loop.last) (K.written c.args.sink.now) (K.written c.loop.sink)
-    (was.written told state stands) none
+    all_written (was.written told state stands)
+    (no_file_found _ card.tables state.registry says c.loop.last (rw (c.tables.ensures.tables ∙ was.tables) at c.in-None.ensures.none))
 
 pub returns-clause-written : goal.returns-clause-written
 returns-clause-written g c told state stands =
-    let F = g.F.Flash in
-    let K = g.K.Sink in
-    let card = c.args.card.now in
     let past = c.loop-test.false in
     let few = stands.on.sound.well.few_files in
-    enough_written _ file_line K.tells state.registry.files c.loop.counter (option_map (file_of (load_page (F.pages card.flash)) card.tables.entries.items) c.loop.last) (K.written c.args.sink.now) (K.written c.loop.sink)
-    (c.loop.invariant.written told state stands) (omega (arith, few, past))
+    enough_written (c.loop.invariant.written told state stands) (omega (arith, few, past))

@@ -8,7 +8,7 @@ use Rattle.gp_tool.proofs.show.listing.write_lines.Given as goal
 abbrev pub invariant-loop : goal.invariant-loop
 invariant-loop g l = record {
   written : (xs : List g.L.Listing.Named) (line_of : g.L.Listing.Named → List ℕ)
-      → ((thing : _) → g.L.Lines.text l.listing thing ≡ line_of (g.L.Listing.named l.listing thing))
+      → ((thing : _) → g.L.TextListing.text l.listing thing ≡ line_of (g.L.Listing.named l.listing thing))
       → IsPermutation (map (g.L.Listing.named l.listing) (filter (g.L.Listing.listed l.listing) (used l.slots))) xs
       → IsStrictlySortedBy g.L.Listing.order xs
       → IsWritten g.L.Listing.order line_of g.K.Sink.tells xs l.counter (option_map (g.L.Listing.named l.listing) (option_copied l.last))
