@@ -57,7 +57,7 @@ fn show_life<K: Sink>(life: CardLife, sink: &mut K) -> Result<(), WriteFailed>
 
 // Writes the lines that stand before those of Executable Load Files.
 fn show_front<K: Sink>(tables: &Tables, sink: &mut K) -> Result<(), WriteFailed>
-    requires { IsInOrder tables.now }
+    requires in_order { IsInOrder tables.now }
     ensures written { (page : ℕ → List ℕ) (said : Registry) → Says page tables.now said
         → Writes K.tells (K.written sink.old) (K.written sink.new) (card_line said.life ++ flat_map entry_line said.entries) result }
     ensures flushes { K.flushes sink.new ≡ K.flushes sink.old }
@@ -69,7 +69,7 @@ fn show_front<K: Sink>(tables: &Tables, sink: &mut K) -> Result<(), WriteFailed>
 
 // Writes the lines of what domains own: keys, sequence counters and data objects.
 fn show_owned<K: Sink>(tables: &Tables, sink: &mut K) -> Result<(), WriteFailed>
-    requires { IsInOrder tables.now }
+    requires in_order { IsInOrder tables.now }
     ensures written { (page : ℕ → List ℕ) (said : Registry) → Says page tables.now said
         → Writes K.tells (K.written sink.old) (K.written sink.new)
         (flat_map key_line said.keys ++ (flat_map counter_line said.counters ++ flat_map object_line said.objects)) result }
@@ -82,7 +82,7 @@ fn show_owned<K: Sink>(tables: &Tables, sink: &mut K) -> Result<(), WriteFailed>
 
 // Writes the lines of sequence counters and data objects.
 fn show_data<K: Sink>(tables: &Tables, sink: &mut K) -> Result<(), WriteFailed>
-    requires { IsInOrder tables.now }
+    requires in_order { IsInOrder tables.now }
     ensures written { (page : ℕ → List ℕ) (said : Registry) → Says page tables.now said
         → Writes K.tells (K.written sink.old) (K.written sink.new) (flat_map counter_line said.counters ++ flat_map object_line said.objects) result }
     ensures flushes { K.flushes sink.new ≡ K.flushes sink.old }

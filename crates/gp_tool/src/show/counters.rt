@@ -69,7 +69,7 @@ impl TextListing<KeyRec> for Counters<'_> {
 
 /// Writes the lines of the sequence counters.
 pub fn show_counters<K: Sink>(tables: &Tables, sink: &mut K) -> Result<(), WriteFailed>
-    requires { IsInOrder tables.now }
+    requires in_order { IsInOrder tables.now }
     ensures written { (page : ℕ → List ℕ) (said : Registry) → Says page tables.now said
         → Writes K.tells (K.written sink.old) (K.written sink.new) (flat_map counter_line said.counters) result }
     ensures flushes { K.flushes sink.new ≡ K.flushes sink.old }

@@ -104,7 +104,7 @@ fn push_state(entry: &Entry, line: &mut ArrayVec<u8, LINE_ROOM>)
 
 /// Writes the lines of the entries.
 pub fn show_entries<K: Sink>(tables: &Tables, sink: &mut K) -> Result<(), WriteFailed>
-    requires cards { IsInOrder tables.now }
+    requires in_order { IsInOrder tables.now }
     ensures written { (page : ℕ → List ℕ) (said : Registry) → Says page tables.now said
         → Writes K.tells (K.written sink.old) (K.written sink.new) (flat_map entry_line said.entries) result }
     ensures flushes { K.flushes sink.new ≡ K.flushes sink.old }

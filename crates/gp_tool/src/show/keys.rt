@@ -70,7 +70,7 @@ impl TextListing<KeyRec> for Keys<'_> {
 
 /// Writes the lines of the keys.
 pub fn show_keys<K: Sink>(tables: &Tables, sink: &mut K) -> Result<(), WriteFailed>
-    requires { IsInOrder tables.now }
+    requires in_order { IsInOrder tables.now }
     ensures written { (page : ℕ → List ℕ) (said : Registry) → Says page tables.now said
         → Writes K.tells (K.written sink.old) (K.written sink.new) (flat_map key_line said.keys) result }
     ensures flushes { K.flushes sink.new ≡ K.flushes sink.old }

@@ -19,14 +19,18 @@ use arrayvec::ArrayVec;
 use card_types::{InSlot, Search, least};
 use io_edge::{Sink, WriteFailed};
 
-/// Which of the things in slots are listed, what the registry has of one by names, and in which order.
+/// Which of the things in slots are listed, and in which order.
 pub trait Listing<T> {
+    // A thing by names.
     ghost Named: { Type 0 };
 
+    // What the registry has of a thing in a slot.
     ghost named: { Self → T → Named };
 
+    // Whether a thing is listed.
     ghost listed: { Self → T → Bool };
 
+    // The order in which things are listed.
     ghost order: { Named → Named → Ordering };
 
     /// Whether the thing is listed.
@@ -42,11 +46,13 @@ pub trait Listing<T> {
 
 /// A listing that writes a line of each thing.
 pub trait TextListing<T>: Listing<T> {
+    // The line of a thing.
     ghost text: { Self → T → List ℕ };
 
+    // What is so of a thing whose line may be asked for.
     ghost can_spell: { Self → T → Type 0 };
 
-    /// The line of a thing.
+    /// Writes the line of a thing to an empty line.
     fn spell(&self, thing: &T, line: &mut ArrayVec<u8, LINE_ROOM>)
         requires fits { can_spell self.now thing.now }
         requires empty { line.old.items ≡ [] }

@@ -64,7 +64,7 @@ impl TextListing<Object> for Objects<'_> {
 
 /// Writes the lines of the data objects.
 pub fn show_objects<K: Sink>(tables: &Tables, sink: &mut K) -> Result<(), WriteFailed>
-    requires { IsInOrder tables.now }
+    requires in_order { IsInOrder tables.now }
     ensures written { (page : ℕ → List ℕ) (said : Registry) → Says page tables.now said
         → Writes K.tells (K.written sink.old) (K.written sink.new) (flat_map object_line said.objects) result }
     ensures flushes { K.flushes sink.new ≡ K.flushes sink.old }

@@ -9,7 +9,7 @@ use Rattle.gp_tool.proofs.show.counters.show_counters.Goals as goal
 pub write_lines-requires-clause-fits : goal.write_lines-requires-clause-fits
 write_lines-requires-clause-fits g c slot thing at kept =
     let tables = c.args.tables.now in
-    let order = c.requires in
+    let order = c.requires.in_order in
     let there = (counters_shown order.page tables order.said order.says).there slot thing (rw c.deref.ensures.value at at) kept in
     (All-contains (IsWellCounter order.said) order.said.counters (counter_of tables.entries.items thing) order.well.counters there).number
 
