@@ -10,7 +10,7 @@ use Rattle.card_check.specs.IsCard.{HasPages}
 use Rattle.card_types.specs.Registry.{Registry}
 use Rattle.flash_core.specs.declared.page.Page.{Page}
 use Rattle.page_journal.specs.Moments.{LeavesOnly}
-use Rattle.rec_store.proofs.Leaving.{joined}
+use Rattle.rec_store.proofs.Leaving.{joined, unmoved}
 use Rattle.rec_store.specs.Contents.{Contents}
 use Rattle.rec_store.specs.Reopens.{Reopens}
 use Rattle.card_core.specs.LoadRead.{IsLoadRead}
@@ -25,11 +25,7 @@ module _ {F : Type 0} (tells : Type 0) (pages : F → List Page) (moment : F →
     staged = refl;
     live = refl;
     seen = λ told. refl;
-    moments = λ told registry keeps. record {
-      later = omega arith;
-      each = λ outcome left. keeps.reopens outcome (only records.flash outcome told left);
-      before = λ t outcome le left. inl left;
-    };
+    moments = λ told registry keeps. unmoved moment left_since (may_leave records.flash) records.flash (λ outcome. Reopens outcome registry) (λ c. only records.flash c told) keeps.reopens;
     keeps = λ told registry keeps. keeps;
     later = omega arith;
   }

@@ -11,7 +11,7 @@ use Rattle.page_journal.specs.Moments.{LeavesOnly}
 use Rattle.policy_rules.specs.Run.{Command, Input, Reset, Run}
 use Rattle.policy_rules.specs.State.{State, powered_on}
 use Rattle.policy_rules.specs.Step.{Outcome}
-use Rattle.rec_store.proofs.Leaving.{joined, weaker}
+use Rattle.rec_store.proofs.Leaving.{joined, unmoved, weaker}
 use Rattle.rec_store.specs.Reopens.{Reopens, ReopensAsOne}
 use Rattle.gp_tool.specs.Device.{HasFailed, HasRun, LeavesOneOf, registries}
 use Rattle.gp_tool.specs.Plays.{Plays}
@@ -72,11 +72,8 @@ module _ {F : Type 0} (moment : F → ℕ) (left_since : F → ℕ → List Page
       → (card : CardOver F) (state : State) → Stands tells pages may_leave card state → LeavesOneOf tells moment left_since card.flash card.flash (state.registry ∷ [])
   nothing_done tells pages may_leave only card state stands told =
       let keeps = stands.keeps told in
-      record {
-        later = omega arith;
-        each = λ c left. (state.registry, contains_first state.registry [], keeps.reopens c (only card.flash c told left));
-        before = λ t c le left. inl left;
-      }
+      unmoved moment left_since (may_leave card.flash) card.flash (ReopensAsOne (state.registry ∷ [])) (λ c. only card.flash c told)
+      (λ c possible. (state.registry, contains_first state.registry [], keeps.reopens c possible))
 
   -- the registry before a command or the one after it is one of the two
   pub one_of_two : (tells : Type 0) (old new : F) (before after : Registry)

@@ -1,9 +1,18 @@
 -- What power lost between two moments may leave.
 use Rattle.std.proofs.Common.{inl, inr, ⊎_elim, ℕ, ◌≤◌, List, arith}
 use Rattle.flash_core.specs.declared.page.Page.{Page}
-use Rattle.page_journal.specs.Moments.{LeavesOnly}
+use Rattle.page_journal.specs.Moments.{Always, LeavesOnly}
 
 module _ {F : Type 0} (moment : F → ℕ) (left_since : F → ℕ → List Page → Type 0) where
+  -- where no call was made, it leaves what it leaves now
+  pub unmoved : (may_leave : List Page → Type 0) (device : F) (P : List Page → Type 0) → ((c : List Page) → left_since device (moment device) c → may_leave c) → Always may_leave P
+      → LeavesOnly moment left_since device device P
+  unmoved may_leave device P only always = record {
+    later = omega arith;
+    each = λ c left. always c (only c left);
+    before = λ t c le left. inl left;
+  }
+
   -- what power lost may leave since the first, with what it may leave since the second
   pub joined : (old mid new : F) (P Q : List Page → Type 0) → LeavesOnly moment left_since old mid P → LeavesOnly moment left_since mid new Q → ((c : List Page) → Q c → P c) → LeavesOnly moment left_since old new P
   joined old mid new P Q first second within = record {

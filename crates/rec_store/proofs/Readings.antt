@@ -1,9 +1,9 @@
 -- Runs of reads, one after the other.
-use Rattle.std.proofs.Common.{inl, ℕ, ◌≤◌, List, refl, ◌∙◌, arith}
+use Rattle.std.proofs.Common.{ℕ, ◌≤◌, List, refl, ◌∙◌, arith}
 use Rattle.flash_core.specs.declared.page.Page.{Page}
 use Rattle.page_journal.specs.Moments.{Always, LeavesOnly}
 use Rattle.page_journal.specs.Store.{Store}
-use Rattle.rec_store.proofs.Leaving.{joined}
+use Rattle.rec_store.proofs.Leaving.{joined, unmoved}
 use Rattle.rec_store.specs.Reading.{IsRead}
 
 module _ {F : Type 0} (tells : Type 0) (pages : F → List Page) (moment : F → ℕ) (may_leave : F → List Page → Type 0) (left_since : F → ℕ → List Page → Type 0) (faults : F → ℕ) where
@@ -17,11 +17,7 @@ module _ {F : Type 0} (tells : Type 0) (pages : F → List Page) (moment : F →
     live = refl;
     seen = λ told. refl;
     loss = λ told c left. left;
-    moments = λ told. record {
-      later = omega arith;
-      each = λ c left. only store.flash c told left;
-      before = λ t c le left. inl left;
-    };
+    moments = λ told. unmoved moment left_since (may_leave store.flash) store.flash (may_leave store.flash) (λ c. only store.flash c told) (λ c possible. possible);
     later = omega arith;
   }
 

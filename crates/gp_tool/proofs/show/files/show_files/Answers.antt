@@ -6,7 +6,8 @@ use Rattle.card_types.specs.declared.tables.Tables.{Tables}
 use Rattle.flash_core.specs.declared.page.Page.{Page}
 use Rattle.rec_store.specs.Reopens.{Reopens, load_page}
 use Rattle.gp_tool.proofs.FilesInOrder.{file_found, file_order_total, files_sorted, no_file_found}
-use Rattle.gp_tool.proofs.StandsOn.{leaves_on, says_told, still_leaves}
+use Rattle.gp_tool.proofs.StandsOn.{says_told, still_leaves}
+use Rattle.rec_store.proofs.Leaving.{joined}
 use Rattle.gp_tool.proofs.Written.{all_written, enough_written, next_written, none_written, part_of_lines}
 use Rattle.gp_tool.specs.Show.{file_line}
 use Rattle.gp_tool.proofs.show.files.show_files.Goals as goal
@@ -47,8 +48,8 @@ loop-preserved g c =
       tables = c.write_file.ensures.same ∙ was.tables;
       stands = λ state stands. next.stands state (was.stands state stands);
       moments = λ told state stands.
-          leaves_on F.moment F.left_since (λ outcome. Reopens outcome state.registry) card.flash now.flash c.write_file.new.card.flash (was.moments told state stands)
-          (c.write_file.ensures.moments told state (was.stands state stands));
+          joined F.moment F.left_since card.flash now.flash c.write_file.new.card.flash (λ outcome. Reopens outcome state.registry) (λ outcome. Reopens outcome state.registry)
+          (was.moments told state stands) (c.write_file.ensures.moments told state (was.stands state stands)) (λ outcome reopens. reopens);
       pages = λ told. c.write_file.ensures.pages told ∙ was.pages told;
       written = λ told state stands.
           (let says = says_told F.tells F.pages F.may_leave card state stands told in
@@ -78,8 +79,8 @@ returns-in_err-write_file-in-Some-clause-written g c told state stands =
 pub returns-in_err-write_file-in-Some-clause-moments : goal.returns-in_err-write_file-in-Some-clause-moments
 returns-in_err-write_file-in-Some-clause-moments g c told state stands =
     let was = c.loop.invariant in
-    leaves_on g.F.Flash.moment g.F.Flash.left_since (λ outcome. Reopens outcome state.registry) c.args.card.now.flash c.loop.card.flash c.write_file.new.card.flash
-    (was.moments told state stands) (c.write_file.ensures.moments told state (was.stands state stands))
+    joined g.F.Flash.moment g.F.Flash.left_since c.args.card.now.flash c.loop.card.flash c.write_file.new.card.flash (λ outcome. Reopens outcome state.registry) (λ outcome. Reopens outcome state.registry)
+    (was.moments told state stands) (c.write_file.ensures.moments told state (was.stands state stands)) (λ outcome reopens. reopens)
 
 pub returns-in-None-clause-written : goal.returns-in-None-clause-written
 returns-in-None-clause-written g c told state stands =
