@@ -1,9 +1,9 @@
 -- Tables that are a card's over any load pages.
-use Rattle.std.proofs.Common.{◌≡◌, ℕ, ◌<◌, List, true, Some, replicate, ap, subst, sym, ◌∙◌}
-use Rattle.std.specs.Prelude.{MatchOption, All, length, map, nat_eq}
+use Rattle.std.proofs.Common.{◌≡◌, ℕ, ◌<◌, List, true, Some, replicate, subst, sym}
+use Rattle.std.specs.Prelude.{MatchOption, All, map, nat_eq}
 use Rattle.std.specs.List.{IsDistinct, concat}
 use Rattle.std.proofs.lemmas.List.{length-replicate}
-use Rattle.card_check.specs.IsCard.{HasPages, IsCard, IsInLoadPages, pages_named}
+use Rattle.card_check.specs.IsCard.{IsInLoadPages, pages_named}
 use Rattle.card_types.proofs.DrawnCounter.{drawn_in_order, drawn_says, drawn_well}
 use Rattle.card_types.specs.Counters.{raised, raised_key}
 use Rattle.card_types.specs.InOrder.{IsInOrder}
@@ -13,7 +13,6 @@ use Rattle.card_types.specs.Slots.{held}
 use Rattle.card_types.specs.declared.factory.TheConstants.{FACTORY_FILE}
 use Rattle.card_types.specs.declared.limits.TheConstants.{COUNTER_LIMIT}
 use Rattle.card_types.specs.declared.tables.KeyRec.{KeyRec}
-use Rattle.card_types.specs.declared.tables.LoadFile.{LoadFile}
 use Rattle.card_types.specs.declared.tables.Tables.{Tables}
 use Rattle.card_core.specs.Kept.{AreCards}
 

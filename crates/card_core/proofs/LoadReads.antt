@@ -1,5 +1,5 @@
 -- Runs of reads of load pages, and the bytes of an Executable Load File that they give.
-use Rattle.std.proofs.Common.{◌≡◌, ℕ, ◌+◌, ◌-◌, ◌*◌, ◌/◌, ◌<◌, ◌≤◌, ◌++◌, List, [], ◌∷◌, suc, length, min, refl, ap, sym, ◌∙◌, inl, inr, arith}
+use Rattle.std.proofs.Common.{◌≡◌, ℕ, ◌+◌, ◌-◌, ◌*◌, ◌<◌, ◌++◌, List, [], ◌∷◌, suc, length, min, refl, ap, sym, ◌∙◌, inl, inr, arith}
 use Rattle.std.specs.Prelude.{map, take, slice_index}
 use Rattle.std.specs.List.{concat}
 use Rattle.std.proofs.Math.Seq.{take-append-add, take-suc}
@@ -7,9 +7,7 @@ use Rattle.std.proofs.lemmas.Bool.{cases_lt}
 use Rattle.std.proofs.lemmas.List.{append-nil, length-append, length-take-le, map-append, take_all}
 use Rattle.std.proofs.lemmas.List.Folds.{concat-append}
 use Rattle.card_check.specs.IsCard.{HasPages}
-use Rattle.card_types.specs.Registry.{Registry}
 use Rattle.flash_core.specs.declared.page.Page.{Page}
-use Rattle.page_journal.specs.Moments.{LeavesOnly}
 use Rattle.rec_store.proofs.Leaving.{joined, unmoved}
 use Rattle.rec_store.specs.Contents.{Contents}
 use Rattle.rec_store.specs.Reopens.{Reopens}

@@ -1,6 +1,5 @@
 -- The states that a card on a device stands for.
 use Rattle.std.proofs.Common.{◌≡◌, ◌⊎◌, ℕ, List, true, [], ◌∷◌, None, Some, refl, ap, sym, subst, ◌∙◌}
-use Rattle.card_check.specs.IsCard.{HasPages}
 use Rattle.card_types.specs.Registry.{Registry}
 use Rattle.card_types.specs.Says.{Says}
 use Rattle.card_types.specs.declared.tables.TheConstants.{ISSUER_SLOT}
@@ -16,7 +15,7 @@ use Rattle.rec_store.specs.Reopens.{Keeps, Reopens, load_page}
 use Rattle.card_core.proofs.Cards.{in_order}
 use Rattle.card_core.proofs.Standing.{powered_on_stands}
 use Rattle.card_core.specs.Card.{CardOver, Stands}
-use Rattle.card_core.specs.Kept.{AreCards, StandsOn}
+use Rattle.card_core.specs.Kept.{AreCards}
 use Rattle.card_core.specs.declared.held.Held.{Held}
 use Rattle.card_core.specs.declared.held.Held.TheVariants as held
 

@@ -1,5 +1,5 @@
 -- How the verb `format` ends, and what it leaves.
-use Rattle.std.specs.Prelude.{◌≡◌, ℕ, List}
+use Rattle.std.specs.Prelude.{◌≡◌, List}
 use Rattle.card_types.specs.Factory.{factory_registry}
 use Rattle.flash_core.specs.declared.page.Page.{Page}
 use Rattle.io_edge.specs.Faults.{next_count}

@@ -1,4 +1,4 @@
-use Rattle.std.proofs.Common.{◌≡◌, ◌*◌, map, take}
+use Rattle.std.proofs.Common.{map, take}
 use Rattle.std.specs.List.{concat}
 use Rattle.card_core.specs.LoadRead.{IsLoadRead}
 use Rattle.rec_store.specs.Reopens.{load_page}

@@ -1,11 +1,10 @@
-use Rattle.std.proofs.Common.{◌≡◌, None, Some, refl, sym, ap, subst, ◌∙◌}
+use Rattle.std.proofs.Common.{None, Some, refl, sym, subst, ◌∙◌}
 use Rattle.card_types.proofs.Domains.{domain_aid_is, key_owner_is_used}
 use Rattle.card_types.proofs.DrawnCounter.{drawn_next, drawn_says, drawn_well}
 use Rattle.card_types.specs.InOrder.{IsInOrder}
 use Rattle.card_types.specs.Says.{Says, counter_of, domain_aid, key_of}
 use Rattle.card_types.specs.SlotChange.{SetsKey}
 use Rattle.card_types.specs.Counters.{raised_key}
-use Rattle.card_types.specs.declared.tables.Tables.{Tables}
 use Rattle.card_core.proofs.Cards.{drawn_cards, in_order}
 use Rattle.card_core.proofs.OfferMade.{counter_there, offer_stands, refusal_handed, set_asked}
 use Rattle.card_core.specs.Domains.{HasSelected}
