@@ -2,6 +2,7 @@ mod Bits
 mod Causes
 mod ChangedTables
 mod Committing
+mod Keeping
 mod Kept
 mod LaidOut
 pub mod Leaving

@@ -12,3 +12,4 @@ pub mod Room
 pub mod Reading
 pub mod Contents
 pub mod Laws
+pub mod Keeper

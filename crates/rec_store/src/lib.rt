@@ -28,10 +28,12 @@ mod changes;
 mod commit;
 mod entry_slot;
 mod file_slot;
+mod keeper;
 mod key_slot;
 mod laws;
 mod layout;
 mod load_pages;
+mod mem_keeper;
 mod mount;
 mod object_slot;
 mod open;
@@ -40,8 +42,10 @@ mod slot;
 mod slots;
 mod superblock;
 
+pub use keeper::RecordKeeper;
 pub use laws::{one_registry, room_stays};
 pub use layout::lay_out;
+pub use mem_keeper::MemKeeper;
 pub use open::{OpenCause, OpenError};
 pub use records::Records;
 

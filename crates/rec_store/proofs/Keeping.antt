@@ -1,0 +1,23 @@
+-- Key slots that are free, and the pages of those that are changed.
+use Rattle.std.proofs.Common.{◌≡◌, ℕ, zero, suc, ◌/◌, ◌<◌, List, Option, None, length, refl, ap, arith}
+use Rattle.std.specs.Prelude.{All, Contains, replicate}
+use Rattle.std.proofs.lemmas.List.Elements.{All-nil}
+use Rattle.std.proofs.lemmas.List.FromFn.{get_or-range_with_len}
+use Rattle.card_types.specs.Says.{used}
+use Rattle.card_types.specs.declared.limits.TheConstants.{KEYS}
+use Rattle.rec_store.specs.Keeper.{key_pages}
+use Rattle.rec_store.specs.Places.{key_page}
+
+-- the page of a key slot is one of the key pages
+pub among_key_pages : (slot : ℕ) → slot < KEYS → Contains key_pages (key_page slot)
+among_key_pages slot lt =
+    let within : slot / 4 < 12 = omega (arith, lt) in
+    (slot / 4, within, get_or-range_with_len 25 12 (slot / 4) (key_page slot) within)
+
+-- so many free slots, and all that they hold
+abbrev free_slots : {T : Type 0} → ℕ → List (Option T)
+free_slots count = replicate count None
+
+pub free_keys : {T : Type 0} (P : T → Type 0) (count : ℕ) → (length (free_slots {T = T} count) ≡ count) × All P (used (free_slots {T = T} count))
+free_keys P zero = (refl, All-nil P)
+free_keys P (suc count) = (let rest = free_keys P count in (ap suc rest.0, rest.1))

@@ -1,0 +1,23 @@
+-- What the changes of key slots need of a card's records, and what they leave.
+use Rattle.std.specs.Prelude.{◌≡◌, ℕ, List, true}
+use Rattle.std.specs.List.{range_with_len}
+use Rattle.rec_store.specs.Contents.{Contents}
+use Rattle.rec_store.specs.Room.{HasRoomFor}
+
+-- the store pages with the key slots
+abbrev pub key_pages : List ℕ
+key_pages = range_with_len 25 12
+
+-- no commit has failed, and each key page is staged or there is a frame for it
+pub record IsRoomy {F : Type 0} (records : Contents F) : Type 0 where
+  pub live : records.live ≡ true
+  pub room : HasRoomFor key_pages records.staged
+
+-- the device, whether no commit has failed, and all of the tables but the key slots are the same
+pub record SameElse {F : Type 0} (old new : Contents F) : Type 0 where
+  pub flash : new.flash ≡ old.flash
+  pub live : new.live ≡ old.live
+  pub life : new.tables.life ≡ old.tables.life
+  pub entries : new.tables.entries.items ≡ old.tables.entries.items
+  pub files : new.tables.files.items ≡ old.tables.files.items
+  pub objects : new.tables.objects.items ≡ old.tables.objects.items
