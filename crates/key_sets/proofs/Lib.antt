@@ -1,0 +1,3 @@
+mod Counting
+mod Putting
+mod Stays

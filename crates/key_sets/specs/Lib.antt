@@ -1,0 +1,4 @@
+pub mod Puts
+pub mod PutFails
+pub mod InSlots
+pub mod Draws

@@ -1,0 +1,66 @@
+//! Changes of key slots.
+
+ghost use Rattle.std.specs.Prelude.{◌≡◌, ◌<◌, ◌∷◌, None, length};
+ghost use Rattle.std.specs.List.Sorted.{IsPermutation};
+ghost use Rattle.card_types.specs.Says.{used};
+ghost use Rattle.card_types.specs.Slots.{held};
+ghost use Rattle.card_types.specs.declared.limits.TheConstants.{KEYS};
+ghost use Rattle.key_sets.specs.InSlots.{holds_one_of};
+ghost use Rattle.key_sets.specs.Puts.{staying};
+ghost use Rattle.rec_store.specs.KeySlot.{IsRoomyKey};
+
+use crate::judge::is_of;
+use card_types::{KEYS, KeyRec, in_slot};
+use rec_store::RecordKeeper;
+
+fn goes(keys: &[Option<KeyRec>], slot: u8, owner: u8, version: u8) -> bool
+    ensures { result ≡ holds_one_of owner version (held keys.now slot) }
+{
+    match in_slot(keys, slot) {
+        Some(key) => is_of(key, owner, version),
+        None => false,
+    }
+}
+
+/// Frees the slots of the keys of the domain with this key version number.
+pub fn free<R: RecordKeeper>(keeper: &mut R, owner: u8, version: u8)
+    requires roomy { R.roomy keeper.old }
+    ensures count { length (R.slots keeper.new) ≡ length (R.slots keeper.old) }
+    ensures keys { used (R.slots keeper.new) ≡ staying owner version (R.slots keeper.old) }
+    ensures same_else { R.same_else keeper.old keeper.new }
+    ensures roomy { R.roomy keeper.new }
+{
+    for slot in 0..KEYS as u8 {
+        if goes(keeper.keys(), slot, owner, version) {
+            keeper.set_key(slot, None);
+        }
+    }
+}
+
+fn first_free(keys: &[Option<KeyRec>]) -> u8
+    requires slots { length keys.now ≡ KEYS }
+    requires room { length (used keys.now) < KEYS }
+    ensures free { held keys.now result ≡ None }
+    ensures range { result < KEYS }
+{
+    for slot in 0..KEYS as u8 {
+        if in_slot(keys, slot).is_none() {
+            return slot;
+        }
+    }
+    unreachable!()
+}
+
+/// Puts a key in the first free slot.
+pub fn put_key<R: RecordKeeper>(keeper: &mut R, key: KeyRec)
+    requires roomy { R.roomy keeper.old }
+    requires key { IsRoomyKey key }
+    requires room { length (used (R.slots keeper.old)) < KEYS }
+    ensures count { length (R.slots keeper.new) ≡ length (R.slots keeper.old) }
+    ensures keys { IsPermutation (used (R.slots keeper.new)) (key ∷ used (R.slots keeper.old)) }
+    ensures same_else { R.same_else keeper.old keeper.new }
+    ensures roomy { R.roomy keeper.new }
+{
+    let slot = first_free(keeper.keys());
+    keeper.set_key(slot, Some(key));
+}
