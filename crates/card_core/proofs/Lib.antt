@@ -2,6 +2,7 @@ pub mod Acting
 pub mod Admitting
 pub mod Cards
 pub mod Carrying
+pub mod CounterDrawn
 pub mod Listing
 pub mod LoadReads
 pub mod OfferMade

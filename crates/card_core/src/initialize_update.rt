@@ -1,11 +1,10 @@
 //! INITIALIZE UPDATE: a session is offered.
 
-ghost use Rattle.std.specs.Prelude.{◌≡◌, ◌≤◌, ◌<◌, ℕ, true, List, [], length, None, Some, IfSome, IfNone};
+ghost use Rattle.std.specs.Prelude.{◌≡◌, ◌≤◌, ℕ, true, List, [], length, None, Some, IfSome, IfNone};
 ghost use Rattle.card_core.specs.Domains.{HasSelected};
 ghost use Rattle.card_core.specs.Kept.{AreCards};
 ghost use Rattle.card_core.specs.Offers.{OffersAs};
 ghost use Rattle.card_types.specs.Ascending.{IsAscending};
-ghost use Rattle.card_types.specs.Counters.{raised_key};
 ghost use Rattle.card_types.specs.InOrder.{IsInOrder};
 ghost use Rattle.card_types.specs.NamedKeys.{HaveKeyLength};
 ghost use Rattle.card_types.specs.Registry.{Registry, object_named};
@@ -14,7 +13,6 @@ ghost use Rattle.card_types.specs.Slots.{held as held_in};
 ghost use Rattle.card_types.specs.Well.{Well};
 ghost use Rattle.card_types.specs.declared.limits.TheConstants.{COUNTER_LIMIT};
 ghost use Rattle.card_types.specs.declared.tables.Entry.{Entry};
-ghost use Rattle.card_types.specs.declared.tables.KeyRec.{KeyRec as Key};
 ghost use Rattle.policy_rules.specs.Admission.{Admitted};
 ghost use Rattle.policy_rules.specs.GetData.{IsDataObject};
 ghost use Rattle.policy_rules.specs.InitializeUpdate.{diversification_of, offer_body};
@@ -29,8 +27,9 @@ use crate::reply::REPLY_LIMIT;
 use aes_block::{Aes128, BlockKey};
 use apdu_core::Status;
 use arrayvec::ArrayVec;
-use card_types::{Aid, KeyRec, KeySet, Object, Tables, in_slot, keys_of_set};
+use card_types::{Aid, KeySet, Object, Tables, in_slot, keys_of_set};
 use flash_core::Flash;
+use key_sets::{Spent, draw_counter};
 use policy_rules::{Datum, Rule, RuleIU, judge_get_data, judge_initialize_update};
 use rec_store::Records;
 use scp03_card::{Offer, StaticKeys, offer};
@@ -115,22 +114,6 @@ fn write_offer(
     reply.try_extend_from_slice(&[high, middle, low]).unwrap();
 }
 
-// The key with the next sequence counter.
-fn with_next_counter(key: &KeyRec) -> KeyRec
-    requires { key.now.counter < COUNTER_LIMIT }
-    ensures { result ≡ raised_key key.now }
-{
-    let mut bytes = ArrayVec::new();
-    bytes.try_extend_from_slice(&key.bytes).unwrap();
-    KeyRec {
-        owner: key.owner,
-        version: key.version,
-        identifier: key.identifier,
-        bytes,
-        counter: key.counter + 1,
-    }
-}
-
 /// Offers a session for the domain in a slot, and draws the counter of the key set. It commits nothing.
 pub fn initialize_update<F: Flash>(
     records: &mut Records<F>,
@@ -156,7 +139,6 @@ pub fn initialize_update<F: Flash>(
 {
     let tables = records.tables();
     let found = judge_initialize_update(tables, domain, version)?;
-    let slot = found.slot;
     let owner = found.thing.owner;
     let version = found.thing.version;
     let counter = found.thing.counter;
@@ -170,8 +152,12 @@ pub fn initialize_update<F: Flash>(
     host.copy_from_slice(challenge);
     let offer = offer_of(&set, counter, &entry.aid, &host);
     write_offer(tables, owner, version, counter, &offer, reply);
-    let drawn = with_next_counter(found.thing);
-    records.set_key(slot, Some(drawn));
-    *held = Held::Offered(offer);
-    Ok(Status(0x9000))
+    // The counter drawn is that of the offer: the rules have looked at it.
+    match draw_counter(records, owner, version) {
+        Ok(_) => {
+            *held = Held::Offered(offer);
+            Ok(Status(0x9000))
+        }
+        Err(Spent) => Err(Rule::IU(RuleIU::IU3)),
+    }
 }

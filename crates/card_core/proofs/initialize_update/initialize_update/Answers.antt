@@ -1,11 +1,18 @@
-use Rattle.std.proofs.Common.{None, Some, refl, sym, subst, ◌∙◌}
+use Rattle.std.proofs.Common.{ℕ, List, ◌≡◌, None, Some, refl, sym, subst, ◌∙◌}
 use Rattle.card_types.proofs.Domains.{domain_aid_is, key_owner_is_used}
-use Rattle.card_types.proofs.DrawnCounter.{drawn_next, drawn_says, drawn_well}
+use Rattle.card_types.proofs.DrawnCounter.{drawn_next}
+use Rattle.card_types.proofs.SetNames.{set_of_counter}
+use Rattle.card_types.specs.Counters.{HasNextCounter, raised}
 use Rattle.card_types.specs.InOrder.{IsInOrder}
+use Rattle.card_types.specs.KeySets.{HasKeys}
+use Rattle.card_types.specs.Registry.{Registry}
+use Rattle.card_types.specs.Slots.{held}
+use Rattle.card_types.specs.Well.{Well}
+use Rattle.card_types.specs.declared.tables.KeyRec.{KeyRec}
+use Rattle.key_sets.specs.Draws.{IsSpent}
 use Rattle.card_types.specs.Says.{Says, counter_of, domain_aid, key_of}
-use Rattle.card_types.specs.SlotChange.{SetsKey}
-use Rattle.card_types.specs.Counters.{raised_key}
-use Rattle.card_core.proofs.Cards.{drawn_cards, in_order}
+use Rattle.card_core.proofs.Cards.{in_order}
+use Rattle.card_core.proofs.CounterDrawn.{drawn_are_cards, drawn_raised_well, drawn_says_raised, low_version, not_spent}
 use Rattle.card_core.proofs.OfferMade.{counter_there, offer_stands, refusal_handed, set_asked}
 use Rattle.card_core.specs.Domains.{HasSelected}
 use Rattle.card_core.specs.Kept.{AreCards}
@@ -44,18 +51,44 @@ returns-in_default-keys_of_set-clause-done g c page admitted entry told well asc
     let owner = key_owner_is_used page tables admitted.at.registry says well c.in_ok-found.found.slot key at in
     absurd (c.in_default-keys_of_set.ensures.none page admitted.at.registry owner.0 says well owner.1 _ there refl refl)
 
-pub returns-clause-cards : goal.returns-clause-cards
-returns-clause-cards g c =
-    let same = c.tables-tables.ensures.tables in
+-- the key set is there, by the counter that it keeps
+pub draw_counter-requires-clause-set : goal.draw_counter-requires-clause-set
+draw_counter-requires-clause-set g c =
+    let tables = c.tables-tables.result.now in
+    let order = subst IsInOrder (sym c.tables-tables.ensures.tables) (in_order c.args.records.now.tables c.requires.cards) in
     let key = c.in_ok-found.found.thing.now in
     let at = c.in_ok-found.ensures.at in
-    let next = drawn_next c.tables-tables.result.now.keys.items c.in_ok-found.found.slot key at c.in_ok-found.ensures.next in
-    let set = subst (λ t. SetsKey t c.set_key.new.self.tables c.in_ok-found.found.slot (Some (raised_key key))) (sym same)
-    (subst (λ k. SetsKey c.args.records.now.tables c.set_key.new.self.tables c.in_ok-found.found.slot (Some k)) c.with_next_counter-drawn.ensures c.set_key.ensures.tables) in
-    drawn_cards c.tables-tables.result.now c.set_key.new.self.tables c.in_ok-found.found.slot key at next.0 set next.1 (subst AreCards (sym same) c.requires.cards)
+    let there = counter_there order.page tables order.said order.says c.in_ok-found.found.slot key at c.in_ok-found.ensures.next in
+    let owner = key_owner_is_used order.page tables order.said order.says order.well c.in_ok-found.found.slot key at in
+    let set = set_of_counter order.page tables order.said order.says order.well key.owner owner.0 (counter_of tables.entries.items key) owner.1 there refl in
+    subst (λ t. (slots : List ℕ) × HasKeys t.keys.items key.owner key.version slots) c.tables-tables.ensures.tables set.1
 
-pub returns-clause-done : goal.returns-clause-done
-returns-clause-done g c page admitted entry told well ascending chosen request =
+pub returns-in-Ok-clause-cards : goal.returns-in-Ok-clause-cards
+returns-in-Ok-clause-cards g c =
+    let key = c.in_ok-found.found.thing.now in
+    let next = drawn_next c.tables-tables.result.now.keys.items c.in_ok-found.found.slot key c.in_ok-found.ensures.at c.in_ok-found.ensures.next in
+    drawn_are_cards c.args.records.now c.draw_counter.new.keeper c.draw_counter.ensures.same_else key.owner key.version _ (low_version key next.0) c.in-Ok.ensures.draws c.requires.cards
+
+-- the rules have seen that there is a next counter
+spent_absurd : (page : ℕ → List ℕ) (tables now : Tables) (said : Registry) → tables ≡ now → Says page now said → (slot : ℕ) (key : KeyRec) → held tables.keys.items slot ≡ Some key
+    → HasNextCounter tables.keys.items slot → IsSpent key.owner key.version now.keys.items → ⊥
+spent_absurd page tables now said same says slot key at next spent =
+    let counts = drawn_next tables.keys.items slot key at next in
+    not_spent page now said says slot key (subst (λ t. held t.keys.items slot ≡ Some key) same at) counts.0 counts.1 spent
+
+pub returns-in-Err-clause-done : goal.returns-in-Err-clause-done
+returns-in-Err-clause-done g c page admitted entry told well ascending chosen request =
+    absurd (spent_absurd page c.tables-tables.result.now c.args.records.now.tables admitted.at.registry c.tables-tables.ensures.tables told c.in_ok-found.found.slot
+    c.in_ok-found.found.thing.now c.in_ok-found.ensures.at c.in_ok-found.ensures.next c.in-Err.ensures.spent)
+
+pub returns-in-Err-clause-cards : goal.returns-in-Err-clause-cards
+returns-in-Err-clause-cards g c =
+    let order = in_order c.args.records.now.tables c.requires.cards in
+    absurd (spent_absurd order.page c.tables-tables.result.now c.args.records.now.tables order.said c.tables-tables.ensures.tables order.says c.in_ok-found.found.slot
+    c.in_ok-found.found.thing.now c.in_ok-found.ensures.at c.in_ok-found.ensures.next c.in-Err.ensures.spent)
+
+pub returns-in-Ok-clause-done : goal.returns-in-Ok-clause-done
+returns-in-Ok-clause-done g c page admitted entry told well ascending chosen request =
     let means = request.means in
     let tables = c.tables-tables.result.now in
     let same = c.tables-tables.ensures.tables in
@@ -73,9 +106,10 @@ returns-clause-done g c page admitted entry told well ascending chosen request =
     let offer = offered c.in-Some-keys_of_set.set.enc.now.bytes.items c.in-Some-keys_of_set.set.mac.now.bytes.items
     c.in-Some-keys_of_set.set.dek.now.bytes.items key.counter (acting admitted) admitted.command.body in
     let next = drawn_next tables.keys.items c.in_ok-found.found.slot key at c.in_ok-found.ensures.next in
-    let set = subst (λ t. SetsKey t c.set_key.new.self.tables c.in_ok-found.found.slot (Some (raised_key key))) (sym same)
-    (subst (λ k. SetsKey c.args.records.now.tables c.set_key.new.self.tables c.in_ok-found.found.slot (Some k)) c.with_next_counter-drawn.ensures c.set_key.ensures.tables) in
-    let made : IsMade admitted page c.set_key.new.self.tables (Offered c.offer_of-offer.result) c.write_offer.new.reply.items = record {
+    let low = low_version key next.0 in
+    let draws = c.in-Ok.ensures.draws in
+    let else_ = c.draw_counter.ensures.same_else in
+    let made : IsMade admitted page c.draw_counter.new.keeper.tables (Offered c.offer_of-offer.result) c.write_offer.new.reply.items = record {
       owner = domain_aid tables.entries.items key.owner;
       counter = counter_of tables.entries.items key;
       offer = offer;
@@ -89,8 +123,10 @@ returns-clause-done g c page admitted entry told well ascending chosen request =
         key_dek = keys.dek;
         is = refl;
       };
-      says = drawn_says tables c.set_key.new.self.tables c.in_ok-found.found.slot key at next.0 set page admitted.at.registry says;
-      well = drawn_well tables c.set_key.new.self.tables c.in_ok-found.found.slot key at next.0 set page admitted.at.registry says next.1 well;
+      says = subst (λ t. Says page c.draw_counter.new.keeper.tables (raised admitted.at.registry (domain_aid t.entries.items key.owner) key.version)) (sym same)
+          (drawn_says_raised c.args.records.now c.draw_counter.new.keeper else_ key.owner key.version _ low draws page admitted.at.registry told);
+      well = subst (λ t. Well (raised admitted.at.registry (domain_aid t.entries.items key.owner) key.version)) (sym same)
+          (drawn_raised_well c.args.records.now c.draw_counter.new.keeper else_ key.owner key.version _ low draws page admitted.at.registry told well);
       holds = stands;
       is = c.write_offer.ensures.written page admitted.at.registry owner.0 offer says well owner.1 stands;
     } in
