@@ -23,3 +23,6 @@ pub use counter::{Spent, draw_counter};
 pub use deletion::delete;
 pub use put::{put_one, put_set};
 pub use refusal::PutRefusal;
+
+#[cfg(test)]
+mod tests;
