@@ -25,11 +25,6 @@ slot_left owner replaced version added judged slots put keys same none long lt =
     omega (arith, room, long, lt)
 
 module _ {T : Type 0} where
-  pub put_first : (stay before after : List T) (key : T) (added : List T) → before ≡ stay → key ∷ [] ≡ added
-      → IsPermutation after (key ∷ before) → IsPermutation after (added ++ stay)
-  put_first stay before after key added same are put =
-      subst (λ (keys : List T). IsPermutation after (keys ++ stay)) are (subst (λ (keys : List T). IsPermutation after (key ∷ keys)) same put)
-
   pub put_three : (stay before first second third : List T) (enc mac dek : T) (added : List T) → before ≡ stay → enc ∷ mac ∷ dek ∷ [] ≡ added
       → IsPermutation first (enc ∷ before) → IsPermutation second (mac ∷ first) → IsPermutation third (dek ∷ second) → IsPermutation third (added ++ stay)
   put_three stay before first second third enc mac dek added same are put_enc put_mac put_dek =

@@ -4,9 +4,8 @@ ghost use Rattle.std.specs.Prelude.{◌≡◌, ◌<◌, List, Option, All, IfSom
 ghost use Rattle.card_types.specs.Says.{used};
 ghost use Rattle.card_types.specs.declared.limits.TheConstants.{KEYS};
 ghost use Rattle.card_types.specs.declared.tables.KeyRec.{KeyRec as KeyOf};
-ghost use Rattle.rec_store.specs.Keeper.{IsRoomy, SameElse};
+ghost use Rattle.rec_store.specs.Keeper.{IsRoomy, SameElse, same_else_on, same_else_self};
 ghost use Rattle.rec_store.specs.KeySlot.{IsRoomyKey};
-ghost use Rattle.std.proofs.Common.{rules};
 
 use crate::records::Records;
 use card_types::KeyRec;
@@ -58,7 +57,7 @@ impl<F: Flash> RecordKeeper for Records<F> {
         Records::set_key(self, slot, value);
     }
 
-    ghost same_self = { Prim.search rules };
+    ghost same_self = { same_else_self };
 
-    ghost same_on = { Prim.search rules };
+    ghost same_on = { same_else_on };
 }
