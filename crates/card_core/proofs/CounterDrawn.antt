@@ -1,5 +1,5 @@
 -- What the tables of a card say after a sequence counter was drawn.
-use Rattle.std.proofs.Common.{◌≡◌, ℕ, ◌<◌, ◌∙◌, List, true, Option, Some, sym, ap, subst, arith}
+use Rattle.std.proofs.Common.{◌≡◌, ℕ, ◌<◌, ◌∙◌, List, true, Some, sym, ap, subst, arith}
 use Rattle.std.specs.Prelude.{nat_lt, ◌==◌}
 use Rattle.std.proofs.lemmas.Bool.{and_from, and_parts, eq-eqb, eqb-true, lt-ltb, ltb-true}
 use Rattle.card_types.proofs.DrawnCounter.{drawn_says, drawn_well}

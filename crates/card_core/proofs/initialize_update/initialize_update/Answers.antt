@@ -9,13 +9,13 @@ use Rattle.card_types.specs.Registry.{Registry}
 use Rattle.card_types.specs.Slots.{held}
 use Rattle.card_types.specs.Well.{Well}
 use Rattle.card_types.specs.declared.tables.KeyRec.{KeyRec}
+use Rattle.card_types.specs.declared.tables.Tables.{Tables}
 use Rattle.key_sets.specs.Draws.{IsSpent}
 use Rattle.card_types.specs.Says.{Says, counter_of, domain_aid, key_of}
 use Rattle.card_core.proofs.Cards.{in_order}
 use Rattle.card_core.proofs.CounterDrawn.{drawn_are_cards, drawn_raised_well, drawn_says_raised, low_version, not_spent}
 use Rattle.card_core.proofs.OfferMade.{counter_there, offer_stands, refusal_handed, set_asked}
 use Rattle.card_core.specs.Domains.{HasSelected}
-use Rattle.card_core.specs.Kept.{AreCards}
 use Rattle.card_core.specs.Offers.{IsMade}
 use Rattle.card_core.specs.declared.held.Held.TheVariants.{Offered}
 use Rattle.policy_rules.specs.Management.{acting}
