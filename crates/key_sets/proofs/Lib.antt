@@ -1,3 +1,3 @@
 mod Counting
 mod Putting
-mod Stays
+pub mod Stays

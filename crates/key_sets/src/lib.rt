@@ -21,6 +21,7 @@ mod refusal;
 
 pub use counter::{Spent, draw_counter};
 pub use deletion::delete;
+pub use judge::{has_version, judge as judge_put};
 pub use put::{put_one, put_set};
 pub use refusal::PutRefusal;
 

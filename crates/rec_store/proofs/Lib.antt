@@ -11,7 +11,7 @@ mod OneThing
 mod Places
 pub mod Readings
 pub mod Reopening
-mod Rooms
+pub mod Rooms
 pub mod Roomy
 mod Staging
 mod Written
