@@ -1,18 +1,24 @@
 -- Tables that are a card's over any load pages.
-use Rattle.std.proofs.Common.{◌≡◌, ℕ, ◌<◌, List, true, Some, replicate, subst, sym}
+use Rattle.std.proofs.Common.{◌≡◌, ℕ, ◌<◌, List, true, Option, Some, length, replicate, ap, subst, sym, ◌∙◌}
 use Rattle.std.specs.Prelude.{MatchOption, All, map, nat_eq}
 use Rattle.std.specs.List.{IsDistinct, concat}
-use Rattle.std.proofs.lemmas.List.{length-replicate}
+use Rattle.std.proofs.lemmas.List.{length-replicate, length-set}
 use Rattle.card_check.specs.IsCard.{IsInLoadPages, pages_named}
-use Rattle.card_types.proofs.DrawnCounter.{drawn_in_order, drawn_says, drawn_well}
+use Rattle.card_types.proofs.DrawnCounter.{drawn_says, drawn_well}
 use Rattle.card_types.specs.Counters.{raised, raised_key}
 use Rattle.card_types.specs.InOrder.{IsInOrder}
-use Rattle.card_types.specs.Says.{domain_aid, keeps_counter, used}
+use Rattle.card_types.specs.Layout.{HasIssuer}
+use Rattle.card_types.specs.Registry.{Registry}
+use Rattle.card_types.specs.Says.{Says, domain_aid, keeps_counter, used}
 use Rattle.card_types.specs.SlotChange.{SetsKey}
 use Rattle.card_types.specs.Slots.{held}
+use Rattle.card_types.specs.Well.{Well}
 use Rattle.card_types.specs.declared.factory.TheConstants.{FACTORY_FILE}
 use Rattle.card_types.specs.declared.limits.TheConstants.{COUNTER_LIMIT}
+use Rattle.card_types.specs.declared.tables.Entry.{Entry}
 use Rattle.card_types.specs.declared.tables.KeyRec.{KeyRec}
+use Rattle.card_types.specs.declared.tables.LoadFile.{LoadFile}
+use Rattle.card_types.specs.declared.tables.Object.{Object}
 use Rattle.card_types.specs.declared.tables.Tables.{Tables}
 use Rattle.card_core.specs.Kept.{AreCards}
 
@@ -22,17 +28,39 @@ in_order tables cards =
     let is = cards page (λ n. length-replicate {A = ℕ} 256 0) in
     record { layout = is.layout; page = page; said = is.said; says = is.says; well = is.well }
 
+-- tables with the same entries and Executable Load Files are a card's too, where they say a registry that a card may have
+module _ (before after : Tables) (entries : after.entries.items ≡ before.entries.items) (files : after.files.items ≡ before.files.items)
+    (keys : length after.keys.items ≡ length before.keys.items) (objects : length after.objects.items ≡ length before.objects.items) where
+  pub cards_after : ((page : ℕ → List ℕ) (said : Registry) → Says page before said → Well said → (now : Registry) × Says page after now × Well now)
+      → AreCards before → AreCards after
+  cards_after each cards page whole =
+      let is = cards page whole in
+      let now = each page is.said is.says is.well in
+      record {
+        layout = record {
+          entries = ap (λ (slots : List (Option Entry)). length slots) entries ∙ is.layout.entries;
+          files = ap (λ (slots : List (Option LoadFile)). length slots) files ∙ is.layout.files;
+          keys = keys ∙ is.layout.keys;
+          objects = objects ∙ is.layout.objects;
+          issuer = subst HasIssuer (sym entries) is.layout.issuer;
+        };
+        factory_file = subst (λ slots. MatchOption (held slots 0) ⊥ (λ file. (file.aid ≡ FACTORY_FILE) × (file.len ≡ 0))) (sym files) is.factory_file;
+        files = subst (λ slots. All IsInLoadPages (used slots)) (sym files) is.files;
+        apart = subst (λ slots. IsDistinct nat_eq (concat (map pages_named (used slots)))) (sym files) is.apart;
+        said = now.0;
+        says = now.1;
+        well = now.2;
+      }
+
 -- and so they are after a sequence counter was drawn
 pub drawn_cards : (before after : Tables) (slot : ℕ) (key : KeyRec) → held before.keys.items slot ≡ Some key → keeps_counter key ≡ true
     → SetsKey before after slot (Some (raised_key key)) → key.counter < COUNTER_LIMIT → AreCards before → AreCards after
-drawn_cards before after slot key at keeps set below cards page whole =
-    let is = cards page whole in
-    record {
-      layout = (drawn_in_order before after slot key at keeps set below (in_order before cards)).layout;
-      factory_file = subst (λ files. MatchOption (held files 0) ⊥ (λ file. (file.aid ≡ FACTORY_FILE) × (file.len ≡ 0))) (sym set.files) is.factory_file;
-      files = subst (λ files. All IsInLoadPages (used files)) (sym set.files) is.files;
-      apart = subst (λ files. IsDistinct nat_eq (concat (map pages_named (used files)))) (sym set.files) is.apart;
-      said = raised is.said (domain_aid before.entries.items key.owner) key.version;
-      says = drawn_says before after slot key at keeps set page is.said is.says;
-      well = drawn_well before after slot key at keeps set page is.said is.says below is.well;
-    }
+drawn_cards before after slot key at keeps set below cards =
+    cards_after before after set.entries set.files
+    (ap (λ (slots : List (Option KeyRec)). length slots) set.keys ∙ length-set before.keys.items slot (Some (raised_key key)))
+    (ap (λ (slots : List (Option Object)). length slots) set.objects)
+    (λ page said says well. (
+      raised said (domain_aid before.entries.items key.owner) key.version,
+      drawn_says before after slot key at keeps set page said says,
+      drawn_well before after slot key at keeps set page said says below well,
+    )) cards

@@ -1,13 +1,17 @@
 -- What a command does, and what its refusal leaves, by its instruction.
-use Rattle.std.proofs.Common.{◌≡◌, ℕ, List, Bool, true, false, Option, Some, sym, subst}
+use Rattle.std.proofs.Common.{◌≡◌, ℕ, List, [], Bool, true, false, Option, Some, Result, Ok, Err, sym, subst}
 use Rattle.std.specs.Prelude.{MatchOption, if◌then◌else◌, ◌==◌}
+use Rattle.std.specs.Result.{IsErrAnd}
+use Rattle.apdu_core.specs.declared.reply.Status.{Status}
 use Rattle.policy_rules.specs.Admission.{Admitted, placeless}
-use Rattle.policy_rules.specs.Commands.{Does, DoesAs}
+use Rattle.policy_rules.specs.Commands.{Does, DoesAs, Judges}
 use Rattle.policy_rules.specs.Instructions.{Instruction, instruction_of}
 use Rattle.policy_rules.specs.State.{Effect}
 use Rattle.policy_rules.specs.Step.{refusal_leaves}
 use Rattle.policy_rules.specs.declared.instruction.TheConstants.{EXTERNAL_AUTHENTICATE}
+use Rattle.policy_rules.specs.declared.rule.Rule.{Rule}
 use Rattle.card_core.specs.Kept.{Kept, Shows}
+use Rattle.card_core.specs.Serves.{CarriesOut}
 
 pub does_as : (admitted : Admitted) (done : Effect) (instruction : Instruction) → instruction_of admitted.command.ins ≡ Some instruction
     → DoesAs instruction admitted done → Does admitted done
@@ -35,3 +39,11 @@ answer_shows page card admitted is shows =
       registry = admitted.at.registry;
       volatile = if ins == EXTERNAL_AUTHENTICATE then placeless admitted.at.volatile admitted.channel false else admitted.at.volatile;
     })) (sym is) shows
+
+-- a refusal that is handed on
+pub refusal_carried : (page : ℕ → List ℕ) (card : Kept) (admitted : Admitted) (body : List ℕ) (result : Result Status Rule) (found : Rule)
+    → IsErrAnd result (λ rule. rule ≡ found) → Shows page card (record { registry = admitted.at.registry; volatile = refusal_leaves admitted })
+    → Judges admitted (Some found) → body ≡ [] → CarriesOut page admitted card body result
+refusal_carried page card admitted body (Ok status) found given shows judges empty = absurd given
+refusal_carried page card admitted body (Err rule) found given shows judges empty =
+    (shows, subst (λ (r : Rule). Judges admitted (Some r)) (sym given) judges, empty)

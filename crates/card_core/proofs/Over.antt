@@ -54,6 +54,14 @@ module _ {F : Type 0} (tells : Type 0) (pages : F → List Page) (may_leave : F 
     keeps = stands.keeps;
   }
 
+-- over a device that tells its pages a card has one registry
+pub registry_told : {F : Type 0} (tells : Type 0) (pages : F → List Page) (may_leave : F → List Page → Type 0) (card : CardOver F) (state other : State)
+    → Stands tells pages may_leave card state → Stands tells pages may_leave card other → tells → state.registry ≡ other.registry
+registry_told tells pages may_leave card state other stands also told =
+    said_once (load_page (pages card.flash)) card.tables state.registry other.registry
+    (subst (λ page. Says page card.tables state.registry) (sym (stands.load told)) stands.on.shows.says.registry)
+    (subst (λ page. Says page card.tables other.registry) (sym (also.load told)) also.on.shows.says.registry)
+
 -- between two calls on the records of a card
 module _ {F : Type 0} (tells : Type 0) (pages : F → List Page) (may_leave : F → List Page → Type 0) (card : CardOver F) (state : State)
     (stands : Stands tells pages may_leave card state) (served : F) (same : served ≡ card.flash) where

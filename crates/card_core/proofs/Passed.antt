@@ -1,5 +1,5 @@
 -- What a card keeps behind the check of the class, and behind secure messaging.
-use Rattle.std.proofs.Common.{◌≡◌, ℕ, ◌<◌, List, Bool, true, false, Option, None, Some, Err, refl, sym, ap, subst, ◌∙◌, inr, length}
+use Rattle.std.proofs.Common.{◌≡◌, ℕ, ◌<◌, List, Bool, true, false, Option, None, Some, Err, refl, sym, ap, subst, ◌∙◌, inl, inr, length}
 use Rattle.std.specs.Prelude.{MatchOption, slice_index_or, slice_set, ◌==◌}
 use Rattle.std.proofs.lemmas.List.{get_or-set_same, get_or_default, length-set}
 use Rattle.apdu_core.specs.Apdu.{Apdu, Short}
@@ -10,7 +10,7 @@ use Rattle.scp03_card.specs.Opens.{Gives, IsAuthentic, Opens, accepting, field_o
 use Rattle.scp03_card.specs.Session.{Session}
 use Rattle.policy_rules.proofs.Passing.{admitted_fits, channel_is_low, class_fits, passed_session}
 use Rattle.policy_rules.specs.Admission.{Bars, IsTaken, admitted_as, class_passed, command_rules, placeless, session_for, session_passed}
-use Rattle.policy_rules.specs.Classes.{IsKnown, channel_of, class_of, is_protected, protects}
+use Rattle.policy_rules.specs.Classes.{IsKnown, IsPlainManagement, channel_of, class_of, is_protected, protects}
 use Rattle.policy_rules.specs.FirstFailing.{IsFirst}
 use Rattle.policy_rules.specs.Rules.{status_of}
 use Rattle.policy_rules.specs.Sound.{IsSound}
@@ -29,7 +29,7 @@ use Rattle.card_core.specs.Secured.{OpensAs}
 use Rattle.card_core.specs.Serves.{IsOver, Serves}
 use Rattle.card_core.specs.declared.held.Held.{Held}
 use Rattle.card_core.specs.declared.held.Held.TheVariants as held
-use Rattle.card_core.proofs.Serving.{barred, no_plain_management, no_session_first, over_first, wrong_mac_first, wrong_padding_first}
+use Rattle.card_core.proofs.Serving.{barred, managed_first, no_session_first, over_first, protected_unmanaged, wrong_mac_first, wrong_padding_first}
 use Rattle.card_core.proofs.Standing.{HasFour, held_same, load_same, passed_shows, session_same, shows_same, standing_shows}
 
 within : (all : List Held) (number : ℕ) → length all ≡ CHANNELS → number < CHANNELS → number < length all
@@ -143,6 +143,27 @@ module _ (page : ℕ → List ℕ) (tables : Tables) (live : Live) (all : List H
       by None at none = absurd none
       by (Some session) at is = (session, at, is)
 
+  module _ (slot : ℕ) (opened : slice_index_or live.selected number None ≡ Some slot) where
+    -- its session has ended
+    ended_shows : (now : Held) → now ≡ held.Nothing
+        → Shows page (record { tables = tables; live = live; held = slice_set all_passed number now })
+        (record { registry = state.registry; volatile = without_session passed number })
+    ended_shows now gone =
+        let ended = with_standing passed number Nothing in
+        let shows = standing_shows page tables live all_passed (record { registry = state.registry; volatile = passed }) shows_passed four_passed number low slot now
+        Nothing opened (subst (λ (h : Held). HoldsAs h Nothing) (sym gone) tt) in
+        shows_same page (record { tables = tables; live = live; held = slice_set all_passed number now }) state.registry ended (without_session passed number)
+        (sym (load_same ended number shows.holds.load)) shows
+
+    -- card content management in plain ends it
+    pub managed_served : (bytes reply : List ℕ) → Short command bytes → IsKnown command.class command.ins → (class : Class) → class_of command.class ≡ Some class
+        → IsFirst (Bars state bytes) command_rules None → (IsOver state.registry.life class command.ins → ⊥) → IsPlainManagement command
+        → (now : Held) → now ≡ held.Nothing → reply ≡ status_bytes (status_of (G G6))
+        → Serves page state bytes (record { tables = tables; live = live; held = slice_set all_passed number now }) reply (Some (G G6))
+    managed_served bytes reply short known class is_class front not_over managed now gone is =
+        barred page (record { tables = tables; live = live; held = slice_set all_passed number now }) state bytes reply G6 (without_session passed number) stands.sound
+        (managed_first state bytes command short known class is_class front not_over managed) (command, short, inl (managed, refl)) (ended_shows now gone) is
+
   module _ (slot : ℕ) (opened : slice_index_or live.selected number None ≡ Some slot) (protected : is_protected command ≡ true) where
     -- a protected command that opens
     pub opened_stands : (session : Session) → session_for state command ≡ Some session → (now : Held) (plain : List ℕ) → Opens session command plain
@@ -162,17 +183,6 @@ module _ (page : ℕ → List ℕ) (tables : Tables) (live : Live) (all : List H
           );
         }
 
-    -- its session has ended
-    ended_shows : (now : Held) → now ≡ held.Nothing
-        → Shows page (record { tables = tables; live = live; held = slice_set all_passed number now })
-        (record { registry = state.registry; volatile = without_session passed number })
-    ended_shows now gone =
-        let ended = with_standing passed number Nothing in
-        let shows = standing_shows page tables live all_passed (record { registry = state.registry; volatile = passed }) shows_passed four_passed number low slot now
-        Nothing opened (subst (λ (h : Held). HoldsAs h Nothing) (sym gone) tt) in
-        shows_same page (record { tables = tables; live = live; held = slice_set all_passed number now }) state.registry ended (without_session passed number)
-        (sym (load_same ended number shows.holds.load)) shows
-
     module _ (bytes : List ℕ) (short : Short command bytes) (known : IsKnown command.class command.ins)
         (class : Class) (is_class : class_of command.class ≡ Some class) (front : IsFirst (Bars state bytes) command_rules None)
         (not_over : IsOver state.registry.life class command.ins → ⊥) where
@@ -184,19 +194,19 @@ module _ (page : ℕ → List ℕ) (tables : Tables) (live : Live) (all : List H
       refused_served now plain reply G6 (none, same) is =
           barred page (record { tables = tables; live = live; held = slice_set all_passed number now }) state bytes reply G6 passed stands.sound
           (no_session_first state bytes command short known class is_class front not_over protected (sym (passed_session state command stands.sound.fits) ∙ none))
-          (command, short, inr (no_plain_management command known, refl))
+          (command, short, inr (protected_unmanaged command protected, refl))
           (held_same page (record { tables = tables; live = live; held = all_passed }) (record { registry = state.registry; volatile = passed }) number now (sym same) shows_passed)
           is
       refused_served now plain reply G7 (gone, wrong) is =
           let found = session_of (λ session. IsAuthentic session command → ⊥) wrong in
           barred page (record { tables = tables; live = live; held = slice_set all_passed number now }) state bytes reply G7 (without_session passed number) stands.sound
           (wrong_mac_first state bytes command short known class is_class front not_over protected found.0 found.1 found.2)
-          (command, short, refl) (ended_shows now gone) is
+          (command, short, refl) (ended_shows slot opened now gone) is
       refused_served now plain reply G8 (gone, wrong) is =
           let found = session_of (λ session. IsAuthentic session command × ((b : List ℕ) → Gives (accepting session command) (field_of command) b → ⊥)) wrong in
           barred page (record { tables = tables; live = live; held = slice_set all_passed number now }) state bytes reply G8 (without_session passed number) stands.sound
           (wrong_padding_first state bytes command short known class is_class front not_over protected found.0 found.1 found.2.0 found.2.1)
-          (command, short, refl) (ended_shows now gone) is
+          (command, short, refl) (ended_shows slot opened now gone) is
       refused_served now plain reply G1 opens is = absurd opens
       refused_served now plain reply G2 opens is = absurd opens
       refused_served now plain reply G3 opens is = absurd opens

@@ -1,7 +1,8 @@
 -- What comes of a command is one step of the policy machine.
-use Rattle.std.proofs.Common.{◌≡◌, ◌⊎◌, ℕ, zero, suc, ◌<◌, List, [], ◌∷◌, ◌++◌, true, false, Option, None, Some, Result, Ok, Err, refl, sym, ap, subst, ◌∙◌, inl, inr, arith}
-use Rattle.std.specs.Prelude.{Contains, IsSome, MatchOption, slice_index_or}
+use Rattle.std.proofs.Common.{◌≡◌, ◌⊎◌, ℕ, List, [], ◌∷◌, ◌++◌, Bool, true, false, Option, None, Some, Result, Ok, Err, refl, sym, ap, subst, ◌∙◌, inl, inr}
+use Rattle.std.specs.Prelude.{◌↔◌, All, Contains, IsTrue, IsSome, MatchOption}
 use Rattle.std.proofs.lemmas.Bool.{true≢false}
+use Rattle.std.proofs.lemmas.List.Elements.{All-contains, All-from_recursion}
 use Rattle.apdu_core.specs.Apdu.{Apdu, Short}
 use Rattle.apdu_core.specs.Reply.{status_bytes}
 use Rattle.apdu_core.specs.declared.reply.Status.{Status}
@@ -11,8 +12,9 @@ use Rattle.scp03_card.specs.Opens.{Gives, IsAuthentic, Opens, accepting, field_o
 use Rattle.scp03_card.specs.Session.{Session}
 use Rattle.policy_rules.proofs.KeepsSound.{steps_keep_sound}
 use Rattle.policy_rules.proofs.OneOutcome.{of_one}
+use Rattle.policy_rules.proofs.Opened.{is_management, managed_protected}
 use Rattle.policy_rules.specs.Admission.{Admits, Admitted, Bars, InSession, Leaves, Of, admitted_as, command_rules, general_rules, session_for}
-use Rattle.policy_rules.specs.Classes.{IsKnown, IsPlainGetData, IsPlainManagement, class_of, instructions_of, is_protected, is_secure, management, protects}
+use Rattle.policy_rules.specs.Classes.{IsKnown, IsPlainGetData, IsPlainManagement, class_of, instructions_of, is_protected, is_secure, management, managing, protects}
 use Rattle.policy_rules.specs.FirstFailing.{IsFirst}
 use Rattle.policy_rules.specs.Instructions.{instruction_of}
 use Rattle.policy_rules.specs.Rules.{status_of}
@@ -22,7 +24,7 @@ use Rattle.policy_rules.specs.Step.{refusal_leaves, sent}
 use Rattle.policy_rules.specs.Volatile.{Volatile}
 use Rattle.policy_rules.specs.declared.class.Class.{Class}
 use Rattle.policy_rules.specs.declared.class.Class.TheVariants.{Interindustry, Plain, Secure}
-use Rattle.policy_rules.specs.declared.instruction.TheConstants.{SELECT, MANAGE_CHANNEL, GET_DATA, INITIALIZE_UPDATE, EXTERNAL_AUTHENTICATE}
+use Rattle.policy_rules.specs.declared.instruction.TheConstants.{GET_DATA, EXTERNAL_AUTHENTICATE}
 use Rattle.policy_rules.specs.declared.rule.Rule.{Rule}
 use Rattle.policy_rules.specs.declared.rule.Rule.TheVariants.{G}
 use Rattle.policy_rules.specs.declared.rule.RuleG.{RuleG}
@@ -86,80 +88,55 @@ behind fails [] rest found passed first = first
 behind fails (next ∷ front) rest found (inl failed) first = (let clash = failed.1 in cc)
 behind fails (next ∷ front) rest found (inr passed) first = inr (passed.0, behind fails front rest found passed.1 first)
 
-in_none : {P : Type 0} (ins : ℕ) → Contains [] ins → P
-in_none ins there = absurd (let low = there.1 in omega arith)
-
 -- what a class takes, by its instruction bytes
 abbrev IsBuilt : ℕ → Type 0
 IsBuilt ins = IsSome (instruction_of ins)
 
-built : (class : Class) (ins : ℕ) → Contains (instructions_of class) ins → IsBuilt ins
-built Interindustry ins there = elim (contains_cases SELECT (MANAGE_CHANNEL ∷ GET_DATA ∷ []) ins there) [
-  | inl select ↦ subst IsBuilt select refl
-  | inr more ↦ elim (contains_cases MANAGE_CHANNEL (GET_DATA ∷ []) ins more) [
-    | inl manage ↦ subst IsBuilt manage refl
-    | inr last ↦ elim (contains_cases GET_DATA [] ins last) [
-      | inl get ↦ subst IsBuilt get refl
-      | inr none ↦ in_none ins none
-    ]
-  ]
-]
-built Plain ins there = elim (contains_cases GET_DATA (INITIALIZE_UPDATE ∷ []) ins there) [
-  | inl get ↦ subst IsBuilt get refl
-  | inr more ↦ elim (contains_cases INITIALIZE_UPDATE [] ins more) [
-    | inl initialize ↦ subst IsBuilt initialize refl
-    | inr none ↦ in_none ins none
-  ]
-]
-built Secure ins there = elim (contains_cases EXTERNAL_AUTHENTICATE (GET_DATA ∷ []) ins there) [
-  | inl answer ↦ subst IsBuilt answer refl
-  | inr more ↦ elim (contains_cases GET_DATA [] ins more) [
-    | inl get ↦ subst IsBuilt get refl
-    | inr none ↦ in_none ins none
-  ]
-]
+all_built : (class : Class) → All IsBuilt (instructions_of class)
+all_built Interindustry = All-from_recursion IsBuilt (instructions_of Interindustry) (refl, (refl, (refl, tt)))
+all_built Plain = All-from_recursion IsBuilt (instructions_of Plain) (refl, (refl, (refl, (refl, (refl, tt)))))
+all_built Secure = All-from_recursion IsBuilt (instructions_of Secure) (refl, (refl, (refl, (refl, (refl, tt)))))
 
 pub is_built : (class : Option Class) (ins : ℕ) → MatchOption class ⊥ (λ c. Contains (instructions_of c) ins) → IsBuilt ins
 is_built None ins known = absurd known
-is_built (Some class) ins known = built class ins known
+is_built (Some class) ins known = All-contains IsBuilt (instructions_of class) ins (all_built class) known
 
--- a protected command is GET DATA, so far
-pub protected_gets : (class : Option Class) (ins : ℕ) → MatchOption class ⊥ (λ c. Contains (instructions_of c) ins) → protects class ins ≡ true → ins ≡ GET_DATA
-protected_gets None ins known protected = absurd known
-protected_gets (Some Interindustry) ins known protected = cc
-protected_gets (Some Plain) ins known protected = cc
-protected_gets (Some Secure) ins known protected = elim (contains_cases EXTERNAL_AUTHENTICATE (GET_DATA ∷ []) ins known) [
+-- a protected command is GET DATA, or one of card content management
+pub protected_one : (class : Option Class) (ins : ℕ) → MatchOption class ⊥ (λ c. Contains (instructions_of c) ins) → protects class ins ≡ true
+    → (ins ≡ GET_DATA) ⊎ Contains managing ins
+protected_one None ins known protected = absurd known
+protected_one (Some Interindustry) ins known protected = cc
+protected_one (Some Plain) ins known protected = cc
+protected_one (Some Secure) ins known protected = elim (contains_cases EXTERNAL_AUTHENTICATE (GET_DATA ∷ managing) ins known) [
   | inl answer ↦ (let clash = subst (λ (n : ℕ). protects (Some Secure) n ≡ true) (sym answer) protected in cc)
-  | inr more ↦ elim (contains_cases GET_DATA [] ins more) [
-    | inl get ↦ sym get
-    | inr none ↦ in_none ins none
+  | inr more ↦ elim (contains_cases GET_DATA managing ins more) [
+    | inl get ↦ inl (sym get)
+    | inr managed ↦ inr managed
   ]
 ]
 
--- no command of card content management is built yet
-not_managed : (ins k : ℕ) → (ins ≡ GET_DATA) ⊎ (ins ≡ INITIALIZE_UPDATE) → k < 7 → slice_index_or management k ins ≡ ins → ⊥
-not_managed ins zero which low is = elim which [ inl get ↦ omega (arith, is, get) | inr offer ↦ omega (arith, is, offer) ]
-not_managed ins (suc zero) which low is = elim which [ inl get ↦ omega (arith, is, get) | inr offer ↦ omega (arith, is, offer) ]
-not_managed ins (suc (suc zero)) which low is = elim which [ inl get ↦ omega (arith, is, get) | inr offer ↦ omega (arith, is, offer) ]
-not_managed ins (suc (suc (suc zero))) which low is = elim which [ inl get ↦ omega (arith, is, get) | inr offer ↦ omega (arith, is, offer) ]
-not_managed ins (suc (suc (suc (suc zero)))) which low is = elim which [ inl get ↦ omega (arith, is, get) | inr offer ↦ omega (arith, is, offer) ]
-not_managed ins (suc (suc (suc (suc (suc zero))))) which low is = elim which [ inl get ↦ omega (arith, is, get) | inr offer ↦ omega (arith, is, offer) ]
-not_managed ins (suc (suc (suc (suc (suc (suc zero)))))) which low is = elim which [ inl get ↦ omega (arith, is, get) | inr offer ↦ omega (arith, is, offer) ]
-not_managed ins (suc (suc (suc (suc (suc (suc (suc k))))))) which low is = omega (arith, low)
+-- and has secure messaging
+pub protected_unmanaged : (command : Apdu) → is_protected command ≡ true → IsPlainManagement command → ⊥
+protected_unmanaged command protected (plain, managed) = (let clash = subst (λ (c : Option Class). protects c command.ins ≡ true) plain protected in cc)
 
-plain_built : (ins : ℕ) → Contains (instructions_of Plain) ins → (ins ≡ GET_DATA) ⊎ (ins ≡ INITIALIZE_UPDATE)
-plain_built ins there = elim (contains_cases GET_DATA (INITIALIZE_UPDATE ∷ []) ins there) [
-  | inl get ↦ inl (sym get)
-  | inr more ↦ elim (contains_cases INITIALIZE_UPDATE [] ins more) [
-    | inl initialize ↦ inr (sym initialize)
-    | inr none ↦ in_none ins none
-  ]
-]
+-- without secure messaging, a command that passes is none of card content management
+pub unprotected_unmanaged : (command : Apdu) → IsKnown command.class command.ins → (IsPlainManagement command → ⊥) → is_protected command ≡ false
+    → Contains managing command.ins → ⊥
+unprotected_unmanaged command known unmanaged plain managed =
+    let protected = managed_protected (class_of command.class) command.ins known (λ class. unmanaged (class, is_management command.ins managed)) managed in
+    true≢false (sym protected ∙ plain)
 
-pub no_plain_management : (command : Apdu) → IsKnown command.class command.ins → IsPlainManagement command → ⊥
-no_plain_management command known (plain, managed) =
-    let there = subst (λ (c : Option Class). MatchOption c ⊥ (λ class. Contains (instructions_of class) command.ins)) plain known in
-    not_managed command.ins managed.0 (plain_built command.ins there) managed.1 managed.2
+-- whether it is card content management in plain, as the code answers it
+module _ (command : Apdu) (class : Class) (answer : Bool) (is_class : class_of command.class ≡ Some class)
+    (answers : IsTrue answer ↔ ((class ≡ Plain) × Contains management command.ins)) where
+  pub is_managed : answer ≡ true → IsPlainManagement command
+  is_managed it_is = (is_class ∙ ap Some (answers.0 it_is).0, (answers.0 it_is).1)
+
+  pub not_managed : answer ≡ false → IsPlainManagement command → ⊥
+  not_managed is_not (plain, managed) = true≢false (sym (answers.1 (one (sym is_class ∙ plain), managed)) ∙ is_not)
+    where
+      one : Some class ≡ Some Plain → class ≡ Plain
+      one same = cc
 
 module _ (state : State) (bytes : List ℕ) (command : Apdu) (short : Short command bytes) (known : IsKnown command.class command.ins)
     (class : Class) (is_class : class_of command.class ≡ Some class) (front : IsFirst (Bars state bytes) command_rules None) where
@@ -185,12 +162,16 @@ module _ (state : State) (bytes : List ℕ) (command : Apdu) (short : Short comm
         behind (Bars state bytes) command_rules (G5 ∷ G6 ∷ G7 ∷ G8 ∷ []) found front
         (inr (not_of (λ c. (state.registry.life ≡ Terminated) × (IsPlainGetData c → ⊥)) (λ over. not_over (goes_on over)), first))
 
+    -- card content management in plain
+    pub managed_first : IsPlainManagement command → IsFirst (Bars state bytes) general_rules (Some G6)
+    managed_first managed = behind_over (Some G6) (inl ((command, short, inl managed), refl))
+
     pub no_session_first : is_protected command ≡ true → session_for state command ≡ None → IsFirst (Bars state bytes) general_rules (Some G6)
     no_session_first protected none = behind_over (Some G6) (inl ((command, short, inr (protected, none)), refl))
 
-    -- a command in plain passes
-    pub plain_passes : is_protected command ≡ false → IsFirst (Bars state bytes) general_rules None
-    plain_passes plain =
+    -- any other command in plain passes
+    pub plain_passes : (IsPlainManagement command → ⊥) → is_protected command ≡ false → IsFirst (Bars state bytes) general_rules None
+    plain_passes unmanaged plain =
         behind_over None (inr (
           not_of (λ c. IsPlainManagement c ⊎ ((is_protected c ≡ true) × (session_for state c ≡ None))) g6,
           inr (
@@ -204,12 +185,12 @@ module _ (state : State) (bytes : List ℕ) (command : Apdu) (short : Short comm
         ))
       where
         g6 : IsPlainManagement command ⊎ ((is_protected command ≡ true) × (session_for state command ≡ None)) → ⊥
-        g6 (inl managed) = no_plain_management command known managed
+        g6 (inl managed) = unmanaged managed
         g6 (inr unsecured) = true≢false (sym unsecured.0 ∙ plain)
 
     module _ (protected : is_protected command ≡ true) (session : Session) (is_session : session_for state command ≡ Some session) where
       has_session : IsPlainManagement command ⊎ ((is_protected command ≡ true) × (session_for state command ≡ None)) → ⊥
-      has_session (inl managed) = no_plain_management command known managed
+      has_session (inl managed) = protected_unmanaged command protected managed
       has_session (inr unsecured) = (let none = unsecured.1 in let clash = sym none ∙ is_session in cc)
 
       in_session : (holds : Session → Type 0) → holds session → InSession state command holds
@@ -255,5 +236,5 @@ module _ (state : State) (bytes : List ℕ) (command : Apdu) (short : Short comm
         (command, short, (Some (accepting session command), plain, in_session (λ s. Opens s command plain × (accepting session command ≡ accepting s command)) (opens, refl), refl)),
       )
 
-    pub admits_plain : is_protected command ≡ false → Admits state bytes (admitted_as state command None command.body)
-    admits_plain plain = (plain_passes plain, (command, short, (None, command.body, (plain, refl), refl)))
+    pub admits_plain : (IsPlainManagement command → ⊥) → is_protected command ≡ false → Admits state bytes (admitted_as state command None command.body)
+    admits_plain unmanaged plain = (plain_passes unmanaged plain, (command, short, (None, command.body, (plain, refl), refl)))

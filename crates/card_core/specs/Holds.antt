@@ -11,6 +11,11 @@ IsOffered held.Nothing = ⊥
 IsOffered (held.Offered offer) = Unit {0}
 IsOffered (held.Secured session) = ⊥
 
+abbrev pub IsInSession : Held → Type 0
+IsInSession held.Nothing = ⊥
+IsInSession (held.Offered offer) = ⊥
+IsInSession (held.Secured session) = Unit {0}
+
 abbrev pub without_offer_held : Held → Held
 without_offer_held held.Nothing = held.Nothing
 without_offer_held (held.Offered offer) = held.Nothing

@@ -3,6 +3,8 @@ pub mod Domains
 pub mod Holds
 pub mod Kept
 pub mod LoadRead
+pub mod Manages
+pub mod ObjectsPut
 pub mod Offers
 pub mod PowerOn
 pub mod Secured

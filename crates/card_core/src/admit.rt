@@ -1,6 +1,6 @@
 //! What every command passes before the rules of its own are judged.
 
-ghost use Rattle.std.specs.Prelude.{◌≡◌, ◌≢◌, ◌↔◌, IsTrue, false, IfOk, IfErr, ℕ, List, None, Some, slice_index_or};
+ghost use Rattle.std.specs.Prelude.{◌≡◌, ◌≢◌, ◌↔◌, IsTrue, false, true, IfOk, IfErr, ℕ, List, None, Some, slice_index_or};
 ghost use Rattle.apdu_core.specs.Apdu.{Short, apdu_of};
 ghost use Rattle.card_core.specs.Domains.{is_domain_in};
 ghost use Rattle.card_core.specs.Serves.{IsOver};
@@ -59,6 +59,8 @@ pub fn admit<'a>(tables: &Tables, live: &Live, bytes: &'a [u8]) -> Result<Admitt
     ensures class { IfOk result (λ admitted. class_of admitted.command.class ≡ Some admitted.class) }
     ensures channel { IfOk result (λ admitted. admitted.channel ≡ channel_of_byte admitted.command.class) }
     ensures selected { IfOk result (λ admitted. slice_index_or live.now.selected admitted.channel None ≡ Some admitted.selected) }
+    ensures domain { IfOk result (λ admitted. admitted.command.ins ≢ SELECT → admitted.command.ins ≢ MANAGE_CHANNEL
+        → is_domain_in tables.now.entries.items admitted.selected ≡ true) }
     ensures passed { (page : ℕ → List ℕ) (state : State) → Says page tables.now live.now state
         → IfOk result (λ admitted. IsFirst (Bars state bytes.now) command_rules None) }
     ensures refused { (page : ℕ → List ℕ) (state : State) → Says page tables.now live.now state

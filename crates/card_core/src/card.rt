@@ -1,6 +1,6 @@
 //! A card.
 
-ghost use Rattle.std.specs.Prelude.{◌≡◌, ◌⊎◌, ◌≤◌, ◌↔◌, ℕ, List, [], ◌∷◌, false, true, IfOk, IfErr, IsTrue, OnErr, OnOk};
+ghost use Rattle.std.specs.Prelude.{◌≡◌, ◌⊎◌, ◌≤◌, ◌↔◌, ℕ, List, [], ◌∷◌, false, true, None, IfOk, IfErr, IsTrue, OnErr, OnOk};
 ghost use Rattle.apdu_core.specs.Reply.{status_bytes};
 ghost use Rattle.card_core.specs.Card.{Stands};
 ghost use Rattle.card_core.specs.Kept.{AreCards};
@@ -10,6 +10,7 @@ ghost use Rattle.card_types.specs.InOrder.{IsInOrder};
 ghost use Rattle.card_types.specs.Registry.{Registry};
 ghost use Rattle.flash_core.specs.Faults.{HasCause};
 ghost use Rattle.page_journal.specs.Moments.{Always, LeavesOnly};
+ghost use Rattle.policy_rules.specs.Changes.{Changes, OpensInSession};
 ghost use Rattle.policy_rules.specs.State.{State, powered_on};
 ghost use Rattle.policy_rules.specs.Step.{Outcome, Step};
 ghost use Rattle.rec_store.specs.Reopens.{Reopens, ReopensAsOne};
@@ -98,6 +99,10 @@ impl<F: Flash> Card<F> {
         ensures step { (state : State) → Stands F.tells F.pages F.may_leave self.old state → (outcome : Outcome) × Step state command.now outcome
             × (F.tells → LeavesOnly F.moment F.left_since self.old.flash self.new.flash (λ pages. Reopens pages state.registry ⊎ Reopens pages outcome.state.registry))
             × IfOk result (λ rule. Stands F.tells F.pages F.may_leave self.new outcome.state × (reply.new.items ≡ outcome.reply) × (rule ≡ outcome.rule)) }
+        // More than a sequence counter is changed by a command alone that no rule refuses, and that opens in the session of its
+        // channel: its C-MAC is the next of the chain.
+        ensures changes { (state next : State) → Stands F.tells F.pages F.may_leave self.old state → Stands F.tells F.pages F.may_leave self.new next
+            → IfOk result (λ rule. F.tells → Changes state.registry next.registry → (rule ≡ None) × OpensInSession state command.now) }
         ensures ok { OnOk result (self.new.up ≡ true) }
         ensures failed { OnErr result ((reply.new.items ≡ status_bytes 0x6581) × (self.new.up ≡ false)) }
         ensures cause { HasCause (F.faults self.old.flash) (F.faults self.new.flash) result }

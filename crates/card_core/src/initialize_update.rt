@@ -115,6 +115,7 @@ fn write_offer(
 }
 
 /// Offers a session for the domain in a slot, and draws the counter of the key set. It commits nothing.
+#[inline(never)]
 pub fn initialize_update<F: Flash>(
     records: &mut Records<F>,
     held: &mut Held,

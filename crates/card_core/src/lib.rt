@@ -5,6 +5,7 @@
 
 mod admit;
 mod card;
+mod delete_key;
 mod digest;
 mod external_authenticate;
 mod formatting;
@@ -14,10 +15,12 @@ mod initialize_update;
 mod manage_channel;
 mod pinned;
 mod power;
+mod put_key;
 mod reply;
 mod secure_messaging;
 mod select;
 mod serve;
+mod store_data;
 
 pub use card::Card;
 pub use formatting::format;

@@ -1,9 +1,9 @@
 //! Secure messaging: what a protected command is in plain, and the reply to it (GlobalPlatform Amendment D, 6.2).
 
-ghost use Rattle.std.specs.Prelude.{◌≡◌, ◌≤◌, length, IfOk};
+ghost use Rattle.std.specs.Prelude.{◌≡◌, ◌≤◌, length, IfOk, OnOk};
 ghost use Rattle.arrayvec.specs.ArrayVec.{array_vec_len};
 ghost use Rattle.apdu_core.specs.Apdu.{apdu_of};
-ghost use Rattle.card_core.specs.Holds.{HoldsAs};
+ghost use Rattle.card_core.specs.Holds.{HoldsAs, IsInSession};
 ghost use Rattle.card_core.specs.Secured.{OpensAs};
 ghost use Rattle.policy_rules.specs.Volatile.{Secured, Standing};
 ghost use Rattle.scp03_card.specs.Protected.{protected};
@@ -26,6 +26,7 @@ pub fn open_command(
     requires { length command.now.body.now ≤ 255 }
     ensures opens { (standing : Standing) → HoldsAs held.old standing → OpensAs (apdu_of command.now) standing held.old held.new plain.new result }
     ensures short { IfOk result (λ count. count ≤ 255) }
+    ensures secured { OnOk result (IsInSession held.new) }
 {
     let Held::Secured(session) = held else {
         return Err(RuleG::G6);

@@ -1,34 +1,41 @@
 //! What is done with a command.
 
-ghost use Rattle.std.specs.Prelude.{◌≡◌, ◌<◌, ◌≤◌, ◌++◌, ◌==◌, ℕ, List, [], length, false, true, None, Some, IsSome, OnOk, OnErr, IfErr, slice_index_or};
+ghost use Rattle.std.specs.Prelude.{◌≡◌, ◌≢◌, ◌⊎◌, ◌<◌, ◌≤◌, ◌++◌, ◌==◌, ℕ, List, [], length, false, true, None, Some, IsSome, Contains, OnOk, OnErr, IfErr, slice_index_or};
 ghost use Rattle.apdu_core.specs.Apdu.{apdu_of};
 ghost use Rattle.apdu_core.specs.Reply.{status_bytes};
-ghost use Rattle.card_core.specs.Holds.{HoldsAs, held_passed};
+ghost use Rattle.card_core.specs.Domains.{is_domain_in};
+ghost use Rattle.card_core.specs.Holds.{HoldsAs, IsInSession, held_passed};
 ghost use Rattle.card_core.specs.Kept.{AreCards, StandsOn};
 ghost use Rattle.card_core.specs.Serves.{CarriesOut, IsOver, Serves, rule_of, word_of};
 ghost use Rattle.policy_rules.specs.Admission.{Admitted as Judged};
+ghost use Rattle.card_core.specs.declared.held.Held.TheVariants as holding;
+ghost use Rattle.policy_rules.specs.Classes.{managing};
 ghost use Rattle.policy_rules.specs.Instructions.{instruction_of};
 ghost use Rattle.policy_rules.specs.State.{State};
 ghost use Rattle.policy_rules.specs.Volatile.{Secured};
-ghost use Rattle.policy_rules.specs.declared.instruction.TheConstants.{GET_DATA};
+ghost use Rattle.policy_rules.specs.declared.instruction.TheConstants.{SELECT, MANAGE_CHANNEL, GET_DATA};
 ghost use Rattle.scp03_card.specs.Protected.{protected};
 ghost use Rattle.scp03_card.specs.Session.{Session};
 
 use crate::admit::{Admitted, admit, is_over};
+use crate::delete_key::delete_key;
 use crate::external_authenticate::external_authenticate;
 use crate::get_data::get_data;
 use crate::held::Held;
 use crate::initialize_update::initialize_update;
 use crate::manage_channel::{close_channel, open_channel};
+use crate::put_key::put_key;
 use crate::reply::{REPLY_LIMIT, write_status};
 use crate::secure_messaging::{close_reply, open_command};
 use crate::select::select;
+use crate::store_data::store_data;
 use apdu_core::{Command, Status};
 use arrayvec::ArrayVec;
 use card_types::CardLife;
 use flash_core::Flash;
 use policy_rules::{
-    CHANNELS, EXTERNAL_AUTHENTICATE, Live, Request, Rule, RuleG, is_protected, parse,
+    CHANNELS, EXTERNAL_AUTHENTICATE, Live, Request, Rule, RuleG, is_plain_management, is_protected,
+    parse,
 };
 use rec_store::Records;
 
@@ -47,7 +54,8 @@ fn pass_class(card_life: CardLife, admitted: &Admitted<'_>, held: &mut Held) -> 
     if over { Err(RuleG::G5) } else { Ok(()) }
 }
 
-// Does what a command asks for, and appends the reply's data.
+// Does what a command asks for, and appends the reply's data. Commands with large values of their own are out of line, so that the
+// others have a small stack frame.
 fn act<F: Flash>(
     records: &mut Records<F>,
     live: &mut Live,
@@ -62,6 +70,8 @@ fn act<F: Flash>(
     requires known { IsSome (instruction_of command.now.ins) }
     requires channel { admitted.now.channel < CHANNELS }
     requires selected { slice_index_or live.old.selected admitted.now.channel None ≡ Some admitted.now.selected }
+    requires domain { command.now.ins ≢ SELECT → command.now.ins ≢ MANAGE_CHANNEL → is_domain_in records.old.tables.entries.items admitted.now.selected ≡ true }
+    requires secured { Contains managing command.now.ins → IsInSession (slice_index_or held.old admitted.now.channel holding.Nothing) }
     requires short { length command.now.body.now ≤ 255 }
     requires empty { reply.old.items ≡ [] }
     ensures done { (page : ℕ → List ℕ) (judged : Judged) → StandsOn page (record { tables = records.old.tables; live = live.old; held = held.old }) judged.at
@@ -69,7 +79,7 @@ fn act<F: Flash>(
         → CarriesOut page judged (record { tables = records.new.tables; live = live.new; held = held.new }) reply.new.items result }
     ensures cards { AreCards records.new.tables }
     ensures same { (records.new.flash ≡ records.old.flash) × (records.new.live ≡ true) }
-    ensures kept { command.now.ins ≡ GET_DATA → held.new ≡ held.old }
+    ensures kept { (command.now.ins ≡ GET_DATA) ⊎ Contains managing command.now.ins → held.new ≡ held.old }
     ensures room { length reply.new.items ≤ 239 }
 {
     let channel = admitted.channel;
@@ -108,6 +118,24 @@ fn act<F: Flash>(
             reply,
         ),
         Request::Authenticate { .. } => external_authenticate(&mut held[place], command),
+        Request::PutKey {
+            replaced,
+            version,
+            keys,
+        } => put_key(
+            records,
+            &held[place],
+            admitted.selected,
+            replaced,
+            version,
+            &keys,
+            reply,
+        ),
+        Request::Store { objects } => store_data(records, admitted.selected, objects),
+        Request::DeleteKey {
+            version,
+            identifier,
+        } => delete_key(records, admitted.selected, version, identifier, reply),
     }
 }
 
@@ -177,6 +205,10 @@ pub fn serve<F: Flash>(
     let channel = usize::from(admitted.channel);
     if let Err(rule) = pass_class(records.tables().life, &admitted, &mut held[channel]) {
         return close_plain(Err(Rule::G(rule)), reply);
+    }
+    if is_plain_management(admitted.class, admitted.command.ins) {
+        held[channel].end();
+        return close_plain(Err(Rule::G(RuleG::G6)), reply);
     }
     if !is_protected(admitted.class, admitted.command.ins) {
         let served = act(records, live, held, &admitted, &admitted.command, reply);

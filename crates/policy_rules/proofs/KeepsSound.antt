@@ -14,31 +14,41 @@ use Rattle.card_types.specs.declared.limits.TheConstants.{COUNTER_LIMIT}
 use Rattle.policy_rules.specs.Admission.{Admits, Admitted, Leaves, class_passed, placeless}
 use Rattle.policy_rules.specs.Classes.{channel_of}
 use Rattle.policy_rules.specs.Commands.{Does, DoesAs, Judges, JudgesAs}
+use Rattle.policy_rules.specs.DeleteKey.{DeleteDoes}
 use Rattle.policy_rules.specs.ExternalAuthenticate.{ExternalAuthenticateDoes}
 use Rattle.policy_rules.specs.FirstFailing.{IsFirst}
 use Rattle.policy_rules.specs.InitializeUpdate.{AsksForSet, InitializeUpdateDoes, InitializeUpdateFails, initialize_update_rules}
-use Rattle.policy_rules.specs.Instructions.{ExternalAuthenticate, GetData, InitializeUpdate, Instruction, ManageChannel, Select, instruction_of}
+use Rattle.policy_rules.specs.Instructions.{Delete, ExternalAuthenticate, GetData, InitializeUpdate, Instruction, ManageChannel, PutKey, Select, StoreData, instruction_of}
+use Rattle.policy_rules.specs.KeyVersions.{counters_but, keys_but}
 use Rattle.policy_rules.specs.Laws.{StartsSound, StepsKeepSound}
 use Rattle.policy_rules.specs.ManageChannel.{IsClosed, IsClosedAlready, IsOpened, ManageChannelDoes, ManageChannelFails, ManageChannelParameters, lowest_closed, manage_channel_rules}
 use Rattle.policy_rules.specs.Management.{acting}
+use Rattle.policy_rules.specs.PutKey.{PutKeyDoes, PutKeyFails, put_key_rules}
 use Rattle.policy_rules.specs.Select.{IsSelected, fits_select, least_fitting}
 use Rattle.policy_rules.specs.Sound.{Fits, IsSecured, IsSound, IsWellChannel}
 use Rattle.policy_rules.specs.State.{Effect, State}
 use Rattle.policy_rules.specs.Step.{Outcome, refusal_leaves}
+use Rattle.policy_rules.specs.StoreData.{StoreDataDoes, StoreDataFails, store_data_rules}
 use Rattle.policy_rules.specs.Volatile.{Channel, Nothing, Offered, Volatile, channel_at, first_volatile, fresh, load_of_others, with_standing, without_session}
 use Rattle.policy_rules.specs.declared.initialize_update.RuleIU.TheVariants.{IU3}
-use Rattle.policy_rules.specs.declared.instruction.TheConstants.{SELECT, MANAGE_CHANNEL, INITIALIZE_UPDATE, EXTERNAL_AUTHENTICATE, LOAD}
-use Rattle.policy_rules.specs.declared.rule.Rule.TheVariants.{PS, IU}
+use Rattle.policy_rules.specs.declared.instruction.TheConstants.{SELECT, MANAGE_CHANNEL, INITIALIZE_UPDATE, EXTERNAL_AUTHENTICATE, LOAD, PUT_KEY, STORE_DATA}
+use Rattle.policy_rules.specs.declared.put_key.RulePK.TheVariants.{PK4}
+use Rattle.policy_rules.specs.declared.store_data.RuleSD.TheVariants.{SD1}
+use Rattle.policy_rules.specs.declared.rule.Rule.TheVariants.{PS, IU, PK, SD}
 use Rattle.policy_rules.specs.declared.rule.RuleG.{RuleG}
 use Rattle.policy_rules.specs.declared.rule.RuleG.TheVariants.{G1, G2, G3, G4, G5, G6, G7, G8}
 use Rattle.policy_rules.specs.declared.rule.RulePS.TheVariants.{P, S}
 use Rattle.scp03_card.specs.Session.{answered}
+use Rattle.policy_rules.proofs.DeleteKeeps.{delete_keeps}
 use Rattle.policy_rules.proofs.FirstUnique.{none_fails}
-use Rattle.policy_rules.proofs.Instructed.{by_instruction, initialize_update_byte}
+use Rattle.policy_rules.proofs.Instructed.{by_instruction, instruction_byte}
 use Rattle.policy_rules.proofs.MakesOffer.{raised_ascending, raised_fits, set_raised_well, well_offer}
 use Rattle.policy_rules.proofs.Passing.{admitted_fits, admitted_loads, admitted_selected, channel_is_low, class_fits, domain_selected, either, placeless_fits}
+use Rattle.policy_rules.proofs.PutKeeps.{put_keeps}
+use Rattle.policy_rules.proofs.SameThings.{same_fits}
 use Rattle.policy_rules.proofs.SetChannel.{ended_fits, lowest_is_closed, set_fits}
 use Rattle.policy_rules.proofs.StandingSet.{offer_stands, secured_fits, standing_fits, unloaded_fits, within}
+use Rattle.policy_rules.proofs.StoreKeeps.{store_keeps}
 
 issuer_is_named : (registry : Registry) → (found : Option Entry) → MatchOption found ⊥ IsIssuerDomain → IsSome found
 issuer_is_named registry None issuer = absurd issuer
@@ -207,14 +217,53 @@ external_authenticate_keeps admitted done ready does =
     let fits = secured_fits registry volatile admitted.channel ready.sound.fits ready.low (answered does.offer does.level) stands in
     sound_with admitted.at done.state ready.sound does.registry (subst (Fits registry) (sym does.volatile) fits)
 
+fits_as : {registry other : Registry} {volatile another : Volatile} → registry ≡ other → volatile ≡ another → Fits registry volatile → Fits other another
+fits_as {registry} {other} {volatile} {another} same alike fits = subst (Fits other) alike (subst (λ (r : Registry). Fits r volatile) same fits)
+
+-- card content management is for a domain
+managed_apart : (ins byte : ℕ) → ins ≡ byte → 0xD8 ≤ byte → (ins ≢ SELECT) × (ins ≢ MANAGE_CHANNEL)
+managed_apart ins byte is high = ((λ same. absurd (omega arith)), (λ same. absurd (omega arith)))
+
+-- it changes neither entries nor Executable Load Files, and nothing that the channels hold
+put_key_keeps : (admitted : Admitted) (done : Effect) → IsReady admitted → admitted.command.ins ≡ PUT_KEY
+    → IsFirst (PutKeyFails admitted) put_key_rules None → PutKeyDoes admitted done → IsSound done.state
+put_key_keeps admitted done ready ins first does =
+    let apart = managed_apart admitted.command.ins PUT_KEY ins (omega arith) in
+    let registry = admitted.at.registry in
+    let kept = put_keeps admitted done ready.sound.well ready.sound.ascending (ready.domain apart.0 apart.1)
+    (none_fails (PutKeyFails admitted) put_key_rules (PK PK4) (7, omega arith, refl) first) does in
+    let fits = same_fits registry registry.life does.keys does.counters registry.objects admitted.at.volatile ready.sound.fits in
+    record { well = kept.0; ascending = kept.1; fits = fits_as (sym does.registry) (sym does.volatile) fits }
+
+store_data_keeps : (admitted : Admitted) (done : Effect) → IsReady admitted → admitted.command.ins ≡ STORE_DATA
+    → IsFirst (StoreDataFails admitted) store_data_rules None → StoreDataDoes admitted done → IsSound done.state
+store_data_keeps admitted done ready ins first does =
+    let apart = managed_apart admitted.command.ins STORE_DATA ins (omega arith) in
+    let registry = admitted.at.registry in
+    let kept = store_keeps admitted done ready.sound.well ready.sound.ascending (ready.domain apart.0 apart.1)
+    (none_fails (StoreDataFails admitted) store_data_rules (SD SD1) (4, omega arith, refl) first) does in
+    let fits = same_fits registry registry.life registry.keys registry.counters does.objects admitted.at.volatile ready.sound.fits in
+    record { well = kept.0; ascending = kept.1; fits = fits_as (sym does.registry) (sym does.volatile) fits }
+
+deletion_keeps : (admitted : Admitted) (done : Effect) → IsReady admitted → DeleteDoes admitted done → IsSound done.state
+deletion_keeps admitted done ready does =
+    let registry = admitted.at.registry in
+    let kept = delete_keeps admitted done ready.sound.well ready.sound.ascending does in
+    let fits = same_fits registry registry.life (keys_but (acting admitted) does.version registry.keys) (counters_but (acting admitted) does.version registry.counters)
+    registry.objects admitted.at.volatile ready.sound.fits in
+    record { well = kept.0; ascending = kept.1; fits = fits_as (sym does.registry) (sym does.volatile) fits }
+
 does_as_keeps : (admitted : Admitted) (done : Effect) → IsReady admitted → (instruction : Instruction) → instruction_of admitted.command.ins ≡ Some instruction
     → JudgesAs instruction admitted None → DoesAs instruction admitted done → IsSound done.state
 does_as_keeps admitted done ready Select is judges does = select_keeps admitted done admitted.command.body _ ready refl does
 does_as_keeps admitted done ready ManageChannel is judges does = manage_channel_keeps admitted done ready.sound judges does
 does_as_keeps admitted done ready GetData is judges does = subst IsSound (sym does.state) ready.sound
 does_as_keeps admitted done ready InitializeUpdate is judges does =
-    initialize_update_keeps admitted done ready (initialize_update_byte admitted.command.ins is) judges does
+    initialize_update_keeps admitted done ready (instruction_byte admitted.command.ins InitializeUpdate is) judges does
 does_as_keeps admitted done ready ExternalAuthenticate is judges does = external_authenticate_keeps admitted done ready does
+does_as_keeps admitted done ready PutKey is judges does = put_key_keeps admitted done ready (instruction_byte admitted.command.ins PutKey is) judges does
+does_as_keeps admitted done ready StoreData is judges does = store_data_keeps admitted done ready (instruction_byte admitted.command.ins StoreData is) judges does
+does_as_keeps admitted done ready Delete is judges does = deletion_keeps admitted done ready does
 
 does_keeps : (admitted : Admitted) (done : Effect) → IsReady admitted → Judges admitted None → Does admitted done → IsSound done.state
 does_keeps admitted done ready judges does =

@@ -1,6 +1,6 @@
 -- The offer that INITIALIZE UPDATE makes, and the registry with the counter one higher.
-use Rattle.std.proofs.Common.{◌≡◌, ◌≢◌, ℕ, ◌<◌, ◌≤◌, List, Bool, true, false, ◌==◌, ◌&&◌, Option, None, Some, refl, sym, subst, ◌∙◌, length, arith}
-use Rattle.std.specs.Prelude.{Contains, MatchOption, find, if◌then◌else◌}
+use Rattle.std.proofs.Common.{◌≡◌, ◌≢◌, ℕ, ◌<◌, ◌≤◌, List, Bool, true, false, ◌==◌, ◌&&◌, Some, refl, sym, subst, ◌∙◌, length, arith}
+use Rattle.std.specs.Prelude.{Contains, find, map, if◌then◌else◌}
 use Rattle.std.proofs.lemmas.Bool.{and_parts}
 use Rattle.std.proofs.lemmas.List.Elements.{All-contains}
 use Rattle.card_types.proofs.LeastOfList.{found_fits, names_sorted}
@@ -16,8 +16,9 @@ use Rattle.policy_rules.specs.Admission.{Admitted}
 use Rattle.policy_rules.specs.InitializeUpdate.{IsOfferOf}
 use Rattle.policy_rules.specs.KeySets.{set_counter}
 use Rattle.policy_rules.specs.Management.{acting}
-use Rattle.policy_rules.specs.Sound.{Fits, IsWellChannel, IsWellLoad, IsWellOffer}
-use Rattle.policy_rules.specs.Volatile.{Channel, LoadSession, Volatile, channel_at}
+use Rattle.policy_rules.specs.Sound.{Fits, IsWellOffer}
+use Rattle.policy_rules.specs.Volatile.{Volatile}
+use Rattle.policy_rules.proofs.SameThings.{same_fits}
 use Rattle.scp03_card.proofs.Lengths.{length-card_challenge}
 use Rattle.scp03_card.specs.Offer.{Offer}
 
@@ -74,31 +75,5 @@ module _ (registry : Registry) (owner : List ℕ) where
       objects = ascending.objects;
     }
 
-    channel_still : (channel : Option Channel) → MatchOption channel (Unit {0}) (IsWellChannel registry)
-        → MatchOption channel (Unit {0}) (IsWellChannel (raised registry owner version))
-    channel_still None well = tt
-    channel_still (Some channel) well = record { selected = well.selected; standing = well.standing }
-
-    load_still : (volatile : Volatile) (load : Option LoadSession) → MatchOption load (Unit {0}) (IsWellLoad registry volatile)
-        → MatchOption load (Unit {0}) (IsWellLoad (raised registry owner version) volatile)
-    load_still volatile None well = tt
-    load_still volatile (Some load) well = record {
-      session = well.session;
-      no_entry = well.no_entry;
-      no_file = well.no_file;
-      domain = well.domain;
-      hash = well.hash;
-      few_files = well.few_files;
-      few_blocks = well.few_blocks;
-      announced = well.announced;
-      within = well.within;
-      few_pages = well.few_pages;
-    }
-
     pub raised_fits : (volatile : Volatile) → Fits registry volatile → Fits (raised registry owner version) volatile
-    raised_fits volatile fits = record {
-      channels = fits.channels;
-      basic = fits.basic;
-      each = λ number. channel_still (channel_at volatile number) (fits.each number);
-      load = load_still volatile volatile.load fits.load;
-    }
+    raised_fits = same_fits registry registry.life registry.keys (map (raised_counter owner version) registry.counters) registry.objects

@@ -15,25 +15,32 @@ use Rattle.card_types.specs.declared.level.Level.TheVariants.{Mac, EncMac, MacR,
 use Rattle.policy_rules.specs.Admission.{Admits, Admitted, Bars, IsTaken, Leaves, Of, SessionEnds, admitted_as, class_passed, general_rules, placeless, session_for}
 use Rattle.policy_rules.specs.Classes.{IsPlainManagement, channel_of}
 use Rattle.policy_rules.specs.Commands.{Does, DoesAs, Judges, JudgesAs}
+use Rattle.policy_rules.specs.DeleteKey.{DeleteFails, delete_rules}
 use Rattle.policy_rules.specs.ExternalAuthenticate.{ExternalAuthenticateDoes, ExternalAuthenticateFails, external_authenticate_rules}
 use Rattle.policy_rules.specs.GetData.{GetDataDoes, GetDataFails, HasData, IsDataObject, IsSequenceCounter, get_data_rules, key_information, tag_of}
 use Rattle.policy_rules.specs.InitializeUpdate.{InitializeUpdateDoes, InitializeUpdateFails, IsOfferOf, initialize_update_rules, offer_body}
-use Rattle.policy_rules.specs.Instructions.{ExternalAuthenticate, GetData, InitializeUpdate, Instruction, ManageChannel, Select, instruction_of}
+use Rattle.policy_rules.specs.Instructions.{Delete, ExternalAuthenticate, GetData, InitializeUpdate, Instruction, ManageChannel, PutKey, Select, StoreData, instruction_of}
 use Rattle.policy_rules.specs.KeySets.{OwnsSets, UsesCounter, UsesSet, has_set, lowest_counter, set_counter}
 use Rattle.policy_rules.specs.Laws.{OneOutcome, OneRun}
 use Rattle.policy_rules.specs.Management.{acting}
 use Rattle.policy_rules.specs.ManageChannel.{IsClosed, IsClosedAlready, IsOpened, ManageChannelDoes, ManageChannelFails, manage_channel_rules}
+use Rattle.policy_rules.specs.PutKey.{PutKeyFails, put_key_rules}
 use Rattle.policy_rules.specs.Run.{Command, Reset, Run}
 use Rattle.policy_rules.specs.Select.{IsControlInformation, IsSelected, SelectFails, control_parts, select_rules}
 use Rattle.policy_rules.specs.State.{Effect, State, powered_on}
 use Rattle.policy_rules.specs.Step.{IsAccepted, IsBarred, IsRefused, Outcome, accepted, refusal_leaves, refused}
+use Rattle.policy_rules.specs.StoreData.{StoreDataFails, store_data_rules}
 use Rattle.policy_rules.specs.Volatile.{Channel, Offered, Secured, Volatile, with_standing, without_session}
 use Rattle.policy_rules.specs.declared.rule.Rule.{Rule}
 use Rattle.policy_rules.specs.declared.rule.Rule.TheVariants.{G}
 use Rattle.policy_rules.specs.declared.rule.RuleG.{RuleG}
 use Rattle.policy_rules.specs.declared.rule.RuleG.TheVariants.{G1, G2, G3, G4, G5, G6, G7, G8}
+use Rattle.policy_rules.proofs.DeletedOnce.{delete_one}
 use Rattle.policy_rules.proofs.FirstUnique.{one_first}
 use Rattle.policy_rules.proofs.Instructed.{by_instruction}
+use Rattle.policy_rules.proofs.PutOnce.{put_key_one}
+use Rattle.policy_rules.proofs.SameEffect.{effect_same, state_same}
+use Rattle.policy_rules.proofs.StoredOnce.{store_data_one}
 use Rattle.scp03_card.proofs.GivesLemmas.{opens_one}
 use Rattle.scp03_card.specs.Offer.{Offer, counter_bytes, offered}
 use Rattle.scp03_card.specs.Opens.{Opens, accepting}
@@ -104,6 +111,9 @@ judges_as_one admitted a b ManageChannel one other = one_first (ManageChannelFai
 judges_as_one admitted a b GetData one other = one_first (GetDataFails admitted) get_data_rules a b one other
 judges_as_one admitted a b InitializeUpdate one other = one_first (InitializeUpdateFails admitted) initialize_update_rules a b one other
 judges_as_one admitted a b ExternalAuthenticate one other = one_first (ExternalAuthenticateFails admitted) external_authenticate_rules a b one other
+judges_as_one admitted a b PutKey one other = one_first (PutKeyFails admitted) put_key_rules a b one other
+judges_as_one admitted a b StoreData one other = one_first (StoreDataFails admitted) store_data_rules a b one other
+judges_as_one admitted a b Delete one other = one_first (DeleteFails admitted) delete_rules a b one other
 
 pub judges_one : (admitted : Admitted) (a b : Option Rule) → Judges admitted a → Judges admitted b → a ≡ b
 judges_one admitted a b one other =
@@ -115,12 +125,6 @@ control_information_one aid a b one other =
     let parts = subst (λ (p : List ℕ). AreElements (control_parts aid p) one.template) proprietary one.parts in
     let template = one_spelling_each (control_parts aid other.proprietary) one.template other.template parts other.parts in
     one_spelling 0x6F other.template a b (subst (λ (t : List ℕ). Spelling 0x6F t a) template one.whole) other.whole
-
-effect_same : (a b : Effect) → a.state ≡ b.state → a.body ≡ b.body → a.status ≡ b.status → a ≡ b
-effect_same a b state body status = (λ i. record { state = state i; body = body i; status = status i })
-
-state_same : (a b : State) → a.registry ≡ b.registry → a.volatile ≡ b.volatile → a ≡ b
-state_same a b registry volatile = (λ i. record { registry = registry i; volatile = volatile i })
 
 select_one : (admitted : Admitted) (a b : Effect) (found : Option registry.Entry)
     → MatchOption found ⊥ (IsSelected admitted a) → MatchOption found ⊥ (IsSelected admitted b) → a ≡ b
@@ -256,6 +260,9 @@ does_as_one admitted a b ManageChannel one other = manage_channel_one admitted a
 does_as_one admitted a b GetData one other = get_data_one admitted a b one other
 does_as_one admitted a b InitializeUpdate one other = initialize_update_one admitted a b one other
 does_as_one admitted a b ExternalAuthenticate one other = external_authenticate_one admitted a b one other
+does_as_one admitted a b PutKey one other = put_key_one admitted a b one other
+does_as_one admitted a b StoreData one other = store_data_one admitted a b one other
+does_as_one admitted a b Delete one other = delete_one admitted a b one other
 
 does_one : (admitted : Admitted) (a b : Effect) → Does admitted a → Does admitted b → a ≡ b
 does_one admitted a b one other =

@@ -96,7 +96,7 @@ module _ (page : ℕ → List ℕ) (tables : Tables) (said : registry.Registry) 
   named key = key_of tables.entries.items key
 
   -- a key is the domain's by its slot exactly where it is by its AID
-  own_is : (slot : ℕ) (key : KeyRec) → held tables.keys.items slot ≡ Some key → (key.owner == owner) ≡ same_aid (named key).owner aid
+  pub own_is : (slot : ℕ) (key : KeyRec) → held tables.keys.items slot ≡ Some key → (key.owner == owner) ≡ same_aid (named key).owner aid
   own_is slot key here = both_ways (key.owner == owner) (same_aid (named key).owner aid)
       (λ is. (let same : key.owner ≡ owner = equal_is key.owner is in
       ap (λ (n : ℕ). same_aid (domain_aid tables.entries.items n) aid) same ∙ aid_same_itself aid))

@@ -1,7 +1,8 @@
 -- Which key sets a session uses, by slots and by names.
-use Rattle.std.proofs.Common.{◌≡◌, ℕ, zero, suc, Bool, true, false, cond, ◌&&◌, ◌||◌, List, [], ◌∷◌, Option, None, Some, refl, sym, ap, subst, ◌∙◌, inl, inr}
+use Rattle.std.proofs.Common.{◌≡◌, ℕ, Bool, true, false, cond, ◌&&◌, List, [], ◌∷◌, Option, None, Some, refl, sym, ap, subst, ◌∙◌, inl, inr}
 use Rattle.std.specs.Prelude.{find, map, is_some, ◌==◌}
 use Rattle.std.specs.Option.{option_map}
+use Rattle.std.proofs.lemmas.Bool.{false_from_ne_true}
 use Rattle.std.proofs.lemmas.Bool.Decides.{eqb_tells}
 use Rattle.card_types.proofs.DomainLines.{line_in_slots, line_named}
 use Rattle.card_types.proofs.Domains.{key_owner_is_used, used_from_step}
@@ -23,59 +24,20 @@ use Rattle.domain_tree.proofs.OnLine.{first_on_line, none_on_line}
 use Rattle.domain_tree.specs.Above.{IsFirstAbove, NoneAbove}
 use Rattle.policy_rules.specs.KeyOrder.{has_set_in, holds_counter_of, keeps_counter_of, keeps_counter_with, version_order}
 use Rattle.policy_rules.specs.KeySets.{OwnsSets, UsesSet, has_set, lowest_counter, set_counter}
+use Rattle.policy_rules.proofs.AnySlot.{passing_slot, slot_passes}
 use Rattle.policy_rules.proofs.OwnKeys.{lowest_named, lowest_unnamed, numbered_named, numbered_unnamed}
 
-or_true : (a b : Bool) → (a || b) ≡ true → (a ≡ true → ⊥) → b ≡ true
-or_true true b is none = absurd (none refl)
-or_true false b is none = is
-
-or_false : (a b : Bool) → (a || b) ≡ false → (a ≡ false) × (b ≡ false)
-or_false true b is = cc
-or_false false b is = (refl, is)
-
-or_first : (a b : Bool) → a ≡ true → (a || b) ≡ true
-or_first true b is = refl
-or_first false b is = cc
-
-or_second : (a b : Bool) → b ≡ true → (a || b) ≡ true
-or_second true b is = refl
-or_second false b is = is
-
 module _ (owner : ℕ) where
-  pub any_held : (keys : List (Option KeyRec)) (slot : ℕ) (key : KeyRec) → held keys slot ≡ Some key → keeps_counter_of owner key ≡ true
-      → has_set_in keys owner ≡ true
-  any_held [] slot key at keeps = cc
-  any_held (first ∷ keys) zero key at keeps =
-      or_first (holds_counter_of owner first) (has_set_in keys owner) (ap (holds_counter_of owner) at ∙ keeps)
-  any_held (first ∷ keys) (suc slot) key at keeps =
-      or_second (holds_counter_of owner first) (has_set_in keys owner) (any_held keys slot key at keeps)
-
   pub none_held : (keys : List (Option KeyRec)) → has_set_in keys owner ≡ false → NoneFits (keeps_counter_of owner) keys
-  none_held keys none slot key at keeps = (let some = any_held keys slot key at keeps in cc)
+  none_held keys none slot key at keeps = (let some = slot_passes (holds_counter_of owner) keys slot key at keeps in let clash = sym some ∙ none in cc)
 
   pub no_set : (keys : List (Option KeyRec)) → NoneFits (keeps_counter_of owner) keys → has_set_in keys owner ≡ false
-  no_set [] none = refl
-  no_set (first ∷ keys) none = by (holds_counter_of owner first) refl (no_set keys (λ slot key at. none (suc slot) key at))
-    where
-      holds : (o : Option KeyRec) → holds_counter_of owner o ≡ true → (key : KeyRec) × (o ≡ Some key) × (keeps_counter_of owner key ≡ true)
-      holds None is = cc
-      holds (Some key) is = (key, refl, is)
-
-      by : (b : Bool) → holds_counter_of owner first ≡ b → has_set_in keys owner ≡ false → (b || has_set_in keys owner) ≡ false
-      by true is rest = (let found = holds first is in absurd (none zero found.0 found.1 found.2))
-      by false is rest = rest
+  no_set keys none =
+      false_from_ne_true (has_set_in keys owner) (λ some. (let at = passing_slot (holds_counter_of owner) refl keys some in none at.0 at.1 at.2 at.3))
 
   pub a_set : (keys : List (Option KeyRec)) → has_set_in keys owner ≡ true
       → (slot : ℕ) × (key : KeyRec) × (held keys slot ≡ Some key) × (keeps_counter_of owner key ≡ true)
-  a_set [] has = cc
-  a_set (None ∷ keys) has = (let rest = a_set keys has in (suc rest.0, rest.1, rest.2, rest.3))
-  a_set (Some key ∷ keys) has = by (keeps_counter_of owner key) refl has (a_set keys)
-    where
-      by : (b : Bool) → keeps_counter_of owner key ≡ b → (b || has_set_in keys owner) ≡ true
-          → (has_set_in keys owner ≡ true → (slot : ℕ) × (k : KeyRec) × (held keys slot ≡ Some k) × (keeps_counter_of owner k ≡ true))
-          → (slot : ℕ) × (k : KeyRec) × (held (Some key ∷ keys) slot ≡ Some k) × (keeps_counter_of owner k ≡ true)
-      by true is has more = (zero, key, refl, is)
-      by false is has more = (let rest = more has in (suc rest.0, rest.1, rest.2, rest.3))
+  a_set keys has = passing_slot (holds_counter_of owner) refl keys has
 
 -- a domain with a key set has a key that keeps a counter
 pub not_none : {P : Type 0} (owner : ℕ) (keys : List (Option KeyRec)) → has_set_in keys owner ≡ true → NoneFits (keeps_counter_of owner) keys → P

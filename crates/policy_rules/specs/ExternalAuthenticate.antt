@@ -10,7 +10,7 @@ use Rattle.policy_rules.specs.Volatile.{Secured, offer_on, with_standing}
 use Rattle.policy_rules.specs.declared.external_authenticate.RuleEA.{RuleEA}
 use Rattle.policy_rules.specs.declared.external_authenticate.RuleEA.TheVariants.{EA1, EA2, EA3}
 use Rattle.policy_rules.specs.declared.rule.Rule.{Rule}
-use Rattle.policy_rules.specs.declared.rule.Rule.TheVariants.{G, PS, M, SE, MC, GD, IU, EA}
+use Rattle.policy_rules.specs.declared.rule.Rule.TheVariants.{G, PS, M, SE, MC, GD, IU, EA, PK, DK, SD}
 use Rattle.policy_rules.specs.declared.rule.RulePS.TheVariants.{P, S}
 
 -- P1 is a security level
@@ -56,6 +56,9 @@ ExternalAuthenticateFails admitted (SE rule) = ⊥
 ExternalAuthenticateFails admitted (MC rule) = ⊥
 ExternalAuthenticateFails admitted (GD rule) = ⊥
 ExternalAuthenticateFails admitted (IU rule) = ⊥
+ExternalAuthenticateFails admitted (PK rule) = ⊥
+ExternalAuthenticateFails admitted (DK rule) = ⊥
+ExternalAuthenticateFails admitted (SD rule) = ⊥
 
 -- The offer becomes a session at that level.
 pub record ExternalAuthenticateDoes (admitted : Admitted) (done : Effect) : Type 0 where

@@ -9,7 +9,7 @@ use Rattle.policy_rules.specs.KeySets.{UsesCounter}
 use Rattle.policy_rules.specs.State.{Effect}
 use Rattle.policy_rules.specs.Volatile.{selected_on}
 use Rattle.policy_rules.specs.declared.rule.Rule.{Rule}
-use Rattle.policy_rules.specs.declared.rule.Rule.TheVariants.{G, PS, M, SE, MC, GD, IU, EA}
+use Rattle.policy_rules.specs.declared.rule.Rule.TheVariants.{G, PS, M, SE, MC, GD, IU, EA, PK, DK, SD}
 use Rattle.policy_rules.specs.declared.rule.RulePS.TheVariants.{P, S}
 use Rattle.policy_rules.specs.declared.get_data.RuleGD.{RuleGD}
 use Rattle.policy_rules.specs.declared.get_data.RuleGD.TheVariants.{GD1}
@@ -70,6 +70,9 @@ GetDataFails admitted (IU rule) = ⊥
 GetDataFails admitted (EA rule) = ⊥
 GetDataFails admitted (SE rule) = ⊥
 GetDataFails admitted (MC rule) = ⊥
+GetDataFails admitted (PK rule) = ⊥
+GetDataFails admitted (DK rule) = ⊥
+GetDataFails admitted (SD rule) = ⊥
 
 -- GET DATA answers the data as an element, and changes nothing
 pub record GetDataDoes (admitted : Admitted) (done : Effect) : Type 0 where

@@ -15,7 +15,7 @@ use Rattle.policy_rules.specs.declared.initialize_update.RuleIU.{RuleIU}
 use Rattle.policy_rules.specs.declared.initialize_update.RuleIU.TheVariants.{IU1, IU2, IU3}
 use Rattle.policy_rules.specs.declared.management.RuleM.TheVariants.{M2}
 use Rattle.policy_rules.specs.declared.rule.Rule.{Rule}
-use Rattle.policy_rules.specs.declared.rule.Rule.TheVariants.{G, PS, M, SE, MC, GD, IU, EA}
+use Rattle.policy_rules.specs.declared.rule.Rule.TheVariants.{G, PS, M, SE, MC, GD, IU, EA, PK, DK, SD}
 use Rattle.policy_rules.specs.declared.rule.RulePS.TheVariants.{P, S}
 
 -- P1 is the key version number, of any value
@@ -62,6 +62,9 @@ InitializeUpdateFails admitted (SE rule) = ⊥
 InitializeUpdateFails admitted (MC rule) = ⊥
 InitializeUpdateFails admitted (GD rule) = ⊥
 InitializeUpdateFails admitted (EA rule) = ⊥
+InitializeUpdateFails admitted (PK rule) = ⊥
+InitializeUpdateFails admitted (DK rule) = ⊥
+InitializeUpdateFails admitted (SD rule) = ⊥
 
 -- the key diversification data of a domain: its data object CF, or ten 00
 abbrev pub diversification_of : Option Object → List ℕ

@@ -1,6 +1,6 @@
 -- The instructions, as far as they are built.
 use Rattle.std.specs.Prelude.{ℕ, Option, None, Some, if◌then◌else◌, ◌==◌}
-use Rattle.policy_rules.specs.declared.instruction.TheConstants.{SELECT, MANAGE_CHANNEL, GET_DATA, INITIALIZE_UPDATE, EXTERNAL_AUTHENTICATE}
+use Rattle.policy_rules.specs.declared.instruction.TheConstants.{SELECT, MANAGE_CHANNEL, GET_DATA, INITIALIZE_UPDATE, EXTERNAL_AUTHENTICATE, PUT_KEY, STORE_DATA, DELETE}
 
 pub data Instruction : Type 0 where
   Select : Instruction
@@ -8,6 +8,9 @@ pub data Instruction : Type 0 where
   GetData : Instruction
   InitializeUpdate : Instruction
   ExternalAuthenticate : Instruction
+  PutKey : Instruction
+  StoreData : Instruction
+  Delete : Instruction
 
 -- the instruction of an instruction byte
 abbrev pub instruction_of : ℕ → Option Instruction
@@ -17,4 +20,7 @@ instruction_of ins =
     else if ins == GET_DATA then Some GetData
     else if ins == INITIALIZE_UPDATE then Some InitializeUpdate
     else if ins == EXTERNAL_AUTHENTICATE then Some ExternalAuthenticate
+    else if ins == PUT_KEY then Some PutKey
+    else if ins == STORE_DATA then Some StoreData
+    else if ins == DELETE then Some Delete
     else None

@@ -1,5 +1,5 @@
 -- The keys of a domain in their slots, in ascending order of key version number and key identifier.
-use Rattle.std.specs.Prelude.{ℕ, Bool, true, false, ◌&&◌, ◌==◌, List, Option, None, Some, nat_lt}
+use Rattle.std.specs.Prelude.{ℕ, Bool, true, false, ◌&&◌, ◌==◌, List, Option, None, Some, not, nat_lt}
 use Rattle.std.specs.List.{list_any}
 use Rattle.std.specs.Ordering.{is_lt, nat_cmp, ordering_then}
 use Rattle.std.specs.declared.cmp.Ordering.{Ordering}
@@ -36,3 +36,8 @@ holds_counter_of owner (Some key) = keeps_counter_of owner key
 -- the domain in a slot has a key set
 abbrev pub has_set_in : List (Option KeyRec) → ℕ → Bool
 has_set_in keys owner = list_any (holds_counter_of owner) keys
+
+-- the slot holds a key that keeps the counter of a key set of the domain with another key version number
+abbrev pub holds_counter_but : ℕ → ℕ → Option KeyRec → Bool
+holds_counter_but owner version None = false
+holds_counter_but owner version (Some key) = keeps_counter_of owner key && not (key.version == version)

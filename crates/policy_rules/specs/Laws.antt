@@ -4,6 +4,7 @@ use Rattle.card_types.specs.Ascending.{IsAscending}
 use Rattle.card_types.specs.Registry.{Registry}
 use Rattle.card_types.specs.Well.{Well}
 use Rattle.policy_rules.specs.Admission.{Of}
+use Rattle.policy_rules.specs.Changes.{Changes, OpensInSession}
 use Rattle.policy_rules.specs.Classes.{channel_of}
 use Rattle.policy_rules.specs.Run.{Input, Run}
 use Rattle.policy_rules.specs.Sound.{IsSound}
@@ -11,7 +12,7 @@ use Rattle.policy_rules.specs.State.{State, powered_on}
 use Rattle.policy_rules.specs.Step.{Outcome, Step}
 use Rattle.policy_rules.specs.Volatile.{offer_on}
 use Rattle.policy_rules.specs.declared.rule.Rule.{Rule}
-use Rattle.policy_rules.specs.declared.rule.Rule.TheVariants.{G, PS, M, SE, MC, GD, IU, EA}
+use Rattle.policy_rules.specs.declared.rule.Rule.TheVariants.{G, PS, M, SE, MC, GD, IU, EA, PK, DK, SD}
 use Rattle.policy_rules.specs.declared.rule.RuleG.TheVariants.{G1, G2, G3, G4, G5, G6, G7, G8}
 
 -- a card that is powered on is sound
@@ -32,6 +33,12 @@ OneRun =
     (state : State) (inputs : List Input) (some others : List Outcome) (last another : State)
     → Run state inputs some last → Run state inputs others another → (some ≡ others) × (last ≡ another)
 
+-- more than a sequence counter is changed by a command alone that no rule refuses, and that opens in a session
+abbrev pub ChangesAreOpened : Type 0
+ChangesAreOpened =
+    (state : State) (bytes : List ℕ) (outcome : Outcome) → Step state bytes outcome → Changes state.registry outcome.state.registry
+    → (outcome.rule ≡ None) × OpensInSession state bytes
+
 -- the rules behind the checks of class, channel and instruction
 abbrev pub is_later : Rule → Bool
 is_later (G G1) = false
@@ -49,6 +56,9 @@ is_later (GD rule) = true
 is_later (M rule) = true
 is_later (IU rule) = true
 is_later (EA rule) = true
+is_later (PK rule) = true
+is_later (DK rule) = true
+is_later (SD rule) = true
 
 -- a command that a later rule refuses leaves no offer on its channel
 abbrev pub RefusalsDropOffers : Type 0

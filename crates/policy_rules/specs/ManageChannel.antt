@@ -6,7 +6,7 @@ use Rattle.policy_rules.specs.Admission.{Admitted}
 use Rattle.policy_rules.specs.State.{Effect}
 use Rattle.policy_rules.specs.Volatile.{Channel, channel_at, fresh, with_channel, without_channel}
 use Rattle.policy_rules.specs.declared.rule.Rule.{Rule}
-use Rattle.policy_rules.specs.declared.rule.Rule.TheVariants.{G, PS, M, SE, MC, GD, IU, EA}
+use Rattle.policy_rules.specs.declared.rule.Rule.TheVariants.{G, PS, M, SE, MC, GD, IU, EA, PK, DK, SD}
 use Rattle.policy_rules.specs.declared.rule.RulePS.TheVariants.{P, S}
 use Rattle.policy_rules.specs.declared.manage_channel.RuleMC.{RuleMC}
 use Rattle.policy_rules.specs.declared.manage_channel.RuleMC.TheVariants.{MC1}
@@ -45,6 +45,9 @@ ManageChannelFails admitted (IU rule) = ⊥
 ManageChannelFails admitted (EA rule) = ⊥
 ManageChannelFails admitted (SE rule) = ⊥
 ManageChannelFails admitted (GD rule) = ⊥
+ManageChannelFails admitted (PK rule) = ⊥
+ManageChannelFails admitted (DK rule) = ⊥
+ManageChannelFails admitted (SD rule) = ⊥
 
 -- The channel is opened, and its number answered.
 abbrev pub IsOpened : Admitted → Effect → ℕ → Type 0

@@ -2,14 +2,17 @@
 use Rattle.std.specs.Prelude.{◌≡◌, ℕ, List, true, MatchOption, codes}
 use Rattle.card_types.specs.Registry.{entry_named}
 use Rattle.policy_rules.specs.Admission.{Admitted}
+use Rattle.policy_rules.specs.Select.{is_card_locked}
 use Rattle.policy_rules.specs.Volatile.{selected_on}
 use Rattle.policy_rules.specs.declared.management.RuleM.{RuleM}
-use Rattle.policy_rules.specs.declared.management.RuleM.TheVariants.{M2}
+use Rattle.policy_rules.specs.declared.management.RuleM.TheVariants.{M1, M2}
 
 abbrev pub management_rule_name : RuleM → List ℕ
+management_rule_name M1 = codes "M1"
 management_rule_name M2 = codes "M2"
 
 abbrev pub management_rule_status : RuleM → ℕ
+management_rule_status M1 = 0x6985
 management_rule_status M2 = 0x6985
 
 -- the security domain that the command acts for: the one that is selected on its channel
@@ -17,5 +20,7 @@ abbrev pub acting : Admitted → List ℕ
 acting admitted = selected_on admitted.at.volatile admitted.channel
 
 abbrev pub ManagementFails : Admitted → RuleM → Type 0
+-- the card is locked
+ManagementFails admitted M1 = is_card_locked admitted.at.registry.life ≡ true
 -- the domain is locked
 ManagementFails admitted M2 = MatchOption (entry_named admitted.at.registry (acting admitted)) ⊥ (λ entry. entry.life.locked ≡ true)

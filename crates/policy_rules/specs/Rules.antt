@@ -1,14 +1,17 @@
 -- The rules of the policy: for each its name and its status word (ISO/IEC 7816-4:2013, 5.6). Those of a command stand with
 -- the command.
 use Rattle.std.specs.Prelude.{ℕ, List, codes}
+use Rattle.policy_rules.specs.DeleteKey.{delete_key_rule_name, delete_key_rule_status}
 use Rattle.policy_rules.specs.ExternalAuthenticate.{external_authenticate_rule_name, external_authenticate_rule_status}
 use Rattle.policy_rules.specs.GetData.{get_data_rule_name, get_data_rule_status}
 use Rattle.policy_rules.specs.InitializeUpdate.{initialize_update_rule_name, initialize_update_rule_status}
 use Rattle.policy_rules.specs.ManageChannel.{manage_channel_rule_name, manage_channel_rule_status}
 use Rattle.policy_rules.specs.Management.{management_rule_name, management_rule_status}
+use Rattle.policy_rules.specs.PutKey.{put_key_rule_name, put_key_rule_status}
 use Rattle.policy_rules.specs.Select.{select_rule_name, select_rule_status}
+use Rattle.policy_rules.specs.StoreData.{store_data_rule_name, store_data_rule_status}
 use Rattle.policy_rules.specs.declared.rule.Rule.{Rule}
-use Rattle.policy_rules.specs.declared.rule.Rule.TheVariants.{G, PS, M, SE, MC, GD, IU, EA}
+use Rattle.policy_rules.specs.declared.rule.Rule.TheVariants.{G, PS, M, SE, MC, GD, IU, EA, PK, DK, SD}
 use Rattle.policy_rules.specs.declared.rule.RuleG.TheVariants.{G1, G2, G3, G4, G5, G6, G7, G8}
 use Rattle.policy_rules.specs.declared.rule.RulePS.TheVariants.{P, S}
 
@@ -29,6 +32,9 @@ name_of (MC rule) = manage_channel_rule_name rule
 name_of (GD rule) = get_data_rule_name rule
 name_of (IU rule) = initialize_update_rule_name rule
 name_of (EA rule) = external_authenticate_rule_name rule
+name_of (PK rule) = put_key_rule_name rule
+name_of (DK rule) = delete_key_rule_name rule
+name_of (SD rule) = store_data_rule_name rule
 
 abbrev pub status_of : Rule → ℕ
 status_of (G G1) = 0x6700
@@ -47,3 +53,6 @@ status_of (MC rule) = manage_channel_rule_status rule
 status_of (GD rule) = get_data_rule_status rule
 status_of (IU rule) = initialize_update_rule_status rule
 status_of (EA rule) = external_authenticate_rule_status rule
+status_of (PK rule) = put_key_rule_status rule
+status_of (DK rule) = delete_key_rule_status rule
+status_of (SD rule) = store_data_rule_status rule

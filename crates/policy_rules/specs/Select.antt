@@ -14,7 +14,7 @@ use Rattle.policy_rules.specs.Admission.{Admitted}
 use Rattle.policy_rules.specs.State.{Effect}
 use Rattle.policy_rules.specs.Volatile.{with_selected}
 use Rattle.policy_rules.specs.declared.rule.Rule.{Rule}
-use Rattle.policy_rules.specs.declared.rule.Rule.TheVariants.{G, PS, M, SE, MC, GD, IU, EA}
+use Rattle.policy_rules.specs.declared.rule.Rule.TheVariants.{G, PS, M, SE, MC, GD, IU, EA, PK, DK, SD}
 use Rattle.policy_rules.specs.declared.rule.RulePS.TheVariants.{P, S}
 use Rattle.policy_rules.specs.declared.select.RuleSE.{RuleSE}
 use Rattle.policy_rules.specs.declared.select.RuleSE.TheVariants.{SE1}
@@ -75,6 +75,9 @@ SelectFails admitted (IU rule) = ⊥
 SelectFails admitted (EA rule) = ⊥
 SelectFails admitted (MC rule) = ⊥
 SelectFails admitted (GD rule) = ⊥
+SelectFails admitted (PK rule) = ⊥
+SelectFails admitted (DK rule) = ⊥
+SelectFails admitted (SD rule) = ⊥
 
 -- the parts of the file control information: the AID, and the proprietary data
 abbrev pub control_parts : (aid proprietary : List ℕ) → List Element

@@ -1,10 +1,12 @@
 //! Class bytes (ISO/IEC 7816-4:2013, 5.4; GlobalPlatform Card Specification 2.3.1, 11.1.4).
 
 ghost use Rattle.std.specs.Prelude.{◌≡◌, ◌↔◌, IsTrue, Contains, Some};
-ghost use Rattle.policy_rules.specs.Classes.{class_of as class_of_byte, channel_of as channel_of_byte, instructions_of, protects};
+ghost use Rattle.policy_rules.specs.Classes.{class_of as class_of_byte, channel_of as channel_of_byte, instructions_of, management, protects};
+ghost use Rattle.policy_rules.specs.declared.class.Class.TheVariants.{Plain as ThePlain};
 
 use crate::instruction::{
-    EXTERNAL_AUTHENTICATE, GET_DATA, INITIALIZE_UPDATE, MANAGE_CHANNEL, SELECT,
+    DELETE, EXTERNAL_AUTHENTICATE, GET_DATA, GET_STATUS, INITIALIZE_UPDATE, INSTALL, LOAD,
+    MANAGE_CHANNEL, PUT_KEY, SELECT, SET_STATUS, STORE_DATA,
 };
 
 /// The classes that a card takes.
@@ -17,6 +19,17 @@ pub enum Class {
     /// 84 to 87, with secure messaging.
     Secure,
 }
+
+const INTERINDUSTRY: [u8; 3] = [SELECT, MANAGE_CHANNEL, GET_DATA];
+
+const PLAIN: [u8; 5] = [GET_DATA, INITIALIZE_UPDATE, PUT_KEY, STORE_DATA, DELETE];
+
+const SECURE: [u8; 5] = [EXTERNAL_AUTHENTICATE, GET_DATA, PUT_KEY, STORE_DATA, DELETE];
+
+/// The instructions of card content management. Some of them no class has yet.
+const MANAGEMENT: [u8; 7] = [
+    DELETE, INSTALL, LOAD, PUT_KEY, STORE_DATA, SET_STATUS, GET_STATUS,
+];
 
 impl Class {
     /// The class of a class byte.
@@ -36,11 +49,18 @@ impl Class {
         ensures { IsTrue result ↔ Contains (instructions_of self) ins }
     {
         match self {
-            Class::Interindustry => ins == SELECT || ins == MANAGE_CHANNEL || ins == GET_DATA,
-            Class::Plain => ins == GET_DATA || ins == INITIALIZE_UPDATE,
-            Class::Secure => ins == EXTERNAL_AUTHENTICATE || ins == GET_DATA,
+            Class::Interindustry => INTERINDUSTRY.contains(&ins),
+            Class::Plain => PLAIN.contains(&ins),
+            Class::Secure => SECURE.contains(&ins),
         }
     }
+}
+
+/// Whether it is card content management outside of secure messaging, which no card takes.
+pub fn is_plain_management(class: Class, ins: u8) -> bool
+    ensures { IsTrue result ↔ ((class ≡ ThePlain) × Contains management ins) }
+{
+    class == Class::Plain && MANAGEMENT.contains(&ins)
 }
 
 /// Whether a command of this class and instruction is protected by the session of its channel.

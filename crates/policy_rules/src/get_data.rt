@@ -16,9 +16,9 @@ ghost use Rattle.policy_rules.specs.Means.{Parses};
 ghost use Rattle.policy_rules.specs.declared.instruction.TheConstants.{GET_DATA};
 
 use crate::key_order::next_key;
-use crate::key_sets::session_set;
 use crate::request::Request;
 use crate::rule::{Rule, RulePS};
+use crate::session_sets::session_set;
 use apdu_core::Status;
 use card_types::{KeyRec, Object, Search, Tables, least};
 

@@ -19,11 +19,11 @@ ghost use Rattle.policy_rules.specs.Means.{Parses};
 ghost use Rattle.policy_rules.specs.Select.{is_card_locked};
 ghost use Rattle.policy_rules.specs.declared.instruction.TheConstants.{INITIALIZE_UPDATE};
 
-use crate::key_sets::session_set;
 use crate::management::RuleM;
 use crate::request::Request;
 use crate::rule::{Rule, RulePS};
 use crate::select::is_issuer;
+use crate::session_sets::session_set;
 use apdu_core::Status;
 use card_types::{Aid, COUNTER_LIMIT, CardLife, InSlot, KeyRec, Tables, in_slot};
 

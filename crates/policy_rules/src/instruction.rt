@@ -12,3 +12,18 @@ pub const EXTERNAL_AUTHENTICATE: u8 = 0x82;
 
 /// No class has it yet.
 pub const LOAD: u8 = 0xE8;
+
+pub const PUT_KEY: u8 = 0xD8;
+
+pub const STORE_DATA: u8 = 0xE2;
+
+pub const DELETE: u8 = 0xE4;
+
+/// No class has it yet.
+pub const INSTALL: u8 = 0xE6;
+
+/// No class has it yet.
+pub const SET_STATUS: u8 = 0xF0;
+
+/// No class has it yet.
+pub const GET_STATUS: u8 = 0xF2;

@@ -1,6 +1,6 @@
 //! The laws of the policy machine, as functions that do nothing when they run.
 
-ghost use Rattle.policy_rules.specs.Laws.{OneOutcome, OneRun, RefusalsDropOffers, StartsSound, StepsKeepSound};
+ghost use Rattle.policy_rules.specs.Laws.{ChangesAreOpened, OneOutcome, OneRun, RefusalsDropOffers, StartsSound, StepsKeepSound};
 
 /// A card that is powered on is sound, and each step keeps it so.
 pub fn steps_keep_sound()
@@ -17,4 +17,10 @@ pub fn one_outcome()
 /// A command that is refused behind the checks of class, channel and instruction leaves no offer on its channel.
 pub fn refusals_drop_offers()
     ensures { RefusalsDropOffers }
+{}
+
+/// Whatever changes more than a sequence counter is a command with secure messaging that opens in the session of its channel, and
+/// that no rule refuses.
+pub fn changes_are_opened()
+    ensures { ChangesAreOpened }
 {}

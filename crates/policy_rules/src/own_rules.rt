@@ -6,33 +6,39 @@ ghost use Rattle.card_types.specs.InOrder.{IsInOrder};
 ghost use Rattle.policy_rules.specs.Admission.{Admitted};
 ghost use Rattle.policy_rules.specs.Commands.{Judges};
 ghost use Rattle.policy_rules.specs.Means.{IsMeant, IsRequestOf, Says};
+ghost use Rattle.policy_rules.specs.PutKey.{SaysChecks};
 ghost use Rattle.policy_rules.specs.Sound.{IsSound};
-ghost use Rattle.policy_rules.specs.declared.instruction.TheConstants.{EXTERNAL_AUTHENTICATE};
+ghost use Rattle.policy_rules.specs.declared.instruction.TheConstants.{EXTERNAL_AUTHENTICATE, PUT_KEY};
 
+use crate::delete_key::judge_delete_key;
 use crate::get_data::judge_get_data;
 use crate::initialize_update::judge_initialize_update;
 use crate::live::{CHANNELS, Live};
 use crate::manage_channel::judge_more_channel;
+use crate::put_key::judge_put_key;
 use crate::request::Request;
 use crate::rule::Rule;
 use crate::select::judge_select;
+use crate::store_data::judge_store_data;
 use card_types::Tables;
 
-/// The first of a well-formed command's own rules that fails, or none. Whether check values of keys fit is not read yet.
+/// The first of a well-formed command's own rules that fails, or none. Whether the check values of PUT KEY fit is told by the
+/// caller, who has the Key-DEK; of other commands it is not read.
 /// Of EXTERNAL AUTHENTICATE the answer is none, since its rules need the keys of the offer.
 pub fn judge(
     tables: &Tables,
     live: &Live,
     channel: u8,
     request: &Request<'_>,
-    _checks_fit: bool,
+    checks_fit: bool,
 ) -> Option<Rule>
     requires in_order { IsInOrder tables.now }
     requires channel { channel < CHANNELS }
     requires opened { IsSome (slice_index_or live.now.selected channel None) }
     requires meant { IsMeant request.now }
     ensures judged { (page : ℕ → List ℕ) (admitted : Admitted) → Says page tables.now live.now admitted.at → IsSound admitted.at → channel ≡ admitted.channel
-        → IsRequestOf request.now admitted.command → admitted.command.ins ≢ EXTERNAL_AUTHENTICATE → Judges admitted result }
+        → IsRequestOf request.now admitted.command → admitted.command.ins ≢ EXTERNAL_AUTHENTICATE
+        → (admitted.command.ins ≡ PUT_KEY → SaysChecks checks_fit admitted) → Judges admitted result }
     ensures elsewhere { (command : Apdu) → IsRequestOf request.now command → command.ins ≡ EXTERNAL_AUTHENTICATE → result ≡ None }
 {
     match request {
@@ -60,5 +66,24 @@ pub fn judge(
             }
         }
         Request::Authenticate { .. } => None,
+        Request::PutKey {
+            replaced,
+            version,
+            keys,
+        } => {
+            let domain = live.selected[usize::from(channel)].unwrap();
+            judge_put_key(tables, domain, *replaced, *version, keys, checks_fit).err()
+        }
+        Request::Store { objects } => {
+            let domain = live.selected[usize::from(channel)].unwrap();
+            judge_store_data(tables, domain, objects).err()
+        }
+        Request::DeleteKey {
+            version,
+            identifier,
+        } => {
+            let domain = live.selected[usize::from(channel)].unwrap();
+            judge_delete_key(tables, domain, *version, *identifier).err()
+        }
     }
 }

@@ -5,37 +5,69 @@ ghost use Rattle.policy_rules.specs.Instructions.{instruction_of};
 ghost use Rattle.policy_rules.specs.Commands.{HasParameters, HasDataField};
 ghost use Rattle.policy_rules.specs.Means.{IsMalformed, Means};
 
+use crate::delete_key::parse_delete;
 use crate::external_authenticate::parse_external_authenticate;
 use crate::get_data::parse_get_data;
 use crate::initialize_update::parse_initialize_update;
-use crate::instruction::{GET_DATA, INITIALIZE_UPDATE, MANAGE_CHANNEL, SELECT};
+use crate::instruction::{
+    DELETE, GET_DATA, INITIALIZE_UPDATE, MANAGE_CHANNEL, PUT_KEY, SELECT, STORE_DATA,
+};
 use crate::manage_channel::parse_manage_channel;
+use crate::put_key::{PutKeys, parse_put_key};
 use crate::rule::Rule;
 use crate::select::parse_select;
+use crate::store_data::parse_store_data;
 use card_types::Level;
 
 /// The fields of a well-formed command.
 #[derive(Clone, Copy, Debug)]
 pub enum Request<'a> {
     /// SELECT of the entry whose AID begins so.
-    Select { partial: &'a [u8] },
+    Select {
+        partial: &'a [u8],
+    },
     /// MANAGE CHANNEL that opens a channel.
     MoreChannel,
     /// MANAGE CHANNEL that closes a channel.
-    LessChannel { number: u8 },
+    LessChannel {
+        number: u8,
+    },
     /// GET DATA of a tag.
-    Get { tag: u16 },
+    Get {
+        tag: u16,
+    },
     /// INITIALIZE UPDATE with the key set of this key version number, or with any for 00.
-    Initialize { version: u8, challenge: &'a [u8] },
+    Initialize {
+        version: u8,
+        challenge: &'a [u8],
+    },
     /// EXTERNAL AUTHENTICATE at a security level: the host cryptogram and the C-MAC.
-    Authenticate { level: Level, proof: &'a [u8] },
+    Authenticate {
+        level: Level,
+        proof: &'a [u8],
+    },
+    /// PUT KEY in the place of the keys with a key version number, or of none for 00.
+    PutKey {
+        replaced: u8,
+        version: u8,
+        keys: PutKeys<'a>,
+    },
+    /// STORE DATA of data objects, one after the other.
+    Store {
+        objects: &'a [u8],
+    },
+    /// DELETE of the keys with a key version number, or of the one with this key identifier.
+    DeleteKey {
+        version: u8,
+        identifier: Option<u8>,
+    },
 }
 
 /// The request of a command, or the first of the rules on its form that fails.
 pub fn parse(ins: u8, p1: u8, p2: u8, body: &[u8]) -> Result<Request<'_>, Rule>
     requires { IsSome (instruction_of ins) }
     ensures parameters { IfOk result (λ request. HasParameters ins p1 p2) }
-    ensures data_field { IfOk result (λ request. HasDataField ins body.now) }
+    ensures data_field { IfOk result (λ request. HasDataField ins p2 body.now) }
     ensures means { IfOk result (λ request. Means request ins p1 p2 body.now) }
     ensures refused { IfErr result (IsMalformed ins p1 p2 body.now) }
 {
@@ -44,6 +76,9 @@ pub fn parse(ins: u8, p1: u8, p2: u8, body: &[u8]) -> Result<Request<'_>, Rule>
         MANAGE_CHANNEL => parse_manage_channel(p1, p2, body),
         GET_DATA => parse_get_data(p1, p2, body),
         INITIALIZE_UPDATE => parse_initialize_update(p1, p2, body),
+        PUT_KEY => parse_put_key(p1, p2, body),
+        STORE_DATA => parse_store_data(p1, p2, body),
+        DELETE => parse_delete(p1, p2, body),
         _ => parse_external_authenticate(p1, p2, body),
     }
 }

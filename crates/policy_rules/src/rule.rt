@@ -3,12 +3,15 @@
 ghost use Rattle.std.specs.Prelude.{◌≡◌};
 ghost use Rattle.policy_rules.specs.Rules.{name_of, status_of};
 
+use crate::delete_key::RuleDK;
 use crate::external_authenticate::RuleEA;
 use crate::get_data::RuleGD;
 use crate::initialize_update::RuleIU;
 use crate::manage_channel::RuleMC;
 use crate::management::RuleM;
+use crate::put_key::RulePK;
 use crate::select::RuleSE;
+use crate::store_data::RuleSD;
 use apdu_core::Status;
 
 /// A rule of the policy, by its group. The rules of a command stand with the command.
@@ -22,6 +25,9 @@ pub enum Rule {
     GD(RuleGD),
     IU(RuleIU),
     EA(RuleEA),
+    PK(RulePK),
+    DK(RuleDK),
+    SD(RuleSD),
 }
 
 /// The rules that every command passes first.
@@ -76,6 +82,9 @@ impl Rule {
             Rule::GD(rule) => rule.status(),
             Rule::IU(rule) => rule.status(),
             Rule::EA(rule) => rule.status(),
+            Rule::PK(rule) => rule.status(),
+            Rule::DK(rule) => rule.status(),
+            Rule::SD(rule) => rule.status(),
         }
     }
 
@@ -100,6 +109,9 @@ impl Rule {
             Rule::GD(rule) => rule.name(),
             Rule::IU(rule) => rule.name(),
             Rule::EA(rule) => rule.name(),
+            Rule::PK(rule) => rule.name(),
+            Rule::DK(rule) => rule.name(),
+            Rule::SD(rule) => rule.name(),
         }
     }
 }

@@ -1,4 +1,4 @@
-use Rattle.std.proofs.Common.{◌≡◌, ℕ, List, true, false, None, Some, Err, refl, sym, ap, subst, ◌∙◌}
+use Rattle.std.proofs.Common.{◌≡◌, ℕ, ◌<◌, List, true, false, None, Some, Err, refl, sym, ap, subst, ◌∙◌}
 use Rattle.std.specs.Prelude.{slice_index_or, slice_set, take}
 use Rattle.std.proofs.lemmas.List.{length-set, set-get_or}
 use Rattle.scp03_card.specs.Opens.{Opens, accepting}
@@ -11,9 +11,10 @@ use Rattle.policy_rules.proofs.Passing.{channel_is_low}
 use Rattle.policy_rules.specs.Classes.{channel_of, class_of}
 use Rattle.policy_rules.specs.Volatile.{Secured, Standing, channel_at, standing_of}
 use Rattle.policy_rules.specs.Means.{Says}
-use Rattle.card_core.proofs.Passed.{goes_on, holds_passed, opened_so, opened_stands, over_served, passed_as, passed_held, passed_there, placed, plain_stands, protects_so, read_at, refused_served, session_of, written_at}
-use Rattle.card_core.proofs.Serving.{admits_opened, admits_plain, barred, carried_out, protected_gets}
-use Rattle.card_core.specs.Holds.{HoldsAs, without_offer_held}
+use Rattle.policy_rules.specs.declared.live.TheConstants.{CHANNELS}
+use Rattle.card_core.proofs.Passed.{goes_on, holds_passed, managed_served, opened_so, opened_stands, over_served, passed_as, passed_held, passed_there, placed, plain_stands, protects_so, read_at, refused_served, session_of, written_at}
+use Rattle.card_core.proofs.Serving.{admits_opened, admits_plain, barred, carried_out, is_managed, not_managed, protected_one, unprotected_unmanaged}
+use Rattle.card_core.specs.Holds.{HoldsAs, IsInSession, without_offer_held}
 use Rattle.card_core.specs.Secured.{OpensAs}
 use Rattle.card_core.specs.Serves.{IsOver, Serves}
 use Rattle.card_core.specs.declared.held.Held.{Held}
@@ -41,7 +42,29 @@ returns-in-Err-pass_class-clause-served g c = λ page state stands.
     (c.close_plain-in-Err-pass_class.ensures.closed ∙ rw (c.requires.empty, over.0) refl) in
     rw (c.close_plain-in-Err-pass_class.ensures.rule, over.0, lost, c.from-channel.ensures, c.in-Ok.ensures.channel) served
 
--- a command in plain
+-- card content management in plain
+pub returns-then-is_plain_management-clause-served : goal.returns-then-is_plain_management-clause-served
+returns-then-is_plain_management-clause-served g c = λ page state stands.
+    let command : Apdu = apdu_of c.in-Ok.admitted.command in
+    let here = c.from-channel.ensures ∙ c.in-Ok.ensures.channel in
+    let passed = passed_as c.args.held.now c.told-held command c.from-channel.result c.index-held-channel.result c.pass_class.new.held here c.in_default.ensures.kept in
+    let front = c.in-Ok.ensures.passed page state (subst (λ t. Says page t c.args.live.now state) (sym c.tables.ensures.tables) stands.shows.says) in
+    let not_over = goes_on page c.args.records.now.tables c.args.live.now c.args.held.now state stands c.told-held command c.in-Ok.admitted.class (subst (λ t. IsOver t.life c.in-Ok.admitted.class c.in-Ok.admitted.command.ins → ⊥) c.tables-2.ensures.tables c.in_default.ensures.ok) in
+    let managed = is_managed command c.in-Ok.admitted.class c.is_plain_management.result c.in-Ok.ensures.class c.is_plain_management.ensures c.if-is_plain_management.true in
+    let opened = opened_so c.args.live.now command c.in-Ok.admitted.channel c.in-Ok.admitted.selected c.in-Ok.ensures.channel c.in-Ok.ensures.selected in
+    let served = managed_served page c.args.records.now.tables c.args.live.now c.args.held.now state stands c.told-held command c.in-Ok.admitted.selected opened
+    c.args.bytes.now c.close_plain-then-is_plain_management.new.reply.items c.in-Ok.ensures.spelled c.in-Ok.ensures.known c.in-Ok.admitted.class c.in-Ok.ensures.class
+    front not_over managed c.end.new.self c.end.ensures (c.close_plain-then-is_plain_management.ensures.closed ∙ rw c.requires.empty refl) in
+    rw (c.close_plain-then-is_plain_management.ensures.rule, passed, here) served
+
+-- any other command in plain
+pub act-served-requires-clause-secured : goal.act-served-requires-clause-secured
+act-served-requires-clause-secured g c = λ managed.
+    let command : Apdu = apdu_of c.in-Ok.admitted.command in
+    let plain = protects_so command c.in-Ok.admitted.class c.is_protected.result false c.in-Ok.ensures.class c.is_protected.ensures c.if-not-is_protected.true in
+    let unmanaged = not_managed command c.in-Ok.admitted.class c.is_plain_management.result c.in-Ok.ensures.class c.is_plain_management.ensures c.if-is_plain_management.false in
+    absurd (unprotected_unmanaged command c.in-Ok.ensures.known unmanaged plain managed)
+
 pub act-served-requires-clause-short : goal.act-served-requires-clause-short
 act-served-requires-clause-short g c = length-body (apdu_of c.in-Ok.admitted.command) c.args.bytes.now c.in-Ok.ensures.spelled
 
@@ -53,13 +76,14 @@ returns-then-not-is_protected-clause-served g c = λ page state stands.
     let front = c.in-Ok.ensures.passed page state (subst (λ t. Says page t c.args.live.now state) (sym c.tables.ensures.tables) stands.shows.says) in
     let not_over = goes_on page c.args.records.now.tables c.args.live.now c.args.held.now state stands c.told-held command c.in-Ok.admitted.class (subst (λ t. IsOver t.life c.in-Ok.admitted.class c.in-Ok.admitted.command.ins → ⊥) c.tables-2.ensures.tables c.in_default.ensures.ok) in
     let plain = protects_so command c.in-Ok.admitted.class c.is_protected.result false c.in-Ok.ensures.class c.is_protected.ensures c.if-not-is_protected.true in
+    let unmanaged = not_managed command c.in-Ok.admitted.class c.is_plain_management.result c.in-Ok.ensures.class c.is_plain_management.ensures c.if-is_plain_management.false in
     let at = plain_stands page c.args.records.now.tables c.args.live.now c.args.held.now state stands c.told-held command plain in
     let done = c.act-served.ensures.done page (admitted_as state command None command.body) (rw (passed, here) at) c.in-Ok.ensures.channel refl in
     rw c.close_plain-then-not-is_protected.ensures.rule (
     carried_out page state c.args.bytes.now command None command.body
     (record { tables = c.act-served.new.records.tables; live = c.act-served.new.live; held = c.act-served.new.held }) c.act-served.new.reply.items
     c.close_plain-then-not-is_protected.new.reply.items c.act-served.result stands.sound
-    (admits_plain state c.args.bytes.now command c.in-Ok.ensures.spelled c.in-Ok.ensures.known c.in-Ok.admitted.class c.in-Ok.ensures.class front not_over plain)
+    (admits_plain state c.args.bytes.now command c.in-Ok.ensures.spelled c.in-Ok.ensures.known c.in-Ok.admitted.class c.in-Ok.ensures.class front not_over unmanaged plain)
     done c.close_plain-then-not-is_protected.ensures.closed)
 
 -- a protected command
@@ -67,6 +91,14 @@ pub open_command-requires : goal.open_command-requires
 open_command-requires g c = length-body (apdu_of c.in-Ok.admitted.command) c.args.bytes.now c.in-Ok.ensures.spelled
 
 -- that opens
+pub act-served-requires-in-Ok-open_command-clause-secured : goal.act-served-requires-in-Ok-open_command-clause-secured
+act-served-requires-in-Ok-open_command-clause-secured g c = λ managed.
+    let all : List Held = slice_set c.args.held.now c.from-channel.result c.pass_class.new.held in
+    let low = subst (λ (n : ℕ). n < CHANNELS) (sym c.in-Ok.ensures.channel) (channel_is_low c.in-Ok.admitted.command.class) in
+    let there = written_at all c.in-Ok.admitted.channel c.in-Ok.admitted.channel c.open_command.new.held held.Nothing
+    (length-set c.args.held.now c.from-channel.result c.pass_class.new.held ∙ c.told-held) low refl in
+    rw c.from-channel.ensures (rw c.from-channel.ensures at (subst IsInSession (sym there) c.in-Ok-open_command.ensures.secured))
+
 pub returns-in-Ok-open_command-clause-served : goal.returns-in-Ok-open_command-clause-served
 returns-in-Ok-open_command-clause-served g c = λ page state stands.
     let command : Apdu = apdu_of c.in-Ok.admitted.command in
@@ -91,7 +123,7 @@ returns-in-Ok-open_command-clause-served g c = λ page state stands.
     let done = c.act-served-in-Ok-open_command.ensures.done page admitted
     (placed page c.args.records.now.tables c.args.live.now c.args.held.now admitted.at c.from-channel.result (channel_of command.class) c.pass_class.new.held
     (passed_held c.args.held.now c.told-held command) c.open_command.new.held here passed at) c.in-Ok.ensures.channel refl in
-    let same = c.act-served-in-Ok-open_command.ensures.kept (protected_gets (class_of command.class) command.ins c.in-Ok.ensures.known protected) in
+    let same = c.act-served-in-Ok-open_command.ensures.kept (protected_one (class_of command.class) command.ins c.in-Ok.ensures.known protected) in
     let there = ap (λ (all : List Held). slice_index_or all c.from-channel.result c.index-held-channel-in-Ok-open_command.result) same
     ∙ written_at (slice_set c.args.held.now c.from-channel.result c.pass_class.new.held) c.from-channel.result (channel_of command.class) c.open_command.new.held
     c.index-held-channel-in-Ok-open_command.result (length-set c.args.held.now c.from-channel.result c.pass_class.new.held ∙ c.told-held)

@@ -1,12 +1,5 @@
-use Rattle.std.proofs.Common.{◌≡◌, ◌≤◌, ℕ, Some, refl, sym, ◌∙◌, inl, inr, arith}
-use Rattle.std.proofs.lemmas.List.Elements.{All-contains}
-use Rattle.card_types.proofs.KeyNames.{keys_shown}
-use Rattle.card_types.specs.InOrder.{IsInOrder}
-use Rattle.card_types.specs.Says.{key_of}
-use Rattle.card_types.specs.Slots.{held}
-use Rattle.card_types.specs.Well.{IsKeyName, IsWellKey}
-use Rattle.card_types.specs.declared.tables.KeyRec.{KeyRec}
-use Rattle.card_types.specs.declared.tables.Tables.{Tables}
+use Rattle.std.proofs.Common.{sym, ◌∙◌}
+use Rattle.policy_rules.proofs.KeysByName.{least_in_slot}
 use Rattle.policy_rules.proofs.OfferJudging.{has_next, locked_first, none_first, shut_first, spent_first, unset_first}
 use Rattle.policy_rules.proofs.initialize_update.judge_initialize_update.Goals as goal
 
@@ -45,21 +38,10 @@ returns-clause-next c =
     has_next c.args.tables.now c.requires.in_order c.in-Some-session_set.found.slot c.in-Some-session_set.found.thing.now c.in-Some-session_set.ensures.held c.in-Some-session_set.ensures.counts
     c.if-found-eq-COUNTER_LIMIT.false
 
--- a key version number is 01 at least
-least_version : (version identifier : ℕ) → IsKeyName version identifier → 1 ≤ version
-least_version version identifier (inl set) = set.0
-least_version version identifier (inr (inl token, first)) = omega arith
-least_version version identifier (inr (inr receipt, first)) = omega arith
-
-least_in_slot : (tables : Tables) → IsInOrder tables → (slot : ℕ) (key : KeyRec) → held tables.keys.items slot ≡ Some key → 1 ≤ key.version
-least_in_slot tables order slot key here =
-    let among = (keys_shown order.page tables order.said order.says).there slot key here refl in
-    least_version key.version key.identifier
-    (All-contains (IsWellKey order.said) order.said.keys (key_of tables.entries.items key) order.well.keys among).name
-
 pub returns-clause-version : goal.returns-clause-version
 returns-clause-version c =
-    least_in_slot c.args.tables.now c.requires.in_order c.in-Some-session_set.found.slot c.in-Some-session_set.found.thing.now
+    let order = c.requires.in_order in
+    least_in_slot order.page c.args.tables.now order.said order.says order.well c.in-Some-session_set.found.slot c.in-Some-session_set.found.thing.now
     c.in-Some-session_set.ensures.held
 
 pub returns-clause-passed : goal.returns-clause-passed

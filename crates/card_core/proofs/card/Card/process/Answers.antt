@@ -1,8 +1,10 @@
 use Rattle.std.proofs.Common.{refl, sym, ap, subst, ◌∙◌}
 use Rattle.page_journal.specs.Journal.{stored}
+use Rattle.policy_rules.proofs.Opened.{changes_are_opened}
+use Rattle.policy_rules.specs.Changes.{Changes}
 use Rattle.rec_store.proofs.Reopening.{has_pages}
 use Rattle.rec_store.specs.Reopens.{load_page}
-use Rattle.card_core.proofs.Over.{committed, served_keeps, served_load, served_says}
+use Rattle.card_core.proofs.Over.{committed, registry_told, served_keeps, served_load, served_says}
 use Rattle.card_core.specs.Kept.{AreCards}
 use Rattle.card_core.proofs.card.Card.process.Goals as goal
 
@@ -54,3 +56,12 @@ returns-in-Err-clause-step g c state stands =
           served.1.shows.says.registry c.in-Err.ensures.moments,
       tt,
     )
+
+-- what changes more than a counter opens in a session
+pub returns-in-Ok-clause-changes : goal.returns-in-Ok-clause-changes
+returns-in-Ok-clause-changes g c state next stands after told changes =
+    let F = g.F.Flash in
+    let did = returns-in-Ok-clause-step g c state stands in
+    let same = registry_told F.tells F.pages F.may_leave _ did.0.state next did.3.0 after told in
+    let opened = changes_are_opened state c.args.command.now did.0 did.1 (subst (Changes state.registry) (sym same) changes) in
+    (did.3.2 ∙ opened.0, opened.1)

@@ -1,0 +1,21 @@
+use Rattle.std.proofs.Common.{◌≡◌, true, List, length}
+use Rattle.std.specs.Prelude.{All}
+use Rattle.bertlv.specs.Spelling.{AreElements, Element}
+use Rattle.card_types.specs.Well.{IsObject}
+use Rattle.rec_store.specs.Room.{HasRoomFor}
+use Rattle.card_core.proofs.ObjectsPut.{ArePut, SameButObjects}
+use Rattle.card_core.specs.ObjectsPut.{object_pages}
+use Rattle.card_core.proofs.store_data.store_data.Given as goal
+
+abbrev pub invariant-loop-element : goal.invariant-loop-element
+invariant-loop-element g l = record {
+  flash : l.records.flash ≡ l.fn.records.flash;
+  live : l.records.live ≡ true;
+  frames : HasRoomFor object_pages l.records.staged;
+  same : SameButObjects l.fn.records.tables l.records.tables;
+  put : (elements : List Element) → AreElements elements l.objects → All (λ element. IsObject element.tag (length element.value)) elements
+      → (behind : List Element) × AreElements behind l.rest × ArePut l.fn.records.tables l.records.tables l.domain elements behind;
+}
+
+abbrev pub decreases-loop-element : goal.decreases-loop-element
+decreases-loop-element g l = length l.rest

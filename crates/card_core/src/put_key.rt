@@ -1,0 +1,130 @@
+//! PUT KEY: keys of a domain are put.
+
+ghost use Rattle.std.specs.Prelude.{◌≡◌, ◌≤◌, ◌+◌, ◌↔◌, ◌++◌, ◌&&◌, ℕ, List, [], IsTrue, length, true};
+ghost use Rattle.cmac_kdf.specs.Blocks.{IsBytes};
+ghost use Rattle.card_core.specs.Domains.{is_domain_in};
+ghost use Rattle.card_core.specs.Kept.{AreCards};
+ghost use Rattle.card_core.specs.Manages.{Manages};
+ghost use Rattle.card_core.specs.Holds.{HoldsAs, IsInSession};
+ghost use Rattle.card_core.specs.Offers.{standing_for};
+ghost use Rattle.card_types.specs.Ascending.{IsAscending};
+ghost use Rattle.policy_rules.specs.Admission.{Admitted};
+ghost use Rattle.policy_rules.specs.Means.{ActsIn, IsRequestOf, IsWellFormed, sent_key};
+ghost use Rattle.policy_rules.specs.PutKey.{IsKeySent, check_value};
+ghost use Rattle.policy_rules.specs.declared.request.Request.TheVariants.{PutKey};
+
+use crate::held::Held;
+use crate::reply::REPLY_LIMIT;
+use aes_block::{Aes128, BlockKey};
+use apdu_core::Status;
+use arrayvec::ArrayVec;
+use cmac_kdf::cbc_unseal_blocks;
+use flash_core::Flash;
+use key_sets::{put_one, put_set};
+use policy_rules::{PutKeys, Rule, SealedKey, judge_put_key};
+use rec_store::Records;
+
+// A key that was sent, and whether its check value is that of the key.
+#[derive(Drop)]
+struct OpenedKey {
+    bytes: [u8; 16],
+    fits: bool,
+}
+
+// Whether it is the check value of a key: the first three bytes of the cipher of sixteen bytes 01.
+fn is_check_value(key: &[u8; 16], check: &[u8]) -> bool
+    ensures tells { IsTrue result ↔ (check_value key.now ≡ check.now) }
+    ensures bytes { IsBytes key.now }
+{
+    let mut block = [0x01; 16];
+    Aes128::from_key(key).seal(&mut block);
+    &block[..3] == check
+}
+
+// The key that was sent under the Key-DEK.
+fn open_key<K: BlockKey>(dek: &K, sent: &SealedKey<'_>) -> OpenedKey
+    requires size { length sent.now.sealed.now ≡ 16 }
+    ensures key { IsKeySent (K.key_bytes dek.now) (sent_key sent.now) result.bytes }
+    ensures fits { IsTrue result.fits ↔ (check_value result.bytes ≡ sent.now.check.now) }
+{
+    let mut bytes = [0; 16];
+    bytes.copy_from_slice(sent.sealed);
+    cbc_unseal_blocks(dek, &[0; 16], &mut bytes);
+    let fits = is_check_value(&bytes, sent.check);
+    OpenedKey { bytes, fits }
+}
+
+fn all_fit(enc: &OpenedKey, mac: &OpenedKey, dek: &OpenedKey) -> bool
+    ensures { result ≡ (enc.now.fits && mac.now.fits && dek.now.fits) }
+{
+    enc.fits && mac.fits && dek.fits
+}
+
+// A check value joins the reply.
+fn write_check(sent: &SealedKey<'_>, reply: &mut ArrayVec<u8, REPLY_LIMIT>)
+    requires size { length sent.now.check.now ≡ 3 }
+    requires room { length reply.old.items ≤ 200 }
+    ensures written { reply.new.items ≡ reply.old.items ++ sent.now.check.now }
+    ensures length { length reply.new.items ≡ length reply.old.items + 3 }
+{
+    reply.try_extend_from_slice(sent.check).unwrap();
+}
+
+/// Puts keys of the domain in a slot. They were sent under the Key-DEK of the session that the channel holds. It commits nothing.
+#[inline(never)]
+pub fn put_key<F: Flash>(
+    records: &mut Records<F>,
+    held: &Held,
+    domain: u8,
+    replaced: u8,
+    version: u8,
+    keys: &PutKeys<'_>,
+    reply: &mut ArrayVec<u8, REPLY_LIMIT>,
+) -> Result<Status, Rule>
+    requires up { records.old.live ≡ true }
+    requires clean { records.old.staged ≡ [] }
+    requires cards { AreCards records.old.tables }
+    requires domain { is_domain_in records.old.tables.entries.items domain ≡ true }
+    requires secured { IsInSession held.now }
+    requires formed { IsWellFormed (PutKey replaced version keys.now) }
+    requires empty { reply.old.items ≡ [] }
+    ensures done { (page : ℕ → List ℕ) (admitted : Admitted) → ActsIn page records.old.tables domain admitted → IsAscending admitted.at.registry
+        → IsRequestOf (PutKey replaced version keys.now) admitted.command → HoldsAs held.now (standing_for admitted)
+        → Manages admitted page records.old.tables records.new.tables reply.new.items result }
+    ensures entries { records.new.tables.entries.items ≡ records.old.tables.entries.items }
+    ensures cards { AreCards records.new.tables }
+    ensures same { (records.new.flash ≡ records.old.flash) × (records.new.live ≡ true) }
+    ensures room { length reply.new.items ≤ 239 }
+{
+    let Held::Secured(session) = held else {
+        unreachable!()
+    };
+    let dek = session.dek();
+    match keys {
+        PutKeys::One(sent) => {
+            let key = open_key(dek, sent);
+            judge_put_key(records.tables(), domain, replaced, version, keys, key.fits)?;
+            reply.push(version);
+            write_check(sent, reply);
+            // The keys are judged before they are put, so putting them refuses nothing.
+            put_one(records, domain, replaced, version, &key.bytes).unwrap();
+            Ok(Status(0x9000))
+        }
+        PutKeys::Three(first, second, third) => {
+            let enc = open_key(dek, first);
+            let mac = open_key(dek, second);
+            let kek = open_key(dek, third);
+            let fit = all_fit(&enc, &mac, &kek);
+            judge_put_key(records.tables(), domain, replaced, version, keys, fit)?;
+            reply.push(version);
+            write_check(first, reply);
+            write_check(second, reply);
+            write_check(third, reply);
+            put_set(
+                records, domain, replaced, version, &enc.bytes, &mac.bytes, &kek.bytes,
+            )
+            .unwrap();
+            Ok(Status(0x9000))
+        }
+    }
+}

@@ -1,0 +1,135 @@
+//! STORE DATA: data objects of a domain are put.
+
+ghost use Rattle.std.specs.Prelude.{◌≡◌, ◌↔◌, ◌<◌, ◌≤◌, ℕ, List, [], length, true, false, None, IfNone, IfSome, IsTrue};
+ghost use Rattle.card_core.specs.Domains.{is_domain_in};
+ghost use Rattle.card_core.specs.Kept.{AreCards};
+ghost use Rattle.card_core.specs.Manages.{Manages};
+ghost use Rattle.card_core.specs.ObjectsPut.{IsSlotFor, PutsObject, object_pages, object_with};
+ghost use Rattle.card_types.specs.Ascending.{IsAscending};
+ghost use Rattle.card_types.specs.Says.{used};
+ghost use Rattle.card_types.specs.Slots.{held};
+ghost use Rattle.card_types.specs.declared.limits.TheConstants.{OBJECTS};
+ghost use Rattle.policy_rules.specs.Admission.{Admitted};
+ghost use Rattle.policy_rules.specs.Means.{ActsIn, IsRequestOf, IsWellFormed};
+ghost use Rattle.policy_rules.specs.ObjectsFound.{has_object_in, is_tagged_in};
+ghost use Rattle.policy_rules.specs.declared.request.Request.TheVariants.{Store};
+ghost use Rattle.rec_store.specs.Room.{HasRoomFor};
+
+use apdu_core::Status;
+use arrayvec::ArrayVec;
+use bertlv::{Tlv, read};
+use card_types::{OBJECTS, Object, in_slot};
+use flash_core::Flash;
+use policy_rules::{Rule, judge_store_data};
+use rec_store::Records;
+
+fn is_free(objects: &[Option<Object>], slot: u8) -> bool
+    ensures { IsTrue result ↔ (held objects.now slot ≡ None) }
+{
+    in_slot(objects, slot).is_none()
+}
+
+fn is_tagged(objects: &[Option<Object>], slot: u8, owner: u8, tag: u16) -> bool
+    ensures { result ≡ is_tagged_in owner tag (held objects.now slot) }
+{
+    match in_slot(objects, slot) {
+        Some(object) => object.owner == owner && object.tag == tag,
+        None => false,
+    }
+}
+
+// The slot of the domain's data object with a tag.
+fn tagged_slot(objects: &[Option<Object>], owner: u8, tag: u16) -> Option<u8>
+    requires slots { length objects.now ≡ OBJECTS }
+    ensures some { IfSome result (λ slot. (slot < OBJECTS) × (is_tagged_in owner tag (held objects.now slot) ≡ true)) }
+    ensures none { IfNone result (has_object_in objects.now owner tag ≡ false) }
+{
+    for slot in 0..OBJECTS as u8 {
+        if is_tagged(objects, slot, owner, tag) {
+            return Some(slot);
+        }
+    }
+    None
+}
+
+fn free_slot(objects: &[Option<Object>]) -> u8
+    requires slots { length objects.now ≡ OBJECTS }
+    requires room { length (used objects.now) < OBJECTS }
+    ensures free { held objects.now result ≡ None }
+    ensures range { result < OBJECTS }
+{
+    for slot in 0..OBJECTS as u8 {
+        if is_free(objects, slot) {
+            return slot;
+        }
+    }
+    unreachable!()
+}
+
+// The slot of the domain's data object with a tag, or else the first free slot.
+fn slot_for(objects: &[Option<Object>], owner: u8, tag: u16) -> u8
+    requires slots { length objects.now ≡ OBJECTS }
+    requires room { has_object_in objects.now owner tag ≡ false → length (used objects.now) < OBJECTS }
+    ensures { IsSlotFor objects.now owner tag result }
+{
+    match tagged_slot(objects, owner, tag) {
+        Some(slot) => slot,
+        None => free_slot(objects),
+    }
+}
+
+// A data object of a domain.
+fn object_of(owner: u8, element: &Tlv<'_>) -> Object
+    requires { length element.now.value.now ≤ 120 }
+    ensures { result ≡ object_with owner element.now.tag element.now.value.now }
+{
+    let mut value = ArrayVec::new();
+    value.try_extend_from_slice(element.value).unwrap();
+    Object {
+        owner,
+        tag: element.tag,
+        value,
+    }
+}
+
+// Puts a data object of the domain in a slot, in the place of the one with its tag.
+fn put_object<F: Flash>(records: &mut Records<F>, owner: u8, element: &Tlv<'_>)
+    requires up { records.old.live ≡ true }
+    requires frames { HasRoomFor object_pages records.old.staged }
+    requires size { length element.now.value.now ≤ 120 }
+    requires room { has_object_in records.old.tables.objects.items owner element.now.tag ≡ false → length (used records.old.tables.objects.items) < OBJECTS }
+    ensures put { PutsObject records.old.tables records.new.tables owner element.now.tag element.now.value.now }
+    ensures frames { HasRoomFor object_pages records.new.staged }
+    ensures same { (records.new.flash ≡ records.old.flash) × (records.new.live ≡ true) }
+{
+    let slot = slot_for(&records.tables().objects, owner, element.tag);
+    records.set_object(slot, Some(object_of(owner, element)));
+}
+
+/// Stores data objects of the domain in a slot. It commits nothing.
+#[inline(never)]
+pub fn store_data<F: Flash>(
+    records: &mut Records<F>,
+    domain: u8,
+    objects: &[u8],
+) -> Result<Status, Rule>
+    requires up { records.old.live ≡ true }
+    requires clean { records.old.staged ≡ [] }
+    requires cards { AreCards records.old.tables }
+    requires domain { is_domain_in records.old.tables.entries.items domain ≡ true }
+    requires formed { IsWellFormed (Store objects) }
+    ensures done { (page : ℕ → List ℕ) (admitted : Admitted) → ActsIn page records.old.tables domain admitted → IsAscending admitted.at.registry
+        → IsRequestOf (Store objects.entry) admitted.command
+        → Manages admitted page records.old.tables records.new.tables [] result }
+    ensures entries { records.new.tables.entries.items ≡ records.old.tables.entries.items }
+    ensures cards { AreCards records.new.tables }
+    ensures same { (records.new.flash ≡ records.old.flash) × (records.new.live ≡ true) }
+{
+    judge_store_data(records.tables(), domain, objects)?;
+    let mut rest = objects;
+    while let Ok((element, after)) = read(rest) {
+        put_object(records, domain, &element);
+        rest = after;
+    }
+    Ok(Status(0x9000))
+}

@@ -1,0 +1,102 @@
+-- Whether a key set would be left to the Issuer Security Domain, by slots and by names.
+use Rattle.std.proofs.Common.{◌≡◌, ℕ, Bool, true, false, ◌&&◌, List, None, Some, refl, ap, sym, subst, ◌∙◌}
+use Rattle.std.specs.Prelude.{MatchOption, Option, find, not, ◌==◌}
+use Rattle.std.specs.List.{list_any}
+use Rattle.std.proofs.lemmas.Bool.{and_from, and_parts, and_right, not-true, not_from_false}
+use Rattle.std.proofs.lemmas.Option.{MatchOption-at_some}
+use Rattle.card_types.proofs.EntryNames.{one_entry_slot}
+use Rattle.card_types.proofs.KeyNames.{counters_shown}
+use Rattle.card_types.proofs.LeastOfList.{none_fits, none_found}
+use Rattle.card_types.proofs.Members.{contains_filter, filtered}
+use Rattle.card_types.specs.AidOrder.{same_aid}
+use Rattle.card_types.specs.Layout.{HasIssuer}
+use Rattle.card_types.specs.Registry.{Counter}
+use Rattle.card_types.specs.Says.{counter_of, domain_aid, keeps_counter}
+use Rattle.card_types.specs.Slots.{held}
+use Rattle.card_types.specs.declared.factory.TheConstants.{ISSUER}
+use Rattle.card_types.specs.declared.tables.Entry.{Entry}
+use Rattle.card_types.specs.declared.tables.KeyRec.{KeyRec}
+use Rattle.card_types.specs.declared.tables.Tables.{Tables}
+use Rattle.policy_rules.specs.Admission.{Admitted}
+use Rattle.policy_rules.specs.DeleteKey.{IsLastSet}
+use Rattle.policy_rules.specs.KeyOrder.{holds_counter_but, keeps_counter_of}
+use Rattle.policy_rules.specs.KeyVersions.{counters_but, is_counter_numbered}
+use Rattle.policy_rules.specs.Management.{acting}
+use Rattle.policy_rules.specs.Means.{ActsIn}
+use Rattle.policy_rules.proofs.ActingDomain.{acting_aid}
+use Rattle.policy_rules.proofs.AnySlot.{passing_slot, slot_passes}
+use Rattle.policy_rules.proofs.OwnKeys.{own_is}
+
+-- where both are not true and the first is, the second is not
+other_false : (a b : Bool) → not (a && b) ≡ true → a ≡ true → not b ≡ true
+other_false true b both first = both
+other_false false b both first = cc
+
+module _ (page : ℕ → List ℕ) (tables : Tables) (domain : ℕ) (admitted : Admitted) (acts : ActsIn page tables domain admitted)
+    (issuer : HasIssuer tables.entries.items) (version : ℕ) where
+  abbrev counters : List Counter
+  counters = admitted.at.registry.counters
+
+  -- the Issuer Security Domain is in its slot
+  issuer_entry : domain ≡ 0 → acts.entry.aid ≡ ISSUER
+  issuer_entry first =
+      let at = subst (λ (n : ℕ). held tables.entries.items n ≡ Some acts.entry) first acts.at in
+      MatchOption-at_some ⊥ (λ (entry : Entry). entry.aid ≡ ISSUER) _ at issuer
+
+  issuer_slot : acting admitted ≡ ISSUER → domain ≡ 0
+  issuer_slot is = by (held tables.entries.items 0) refl issuer
+    where
+      by : (o : Option Entry) → held tables.entries.items 0 ≡ o → MatchOption o ⊥ (λ entry. entry.aid ≡ ISSUER) → domain ≡ 0
+      by None at named = absurd named
+      by (Some entry) at named =
+          one_entry_slot page tables admitted.at.registry acts.says domain 0 acts.entry entry acts.at at
+          (sym (acting_aid page tables domain admitted acts) ∙ is ∙ sym named)
+
+  module _ (owner : List ℕ) (named : domain_aid tables.entries.items domain ≡ owner) where
+    own : (slot : ℕ) (key : KeyRec) → held tables.keys.items slot ≡ Some key
+        → (key.owner == domain) ≡ same_aid (domain_aid tables.entries.items key.owner) owner
+    own slot key here =
+        subst (λ (aid : List ℕ). (key.owner == domain) ≡ same_aid (domain_aid tables.entries.items key.owner) aid) named
+        (own_is page tables admitted.at.registry acts.says acts.well domain acts.entry acts.at slot key here)
+
+    -- none is left by names where none is by slots
+    none_left : list_any (holds_counter_but domain version) tables.keys.items ≡ false
+        → find (λ counter. same_aid counter.owner owner) (counters_but owner version counters) ≡ None
+    none_left none =
+        none_found (λ (counter : Counter). same_aid counter.owner owner) (counters_but owner version counters) (λ counter there owned.
+        (let kept = filtered (λ (c : Counter). not (is_counter_numbered owner version c)) counters counter there in
+        let from = (counters_shown page tables admitted.at.registry acts.says).from counter kept.0 in
+        let key = from.1 in
+        let mine : (key.owner == domain) ≡ true = own from.0 key from.2 ∙ ap (λ (c : Counter). same_aid c.owner owner) from.4 ∙ owned in
+        let other : not (key.version == version) ≡ true =
+        ap (λ (c : Counter). not (c.version == version)) from.4 ∙ other_false (same_aid counter.owner owner) (counter.version == version) kept.1 owned in
+        let some = slot_passes (holds_counter_but domain version) tables.keys.items from.0 key from.2
+        (and_from (keeps_counter_of domain key) (not (key.version == version)) (and_from (keeps_counter key) (key.owner == domain) from.3 mine) other) in
+        let clash = sym some ∙ none in cc))
+
+    -- and one is where one is
+    one_left : list_any (holds_counter_but domain version) tables.keys.items ≡ true
+        → find (λ counter. same_aid counter.owner owner) (counters_but owner version counters) ≡ None → ⊥
+    one_left some none =
+        let at = passing_slot (holds_counter_but domain version) refl tables.keys.items some in
+        let key = at.1 in
+        let parts = and_parts (keeps_counter_of domain key) (not (key.version == version)) at.3 in
+        let keeps = and_parts (keeps_counter key) (key.owner == domain) parts.0 in
+        let owned : same_aid (domain_aid tables.entries.items key.owner) owner ≡ true = sym (own at.0 key at.2) ∙ keeps.1 in
+        let counter = counter_of tables.entries.items key in
+        let among = (counters_shown page tables admitted.at.registry acts.says).there at.0 key at.2 keeps.0 in
+        let other : not (is_counter_numbered owner version counter) ≡ true =
+        not_from_false (is_counter_numbered owner version counter) (and_right (same_aid counter.owner owner) (key.version == version) (not-true (key.version == version) parts.1)) in
+        none_fits (λ (c : Counter). same_aid c.owner owner) (counters_but owner version counters) none counter
+        (contains_filter (λ (c : Counter). not (is_counter_numbered owner version c)) counters counter among other) owned
+
+  pub last_set : domain ≡ 0 → list_any (holds_counter_but domain version) tables.keys.items ≡ false → IsLastSet admitted version
+  last_set first none =
+      let is = acting_aid page tables domain admitted acts ∙ issuer_entry first in
+      (is, none_left ISSUER (sym acts.on ∙ is) none)
+
+  pub set_left : list_any (holds_counter_but domain version) tables.keys.items ≡ true → IsLastSet admitted version → ⊥
+  set_left some last = one_left ISSUER (sym acts.on ∙ last.0) some last.1
+
+  pub other_domain : (domain ≡ 0 → ⊥) → IsLastSet admitted version → ⊥
+  other_domain other last = other (issuer_slot last.0)

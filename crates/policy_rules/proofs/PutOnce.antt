@@ -1,0 +1,101 @@
+-- PUT KEY has one effect.
+use Rattle.std.proofs.Common.{◌≡◌, ℕ, List, [], ◌∷◌, ◌++◌, Option, None, Some, inl, inr, map, refl, sym, subst, ◌∙◌, arith}
+use Rattle.std.specs.Prelude.{MatchOption, slice_index}
+use Rattle.std.specs.Cmp.{IsTotalOrder}
+use Rattle.std.specs.List.{concat}
+use Rattle.std.specs.List.Sorted.{IsPermutation}
+use Rattle.std.specs.declared.cmp.Ordering.{Ordering}
+use Rattle.std.proofs.lemmas.Bool.{cases_lt}
+use Rattle.std.proofs.lemmas.List.{get_or-replicate, get_or_past}
+use Rattle.std.proofs.lemmas.List.Sorted.{IsPermutation-sym, IsPermutation-trans}
+use Rattle.aes_block.specs.Cipher.{IsBlock}
+use Rattle.cmac_kdf.proofs.CbcLemmas.{same_plain}
+use Rattle.cmac_kdf.specs.Blocks.{zero_block}
+use Rattle.card_types.proofs.ChangeExists.{one_order}
+use Rattle.card_types.proofs.KeyNames.{counter_order_total, key_order_total}
+use Rattle.card_types.specs.Ascending.{counter_order, key_order}
+use Rattle.policy_rules.specs.Admission.{Admitted}
+use Rattle.policy_rules.specs.Arranged.{IsArranged}
+use Rattle.policy_rules.specs.KeyVersions.{counters_but, with_keys}
+use Rattle.policy_rules.specs.Management.{acting}
+use Rattle.policy_rules.specs.PutKey.{AreKeysSent, Brings, HasKeyFields, IsKeySent, PutKeyDoes, SentKey, counters_from, key_count, key_field, keys_from, keys_left}
+use Rattle.policy_rules.specs.State.{Effect}
+use Rattle.policy_rules.specs.Volatile.{session_on}
+use Rattle.scp03_card.specs.Session.{Session}
+use Rattle.policy_rules.proofs.KeyFields.{one_fields}
+use Rattle.policy_rules.proofs.SameEffect.{effect_same, state_same}
+
+pub zeros : IsBlock zero_block
+zeros = record {
+  sixteen = refl;
+  bytes = λ i. elim (cases_lt i 16) [
+    | inl within ↦ (let zero : slice_index zero_block i ≡ 0 = get_or-replicate 16 i 0 0 within in omega arith)
+    | inr past ↦ (let zero : slice_index zero_block i ≡ 0 = get_or_past zero_block i 0 past in omega arith)
+  ];
+}
+
+one_key : (dek : List ℕ) (sent : SentKey) (a b : List ℕ) → IsKeySent dek sent a → IsKeySent dek sent b → a ≡ b
+one_key dek sent a b one other =
+    let long = one.size in
+    let too = other.size in
+    same_plain dek zero_block a b zeros one.bytes other.bytes (omega arith) (omega arith) (one.sealed ∙ sym other.sealed)
+
+pub one_keys : (dek : List ℕ) (sent : List SentKey) (a b : List (List ℕ)) → AreKeysSent dek sent a → AreKeysSent dek sent b → a ≡ b
+one_keys dek [] [] [] one other = refl
+one_keys dek [] [] (y ∷ b) one other = absurd other
+one_keys dek [] (x ∷ a) b one other = absurd one
+one_keys dek (s ∷ sent) [] b one other = absurd one
+one_keys dek (s ∷ sent) (x ∷ a) [] one other = absurd other
+one_keys dek (s ∷ sent) (x ∷ a) (y ∷ b) one other =
+    let first = one_key dek s x y one.0 other.0 in
+    let rest = one_keys dek sent a b one.1 other.1 in
+    (λ i. first i ∷ rest i)
+
+opened_once : (session : Option Session) (sent : List SentKey) (a b : List (List ℕ)) → MatchOption session ⊥ (λ s. AreKeysSent s.offer.dek sent a)
+    → MatchOption session ⊥ (λ s. AreKeysSent s.offer.dek sent b) → a ≡ b
+opened_once None sent a b one other = absurd one
+opened_once (Some session) sent a b one other = one_keys session.offer.dek sent a b one other
+
+-- one key version number and one list of keys are in a data field
+pub one_version : (p2 : ℕ) (body : List ℕ) (v w : ℕ) (xs ys : List SentKey) → HasKeyFields p2 body v xs → HasKeyFields p2 body w ys → v ≡ w
+one_version p2 body v w xs ys one other = (let both = sym one.spelled ∙ other.spelled in cc)
+
+pub one_sent : (p2 : ℕ) (body : List ℕ) (v w : ℕ) (xs ys : List SentKey) → HasKeyFields p2 body v xs → HasKeyFields p2 body w ys → xs ≡ ys
+one_sent p2 body v w xs ys one other =
+    let both = sym one.spelled ∙ other.spelled in
+    let fields : concat (map key_field xs) ≡ concat (map key_field ys) = cc in
+    one_fields xs ys (concat (map key_field xs)) (key_count p2) (record { number = one.count; each = one.each; spelled = refl })
+    (record { number = other.count; each = other.each; spelled = fields })
+
+-- what the command brings is one
+pub brings_once : (admitted : Admitted) (v w : ℕ) (xs ys : List SentKey) (a b : List (List ℕ)) → Brings admitted v xs a → Brings admitted w ys b
+    → (v ≡ w) × (xs ≡ ys) × (a ≡ b)
+brings_once admitted v w xs ys a b one other =
+    let sent = one_sent admitted.command.p2 admitted.command.body v w xs ys one.has other.has in (
+      one_version admitted.command.p2 admitted.command.body v w xs ys one.has other.has,
+      sent,
+      opened_once (session_on admitted.at.volatile admitted.channel) xs a b one.opened
+          (subst (λ (s : List SentKey). MatchOption (session_on admitted.at.volatile admitted.channel) ⊥ (λ session. AreKeysSent session.offer.dek s b)) (sym sent) other.opened),
+    )
+
+pub one_arranged : {X : Type 0} (order : X → X → Ordering) → IsTotalOrder order → (things others a b : List X) → things ≡ others
+    → IsArranged order things a → IsArranged order others b → a ≡ b
+one_arranged order total things others a b same one other =
+    one_order order total a b one.ascending other.ascending
+    (IsPermutation-trans a things b (IsPermutation-sym things a one.same) (subst (λ (xs : List _). IsPermutation xs b) (sym same) other.same))
+
+pub put_key_one : (admitted : Admitted) (a b : Effect) → PutKeyDoes admitted a → PutKeyDoes admitted b → a ≡ b
+put_key_one admitted a b one other =
+    let brings = brings_once admitted one.version other.version one.sent other.sent one.bytes other.bytes one.brings other.brings in
+    let owner = acting admitted in
+    let new : keys_from owner one.version 1 one.bytes ++ keys_left admitted ≡ keys_from owner other.version 1 other.bytes ++ keys_left admitted =
+    (λ i. keys_from owner (brings.0 i) 1 (brings.2 i) ++ keys_left admitted) in
+    let begun : counters_from owner one.version ++ counters_but owner admitted.command.p1 admitted.at.registry.counters
+    ≡ counters_from owner other.version ++ counters_but owner admitted.command.p1 admitted.at.registry.counters =
+    (λ i. counters_from owner (brings.0 i) ++ counters_but owner admitted.command.p1 admitted.at.registry.counters) in
+    let keys = one_arranged key_order key_order_total _ _ one.keys other.keys new one.keys_put other.keys_put in
+    let counters = one_arranged counter_order counter_order_total _ _ one.counters other.counters begun one.counters_put other.counters_put in
+    effect_same a b
+    (state_same a.state b.state (one.registry ∙ (λ i. with_keys admitted.at.registry (keys i) (counters i)) ∙ sym other.registry) (one.volatile ∙ sym other.volatile))
+    (one.body ∙ (λ i. brings.0 i ∷ concat (map (λ (s : SentKey). s.check) (brings.1 i))) ∙ sym other.body)
+    (one.status ∙ sym other.status)

@@ -1,0 +1,174 @@
+-- PUT KEY (GlobalPlatform Card Specification 2.3.1, 11.8; Amendment D, 7.2): a key set, a token key or a receipt key of the selected
+-- domain is put, in the place of the keys with another key version number, or of none.
+use Rattle.std.specs.Prelude.{◌≡◌, ◌≢◌, ◌⊎◌, ℕ, ◌+◌, ◌<◌, ◌≤◌, List, [], ◌∷◌, ◌++◌, All, Bool, MatchOption, codes, false, filter, if◌then◌else◌, length, map, nat_lt, replicate, slice_index_or, take, true, ◌==◌}
+use Rattle.std.specs.List.{concat}
+use Rattle.aes_block.specs.Cipher.{cipher}
+use Rattle.card_types.specs.AidOrder.{same_aid}
+use Rattle.card_types.specs.Ascending.{counter_order, key_order}
+use Rattle.card_types.specs.Registry.{Counter, Key}
+use Rattle.card_types.specs.Well.{IsKeyLength}
+use Rattle.card_types.specs.declared.limits.TheConstants.{DOMAIN_KEYS, KEYS}
+use Rattle.cmac_kdf.specs.Blocks.{IsBytes, zero_block}
+use Rattle.cmac_kdf.specs.Cbc.{cbc}
+use Rattle.policy_rules.specs.Admission.{Admitted}
+use Rattle.policy_rules.specs.Arranged.{IsArranged}
+use Rattle.policy_rules.specs.KeyVersions.{counters_but, has_key_version, keys_but, with_keys}
+use Rattle.policy_rules.specs.Management.{ManagementFails, acting}
+use Rattle.policy_rules.specs.State.{Effect}
+use Rattle.policy_rules.specs.Volatile.{session_on}
+use Rattle.policy_rules.specs.declared.management.RuleM.TheVariants.{M1, M2}
+use Rattle.policy_rules.specs.declared.put_key.RulePK.{RulePK}
+use Rattle.policy_rules.specs.declared.put_key.RulePK.TheVariants.{PK1, PK2, PK3, PK4}
+use Rattle.policy_rules.specs.declared.rule.Rule.{Rule}
+use Rattle.policy_rules.specs.declared.rule.Rule.TheVariants.{G, PS, M, SE, MC, GD, IU, EA, PK, DK, SD}
+use Rattle.policy_rules.specs.declared.rule.RulePS.TheVariants.{P, S}
+
+-- P1 is the key version number that is replaced, or 00 for none; P2 is the first key identifier, 01, with the high bit where
+-- several keys come
+abbrev pub PutKeyParameters : ℕ → ℕ → Type 0
+PutKeyParameters p1 p2 =
+    ((p1 ≤ 0x6F) × (p2 ≡ 0x81)) ⊎ (((p1 ≡ 0x00) ⊎ (p1 ≡ 0x70) ⊎ (p1 ≡ 0x71)) × (p2 ≡ 0x01))
+
+-- a key as it is sent: its sixteen enciphered bytes, and its check value
+pub record SentKey : Type 0 where
+  pub sealed : List ℕ
+  pub check : List ℕ
+
+-- its key field: the key type AES, the length of the key data, that of the key, the key data, the length of the check value, and
+-- that value
+abbrev pub key_field : SentKey → List ℕ
+key_field key = 0x88 ∷ 0x11 ∷ 0x10 ∷ key.sealed ++ 0x03 ∷ key.check
+
+abbrev pub HasFieldLengths : SentKey → Type 0
+HasFieldLengths key = (length key.sealed ≡ 16) × (length key.check ≡ 3)
+
+-- three keys make a key set, which has a key version number from 01 to 6F; a token key (70) and a receipt key (71) stand alone
+abbrev pub key_count : ℕ → ℕ
+key_count p2 = if p2 == 0x81 then 3 else 1
+
+abbrev pub IsNewVersion : ℕ → ℕ → Type 0
+IsNewVersion p2 version =
+    ((p2 ≡ 0x81) × (0x01 ≤ version) × (version ≤ 0x6F)) ⊎ ((p2 ≡ 0x01) × ((version ≡ 0x70) ⊎ (version ≡ 0x71)))
+
+-- the data field is the new key version number and the key fields
+pub record HasKeyFields (p2 : ℕ) (body : List ℕ) (version : ℕ) (keys : List SentKey) : Type 0 where
+  pub new : IsNewVersion p2 version
+  pub count : length keys ≡ key_count p2
+  pub each : All HasFieldLengths keys
+  pub spelled : body ≡ version ∷ concat (map key_field keys)
+
+abbrev pub PutKeyField : ℕ → List ℕ → Type 0
+PutKeyField p2 body = (version : ℕ) × (keys : List SentKey) × HasKeyFields p2 body version keys
+
+-- the bytes of a key that is sent: enciphered under the static Key-DEK of the session, they are what was sent (CBC without
+-- padding, from a zero block; Amendment D, 4.1.4)
+pub record IsKeySent (dek : List ℕ) (sent : SentKey) (key : List ℕ) : Type 0 where
+  pub bytes : IsBytes key
+  pub size : IsKeyLength (length key)
+  pub sealed : cbc dek zero_block key ≡ sent.sealed
+
+abbrev pub AreKeysSent : List ℕ → List SentKey → List (List ℕ) → Type 0
+AreKeysSent dek [] [] = Unit {0}
+AreKeysSent dek [] (key ∷ keys) = ⊥
+AreKeysSent dek (one ∷ sent) [] = ⊥
+AreKeysSent dek (one ∷ sent) (key ∷ keys) = IsKeySent dek one key × AreKeysSent dek sent keys
+
+-- the check value of a key: the first three bytes of the cipher of sixteen bytes 01 (GlobalPlatform Card Specification, B.6)
+abbrev pub check_value : List ℕ → List ℕ
+check_value key = take 3 (cipher key (replicate 16 0x01))
+
+-- what the command brings: the new key version number, the keys as they are sent, and the keys
+pub record Brings (admitted : Admitted) (version : ℕ) (sent : List SentKey) (keys : List (List ℕ)) : Type 0 where
+  pub has : HasKeyFields admitted.command.p2 admitted.command.body version sent
+  pub opened : MatchOption (session_on admitted.at.volatile admitted.channel) ⊥ (λ session. AreKeysSent session.offer.dek sent keys)
+
+-- each check value is that of its key
+abbrev pub ChecksFit : List SentKey → List (List ℕ) → Type 0
+ChecksFit sent keys = map check_value keys ≡ map (λ one. one.check) sent
+
+abbrev pub put_key_rule_name : RulePK → List ℕ
+put_key_rule_name PK1 = codes "PK1"
+put_key_rule_name PK2 = codes "PK2"
+put_key_rule_name PK3 = codes "PK3"
+put_key_rule_name PK4 = codes "PK4"
+
+abbrev pub put_key_rule_status : RulePK → ℕ
+put_key_rule_status PK1 = 0x6A88
+put_key_rule_status PK2 = 0x6A80
+put_key_rule_status PK3 = 0x6A80
+put_key_rule_status PK4 = 0x6A84
+
+-- the rules behind those of the form
+abbrev pub put_rules : List Rule
+put_rules = M M1 ∷ M M2 ∷ PK PK1 ∷ PK PK2 ∷ PK PK3 ∷ PK PK4 ∷ []
+
+abbrev pub put_key_rules : List Rule
+put_key_rules = PS P ∷ PS S ∷ put_rules
+
+-- the first byte of the data field
+abbrev pub new_version : Admitted → ℕ
+new_version admitted = slice_index_or admitted.command.body 0 0
+
+-- the keys that stay, on the card and with the domain
+abbrev pub keys_left : Admitted → List Key
+keys_left admitted = keys_but (acting admitted) admitted.command.p1 admitted.at.registry.keys
+
+abbrev pub own_keys_left : Admitted → List Key
+own_keys_left admitted = filter (λ key. same_aid key.owner (acting admitted)) (keys_left admitted)
+
+abbrev pub PutKeyFails : Admitted → Rule → Type 0
+PutKeyFails admitted (PS P) = PutKeyParameters admitted.command.p1 admitted.command.p2 → ⊥
+PutKeyFails admitted (PS S) = PutKeyField admitted.command.p2 admitted.command.body → ⊥
+PutKeyFails admitted (M rule) = ManagementFails admitted rule
+-- the key version number that is to be replaced is not there
+PutKeyFails admitted (PK PK1) =
+    (admitted.command.p1 ≢ 0x00) × (has_key_version admitted.at.registry (acting admitted) admitted.command.p1 ≡ false)
+-- the new one is there already, and is not the one replaced
+PutKeyFails admitted (PK PK2) =
+    (new_version admitted ≢ admitted.command.p1) × (has_key_version admitted.at.registry (acting admitted) (new_version admitted) ≡ true)
+-- a check value is another
+PutKeyFails admitted (PK PK3) =
+    (version : ℕ) × (sent : List SentKey) × (keys : List (List ℕ)) × Brings admitted version sent keys × (ChecksFit sent keys → ⊥)
+-- the card or the domain would have too many keys
+PutKeyFails admitted (PK PK4) =
+    (KEYS < length (keys_left admitted) + key_count admitted.command.p2)
+    ⊎ (DOMAIN_KEYS < length (own_keys_left admitted) + key_count admitted.command.p2)
+PutKeyFails admitted (G rule) = ⊥
+PutKeyFails admitted (SE rule) = ⊥
+PutKeyFails admitted (MC rule) = ⊥
+PutKeyFails admitted (GD rule) = ⊥
+PutKeyFails admitted (IU rule) = ⊥
+PutKeyFails admitted (EA rule) = ⊥
+PutKeyFails admitted (DK rule) = ⊥
+PutKeyFails admitted (SD rule) = ⊥
+
+-- whether the check values fit, as a flag says it
+abbrev pub SaysChecks : Bool → Admitted → Type 0
+SaysChecks true admitted = PutKeyFails admitted (PK PK3) → ⊥
+SaysChecks false admitted = PutKeyFails admitted (PK PK3)
+
+-- the keys that are put, with key identifiers from the one given on
+abbrev pub keys_from : List ℕ → ℕ → ℕ → List (List ℕ) → List Key
+keys_from owner version identifier [] = []
+keys_from owner version identifier (bytes ∷ keys) =
+    record { owner = owner; version = version; identifier = identifier; bytes = bytes } ∷ keys_from owner version (identifier + 1) keys
+
+-- the sequence counter that comes with a key set, of 000000
+abbrev pub counters_from : List ℕ → ℕ → List Counter
+counters_from owner version = if nat_lt version 0x70 then record { owner = owner; version = version; number = 0 } ∷ [] else []
+
+-- The keys are put, with a new sequence counter for a key set. The reply is the new key version number and the check values.
+pub record PutKeyDoes (admitted : Admitted) (done : Effect) : Type 0 where
+  pub version : ℕ
+  pub sent : List SentKey
+  pub bytes : List (List ℕ)
+  pub brings : Brings admitted version sent bytes
+  pub keys : List Key
+  pub counters : List Counter
+  pub keys_put : IsArranged key_order (keys_from (acting admitted) version 1 bytes ++ keys_left admitted) keys
+  pub counters_put : IsArranged counter_order
+      (counters_from (acting admitted) version ++ counters_but (acting admitted) admitted.command.p1 admitted.at.registry.counters) counters
+  pub registry : done.state.registry ≡ with_keys admitted.at.registry keys counters
+  pub volatile : done.state.volatile ≡ admitted.at.volatile
+  pub body : done.body ≡ version ∷ concat (map (λ one. one.check) sent)
+  pub status : done.status ≡ 0x9000

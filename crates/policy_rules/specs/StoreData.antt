@@ -1,0 +1,99 @@
+-- STORE DATA (GlobalPlatform Card Specification 2.3.1, 11.11): data objects of the selected domain are put, each in the place of
+-- the one with its tag.
+use Rattle.std.specs.Prelude.{◌≡◌, ◌≢◌, ◌⊎◌, ℕ, ◌<◌, List, [], ◌∷◌, All, Bool, codes, filter, length, not, ◌&&◌, ◌==◌}
+use Rattle.std.specs.List.{fold}
+use Rattle.bertlv.specs.Spelling.{AreElements, Element}
+use Rattle.card_types.specs.AidOrder.{same_aid}
+use Rattle.card_types.specs.Ascending.{object_order}
+use Rattle.card_types.specs.Registry.{Object, Registry}
+use Rattle.card_types.specs.Well.{IsObject}
+use Rattle.card_types.specs.declared.limits.TheConstants.{OBJECTS}
+use Rattle.policy_rules.specs.Admission.{Admitted}
+use Rattle.policy_rules.specs.Arranged.{IsArranged}
+use Rattle.policy_rules.specs.Management.{ManagementFails, acting}
+use Rattle.policy_rules.specs.State.{Effect}
+use Rattle.policy_rules.specs.declared.management.RuleM.TheVariants.{M1, M2}
+use Rattle.policy_rules.specs.declared.rule.Rule.{Rule}
+use Rattle.policy_rules.specs.declared.rule.Rule.TheVariants.{G, PS, M, SE, MC, GD, IU, EA, PK, DK, SD}
+use Rattle.policy_rules.specs.declared.rule.RulePS.TheVariants.{P, S}
+use Rattle.policy_rules.specs.declared.store_data.RuleSD.{RuleSD}
+use Rattle.policy_rules.specs.declared.store_data.RuleSD.TheVariants.{SD1}
+
+-- P1 says whether more blocks come, and that the data are BER-TLV or of no said form; P2 is any block number
+abbrev pub StoreDataParameters : ℕ → Type 0
+StoreDataParameters p1 = (p1 ≡ 0x00) ⊎ (p1 ≡ 0x80) ⊎ (p1 ≡ 0x10) ⊎ (p1 ≡ 0x90)
+
+-- the data field is one or more of the data objects that a domain may have
+pub record HasObjects (body : List ℕ) (elements : List Element) : Type 0 where
+  pub spelled : AreElements elements body
+  pub some : elements ≢ []
+  pub each : All (λ element. IsObject element.tag (length element.value)) elements
+
+abbrev pub StoreDataField : List ℕ → Type 0
+StoreDataField body = (elements : List Element) × HasObjects body elements
+
+abbrev pub is_object_of : List ℕ → ℕ → Object → Bool
+is_object_of owner tag object = same_aid object.owner owner && object.tag == tag
+
+-- the objects with one that is put in the place of the one with its tag; of the order nothing is said
+abbrev pub with_object : List ℕ → List Object → Element → List Object
+with_object owner objects element =
+    record { owner = owner; tag = element.tag; value = element.value } ∷ filter (λ object. not (is_object_of owner element.tag object)) objects
+
+-- with several, one after the other: a tag that comes twice has its last value
+abbrev pub with_objects : List ℕ → List Object → List Element → List Object
+with_objects owner objects elements = fold (with_object owner) objects elements
+
+abbrev pub store_data_rule_name : RuleSD → List ℕ
+store_data_rule_name SD1 = codes "SD1"
+
+abbrev pub store_data_rule_status : RuleSD → ℕ
+store_data_rule_status SD1 = 0x6A84
+
+-- the rules behind those of the form
+abbrev pub store_rules : List Rule
+store_rules = M M1 ∷ M M2 ∷ SD SD1 ∷ []
+
+abbrev pub store_data_rules : List Rule
+store_data_rules = PS P ∷ PS S ∷ store_rules
+
+-- the objects that the card has with those of the data field
+abbrev pub objects_stored : Admitted → List Element → List Object
+objects_stored admitted elements = with_objects (acting admitted) admitted.at.registry.objects elements
+
+abbrev pub StoreDataFails : Admitted → Rule → Type 0
+StoreDataFails admitted (PS P) = StoreDataParameters admitted.command.p1 → ⊥
+StoreDataFails admitted (PS S) = StoreDataField admitted.command.body → ⊥
+StoreDataFails admitted (M rule) = ManagementFails admitted rule
+-- the card would have too many data objects
+StoreDataFails admitted (SD SD1) = (elements : List Element) × HasObjects admitted.command.body elements × (OBJECTS < length (objects_stored admitted elements))
+StoreDataFails admitted (G rule) = ⊥
+StoreDataFails admitted (SE rule) = ⊥
+StoreDataFails admitted (MC rule) = ⊥
+StoreDataFails admitted (GD rule) = ⊥
+StoreDataFails admitted (IU rule) = ⊥
+StoreDataFails admitted (EA rule) = ⊥
+StoreDataFails admitted (PK rule) = ⊥
+StoreDataFails admitted (DK rule) = ⊥
+
+-- the registry with other data objects
+abbrev pub with_data : Registry → List Object → Registry
+with_data registry objects = record {
+  life = registry.life;
+  entries = registry.entries;
+  files = registry.files;
+  keys = registry.keys;
+  counters = registry.counters;
+  objects = objects;
+}
+
+-- The objects are put. The reply is empty.
+pub record StoreDataDoes (admitted : Admitted) (done : Effect) : Type 0 where
+  pub elements : List Element
+  pub objects : List Object
+  pub has : HasObjects admitted.command.body elements
+  pub arranged : IsArranged object_order (objects_stored admitted elements) objects
+  pub registry : done.state.registry ≡ with_data admitted.at.registry objects
+  pub volatile : done.state.volatile ≡ admitted.at.volatile
+  pub body : done.body ≡ []
+  pub status : done.status ≡ 0x9000

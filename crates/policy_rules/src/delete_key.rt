@@ -1,0 +1,139 @@
+//! DELETE of a key (GlobalPlatform Card Specification 2.3.1, 11.2).
+
+ghost use Rattle.std.specs.Prelude.{◌≡◌, ◌↔◌, ℕ, List, None, Some, IfErr, IfNone, IfSome, IsTrue, OnOk};
+ghost use Rattle.std.specs.List.{list_any};
+ghost use Rattle.card_types.specs.InOrder.{IsInOrder};
+ghost use Rattle.policy_rules.specs.Admission.{Admitted};
+ghost use Rattle.policy_rules.specs.DeleteKey.{Chooses, DeleteFails, DeleteField, IsLastSet, NamesPart, deletion_rules, delete_key_rule_name, delete_key_rule_status};
+ghost use Rattle.policy_rules.specs.FirstFailing.{IsFirst};
+ghost use Rattle.policy_rules.specs.KeyOrder.{holds_counter_but as holds_counter_but_by};
+ghost use Rattle.policy_rules.specs.Means.{ActsIn, IsRequestOf, Parses};
+ghost use Rattle.policy_rules.specs.declared.instruction.TheConstants.{DELETE};
+ghost use Rattle.policy_rules.specs.declared.request.Request.TheVariants.{DeleteKey};
+
+use crate::key_order::keeps_counter;
+use crate::management::judge_management;
+use crate::request::Request;
+use crate::rule::{Rule, RulePS};
+use apdu_core::Status;
+use card_types::{ISSUER_SLOT, KeyRec, Tables};
+use key_sets::has_version;
+
+/// The rules of DELETE of a key.
+#[derive(Clone, Copy, Debug, PartialEq, Eq)]
+pub enum RuleDK {
+    /// The domain has no such key.
+    DK1,
+    /// No key set would be left to the Issuer Security Domain.
+    DK2,
+}
+
+impl RuleDK {
+    /// The status word of a DELETE of a key that the rule refuses.
+    pub fn status(&self) -> Status
+        ensures { result.0 ≡ delete_key_rule_status self.now }
+    {
+        match self {
+            RuleDK::DK1 => Status(0x6A88),
+            RuleDK::DK2 => Status(0x6985),
+        }
+    }
+
+    /// The rule's name.
+    pub fn name(&self) -> &'static str
+        ensures { result.now ≡ delete_key_rule_name self.now }
+    {
+        match self {
+            RuleDK::DK1 => "DK1",
+            RuleDK::DK2 => "DK2",
+        }
+    }
+}
+
+// The key version number (D2), and a key identifier (D0) or none, in either order.
+fn read_choice(body: &[u8]) -> Option<(u8, Option<u8>)>
+    ensures some { IfSome result (λ choice. Chooses body.now choice.0 choice.1) }
+    ensures none { IfNone result (DeleteField body.now → ⊥) }
+{
+    match *body {
+        [0xD2, 1, version] => Some((version, None)),
+        [0xD2, 1, version, 0xD0, 1, identifier] => Some((version, Some(identifier))),
+        [0xD0, 1, identifier, 0xD2, 1, version] => Some((version, Some(identifier))),
+        _ => None,
+    }
+}
+
+/// Reads P1, P2 and the data field: the key version number, and a key identifier or none.
+pub(crate) fn parse_delete(p1: u8, p2: u8, body: &[u8]) -> Result<Request<'_>, Rule>
+    ensures { Parses DELETE p1 p2 body.now result }
+{
+    if p1 != 0x00 || p2 != 0x00 {
+        return Err(Rule::PS(RulePS::P));
+    }
+    match read_choice(body) {
+        Some((version, identifier)) => Ok(Request::DeleteKey {
+            version,
+            identifier,
+        }),
+        None => Err(Rule::PS(RulePS::S)),
+    }
+}
+
+fn holds_counter_but(held: &Option<KeyRec>, owner: u8, version: u8) -> bool
+    ensures { result ≡ holds_counter_but_by owner version held.now }
+{
+    match held {
+        Some(key) => keeps_counter(key, owner) && key.version != version,
+        None => false,
+    }
+}
+
+// Whether the domain in a slot has a key set of another key version number.
+fn has_set_but(keys: &[Option<KeyRec>], owner: u8, version: u8) -> bool
+    ensures { result ≡ list_any (holds_counter_but_by owner version) keys.now }
+{
+    keys.iter()
+        .any(|held| holds_counter_but(held, owner, version))
+}
+
+// Whether the domain in a slot is the Issuer Security Domain, and no key set would be left to it.
+fn is_last_set(tables: &Tables, domain: u8, version: u8) -> bool
+    requires in_order { IsInOrder tables.now }
+    ensures { (page : ℕ → List ℕ) (admitted : Admitted) → ActsIn page tables.now domain admitted → IsTrue result ↔ IsLastSet admitted version }
+{
+    domain == ISSUER_SLOT && !has_set_but(&tables.keys, domain, version)
+}
+
+// Whether the key identifier is none that names all keys of the key version number.
+fn names_part(version: u8, identifier: Option<u8>) -> bool
+    ensures { IsTrue result ↔ NamesPart version identifier }
+{
+    match identifier {
+        Some(identifier) => version < 0x70 || identifier != 0x01,
+        None => false,
+    }
+}
+
+/// Judges a DELETE of a key for the domain in a slot.
+pub fn judge_delete_key(
+    tables: &Tables,
+    domain: u8,
+    version: u8,
+    identifier: Option<u8>,
+) -> Result<(), Rule>
+    requires in_order { IsInOrder tables.now }
+    ensures passed { (page : ℕ → List ℕ) (admitted : Admitted) → ActsIn page tables.now domain admitted
+        → IsRequestOf (DeleteKey version identifier) admitted.command → OnOk result (IsFirst (DeleteFails admitted) deletion_rules None) }
+    ensures refused { (page : ℕ → List ℕ) (admitted : Admitted) → ActsIn page tables.now domain admitted
+        → IsRequestOf (DeleteKey version identifier) admitted.command
+        → IfErr result (λ rule. IsFirst (DeleteFails admitted) deletion_rules (Some rule)) }
+{
+    judge_management(tables, domain)?;
+    if !has_version(&tables.keys, domain, version) || names_part(version, identifier) {
+        return Err(Rule::DK(RuleDK::DK1));
+    }
+    if is_last_set(tables, domain, version) {
+        return Err(Rule::DK(RuleDK::DK2));
+    }
+    Ok(())
+}

@@ -1,0 +1,225 @@
+//! PUT KEY (GlobalPlatform Card Specification 2.3.1, 11.8; Amendment D, 7.2).
+
+ghost use Rattle.std.specs.Prelude.{◌≡◌, ◌≤◌, ◌↔◌, ℕ, List, None, Some, IfErr, IfNone, IfSome, IsTrue, OnOk, length};
+ghost use Rattle.card_types.specs.InOrder.{IsInOrder};
+ghost use Rattle.key_sets.specs.PutFails.{NoneHolds, PutFails};
+ghost use Rattle.policy_rules.specs.Admission.{Admitted};
+ghost use Rattle.policy_rules.specs.FirstFailing.{IsFirst};
+ghost use Rattle.policy_rules.specs.KeyFields.{AreFields, BeginsWithKey, NoFields};
+ghost use Rattle.policy_rules.specs.Means.{ActsIn, AreOfAes128, IsRequestOf, Parses, sent_key, sent_keys};
+ghost use Rattle.policy_rules.specs.PutKey.{HasKeyFields, IsNewVersion, PutKeyFails, PutKeyField, PutKeyParameters, SaysChecks, SentKey, key_count, put_key_rule_name, put_key_rule_status, put_rules};
+ghost use Rattle.policy_rules.specs.declared.instruction.TheConstants.{PUT_KEY};
+ghost use Rattle.policy_rules.specs.declared.request.Request.TheVariants.{PutKey};
+
+use crate::management::judge_management;
+use crate::request::Request;
+use crate::rule::{Rule, RulePS};
+use apdu_core::Status;
+use card_types::Tables;
+use key_sets::{PutRefusal, judge_put};
+
+/// The rules of PUT KEY.
+#[derive(Clone, Copy, Debug, PartialEq, Eq)]
+pub enum RulePK {
+    /// The key version number that is to be replaced is not there.
+    PK1,
+    /// The new key version number is there already, and is not the one replaced.
+    PK2,
+    /// A check value is another.
+    PK3,
+    /// The card or the domain would have too many keys.
+    PK4,
+}
+
+impl RulePK {
+    /// The status word of a PUT KEY that the rule refuses.
+    pub fn status(&self) -> Status
+        ensures { result.0 ≡ put_key_rule_status self.now }
+    {
+        match self {
+            RulePK::PK1 => Status(0x6A88),
+            RulePK::PK2 => Status(0x6A80),
+            RulePK::PK3 => Status(0x6A80),
+            RulePK::PK4 => Status(0x6A84),
+        }
+    }
+
+    /// The rule's name.
+    pub fn name(&self) -> &'static str
+        ensures { result.now ≡ put_key_rule_name self.now }
+    {
+        match self {
+            RulePK::PK1 => "PK1",
+            RulePK::PK2 => "PK2",
+            RulePK::PK3 => "PK3",
+            RulePK::PK4 => "PK4",
+        }
+    }
+}
+
+/// A key as it is sent: its length, its enciphered bytes, and its check value.
+#[derive(Clone, Copy, Debug)]
+pub struct SealedKey<'a> {
+    pub len: u8,
+    pub sealed: &'a [u8],
+    pub check: &'a [u8],
+}
+
+/// The keys of a PUT KEY: a token or receipt key, or Key-ENC, Key-MAC and Key-DEK of a key set.
+#[derive(Clone, Copy, Debug)]
+pub enum PutKeys<'a> {
+    One(SealedKey<'a>),
+    Three(SealedKey<'a>, SealedKey<'a>, SealedKey<'a>),
+}
+
+impl PutKeys<'_> {
+    /// How many keys these are.
+    pub fn count(&self) -> usize
+        ensures number { result ≡ length (sent_keys self.now) }
+        ensures few { result ≤ 3 }
+    {
+        match self {
+            PutKeys::One(_) => 1,
+            PutKeys::Three(..) => 3,
+        }
+    }
+}
+
+/// How many bytes a key field has.
+const FIELD: usize = 23;
+
+// The key of the key field that the bytes begin with, and the bytes behind it.
+fn read_field(bytes: &[u8]) -> Option<(SealedKey<'_>, &[u8])>
+    ensures some { IfSome result (λ read. (read.0.len ≡ 16) × BeginsWithKey (sent_key read.0) bytes.now read.1.now) }
+    ensures none { IfNone result ((key : SentKey) (rest : List ℕ) → BeginsWithKey key bytes.now rest → ⊥) }
+{
+    if bytes.len() < FIELD {
+        return None;
+    }
+    if bytes[0] != 0x88 || bytes[1] != 0x11 || bytes[2] != 0x10 || bytes[19] != 0x03 {
+        return None;
+    }
+    let key = SealedKey {
+        len: 16,
+        sealed: &bytes[3..19],
+        check: &bytes[20..FIELD],
+    };
+    Some((key, &bytes[FIELD..]))
+}
+
+// The key of one key field.
+fn read_one(bytes: &[u8]) -> Option<PutKeys<'_>>
+    ensures some { IfSome result (λ keys. AreOfAes128 keys × AreFields 1 bytes.now (sent_keys keys)) }
+    ensures none { IfNone result (NoFields 1 bytes.now) }
+{
+    let (key, rest) = read_field(bytes)?;
+    if !rest.is_empty() {
+        return None;
+    }
+    Some(PutKeys::One(key))
+}
+
+// The keys of three key fields.
+fn read_three(bytes: &[u8]) -> Option<PutKeys<'_>>
+    ensures some { IfSome result (λ keys. AreOfAes128 keys × AreFields 3 bytes.now (sent_keys keys)) }
+    ensures none { IfNone result (NoFields 3 bytes.now) }
+{
+    let (enc, rest) = read_field(bytes)?;
+    let (mac, rest) = read_field(rest)?;
+    let (dek, rest) = read_field(rest)?;
+    if !rest.is_empty() {
+        return None;
+    }
+    Some(PutKeys::Three(enc, mac, dek))
+}
+
+// The keys of as many key fields as P2 says.
+fn read_keys(p2: u8, bytes: &[u8]) -> Option<PutKeys<'_>>
+    ensures some { IfSome result (λ keys. AreOfAes128 keys × AreFields (key_count p2) bytes.now (sent_keys keys)) }
+    ensures none { IfNone result (NoFields (key_count p2) bytes.now) }
+{
+    if p2 == 0x81 {
+        read_three(bytes)
+    } else {
+        read_one(bytes)
+    }
+}
+
+// Whether it is a key version number of the keys that P2 says.
+fn is_new_version(p2: u8, version: u8) -> bool
+    ensures { IsTrue result ↔ IsNewVersion p2 version }
+{
+    match p2 {
+        0x81 => 0x01 <= version && version <= 0x6F,
+        0x01 => version == 0x70 || version == 0x71,
+        _ => false,
+    }
+}
+
+// The new key version number and the keys of the data field.
+fn read_body(p2: u8, body: &[u8]) -> Option<(u8, PutKeys<'_>)>
+    ensures some { IfSome result (λ read. HasKeyFields p2 body.now read.0 (sent_keys read.1) × AreOfAes128 read.1) }
+    ensures none { IfNone result (PutKeyField p2 body.now → ⊥) }
+{
+    if body.is_empty() || !is_new_version(p2, body[0]) {
+        return None;
+    }
+    let keys = read_keys(p2, &body[1..])?;
+    Some((body[0], keys))
+}
+
+fn takes_parameters(p1: u8, p2: u8) -> bool
+    ensures { IsTrue result ↔ PutKeyParameters p1 p2 }
+{
+    match p2 {
+        0x81 => p1 <= 0x6F,
+        0x01 => p1 == 0x00 || p1 == 0x70 || p1 == 0x71,
+        _ => false,
+    }
+}
+
+/// Reads P1, P2 and the data field: the key version number that is replaced, how many keys come, the new key version number, and
+/// the keys.
+pub(crate) fn parse_put_key(p1: u8, p2: u8, body: &[u8]) -> Result<Request<'_>, Rule>
+    ensures { Parses PUT_KEY p1 p2 body.now result }
+{
+    if !takes_parameters(p1, p2) {
+        return Err(Rule::PS(RulePS::P));
+    }
+    match read_body(p2, body) {
+        Some((version, keys)) => Ok(Request::PutKey {
+            replaced: p1,
+            version,
+            keys,
+        }),
+        None => Err(Rule::PS(RulePS::S)),
+    }
+}
+
+/// Judges a PUT KEY for the domain in a slot. Whether the check values fit is told by the caller, who has the Key-DEK.
+pub fn judge_put_key(
+    tables: &Tables,
+    domain: u8,
+    replaced: u8,
+    version: u8,
+    keys: &PutKeys<'_>,
+    checks_fit: bool,
+) -> Result<(), Rule>
+    requires in_order { IsInOrder tables.now }
+    ensures passed { (page : ℕ → List ℕ) (admitted : Admitted) → ActsIn page tables.now domain admitted
+        → IsRequestOf (PutKey replaced version keys.now) admitted.command → SaysChecks checks_fit admitted
+        → OnOk result (IsFirst (PutKeyFails admitted) put_rules None) }
+    ensures refused { (page : ℕ → List ℕ) (admitted : Admitted) → ActsIn page tables.now domain admitted
+        → IsRequestOf (PutKey replaced version keys.now) admitted.command → SaysChecks checks_fit admitted
+        → IfErr result (λ rule. IsFirst (PutKeyFails admitted) put_rules (Some rule)) }
+    ensures roomy { OnOk result (NoneHolds (PutFails domain replaced version (length (sent_keys keys.now)) tables.now.keys.items)) }
+{
+    judge_management(tables, domain)?;
+    match judge_put(&tables.keys, domain, replaced, version, keys.count()) {
+        Err(PutRefusal::Unknown) => Err(Rule::PK(RulePK::PK1)),
+        Err(PutRefusal::Taken) => Err(Rule::PK(RulePK::PK2)),
+        Err(PutRefusal::Full) if checks_fit => Err(Rule::PK(RulePK::PK4)),
+        Ok(()) if checks_fit => Ok(()),
+        _ => Err(Rule::PK(RulePK::PK3)),
+    }
+}
