@@ -6,6 +6,7 @@ use std::test::Fail;
 mod cards;
 mod endings;
 mod formatted;
+mod managed;
 mod power;
 mod sessions;
 

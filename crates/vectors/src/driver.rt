@@ -5,16 +5,20 @@ mod card;
 mod channel;
 mod form;
 mod host;
+mod key_fields;
 mod outcome;
 
 use apdu_core::{Command, Reply, Status};
 use arrayvec::ArrayVec;
 use card::CardEnd;
+pub use card::{ROOM, formatted};
 use card_core::REPLY_LIMIT;
-use card_types::Aid;
+use card_types::{Aid, Tables};
 use channel::Channel;
-use form::{Form, Line, Opening, Plain};
+use flash_core::{Flash, MemFlash};
+use form::{Form, Line, Opening, Plain, Putting};
 use host::Host;
+use key_fields::key_fields;
 use outcome::{Outcome, Text};
 use scp03_host::BeginRefusal;
 use std::alloc::Global;
@@ -27,8 +31,8 @@ const LOCKED: Status = Status(0x6283);
 
 /// A host, and a card.
 #[derive(Drop)]
-pub struct Driver {
-    card: CardEnd,
+pub struct Driver<F: Flash> {
+    card: CardEnd<F>,
     host: Host,
     channel: Channel,
     sent: ArrayVec<u8, 261>,
@@ -38,17 +42,37 @@ pub struct Driver {
     last: Option<Status>,
 }
 
-impl Driver {
+impl Driver<MemFlash> {
     /// With a card as it leaves the factory.
-    pub fn new(alloc: Global) -> Result<Driver, Fail> {
+    pub fn new(alloc: Global) -> Result<Driver<MemFlash>, Fail> {
+        match Driver::over(alloc, formatted(alloc)?) {
+            Ok(driver) => Ok(driver),
+            Err(_) => Err("a card".into()),
+        }
+    }
+}
+
+impl<F: Flash> Driver<F> {
+    /// With the card on a device, just powered on. Where there is none, or a call fails, it answers the device.
+    pub fn over(alloc: Global, flash: F) -> Result<Driver<F>, F> {
         Ok(Driver {
-            card: CardEnd::new(alloc)?,
+            card: CardEnd::power_on(alloc, flash)?,
             host: Host::new(),
             channel: Channel::Basic,
             sent: ArrayVec::new(),
             reply: ArrayVec::new(),
             last: None,
         })
+    }
+
+    /// The card's registry.
+    pub fn tables(&self) -> &Tables {
+        self.card.tables()
+    }
+
+    /// The device.
+    pub fn into_flash(self) -> F {
+        self.card.into_flash()
     }
 
     /// What was sent last.
@@ -83,6 +107,7 @@ impl Driver {
             Form::Open(opening) => self.open(opening),
             Form::Send(plain) => self.send(plain, false),
             Form::Bad(plain) => self.send(plain, true),
+            Form::PutKey(putting) => self.put_key(putting),
             Form::Want(status) => self.want(*status),
         }
     }
@@ -200,6 +225,14 @@ impl Driver {
                 Outcome::of_refusal(refusal)
             }
         }
+    }
+
+    fn put_key(&mut self, putting: &Putting) -> Outcome {
+        let Some(session) = self.host.session(self.channel) else {
+            return Outcome::Word(b"no session");
+        };
+        let fields = key_fields(putting, session.dek());
+        self.send(&Plain::put_key(putting, fields), false)
     }
 
     fn want(&self, want: Status) -> Outcome {

@@ -5,12 +5,15 @@
 //! - `driver`: an interpreter of scripts, which knows the commands that the card has: a host at one end, a card at the
 //!   other.
 //! - `rows`: scripts, with the lines that they write and the bytes that they send.
+//! - `images`: scripts for cards that are laid out on a device, and for devices that count their calls or fail.
 #![tactic(auto)]
 
 #[cfg(test)]
 mod digits;
 #[cfg(test)]
 mod driver;
+#[cfg(test)]
+mod images;
 #[cfg(test)]
 mod rows;
 #[cfg(test)]

@@ -1,8 +1,10 @@
 //! Scripts, each for a new card, with the lines that they write.
 
+mod keys;
 mod levels;
 
 use crate::driver::Driver;
+use flash_core::Flash;
 use std::test::Fail;
 
 /// A line of a script, and the line that it writes: an empty one where nothing is written.
@@ -106,7 +108,7 @@ const WANTS: &[Row] = &[
 ];
 
 /// Lines of no form.
-const NO_FORMS: [&str; 36] = [
+const NO_FORMS: [&str; 42] = [
     "-",
     "- ",
     "- reset",
@@ -142,11 +144,17 @@ const NO_FORMS: [&str; 36] = [
     "want 900",
     "want 9000 ",
     "want",
+    "store",
+    "store 4",
+    "putkey 00",
+    "putkey 00 30 404142434445464748494a4b4c4d4e",
+    "putkey 00 30 404142434445464748494a4b4c4d4e4f 404142434445464748494a4b4c4d4e4f",
+    "putkey 00 30 404142434445464748494a4b4c4d4e4f ",
     "install 0c",
 ];
 
 /// The first row that writes another line.
-pub fn missed(driver: &mut Driver, rows: &[Row]) -> Option<Row> {
+pub fn missed<F: Flash>(driver: &mut Driver<F>, rows: &[Row]) -> Option<Row> {
     for (line, wanted) in rows {
         match driver.step(line.as_bytes()) {
             Some(text) if text.as_slice() == wanted.as_bytes() => {}

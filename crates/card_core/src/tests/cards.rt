@@ -8,7 +8,7 @@ use std::alloc::Global;
 use std::test::Fail;
 
 /// How many writes and syncs a device takes.
-const ROOM: u32 = 4000;
+pub(super) const ROOM: u32 = 4000;
 
 /// A device that was just formatted.
 pub(super) fn formatted(alloc: Global) -> Result<MemFlash, Fail> {

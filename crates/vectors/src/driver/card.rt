@@ -1,28 +1,34 @@
-//! The card, on a device in memory.
+//! The card, on a device.
 
 use arrayvec::ArrayVec;
 use card_core::{Card, REPLY_LIMIT, format};
-use flash_core::MemFlash;
+use card_types::Tables;
+use flash_core::{Flash, MemFlash};
 use std::alloc::Global;
 use std::test::Fail;
 
-/// How many writes and syncs the device takes.
-const ROOM: u32 = 4000;
+/// How many writes and syncs a device in memory takes.
+pub const ROOM: u32 = 4000;
+
+/// A device in memory with the card as it leaves the factory.
+pub fn formatted(alloc: Global) -> Result<MemFlash, Fail> {
+    let mut flash = MemFlash::new(alloc, ROOM)?;
+    format(&mut flash)?;
+    Ok(flash)
+}
 
 /// A card that goes on until its device fails.
 #[derive(Drop)]
-pub struct CardEnd {
-    card: Card<MemFlash>,
+pub struct CardEnd<F: Flash> {
+    card: Card<F>,
 }
 
-impl CardEnd {
-    /// The card as it leaves the factory, just powered on.
-    pub fn new(alloc: Global) -> Result<CardEnd, Fail> {
-        let mut flash = MemFlash::new(alloc, ROOM)?;
-        format(&mut flash)?;
+impl<F: Flash> CardEnd<F> {
+    /// The card on a device, just powered on. Where there is none, or a call fails, it answers the device.
+    pub fn power_on(alloc: Global, flash: F) -> Result<CardEnd<F>, F> {
         match Card::power_on(alloc, flash) {
             Ok(card) => Ok(CardEnd { card }),
-            Err(_) => Err("a card".into()),
+            Err(refused) => Err(refused.flash),
         }
     }
 
@@ -38,5 +44,13 @@ impl CardEnd {
         if self.card.live() {
             self.card.reset();
         }
+    }
+
+    pub(super) fn tables(&self) -> &Tables {
+        self.card.tables()
+    }
+
+    pub(super) fn into_flash(self) -> F {
+        self.card.into_flash()
     }
 }

@@ -19,6 +19,7 @@ pub enum Form {
     Open(Opening),
     Send(Plain),
     Bad(Plain),
+    PutKey(Putting),
     Want(Status),
 }
 
@@ -48,6 +49,17 @@ pub struct Plain {
 }
 
 impl Plain {
+    /// A PUT KEY of these key fields.
+    pub fn put_key(putting: &Putting, fields: ArrayVec<u8, 255>) -> Plain {
+        let p2 = if putting.keys.len() == 1 { 0x01 } else { 0x81 };
+        Plain {
+            ins: 0xd8,
+            p1: putting.replaced,
+            p2,
+            body: fields,
+        }
+    }
+
     /// The command, without Le.
     pub fn command(&self) -> Command<'_> {
         Command {
@@ -59,6 +71,14 @@ impl Plain {
             le: None,
         }
     }
+}
+
+/// Keys to put: the key version number that is replaced, the new one, and one key or three.
+#[derive(Drop)]
+pub struct Putting {
+    pub replaced: u8,
+    pub version: u8,
+    pub keys: ArrayVec<[u8; 16], 3>,
 }
 
 /// A line: what it asks for, and whether of the reply the status alone is printed.
@@ -115,6 +135,8 @@ fn sending(line: &[u8]) -> Option<Form> {
         b"open" => Some(Form::Open(read_opening(rest)?)),
         b"send" => Some(Form::Send(read_plain(rest)?)),
         b"bad" => Some(Form::Bad(read_plain(rest)?)),
+        b"store" => Some(Form::Send(read_store(rest)?)),
+        b"putkey" => Some(Form::PutKey(read_putting(rest)?)),
         _ => None,
     }
 }
@@ -153,6 +175,39 @@ fn read_plain(word: &[u8]) -> Option<Plain> {
         p2: command.p2,
         body,
     })
+}
+
+// The last block of STORE DATA, of data in BER-TLV.
+fn read_store(word: &[u8]) -> Option<Plain> {
+    Some(Plain {
+        ins: 0xe2,
+        p1: 0x90,
+        p2: 0x00,
+        body: bytes(word)?,
+    })
+}
+
+fn read_putting(words: &[u8]) -> Option<Putting> {
+    let (replaced, rest) = cut(words)?;
+    let (version, rest) = cut(rest)?;
+    Some(Putting {
+        replaced: byte(replaced)?,
+        version: byte(version)?,
+        keys: read_one_or_three(rest)?,
+    })
+}
+
+fn read_one_or_three(words: &[u8]) -> Option<ArrayVec<[u8; 16], 3>> {
+    let mut keys = ArrayVec::new();
+    let Some((first, rest)) = cut(words) else {
+        keys.try_push(array(words)?).ok()?;
+        return Some(keys);
+    };
+    let (second, third) = cut(rest)?;
+    keys.try_push(array(first)?).ok()?;
+    keys.try_push(array(second)?).ok()?;
+    keys.try_push(array(third)?).ok()?;
+    Some(keys)
 }
 
 // The word before the first space, and what is behind it.
