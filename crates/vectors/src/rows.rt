@@ -154,7 +154,7 @@ const NO_FORMS: [&str; 42] = [
 ];
 
 /// The first row that writes another line.
-pub fn missed<F: Flash>(driver: &mut Driver<F>, rows: &[Row]) -> Option<Row> {
+pub(crate) fn missed<F: Flash>(driver: &mut Driver<F>, rows: &[Row]) -> Option<Row> {
     for (line, wanted) in rows {
         match driver.step(line.as_bytes()) {
             Some(text) if text.as_slice() == wanted.as_bytes() => {}
