@@ -1,13 +1,14 @@
 //! A file as a device: the edge that is trusted to keep what is written.
 
-ghost use Rattle.std.specs.Prelude.{◌≡◌, ◌+◌, ◌<◌, ◌≤◌, ℕ, List, [], length, IfOk, OnErr};
+ghost use Rattle.std.specs.Prelude.{◌≡◌, ◌+◌, ◌*◌, ◌<◌, ◌≤◌, ℕ, List, [], length, IfOk, OnErr};
 ghost use Rattle.flash_core.specs.Faults.{HasCause, next_count};
 
 use crate::flash::{Flash, FlashFailed};
 use crate::page::{PAGES, Page};
-use std::fs::{Files, OpenFile, OpenOptions};
-use std::io::{self, ErrorKind, Read, Seek, SeekFrom, Write};
+use std::fs::{File, Files, OpenOptions};
+use std::io::{self, ErrorKind};
 use std::marker::Model;
+use std::os::unix::fs::FileExt;
 
 /// The pages of a file, one after another. What lies past the file's end reads as zeros. The file is made at the
 /// first write, and kept open. Any refusal of a file call is a counted fault.
@@ -15,21 +16,21 @@ use std::marker::Model;
 /// Its content is not known: that the file follows the device model is a premise. A second program that
 /// writes the same file is outside it.
 #[derive(Drop)]
-pub struct FileFlash<'a, R: Files> {
+pub struct FileFlash<'a, R: Files<File = File>> {
     rt: &'a R,
     path: &'a str,
-    file: Option<R::File>,
+    file: Option<File>,
     faults: u64,
 }
 
 // Contracts see how many calls have failed.
-impl<'a, R: Files> Model for FileFlash<'a, R> {
+impl<'a, R: Files<File = File>> Model for FileFlash<'a, R> {
     ghost Value = { ℕ };
 
     ghost view = { λ f. f.faults };
 }
 
-impl<'a, R: Files> FileFlash<'a, R> {
+impl<'a, R: Files<File = File>> FileFlash<'a, R> {
     /// The file at this path, which is opened at the first call.
     pub fn new(rt: &'a R, path: &'a str) -> FileFlash<'a, R>
         ensures { result ≡ 0 }
@@ -57,7 +58,7 @@ impl<'a, R: Files> FileFlash<'a, R> {
 }
 
 // Opens a file that is there, for reading and writing.
-fn open_there<R: Files>(rt: &R, path: &str) -> io::Result<Option<R::File>> {
+fn open_there<R: Files<File = File>>(rt: &R, path: &str) -> io::Result<Option<File>> {
     match OpenOptions::new().read(true).write(true).open(rt, path) {
         Ok(file) => Ok(Some(file)),
         Err(refused) if refused.kind() == ErrorKind::NotFound => Ok(None),
@@ -66,7 +67,7 @@ fn open_there<R: Files>(rt: &R, path: &str) -> io::Result<Option<R::File>> {
 }
 
 // Opens a file, and makes it where there is none.
-fn open_or_make<R: Files>(rt: &R, path: &str) -> io::Result<R::File> {
+fn open_or_make<R: Files<File = File>>(rt: &R, path: &str) -> io::Result<File> {
     OpenOptions::new()
         .read(true)
         .write(true)
@@ -74,16 +75,18 @@ fn open_or_make<R: Files>(rt: &R, path: &str) -> io::Result<R::File> {
         .open(rt, path)
 }
 
-fn place(page: u16) -> SeekFrom {
-    SeekFrom::Start(u64::from(page) * 256)
+// Where the page begins.
+fn place(page: u16) -> u64
+    ensures { result ≡ page * 256 }
+{
+    u64::from(page) * 256
 }
 
 // Reads a page, up to the file's end.
-fn read_page<F: Read + Seek>(file: &mut F, page: u16, bytes: &mut [u8]) -> io::Result<()> {
-    file.seek(place(page))?;
+fn read_page(file: &File, page: u16, bytes: &mut [u8; 256]) -> io::Result<()> {
     let mut done = 0;
-    while done < bytes.len() {
-        let count = file.read(&mut bytes[done..])?;
+    while done < 256 {
+        let count = file.read_at(&mut bytes[done..], place(page) + done as u64)?;
         if count == 0 {
             break;
         }
@@ -92,16 +95,10 @@ fn read_page<F: Read + Seek>(file: &mut F, page: u16, bytes: &mut [u8]) -> io::R
     Ok(())
 }
 
-// Writes a page by one call.
-fn write_page<F: Write + Seek>(file: &mut F, page: u16, bytes: &[u8]) -> io::Result<()> {
-    file.seek(place(page))?;
-    file.write_all(bytes)
-}
-
-fn read_from<R: Files>(
+fn read_from<R: Files<File = File>>(
     rt: &R,
     path: &str,
-    file: &mut Option<R::File>,
+    file: &mut Option<File>,
     page: u16,
     into: &mut Page,
 ) -> io::Result<()> {
@@ -115,25 +112,25 @@ fn read_from<R: Files>(
     }
 }
 
-fn write_to<R: Files>(
+fn write_to<R: Files<File = File>>(
     rt: &R,
     path: &str,
-    file: &mut Option<R::File>,
+    file: &mut Option<File>,
     page: u16,
     from: &Page,
 ) -> io::Result<()> {
     match file {
-        Some(file) => write_page(file, page, &from.bytes),
+        Some(file) => file.write_all_at(&from.bytes, place(page)),
         None => {
-            let mut made = open_or_make(rt, path)?;
-            write_page(&mut made, page, &from.bytes)?;
+            let made = open_or_make(rt, path)?;
+            made.write_all_at(&from.bytes, place(page))?;
             *file = Some(made);
             Ok(())
         }
     }
 }
 
-fn sync_to<R: Files>(rt: &R, path: &str, file: &mut Option<R::File>) -> io::Result<()> {
+fn sync_to<R: Files<File = File>>(rt: &R, path: &str, file: &mut Option<File>) -> io::Result<()> {
     if file.is_none() {
         *file = open_there(rt, path)?;
     }
@@ -143,7 +140,7 @@ fn sync_to<R: Files>(rt: &R, path: &str, file: &mut Option<R::File>) -> io::Resu
     }
 }
 
-impl<'a, R: Files> Flash for FileFlash<'a, R> {
+impl<'a, R: Files<File = File>> Flash for FileFlash<'a, R> {
     ghost tells = { ⊥ };
 
     ghost pages = { λ _. [] };

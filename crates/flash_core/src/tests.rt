@@ -2,7 +2,7 @@ ghost use Rattle.std.specs.Prelude.{◌<◌};
 
 use crate::{FileFlash, Flash, FlashFailed, FuseFlash, MemFlash, OnceFlash, Page};
 use std::alloc::Global;
-use std::fs::Files;
+use std::fs::{File, Files};
 use std::test::Fail;
 
 fn filled(byte: u8) -> Page {
@@ -74,7 +74,7 @@ fn each_device_fails_where_it_is_told_to(rt: HostRuntime) -> Result<(), Fail> {
 }
 
 /// What a file holds of four calls: nothing before the first write, zeros behind its end.
-fn keeps_pages<R: Files>(rt: &R, path: &str) -> Result<[u8; 3], FlashFailed> {
+fn keeps_pages<R: Files<File = File>>(rt: &R, path: &str) -> Result<[u8; 3], FlashFailed> {
     let mut flash = FileFlash::new(rt, path);
     flash.sync()?;
     let before = first_byte(&mut flash, 3);

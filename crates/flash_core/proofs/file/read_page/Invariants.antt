@@ -1,8 +1,8 @@
-use Rattle.std.proofs.Common.{◌≤◌, ◌-◌, length}
+use Rattle.std.proofs.Common.{◌≤◌, ◌-◌}
 use Rattle.flash_core.proofs.file.read_page.Given as goal
 
 abbrev pub invariant-loop-done : goal.invariant-loop-done
-invariant-loop-done g l = l.done ≤ length l.bytes
+invariant-loop-done l = l.done ≤ 256
 
 abbrev pub decreases-loop-done : goal.decreases-loop-done
-decreases-loop-done g l = length l.bytes - l.done
+decreases-loop-done l = 256 - l.done
