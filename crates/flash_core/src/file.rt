@@ -1,6 +1,6 @@
 //! A file as a device: the edge that is trusted to keep what is written.
 
-ghost use Rattle.std.specs.Prelude.{◌≡◌, ◌+◌, ◌*◌, ◌<◌, ◌≤◌, ℕ, List, [], length, IfOk, OnErr};
+ghost use Rattle.std.specs.Prelude.{◌≡◌, ◌+◌, ◌*◌, ◌<◌, ◌≤◌, ℕ, List, [], length, IfOk, OnOk, OnErr};
 ghost use Rattle.flash_core.specs.Faults.{HasCause, next_count};
 
 use crate::flash::{Flash, FlashFailed};
@@ -10,17 +10,28 @@ use std::io::{self, ErrorKind};
 use std::marker::Model;
 use std::os::unix::fs::FileExt;
 
-/// The pages of a file, one after another. What lies past the file's end reads as zeros. The file is made at the
-/// first write, and kept open. Any refusal of a file call is a counted fault.
+/// The pages of a file, one after another. What lies past the file's end reads as zeros. The file is opened at the
+/// first call, or made at the first write, and kept open with an exclusive lock as long as the device lives. Any
+/// refusal of a file call is a counted fault, and so is a lock that another open of the file holds.
 ///
-/// Its content is not known: that the file follows the device model is a premise. A second program that
-/// writes the same file is outside it.
+/// Its content is not known: that the file follows the device model is a premise. A program that writes the same
+/// file and takes no lock is outside it.
 #[derive(Drop)]
 pub struct FileFlash<'a, R: Files<File = File>> {
     rt: &'a R,
     path: &'a str,
-    file: Option<File>,
+    kept: Kept,
     faults: u64,
+}
+
+// What a device keeps of its file.
+#[derive(Drop)]
+enum Kept {
+    // No call has looked for it.
+    Unknown,
+    // There was none.
+    Absent,
+    Locked(File),
 }
 
 // Contracts see how many calls have failed.
@@ -38,14 +49,15 @@ impl<'a, R: Files<File = File>> FileFlash<'a, R> {
         FileFlash {
             rt,
             path,
-            file: None,
+            kept: Kept::Unknown,
             faults: 0,
         }
     }
 
     // Counts a refusal of a file call.
     fn counted(&mut self, answer: io::Result<()>) -> Result<(), FlashFailed>
-        ensures { HasCause self.old self.new result }
+        ensures cause { HasCause self.old self.new result }
+        ensures quiet { OnOk result (self.new ≡ self.old) }
     {
         match answer {
             Ok(()) => Ok(()),
@@ -57,22 +69,48 @@ impl<'a, R: Files<File = File>> FileFlash<'a, R> {
     }
 }
 
+// Opens the file for one device alone. Descriptors 0 to 2 belong to the standard streams: where one of them is closed
+// the file would get its number, and replies would be written into the card. The clone has a number above them, and
+// shares the lock.
+fn open_locked<R: Files<File = File>>(
+    rt: &R,
+    path: &str,
+    options: &OpenOptions,
+) -> io::Result<File> {
+    let opened = options.open(rt, path)?;
+    let file = opened.try_clone()?;
+    file.try_lock()?;
+    Ok(file)
+}
+
 // Opens a file that is there, for reading and writing.
-fn open_there<R: Files<File = File>>(rt: &R, path: &str) -> io::Result<Option<File>> {
-    match OpenOptions::new().read(true).write(true).open(rt, path) {
-        Ok(file) => Ok(Some(file)),
-        Err(refused) if refused.kind() == ErrorKind::NotFound => Ok(None),
+fn open_there<R: Files<File = File>>(rt: &R, path: &str) -> io::Result<Kept> {
+    match open_locked(rt, path, OpenOptions::new().read(true).write(true)) {
+        Ok(file) => Ok(Kept::Locked(file)),
+        Err(refused) if refused.kind() == ErrorKind::NotFound => Ok(Kept::Absent),
         Err(refused) => Err(refused),
     }
 }
 
-// Opens a file, and makes it where there is none.
-fn open_or_make<R: Files<File = File>>(rt: &R, path: &str) -> io::Result<File> {
-    OpenOptions::new()
-        .read(true)
-        .write(true)
-        .create(true)
-        .open(rt, path)
+// Makes the file that was not there. One that has bytes by now is another program's.
+fn make<R: Files<File = File>>(rt: &R, path: &str) -> io::Result<File> {
+    let made = open_locked(
+        rt,
+        path,
+        OpenOptions::new().read(true).write(true).create(true),
+    )?;
+    if made.metadata()?.len() > 0 {
+        return Err(io::Error::from(ErrorKind::AlreadyExists));
+    }
+    Ok(made)
+}
+
+// Looks for the file, once: what was read of no file stays true of the device, though another program makes one.
+fn look<R: Files<File = File>>(rt: &R, path: &str, kept: &mut Kept) -> io::Result<()> {
+    if matches!(kept, Kept::Unknown) {
+        *kept = open_there(rt, path)?;
+    }
+    Ok(())
 }
 
 // Where the page begins.
@@ -98,45 +136,40 @@ fn read_page(file: &File, page: u16, bytes: &mut [u8; 256]) -> io::Result<()> {
 fn read_from<R: Files<File = File>>(
     rt: &R,
     path: &str,
-    file: &mut Option<File>,
+    kept: &mut Kept,
     page: u16,
     into: &mut Page,
 ) -> io::Result<()> {
-    if file.is_none() {
-        *file = open_there(rt, path)?;
-    }
+    look(rt, path, kept)?;
     into.bytes = [0; 256];
-    match file {
-        Some(file) => read_page(file, page, &mut into.bytes),
-        None => Ok(()),
+    match kept {
+        Kept::Locked(file) => read_page(file, page, &mut into.bytes),
+        _ => Ok(()),
     }
 }
 
 fn write_to<R: Files<File = File>>(
     rt: &R,
     path: &str,
-    file: &mut Option<File>,
+    kept: &mut Kept,
     page: u16,
     from: &Page,
 ) -> io::Result<()> {
-    match file {
-        Some(file) => file.write_all_at(&from.bytes, place(page)),
-        None => {
-            let made = open_or_make(rt, path)?;
-            made.write_all_at(&from.bytes, place(page))?;
-            *file = Some(made);
-            Ok(())
-        }
+    look(rt, path, kept)?;
+    if let Kept::Locked(file) = kept {
+        return file.write_all_at(&from.bytes, place(page));
     }
+    let made = make(rt, path)?;
+    let answer = made.write_all_at(&from.bytes, place(page));
+    *kept = Kept::Locked(made);
+    answer
 }
 
-fn sync_to<R: Files<File = File>>(rt: &R, path: &str, file: &mut Option<File>) -> io::Result<()> {
-    if file.is_none() {
-        *file = open_there(rt, path)?;
-    }
-    match file {
-        Some(file) => file.sync_data(),
-        None => Ok(()),
+fn sync_to<R: Files<File = File>>(rt: &R, path: &str, kept: &mut Kept) -> io::Result<()> {
+    look(rt, path, kept)?;
+    match kept {
+        Kept::Locked(file) => file.sync_data(),
+        _ => Ok(()),
     }
 }
 
@@ -160,17 +193,17 @@ impl<'a, R: Files<File = File>> Flash for FileFlash<'a, R> {
     ghost only_now = { λ _ _ told. absurd told };
 
     fn read(&mut self, page: u16, into: &mut Page) -> Result<(), FlashFailed> {
-        let answer = read_from(self.rt, self.path, &mut self.file, page, into);
+        let answer = read_from(self.rt, self.path, &mut self.kept, page, into);
         self.counted(answer)
     }
 
     fn write(&mut self, page: u16, from: &Page) -> Result<(), FlashFailed> {
-        let answer = write_to(self.rt, self.path, &mut self.file, page, from);
+        let answer = write_to(self.rt, self.path, &mut self.kept, page, from);
         self.counted(answer)
     }
 
     fn sync(&mut self) -> Result<(), FlashFailed> {
-        let answer = sync_to(self.rt, self.path, &mut self.file);
+        let answer = sync_to(self.rt, self.path, &mut self.kept);
         self.counted(answer)
     }
 }

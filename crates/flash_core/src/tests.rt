@@ -2,7 +2,7 @@ ghost use Rattle.std.specs.Prelude.{◌<◌};
 
 use crate::{FileFlash, Flash, FlashFailed, FuseFlash, MemFlash, OnceFlash, Page};
 use std::alloc::Global;
-use std::fs::{File, Files};
+use std::fs::{self, File, Files};
 use std::test::Fail;
 
 fn filled(byte: u8) -> Page {
@@ -80,6 +80,7 @@ fn keeps_pages<R: Files<File = File>>(rt: &R, path: &str) -> Result<[u8; 3], Fla
     let before = first_byte(&mut flash, 3);
     flash.write(3, &filled(9))?;
     flash.sync()?;
+    drop(flash);
     let mut again = FileFlash::new(rt, path);
     let kept = first_byte(&mut again, 3);
     let past = first_byte(&mut again, 4);
@@ -88,10 +89,36 @@ fn keeps_pages<R: Files<File = File>>(rt: &R, path: &str) -> Result<[u8; 3], Fla
 
 #[test]
 fn a_file_keeps_its_pages(rt: HostRuntime) -> Result<(), Fail> {
+    // An earlier run may have left one.
+    let _ = fs::remove_file(&rt, "flash.img");
     assert_eq!(rt; keeps_pages(&rt, "flash.img"), Ok([0, 9, 0]));
     assert_eq!(rt;
         keeps_pages(&rt, "no/such/folder/flash.img"),
         Err(FlashFailed)
     );
+    Ok(())
+}
+
+#[test]
+fn a_file_is_of_one_device_at_a_time(rt: HostRuntime) -> Result<(), Fail> {
+    // An earlier run may have left one.
+    let _ = fs::remove_file(&rt, "one.img");
+    let mut first = FileFlash::new(&rt, "one.img");
+    let mut second = FileFlash::new(&rt, "one.img");
+    assert_eq!(rt; first_byte(&mut first, 3), 0);
+    second.write(3, &filled(9))?;
+
+    // The first device has found no file, and goes on without: it has no lock.
+    assert_eq!(rt; first_byte(&mut first, 3), 0);
+    assert_eq!(rt; first.write(3, &filled(8)), Err(FlashFailed));
+    let mut third = FileFlash::new(&rt, "one.img");
+    assert_eq!(rt; third.sync(), Err(FlashFailed));
+    assert_eq!(rt; first_byte(&mut third, 3), 255);
+    assert_eq!(rt; third.write(3, &filled(7)), Err(FlashFailed));
+
+    // The lock ends with its device. What the first has read as zeros is not so any more.
+    drop(second);
+    assert_eq!(rt; first.write(3, &filled(8)), Err(FlashFailed));
+    assert_eq!(rt; first_byte(&mut third, 3), 9);
     Ok(())
 }
