@@ -11,5 +11,4 @@ pub mod WordRules
 pub mod RoundRules
 pub mod ScheduleRules
 pub mod InverseRules
-mod PlainRules
 mod Vectors

@@ -40,8 +40,3 @@ pub use block_key::BlockKey;
 pub use key_size::{Bits128, Bits192, Bits256, KeySize};
 pub use pinned::constants;
 pub use sealing_aes::{SealingAes, SealingAes128, SealingAes192, SealingAes256};
-
-#[cfg(test)]
-mod plain;
-#[cfg(test)]
-mod tests;

@@ -10,6 +10,3 @@ pub use command::Command;
 pub use laws::one_spelling;
 pub use not_short::NotShort;
 pub use reply::{Reply, Status};
-
-#[cfg(test)]
-mod tests;

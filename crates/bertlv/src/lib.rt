@@ -10,8 +10,6 @@ mod element;
 mod length;
 mod reader;
 mod tag;
-#[cfg(test)]
-mod tests;
 mod writer;
 
 pub use element::{NoRoom, Tlv, TlvError};

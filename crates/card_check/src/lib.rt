@@ -21,6 +21,3 @@ mod room;
 mod slots;
 
 pub use card::is_card;
-
-#[cfg(test)]
-mod tests;

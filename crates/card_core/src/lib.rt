@@ -27,6 +27,3 @@ pub use formatting::format;
 pub use pinned::constants;
 pub use power::{PowerCause, PowerError};
 pub use reply::REPLY_LIMIT;
-
-#[cfg(test)]
-mod tests;

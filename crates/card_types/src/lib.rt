@@ -33,6 +33,3 @@ pub use pinned::constants;
 pub use privileges::Privileges;
 pub use search::{InSlot, Search, least};
 pub use tables::{Entry, ISSUER_SLOT, KeyRec, LoadFile, Object, Tables, in_slot};
-
-#[cfg(test)]
-mod tests;

@@ -60,6 +60,3 @@ pub use cmac_state::CmacState;
 pub use derivation::derive;
 pub use message_code::{Mac, cmac};
 pub use padding::padded_len;
-
-#[cfg(test)]
-mod tests;

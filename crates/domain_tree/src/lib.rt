@@ -7,6 +7,3 @@ mod walk;
 
 pub use holders::nearest;
 pub use walk::{Wanted, above, first_above, would_loop};
-
-#[cfg(test)]
-mod tests;

@@ -14,8 +14,6 @@ mod memory;
 mod once;
 mod page;
 mod pinned;
-#[cfg(test)]
-mod tests;
 
 pub use file::FileFlash;
 pub use flash::{Flash, FlashFailed};

@@ -7,7 +7,5 @@
 #![tactic(auto)]
 
 mod pool;
-#[cfg(test)]
-mod tests;
 
 pub use pool::{FRAMES, FramePool};

@@ -23,8 +23,6 @@ mod run_verb;
 mod serve;
 mod show;
 mod show_verb;
-#[cfg(test)]
-mod tests;
 mod top;
 mod verb;
 

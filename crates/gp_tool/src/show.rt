@@ -26,8 +26,6 @@ mod line;
 mod listing;
 mod objects;
 mod owner;
-#[cfg(test)]
-mod tests;
 
 use arrayvec::ArrayVec;
 use card_core::Card;

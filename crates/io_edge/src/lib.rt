@@ -21,8 +21,6 @@ mod pinned;
 mod sink;
 mod source;
 mod standard;
-#[cfg(test)]
-mod tests;
 
 pub use line::{INPUT_LIMIT, LINE_LIMIT, Line, LineStop};
 pub use lines::Lines;

@@ -24,6 +24,3 @@ pub use deletion::delete;
 pub use judge::{has_version, judge as judge_put};
 pub use put::{put_one, put_set};
 pub use refusal::PutRefusal;
-
-#[cfg(test)]
-mod tests;

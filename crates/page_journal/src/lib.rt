@@ -39,8 +39,6 @@ mod commit;
 mod descriptor;
 mod steps;
 mod store;
-#[cfg(test)]
-mod tests;
 
 pub use cause::{MountCause, MountError};
 pub use steps::GATE;

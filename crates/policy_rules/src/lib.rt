@@ -43,6 +43,3 @@ pub use rule::{Rule, RuleG, RulePS};
 pub use select::{RuleSE, judge_select};
 pub use session_sets::session_set;
 pub use store_data::{RuleSD, judge_store_data};
-
-#[cfg(test)]
-mod tests;

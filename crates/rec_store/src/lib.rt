@@ -48,6 +48,3 @@ pub use layout::lay_out;
 pub use mem_keeper::MemKeeper;
 pub use open::{OpenCause, OpenError};
 pub use records::Records;
-
-#[cfg(test)]
-mod tests;

@@ -74,6 +74,3 @@ pub use session::Session;
 pub use session_keys::SessionKeys;
 pub use static_keys::StaticKeys;
 pub use status::is_success_or_warning;
-
-#[cfg(test)]
-mod tests;

@@ -63,6 +63,3 @@ pub use external_authenticate::begin;
 pub use host_session::HostSession;
 pub use laws::{agreement, one_plain_reply};
 pub use refusals::{BeginRefusal, ReplyRefusal, TooLong};
-
-#[cfg(test)]
-mod tests;

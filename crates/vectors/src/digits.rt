@@ -1,3 +1,5 @@
+//! Hexadecimal digits.
+
 use arrayvec::ArrayVec;
 
 /// The bytes that hexadecimal digits write, up to `N` of them.

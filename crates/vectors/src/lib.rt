@@ -1,20 +1,55 @@
-//! Tests over several crates: the two ends of a secure channel with each other, against values that were computed apart
-//! from this project. There is nothing to call.
+//! Tests of what needs a type and no card, and published vectors. There is nothing to call. What a card answers is tried by the
+//! program `cases`.
 //!
+//! - `apdus`: short commands and replies, as they are spelled.
+//! - `block_cipher`: the example vectors of FIPS 197.
+//! - `card_sessions`: the card side of SCP03.
+//! - `codes`: CMAC, derivation and CBC, by the published examples.
+//! - `data_objects`: BER-TLV elements, and the places of refusals.
+//! - `devices`: flash devices in memory, those that fail, and a file.
+//! - `frames`: thirty frames.
+//! - `host_sessions`: the host side of SCP03.
+//! - `journal`: committed pages, with power lost and faults at each call.
+//! - `judging`: rules that no command of a card comes to.
+//! - `keeper`: keys in memory.
+//! - `records`: a change of a thing of each kind.
+//! - `streams`: sources, sinks and lines.
+//! - `tables`: tables that no image can spell.
 //! - `transcripts`: sessions of SCP03 with every value in between, at both ends.
-//! - `driver`: an interpreter of scripts, which knows the commands that the card has: a host at one end, a card at the
-//!   other.
-//! - `rows`: scripts, with the lines that they write and the bytes that they send.
-//! - `images`: scripts for cards that are laid out on a device, and for devices that count their calls or fail.
+//! - `values`: identifiers, privileges, codes, sequence counters.
 #![tactic(auto)]
 
 #[cfg(test)]
+mod apdus;
+#[cfg(test)]
+mod block_cipher;
+#[cfg(test)]
+mod card_sessions;
+#[cfg(test)]
+mod codes;
+#[cfg(test)]
+mod data_objects;
+#[cfg(test)]
+mod devices;
+#[cfg(test)]
 mod digits;
 #[cfg(test)]
-mod driver;
+mod frames;
 #[cfg(test)]
-mod images;
+mod host_sessions;
 #[cfg(test)]
-mod rows;
+mod journal;
+#[cfg(test)]
+mod judging;
+#[cfg(test)]
+mod keeper;
+#[cfg(test)]
+mod records;
+#[cfg(test)]
+mod streams;
+#[cfg(test)]
+mod tables;
 #[cfg(test)]
 mod transcripts;
+#[cfg(test)]
+mod values;

@@ -1,8 +1,0 @@
-use Rattle.std.proofs.Common.{sym}
-use Rattle.aes_block.specs.Cipher.{IsBlock}
-use Rattle.aes_block.proofs.tests.there_and_back.Goals as goal
-
-pub returns : goal.returns
-returns g c =
-    let block : IsBlock c.args.block.now = record { sixteen = c.told-block; bytes = c.fits-block } in
-    sym (c.unseal.ensures.alone c.args.block.now block (sym c.seal.ensures.sealed))

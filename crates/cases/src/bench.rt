@@ -1,0 +1,355 @@
+//! A case: a device, a card on it, and what its lines do to them.
+
+use crate::case_error::CaseError;
+use crate::counted::Calls;
+use crate::device::{Device, Faults, failing, memory};
+use crate::image::Image;
+use crate::layout::Layout;
+use crate::line::{Line, StreamLine, Sweep};
+use crate::script::Player;
+use crate::sweep::sweep;
+use crate::tool::{Called, Streams, call};
+use crate::words::{Words, number};
+use flash_core::MemFlash;
+use std::alloc::Global;
+use std::cell::Cell;
+use std::mem;
+
+/// What the device is.
+#[derive(Drop)]
+enum Power<'a> {
+    /// Its pages are zeros.
+    Blank,
+
+    /// Its pages are being laid out.
+    Laid(Layout),
+    Off(MemFlash),
+    On(Player<Device<'a>>),
+}
+
+/// A case, as far as its lines have made it.
+#[derive(Drop)]
+pub struct Bench<'a> {
+    alloc: Global,
+    calls: &'a Cell<Calls>,
+    power: Power<'a>,
+
+    /// Pages that were remembered.
+    kept: Option<Image>,
+
+    /// What fails when the device is used next.
+    faults: Faults,
+    streams: Streams,
+    input: Vec<u8>,
+
+    /// The script of sweeps.
+    script: Vec<Vec<u8>>,
+    called: Option<Called>,
+}
+
+impl<'a> Bench<'a> {
+    /// A device of zeros. How many calls it takes is kept in `calls`.
+    pub fn new(alloc: Global, calls: &'a Cell<Calls>) -> Bench<'a> {
+        Bench {
+            alloc,
+            calls,
+            power: Power::Blank,
+            kept: None,
+            faults: Faults::NONE,
+            streams: Streams::ample(alloc),
+            input: Vec::new(alloc),
+            script: Vec::new(alloc),
+            called: None,
+        }
+    }
+
+    /// Does a line, and writes what it answers.
+    pub fn act(&mut self, line: &Line<'_>, out: &mut Vec<u8>) -> Result<(), CaseError> {
+        match line {
+            Line::Nothing => Ok(()),
+            Line::Case(name) => {
+                *self = Bench::new(self.alloc, self.calls);
+                write_line(out, &[b"case ", name])
+            }
+            Line::Page {
+                number,
+                place,
+                digits,
+                times,
+            } => self.put(*number, *place, digits, *times),
+            Line::Thing { kind, words } => self.laid()?.lay(kind, words),
+            Line::Format => self.format(),
+            Line::Keep => self.keep(),
+            Line::Again => self.again(),
+            Line::Fuse(call) => {
+                self.faults.fuse = u64::from(*call);
+                Ok(())
+            }
+            Line::Once(call) => {
+                self.faults.once = u64::from(*call);
+                Ok(())
+            }
+            Line::PowerOn => self.power_on(out),
+            Line::PowerOff => self.power_off(),
+            Line::Cut(seed) => self.cut(*seed),
+            _ => self.play(line, out),
+        }
+    }
+
+    // Does a line that gives input to a card, or asks what came of it.
+    fn play(&mut self, line: &Line<'_>, out: &mut Vec<u8>) -> Result<(), CaseError> {
+        match line {
+            Line::Input(text) => {
+                self.input.extend_from_slice(text)?;
+                Ok(self.input.push(b'\n')?)
+            }
+            Line::Bytes { digits, times } => {
+                let bytes = decode(self.alloc, digits)?;
+                for _ in 0..*times {
+                    self.input.extend_from_slice(&bytes)?;
+                }
+                Ok(())
+            }
+            Line::Stream(line) => self.set_stream(line),
+            Line::Gp(words) => self.gp(*words, out),
+            Line::Script(line) => self.step(line, out),
+            Line::Later(line) => Ok(self.script.push(Vec::from_slice(self.alloc, line)?)?),
+            Line::Sweep(kind) => self.sweep(*kind, out),
+            Line::Counts => self.write_counts(out),
+            Line::Sent => self.write_sent(out),
+            Line::Calls => self.write_calls(out),
+            Line::Count(word) => self.write_count(word, out),
+            _ => Err(CaseError::NoForm),
+        }
+    }
+
+    // Takes the device, with its power off.
+    fn take_flash(&mut self) -> Result<MemFlash, CaseError> {
+        match mem::replace(&mut self.power, Power::Blank) {
+            Power::Blank => Image::zeros(self.alloc)?.device(self.alloc),
+            Power::Laid(layout) => layout.image().device(self.alloc),
+            Power::Off(flash) => Ok(flash),
+            Power::On(player) => Ok(memory(player.into_flash())),
+        }
+    }
+
+    // Takes the device to use it, with the faults that are due.
+    fn take_device(&mut self) -> Result<Device<'a>, CaseError> {
+        let faults = mem::replace(&mut self.faults, Faults::NONE);
+        self.calls.set(Calls::NONE);
+        Ok(failing(self.take_flash()?, faults, self.calls))
+    }
+
+    fn laid(&mut self) -> Result<&mut Layout, CaseError> {
+        if !matches!(self.power, Power::Laid(_)) {
+            let image = match &self.power {
+                Power::Blank => Image::zeros(self.alloc)?,
+                _ => Image::of(self.alloc, &self.take_flash()?)?,
+            };
+            self.power = Power::Laid(Layout::of(self.alloc, image));
+        }
+        match &mut self.power {
+            Power::Laid(layout) => Ok(layout),
+            _ => Err(CaseError::Device),
+        }
+    }
+
+    fn put(&mut self, page: u32, place: u32, digits: &[u8], times: u32) -> Result<(), CaseError> {
+        let bytes = decode(self.alloc, digits)?;
+        let image = self.laid()?.image_mut();
+        let mut at = u64::from(page) * 256 + u64::from(place);
+        for _ in 0..times {
+            image.put(at as usize, &bytes)?;
+            at = at.saturating_add(bytes.len() as u64);
+        }
+        Ok(())
+    }
+
+    fn keep(&mut self) -> Result<(), CaseError> {
+        let flash = self.take_flash()?;
+        self.kept = Some(Image::of(self.alloc, &flash)?);
+        self.power = Power::Off(flash);
+        Ok(())
+    }
+
+    fn again(&mut self) -> Result<(), CaseError> {
+        let kept = self.kept.as_ref().ok_or(CaseError::NoForm)?;
+        self.power = Power::Off(kept.device(self.alloc)?);
+        Ok(())
+    }
+
+    /// Takes these bytes for the pages, and zeros behind them.
+    pub fn lay_image(&mut self, pages: &[u8]) -> Result<(), CaseError> {
+        let mut image = Image::zeros(self.alloc)?;
+        image.put(0, pages)?;
+        self.power = Power::Laid(Layout::of(self.alloc, image));
+        Ok(())
+    }
+
+    fn format(&mut self) -> Result<(), CaseError> {
+        let device = self.take_device()?;
+        let streams = Streams::ample(self.alloc);
+        let (called, flash) = call(self.alloc, Some("format"), b"", &streams, device)?;
+        self.power = Power::Off(flash);
+        if called.status == 0 {
+            Ok(())
+        } else {
+            Err(CaseError::Device)
+        }
+    }
+
+    fn power_on(&mut self, out: &mut Vec<u8>) -> Result<(), CaseError> {
+        let device = self.take_device()?;
+        match Player::over(self.alloc, device) {
+            Ok(player) => {
+                self.power = Power::On(player);
+                Ok(())
+            }
+            Err(device) => {
+                self.power = Power::Off(memory(device));
+                write_line(out, &[b"no card"])
+            }
+        }
+    }
+
+    fn power_off(&mut self) -> Result<(), CaseError> {
+        let flash = self.take_flash()?;
+        self.power = Power::Off(flash);
+        Ok(())
+    }
+
+    fn cut(&mut self, seed: u32) -> Result<(), CaseError> {
+        let mut flash = self.take_flash()?;
+        flash.power_cut(u64::from(seed));
+        self.power = Power::Off(flash);
+        Ok(())
+    }
+
+    fn set_stream(&mut self, line: &StreamLine<'_>) -> Result<(), CaseError> {
+        match line {
+            StreamLine::Piece(count) => self.streams.piece = *count as usize,
+            StreamLine::RefusedReads(calls) => {
+                self.streams.refused_reads = numbers(self.alloc, calls)?;
+            }
+            StreamLine::Room(bytes) => self.streams.room = *bytes as usize,
+            StreamLine::RefusedWrites(calls) => {
+                self.streams.refused_writes = numbers(self.alloc, calls)?;
+            }
+        }
+        Ok(())
+    }
+
+    fn gp(&mut self, words: Option<&str>, out: &mut Vec<u8>) -> Result<(), CaseError> {
+        let device = self.take_device()?;
+        let streams = mem::replace(&mut self.streams, Streams::ample(self.alloc));
+        let (called, flash) = call(self.alloc, words, &self.input, &streams, device)?;
+        self.power = Power::Off(flash);
+        self.input.clear();
+        out.extend_from_slice(called.sink.written())?;
+        let status = format!(in self.alloc; "status {}", called.status)?;
+        self.called = Some(called);
+        write_line(out, &[status.as_bytes()])
+    }
+
+    fn step(&mut self, line: &[u8], out: &mut Vec<u8>) -> Result<(), CaseError> {
+        if !matches!(self.power, Power::On(_)) {
+            self.power_on(out)?;
+        }
+        let Power::On(player) = &mut self.power else {
+            return Ok(());
+        };
+        self.calls.set(Calls::NONE);
+        match player.step(line) {
+            Some(text) if text.is_empty() => Ok(()),
+            Some(text) => write_line(out, &[&text]),
+            None => write_line(out, &[b"no form"]),
+        }
+    }
+
+    fn sweep(&mut self, kind: Sweep, out: &mut Vec<u8>) -> Result<(), CaseError> {
+        let flash = self.take_flash()?;
+        let image = Image::of(self.alloc, &flash)?;
+        self.power = Power::Off(flash);
+        let outcomes = sweep(self.alloc, kind, &image, &self.script)?;
+        self.script.clear();
+        write_line(out, &[outcomes.text()?.as_bytes()])
+    }
+
+    fn write_counts(&self, out: &mut Vec<u8>) -> Result<(), CaseError> {
+        let called = self.called.as_ref().ok_or(CaseError::NoForm)?;
+        let text = format!(in self.alloc;
+            "done {}, flushes {}, written {}, handed on {}",
+            called.done,
+            called.sink.flushes(),
+            called.sink.written().len(),
+            called.sink.handed_on().len()
+        )?;
+        write_line(out, &[text.as_bytes()])
+    }
+
+    fn write_sent(&self, out: &mut Vec<u8>) -> Result<(), CaseError> {
+        let Power::On(player) = &self.power else {
+            return Err(CaseError::NoForm);
+        };
+        let digits = hex::encode(self.alloc, player.sent())?;
+        write_line(out, &[digits.as_bytes()])
+    }
+
+    fn write_calls(&self, out: &mut Vec<u8>) -> Result<(), CaseError> {
+        let calls = self.calls.get();
+        let text = format!(in self.alloc;
+            "reads {}, writes {}, syncs {}",
+            calls.reads, calls.writes, calls.syncs
+        )?;
+        write_line(out, &[text.as_bytes()])
+    }
+
+    // How many lines of the registry begin with a word.
+    fn write_count(&mut self, word: &[u8], out: &mut Vec<u8>) -> Result<(), CaseError> {
+        let device = self.take_device()?;
+        let streams = Streams::ample(self.alloc);
+        let (called, flash) = call(self.alloc, Some("show"), b"", &streams, device)?;
+        self.power = Power::Off(flash);
+        let count = count_lines(called.sink.written(), word);
+        let text = format!(in self.alloc; "{count}")?;
+        write_line(out, &[text.as_bytes()])
+    }
+}
+
+// How many lines begin with this word and a space.
+fn count_lines(text: &[u8], word: &[u8]) -> usize {
+    let mut count: usize = 0;
+    let mut rest = text;
+    for _ in 0..text.len() {
+        let Some(at) = rest.iter().position(|byte| *byte == b'\n') else {
+            break;
+        };
+        if let [b' ', ..] = rest[..at].strip_prefix(word).unwrap_or(b"") {
+            count = count.saturating_add(1);
+        }
+        rest = &rest[at + 1..];
+    }
+    count
+}
+
+fn decode(alloc: Global, digits: &[u8]) -> Result<Vec<u8>, CaseError> {
+    hex::decode(alloc, digits).map_err(|_| CaseError::NoForm)
+}
+
+// Decimal numbers, with a space between two.
+fn numbers(alloc: Global, line: &[u8]) -> Result<Vec<u32>, CaseError> {
+    let mut numbers = Vec::new(alloc);
+    let mut words = Words::new(line);
+    for _ in 0..line.len() {
+        let Some(word) = words.take() else { break };
+        numbers.push(number(word).ok_or(CaseError::NoForm)?)?;
+    }
+    Ok(numbers)
+}
+
+fn write_line(out: &mut Vec<u8>, parts: &[&[u8]]) -> Result<(), CaseError> {
+    for part in parts {
+        out.extend_from_slice(part)?;
+    }
+    Ok(out.push(b'\n')?)
+}

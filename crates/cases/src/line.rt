@@ -1,0 +1,211 @@
+//! The forms of a line of the language of cases. docs/TESTS.md lists them.
+
+use crate::words::{cut, number};
+
+/// A line that changes how the streams of the next call of `gp` are made.
+#[derive(Clone, Copy)]
+pub enum StreamLine<'a> {
+    /// How many bytes a read gives at the most.
+    Piece(u32),
+
+    /// Numbers of reads that are refused.
+    RefusedReads(&'a [u8]),
+
+    /// How many bytes the sink takes.
+    Room(u32),
+
+    /// Numbers of calls on the sink that are refused.
+    RefusedWrites(&'a [u8]),
+}
+
+/// What is tried again and again, each time with power lost or a fault at another call.
+#[derive(Clone, Copy)]
+pub enum Sweep {
+    /// Power is lost at each call, with each seed.
+    Cut,
+
+    /// So, and again while the card is powered on next.
+    CutTwice,
+
+    /// One call fails, and the next ones do not.
+    Fail,
+}
+
+/// What a line asks for.
+#[derive(Clone, Copy)]
+pub enum Line<'a> {
+    Nothing,
+
+    /// A new case, with a device of zeros.
+    Case(&'a [u8]),
+
+    /// Bytes in digits, so many times, at a place in a page and on into those behind it.
+    Page {
+        number: u32,
+        place: u32,
+        digits: &'a [u8],
+        times: u32,
+    },
+
+    /// All pages, from a file.
+    Image(&'a str),
+
+    /// The card's state or a thing of the registry, in words.
+    Thing {
+        kind: &'a [u8],
+        words: &'a [u8],
+    },
+    Format,
+
+    /// Remembers the pages.
+    Keep,
+
+    /// Takes the pages that were remembered.
+    Again,
+
+    /// A line of input for the next call of `gp`.
+    Input(&'a [u8]),
+
+    /// Bytes of input, in digits, so many times.
+    Bytes {
+        digits: &'a [u8],
+        times: u32,
+    },
+    Stream(StreamLine<'a>),
+
+    /// A call of `gp`, with its words.
+    Gp(Option<&'a str>),
+
+    /// What the last call of `gp` did with its streams.
+    Counts,
+
+    /// A line of a script.
+    Script(&'a [u8]),
+
+    /// What the last line of a script sent.
+    Sent,
+
+    /// How many calls the last call of `gp` or line of a script made on the device.
+    Calls,
+
+    /// How many lines of the registry begin with a word.
+    Count(&'a [u8]),
+
+    /// The device fails from this call on, from when it is used next.
+    Fuse(u32),
+
+    /// This one call fails.
+    Once(u32),
+    PowerOn,
+    PowerOff,
+
+    /// Power is lost, with this seed.
+    Cut(u32),
+
+    /// A line of the script of sweeps.
+    Later(&'a [u8]),
+    Sweep(Sweep),
+}
+
+impl<'a> Line<'a> {
+    /// Reads a line, if it has a form.
+    pub fn read(line: &'a [u8]) -> Option<Line<'a>> {
+        if line.is_empty() || line[0] == b'#' {
+            return Some(Line::Nothing);
+        }
+        match cut(line) {
+            Some((verb, rest)) => match verb {
+                b"<" => Some(Line::Input(rest)),
+                b">" => Some(Line::Script(rest)),
+                b"|" => Some(Line::Later(rest)),
+                b"gp" => Some(Line::Gp(Some(text(rest)?))),
+                b"page" => read_page(rest),
+                _ => match device_line(verb, rest) {
+                    Some(line) => Some(line),
+                    None => stream_line(verb, rest),
+                },
+            },
+            None => lone_word(line),
+        }
+    }
+}
+
+fn text(bytes: &[u8]) -> Option<&str> {
+    std::str::from_utf8(bytes).ok()
+}
+
+fn lone_word(word: &[u8]) -> Option<Line<'_>> {
+    match word {
+        b"format" => Some(Line::Format),
+        b"keep" => Some(Line::Keep),
+        b"again" => Some(Line::Again),
+        b"gp" => Some(Line::Gp(None)),
+        b"counts" => Some(Line::Counts),
+        b"sent" => Some(Line::Sent),
+        b"calls" => Some(Line::Calls),
+        _ => None,
+    }
+}
+
+// HEX [xTIMES]
+fn repeated(words: &[u8]) -> Option<(&[u8], u32)> {
+    match cut(words) {
+        Some((digits, [b'x', times @ ..])) => Some((digits, number(times)?)),
+        Some(_) => None,
+        None => Some((words, 1)),
+    }
+}
+
+// PAGE PLACE HEX [xTIMES]
+fn read_page(words: &[u8]) -> Option<Line<'_>> {
+    let (page, rest) = cut(words)?;
+    let (place, rest) = cut(rest)?;
+    let (digits, times) = repeated(rest)?;
+    Some(Line::Page {
+        number: number(page)?,
+        place: number(place)?,
+        digits,
+        times,
+    })
+}
+
+fn device_line<'a>(verb: &'a [u8], rest: &'a [u8]) -> Option<Line<'a>> {
+    match verb {
+        b"case" => Some(Line::Case(rest)),
+        b"card" | b"domain" | b"app" | b"file" | b"key" | b"object" => Some(Line::Thing {
+            kind: verb,
+            words: rest,
+        }),
+        b"image" => Some(Line::Image(text(rest)?)),
+        b"fuse" => Some(Line::Fuse(number(rest)?)),
+        b"once" => Some(Line::Once(number(rest)?)),
+        b"cut" => match rest {
+            b"each" => Some(Line::Sweep(Sweep::Cut)),
+            b"twice" => Some(Line::Sweep(Sweep::CutTwice)),
+            _ => Some(Line::Cut(number(rest)?)),
+        },
+        b"fail" if rest == b"each".as_slice() => Some(Line::Sweep(Sweep::Fail)),
+        b"power" => match rest {
+            b"on" => Some(Line::PowerOn),
+            b"off" => Some(Line::PowerOff),
+            _ => None,
+        },
+        b"count" => Some(Line::Count(rest)),
+        _ => None,
+    }
+}
+
+fn stream_line<'a>(verb: &'a [u8], rest: &'a [u8]) -> Option<Line<'a>> {
+    let line = match verb {
+        b"bytes" => {
+            let (digits, times) = repeated(rest)?;
+            return Some(Line::Bytes { digits, times });
+        }
+        b"piece" => StreamLine::Piece(number(rest)?),
+        b"room" => StreamLine::Room(number(rest)?),
+        b"reads" => StreamLine::RefusedReads(rest),
+        b"writes" => StreamLine::RefusedWrites(rest),
+        _ => return None,
+    };
+    Some(Line::Stream(line))
+}

@@ -1,0 +1,12 @@
+//! Scripts: what each line sends to a card, by the host at the other end, and what it prints.
+
+mod card;
+mod channel;
+mod form;
+mod host;
+mod key_fields;
+mod outcome;
+mod player;
+
+pub use outcome::Text;
+pub use player::Player;

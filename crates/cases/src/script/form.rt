@@ -1,0 +1,216 @@
+//! The forms of a script line.
+
+use crate::script::channel::Channel;
+use crate::words::{array, byte, bytes, cut};
+use apdu_core::{Command, Status};
+use arrayvec::ArrayVec;
+use card_types::{Aid, Level};
+
+/// What a line asks for.
+#[derive(Drop)]
+pub enum Form {
+    /// Nothing: the line is blank or a comment.
+    Nothing,
+    Reset,
+    Channel(Channel),
+
+    Keys(Keys),
+    Select(Option<Aid>),
+    Raw(ArrayVec<u8, 258>),
+
+    /// As `raw`, with the rule that refuses the command.
+    Why(ArrayVec<u8, 258>),
+    Open(Opening),
+    Send(Plain),
+    Bad(Plain),
+    PutKey(Putting),
+    Want(Status),
+}
+
+/// The static keys of a host.
+#[derive(Clone, Copy)]
+pub struct Keys {
+    pub enc: [u8; 16],
+    pub mac: [u8; 16],
+    pub dek: [u8; 16],
+}
+
+/// A session to begin: key version, level and host challenge.
+#[derive(Clone, Copy)]
+pub struct Opening {
+    pub version: u8,
+    pub level: Level,
+    pub challenge: [u8; 8],
+}
+
+/// A command to protect, of class 80.
+#[derive(Drop)]
+pub struct Plain {
+    ins: u8,
+    p1: u8,
+    p2: u8,
+    body: ArrayVec<u8, 255>,
+}
+
+impl Plain {
+    /// A PUT KEY of these key fields.
+    pub fn put_key(putting: &Putting, fields: ArrayVec<u8, 255>) -> Plain {
+        let p2 = if putting.keys.len() == 1 { 0x01 } else { 0x81 };
+        Plain {
+            ins: 0xd8,
+            p1: putting.replaced,
+            p2,
+            body: fields,
+        }
+    }
+
+    /// The command, without Le.
+    pub fn command(&self) -> Command<'_> {
+        Command {
+            class: 0x80,
+            ins: self.ins,
+            p1: self.p1,
+            p2: self.p2,
+            body: &self.body,
+            le: None,
+        }
+    }
+}
+
+/// Keys to put: the key version number that is replaced, the new one, and one key or three.
+#[derive(Drop)]
+pub struct Putting {
+    pub replaced: u8,
+    pub version: u8,
+    pub keys: ArrayVec<[u8; 16], 3>,
+}
+
+/// A line: what it asks for, and whether of the reply the status alone is printed.
+#[derive(Drop)]
+pub struct Line {
+    pub quiet: bool,
+    pub form: Form,
+}
+
+impl Line {
+    /// Reads a line, if it has a form.
+    pub fn read(line: &[u8]) -> Option<Line> {
+        if let [b'-', b' ', line @ ..] = line {
+            let form = sending(line)?;
+            return Some(Line { quiet: true, form });
+        }
+        let form = match silent(line) {
+            Some(form) => form,
+            None => sending(line)?,
+        };
+        Some(Line { quiet: false, form })
+    }
+}
+
+// A form that sends nothing.
+fn silent(line: &[u8]) -> Option<Form> {
+    if matches!(line, [b'#', ..]) || line.iter().all(|byte| *byte == b' ') {
+        return Some(Form::Nothing);
+    }
+    if line == b"reset".as_slice() {
+        return Some(Form::Reset);
+    }
+    let (verb, rest) = cut(line)?;
+    match verb {
+        b"channel" => Some(Form::Channel(Channel::from_digits(rest)?)),
+        b"keys" => Some(Form::Keys(read_keys(rest)?)),
+        b"want" => Some(Form::Want(Status(u16::from_be_bytes(array(rest)?)))),
+        _ => None,
+    }
+}
+
+// A form that sends.
+fn sending(line: &[u8]) -> Option<Form> {
+    if line == b"select".as_slice() {
+        return Some(Form::Select(None));
+    }
+    let (verb, rest) = cut(line)?;
+    match verb {
+        b"select" => {
+            let aid: ArrayVec<u8, 16> = bytes(rest)?;
+            Some(Form::Select(Some(Aid::new(&aid)?)))
+        }
+        b"raw" => Some(Form::Raw(bytes(rest)?)),
+        b"why" => Some(Form::Why(bytes(rest)?)),
+        b"open" => Some(Form::Open(read_opening(rest)?)),
+        b"send" => Some(Form::Send(read_plain(rest)?)),
+        b"bad" => Some(Form::Bad(read_plain(rest)?)),
+        b"store" => Some(Form::Send(read_store(rest)?)),
+        b"putkey" => Some(Form::PutKey(read_putting(rest)?)),
+        _ => None,
+    }
+}
+
+fn read_keys(words: &[u8]) -> Option<Keys> {
+    let (enc, rest) = cut(words)?;
+    let (mac, dek) = cut(rest)?;
+    Some(Keys {
+        enc: array(enc)?,
+        mac: array(mac)?,
+        dek: array(dek)?,
+    })
+}
+
+fn read_opening(words: &[u8]) -> Option<Opening> {
+    let (version, rest) = cut(words)?;
+    let (level, challenge) = cut(rest)?;
+    Some(Opening {
+        version: byte(version)?,
+        level: Level::from_code(byte(level)?)?,
+        challenge: array(challenge)?,
+    })
+}
+
+fn read_plain(word: &[u8]) -> Option<Plain> {
+    let bytes: ArrayVec<u8, 261> = bytes(word)?;
+    let command = Command::read(&bytes).ok()?;
+    if command.class != 0x80 {
+        return None;
+    }
+    let mut body = ArrayVec::new();
+    body.try_extend_from_slice(command.body).ok()?;
+    Some(Plain {
+        ins: command.ins,
+        p1: command.p1,
+        p2: command.p2,
+        body,
+    })
+}
+
+// The last block of STORE DATA, of data in BER-TLV.
+fn read_store(word: &[u8]) -> Option<Plain> {
+    Some(Plain {
+        ins: 0xe2,
+        p1: 0x90,
+        p2: 0x00,
+        body: bytes(word)?,
+    })
+}
+
+fn read_putting(words: &[u8]) -> Option<Putting> {
+    let (replaced, rest) = cut(words)?;
+    let (version, rest) = cut(rest)?;
+    Some(Putting {
+        replaced: byte(replaced)?,
+        version: byte(version)?,
+        keys: read_one_or_three(rest)?,
+    })
+}
+
+fn read_one_or_three(words: &[u8]) -> Option<ArrayVec<[u8; 16], 3>> {
+    let mut keys = ArrayVec::new();
+    let Some((first, rest)) = cut(words) else {
+        keys.try_push(array(words)?).ok()?;
+        return Some(keys);
+    };
+    let (second, third) = cut(rest)?;
+    keys.try_push(array(first)?).ok()?;
+    keys.try_push(array(second)?).ok()?;
+    keys.try_push(array(third)?).ok()?;
+    Some(keys)
+}

@@ -1,4 +1,0 @@
-use Rattle.key_sets.proofs.tests.first_wrong.Given as goal
-
-abbrev pub invariant-loop-number : goal.invariant-loop-number
-invariant-loop-number g l = g.R.RecordKeeper.roomy l.keeper

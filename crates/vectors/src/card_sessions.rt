@@ -1,0 +1,265 @@
+//! Sessions with the static keys 40 to 4F, the host challenge 00 to 07, the sequence counter 000000 and the AID
+//! A000000151000000. All values were computed apart from this project, by a script over the CMAC and the AES of OpenSSL.
+
+ghost use Rattle.std.specs.Prelude.{◌≡◌, ◌≤◌, length, OnOk};
+ghost use Rattle.apdu_core.specs.Apdu.{apdu_of};
+ghost use Rattle.arrayvec.specs.ArrayVec.{array_vec_len};
+ghost use Rattle.scp03_card.specs.Kept.{StandsFor};
+ghost use Rattle.scp03_card.specs.Opens.{accepting};
+ghost use Rattle.scp03_card.specs.Protected.{protected};
+ghost use Rattle.scp03_card.specs.Session as model;
+
+use aes_block::{Aes128, Aes192, Aes256, BlockKey, SealingAes128};
+use apdu_core::{Command, Status};
+use arrayvec::ArrayVec;
+use card_types::{Aid, Level};
+use scp03_card::{AuthRefusal, Offer, OpenRefusal, Session, StaticKeys, offer};
+use std::test::Fail;
+
+const KEY: [u8; 32] = [
+    0x40, 0x41, 0x42, 0x43, 0x44, 0x45, 0x46, 0x47, 0x48, 0x49, 0x4a, 0x4b, 0x4c, 0x4d, 0x4e, 0x4f,
+    0x50, 0x51, 0x52, 0x53, 0x54, 0x55, 0x56, 0x57, 0x58, 0x59, 0x5a, 0x5b, 0x5c, 0x5d, 0x5e, 0x5f,
+];
+
+const HOST: [u8; 8] = [0, 1, 2, 3, 4, 5, 6, 7];
+
+/// Challenge and cryptogram of the card.
+const CARD: (u64, u64) = (0x4d2614d48b5a5572, 0x5102ce101bd72357);
+
+/// The body of EXTERNAL AUTHENTICATE at level 33.
+const HOST_FULL: u128 = 0x76857f0738ab1422_cc3a9195e19f90a3;
+
+/// The first command at level 33: GET DATA of the sequence counter.
+const GET_DATA: &[u8] = b"84ca00c10839888bfe9333e491";
+
+type Told = Result<(), &'static str>;
+
+fn told(holds: bool, what: &'static str) -> Told {
+    if holds { Ok(()) } else { Err(what) }
+}
+
+/// The bytes that these hexadecimal digits write.
+fn bytes(digits: &[u8]) -> ArrayVec<u8, 258> {
+    let mut bytes = ArrayVec::new();
+    for _ in 0..digits.len() / 2 {
+        let _fits = bytes.try_push(0);
+    }
+    let _even = hex::decode_to_slice(digits, bytes.as_mut_slice());
+    bytes
+}
+
+/// A session that the host has begun, and the values of the card before: `card` is the challenge and
+/// the cryptogram, `host` the body of EXTERNAL AUTHENTICATE.
+fn begun<K: BlockKey>(
+    counter: u32,
+    card: (u64, u64),
+    level: Level,
+    host: u128,
+) -> Result<Session<K>, &'static str>
+    requires { counter ≤ 0xFFFFFF }
+{
+    let offer = offered::<K>(counter)?;
+    told(u64::from_be_bytes(offer.challenge()) == card.0, "challenge")?;
+    told(
+        u64::from_be_bytes(offer.cryptogram()) == card.1,
+        "cryptogram",
+    )?;
+    offer
+        .authenticate(level, &host.to_be_bytes())
+        .ok()
+        .ok_or("authentic")
+}
+
+fn offered<K: BlockKey>(counter: u32) -> Result<Offer<K>, &'static str>
+    requires { counter ≤ 0xFFFFFF }
+{
+    let keys = StaticKeys {
+        enc: K::from_key(&KEY[..K::LEN]),
+        mac: K::from_key(&KEY[..K::LEN]),
+        dek: K::from_key(&KEY[..K::LEN]),
+    };
+    let aid = Aid::new(b"\xa0\x00\x00\x01\x51\x00\x00\x00").ok_or("an AID")?;
+    Ok(offer(keys, counter, &aid, &HOST))
+}
+
+/// What comes of a command, in digits.
+fn open<K: BlockKey>(
+    session: &mut Session<K>,
+    sent: &[u8],
+    plain: &mut [u8; 255],
+) -> Option<Result<usize, OpenRefusal>> {
+    let sent = bytes(sent);
+    let Ok(command) = Command::read(&sent) else {
+        return None;
+    };
+    Some(session.open_command(&command, plain))
+}
+
+/// One command with its reply: both as they are sent, and plain.
+fn exchange<K: BlockKey>(
+    session: &mut Session<K>,
+    sent: &[u8],
+    answer: &[u8],
+    plain: &[u8],
+    data: &[u8],
+    status: u16,
+) -> Told {
+    let mut buffer = [0; 255];
+    let opened = open(session, sent, &mut buffer).ok_or("a command")?;
+    let count = opened.ok().ok_or("opens")?;
+    told(buffer.get(..count) == Some(&bytes(plain)[..]), "plain")?;
+    let mut reply = bytes(data);
+    if reply.len() > 239 {
+        return Err("a data field");
+    }
+    session.close_reply(&mut reply, Status(status));
+    told(reply == bytes(answer), "reply")
+}
+
+// The reply is that of the session which has accepted the command: the caller of the crate's documentation.
+fn answered<K: BlockKey>(
+    session: &mut Session<K>,
+    command: &Command<'_>,
+    plain: &mut [u8; 255],
+    reply: &mut ArrayVec<u8, 258>,
+    status: Status,
+) -> Result<usize, OpenRefusal>
+    requires body { length command.now.body.now ≤ 255 }
+    requires field { array_vec_len reply.old ≤ 239 }
+    ensures { (s : model.Session) → StandsFor session.old s
+        → OnOk result (reply.new.items ≡ protected (accepting s (apdu_of command.now)) reply.old.items status.0) }
+{
+    let len = session.open_command(command, plain)?;
+    session.close_reply(reply, status);
+    Ok(len)
+}
+
+#[test]
+fn an_answered_command(rt: HostRuntime) -> Result<(), Fail> {
+    let mut session = begun::<Aes128>(0, CARD, Level::Full, HOST_FULL)?;
+    let sent = bytes(GET_DATA);
+    let command = Command::read(&sent).ok().ok_or("a command")?;
+    let mut reply = bytes(b"c103000001");
+    assert!(rt; reply.len() <= 239);
+    let len = answered(
+        &mut session,
+        &command,
+        &mut [0; 255],
+        &mut reply,
+        Status(0x9000),
+    );
+    assert_eq!(rt; len, Ok(0));
+    assert_eq!(rt;
+        reply,
+        bytes(b"fd75588f5a63ef6905c90d099f369ee91e85fc9247a98b7c9000")
+    );
+    Ok(())
+}
+
+#[test]
+fn longer_keys(rt: HostRuntime) {
+    assert_eq!(rt;
+        longer::<Aes192>(
+            (0xa8a2d77b4abb8088, 0xd92bf3e48645bfd3),
+            0x2a07cb91e5ccc97e1f144413bab96c93,
+            b"84e2900018309ebb53bb7e5d65f006d3d42d5aa379d21c06fa1c8cb3e4",
+            b"4d6f06395eda644c0f53932f947ed482396f772363e2e98b9000"
+        ),
+        Ok(())
+    );
+    assert_eq!(rt;
+        longer::<Aes256>(
+            (0x52fb20a4a161ef50, 0x42f70f62f52a4741),
+            0xfdea76797ec68442cee8dec9c0a01fca,
+            b"84e2900018a83107d0bec913d314acc2edfaf55ca3eae409a407a0c48f",
+            b"e6b71ae6f23146a1cd47f618ecd59851bfaccd0ee56d5c299000"
+        ),
+        Ok(())
+    );
+}
+
+// The keys begin with 40, and the sequence counter is 01FFFE.
+fn longer<K: BlockKey>(card: (u64, u64), host: u128, sent: &[u8], answer: &[u8]) -> Told {
+    let mut session = begun::<K>(0x01fffe, card, Level::Full, host)?;
+    exchange(&mut session, sent, answer, b"010203", b"05", 0x9000)
+}
+
+#[test]
+fn refused_answers(rt: HostRuntime) {
+    for host in [
+        0x76857f0738ab1423_cc3a9195e19f90a3,
+        // The card cryptogram.
+        0x5102ce101bd72357_cc3a9195e19f90a3,
+    ] {
+        assert_eq!(rt; answer(host), Ok(Some(AuthRefusal::Cryptogram)), "{host:x}");
+    }
+    for host in [
+        0x76857f0738ab1422_cc3a9195e19f90a2,
+        // That of level 01.
+        0x76857f0738ab1422_2d8dc8e0cddd3b2a,
+    ] {
+        assert_eq!(rt; answer(host), Ok(Some(AuthRefusal::Mac)), "{host:x}");
+    }
+    assert_eq!(rt; answer(HOST_FULL), Ok(None));
+}
+
+fn answer(host: u128) -> Result<Option<AuthRefusal>, &'static str> {
+    let offer = offered::<SealingAes128>(0)?;
+    Ok(offer.authenticate(Level::Full, &host.to_be_bytes()).err())
+}
+
+// Each is sent as the second command of a session at level 33, which takes the right one after all of them.
+#[test]
+fn refused_commands(rt: HostRuntime) -> Result<(), Fail> {
+    let mut session = begun::<Aes128>(0, CARD, Level::Full, HOST_FULL)?;
+    let mut plain = [0; 255];
+    assert_eq!(rt; open(&mut session, GET_DATA, &mut plain), Some(Ok(0)));
+    let wrong_macs: [&[u8]; 7] = [
+        GET_DATA,
+        b"84e29000180867aa3310ed241f8fd5673ffbdb823f21b24e18cf970404",
+        b"84e29000180867aa3310ed241f8fd5673ffbdb823f21b24e19cf970405",
+        b"84e29000170867aa3310ed241f8fd5673ffbdb823f21b24e18cf9704",
+        b"84e290000721b24e18cf9704",
+        b"84e290000121",
+        b"84e29000",
+    ];
+    for sent in wrong_macs {
+        assert_eq!(rt;
+            open(&mut session, sent, &mut plain),
+            Some(Err(OpenRefusal::Mac)),
+            "{sent:?}"
+        );
+    }
+    let wrong_paddings: [&[u8]; 5] = [
+        // No byte 80; zeros alone; another byte behind 80.
+        b"84e290001871c60dbcb03acff42004b9993d548fdbd3b0b3183a271d47",
+        b"84e29000189d8af9e0ed0eea6cde39020be3f20fd07547cf39c8c20d08",
+        b"84e29000186a51d73ed6c65f2c9d624809bf987ac631b77a98b46cf314",
+        // Fifteen bytes; seventeen.
+        b"84e29000170000000000000000000000000000004d5bebe4da1ca1dd",
+        b"84e2900019202618d60155e0824624e2b9972ad74f00b08282ff3a296446",
+    ];
+    for sent in wrong_paddings {
+        assert_eq!(rt;
+            open(&mut session, sent, &mut plain),
+            Some(Err(OpenRefusal::Padding)),
+            "{sent:?}"
+        );
+    }
+    let right = b"84e29000180867aa3310ed241f8fd5673ffbdb823f21b24e18cf970405";
+    assert_eq!(rt; open(&mut session, right, &mut plain), Some(Ok(3)));
+    let front = &plain[..3];
+    assert_eq!(rt; front, [1, 2, 3].as_slice());
+    Ok(())
+}
+
+// A block that is 80 and zeros is a data field of no bytes.
+#[test]
+fn a_padding_alone_is_opened(rt: HostRuntime) -> Result<(), Fail> {
+    let mut session = begun::<Aes128>(0, CARD, Level::Full, HOST_FULL)?;
+    let mut plain = [0; 255];
+    assert_eq!(rt; open(&mut session, GET_DATA, &mut plain), Some(Ok(0)));
+    let sent = b"84e2900018202618d60155e0824624e2b9972ad74f0939fadb101786ec";
+    assert_eq!(rt; open(&mut session, sent, &mut plain), Some(Ok(0)));
+    Ok(())
+}
