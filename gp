@@ -7,7 +7,7 @@ script=$(readlink -f "${BASH_SOURCE[0]}")
 top=$(dirname "$script")
 binary=$top/crates/gp/out/gp
 
-# The program itself ends with 0 to 11.
+# A status that the program itself never ends with.
 readonly no_binary=70
 
 # True where the binary is missing or a source is newer. The folders count too,
