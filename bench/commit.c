@@ -17,8 +17,7 @@ static void stop(const char *what) {
 }
 
 static void put(int page, const unsigned char *bytes) {
-    if (lseek(file, (off_t)page * SIZE, SEEK_SET) < 0) stop("lseek");
-    if (write(file, bytes, SIZE) != SIZE) stop("write");
+    if (pwrite(file, bytes, SIZE, (off_t)page * SIZE) != SIZE) stop("pwrite");
 }
 
 static void sync_file(void) {
