@@ -1,4 +1,5 @@
 pub mod Card
+pub mod Commits
 pub mod Domains
 pub mod Holds
 pub mod Kept

@@ -1,8 +1,9 @@
 //! A card.
 
-ghost use Rattle.std.specs.Prelude.{◌≡◌, ◌⊎◌, ◌≤◌, ◌↔◌, ℕ, List, [], ◌∷◌, false, true, None, IfOk, IfErr, IsTrue, OnErr, OnOk};
+ghost use Rattle.std.specs.Prelude.{◌≡◌, ◌⊎◌, ◌≤◌, ◌↔◌, ℕ, List, [], ◌∷◌, false, true, None, IfOk, IfErr, IsSome, IsTrue, OnErr, OnOk};
 ghost use Rattle.apdu_core.specs.Reply.{status_bytes};
 ghost use Rattle.card_core.specs.Card.{Stands};
+ghost use Rattle.card_core.specs.Commits.{MayCommit};
 ghost use Rattle.card_core.specs.Kept.{AreCards};
 ghost use Rattle.card_core.specs.PowerOn.{PowerFails};
 ghost use Rattle.card_core.specs.declared.held.Held.TheVariants as holding;
@@ -103,6 +104,10 @@ impl<F: Flash> Card<F> {
         // channel: its C-MAC is the next of the chain.
         ensures changes { (state next : State) → Stands F.tells F.pages F.may_leave self.old state → Stands F.tells F.pages F.may_leave self.new next
             → IfOk result (λ rule. F.tells → Changes state.registry next.registry → (rule ≡ None) × OpensInSession state command.now) }
+        // A command that a rule refuses makes no call on the device, and no other but INITIALIZE UPDATE and those of card
+        // content management makes one.
+        ensures refused { IfOk result (λ rule. IsSome rule → self.new.flash ≡ self.old.flash) }
+        ensures idle { (MayCommit command.now → ⊥) → self.new.flash ≡ self.old.flash }
         ensures ok { OnOk result (self.new.up ≡ true) }
         ensures failed { OnErr result ((reply.new.items ≡ status_bytes 0x6581) × (self.new.up ≡ false)) }
         ensures cause { HasCause (F.faults self.old.flash) (F.faults self.new.flash) result }

@@ -1,6 +1,6 @@
 //! DELETE of a key: the keys of a domain with one key version number go.
 
-ghost use Rattle.std.specs.Prelude.{◌≡◌, ◌≤◌, ℕ, List, [], length, true};
+ghost use Rattle.std.specs.Prelude.{◌≡◌, ◌≤◌, ℕ, List, [], length, true, OnErr};
 ghost use Rattle.card_core.specs.Kept.{AreCards};
 ghost use Rattle.card_core.specs.Manages.{Manages};
 ghost use Rattle.card_types.specs.Ascending.{IsAscending};
@@ -35,6 +35,7 @@ pub fn delete_key<F: Flash>(
     ensures entries { records.new.tables.entries.items ≡ records.old.tables.entries.items }
     ensures cards { AreCards records.new.tables }
     ensures same { (records.new.flash ≡ records.old.flash) × (records.new.live ≡ true) }
+    ensures refused { OnErr result (records.new ≡ records.old) }
     ensures room { length reply.new.items ≤ 239 }
 {
     judge_delete_key(records.tables(), domain, version, identifier)?;

@@ -1,6 +1,6 @@
 //! INITIALIZE UPDATE: a session is offered.
 
-ghost use Rattle.std.specs.Prelude.{◌≡◌, ◌≤◌, ℕ, true, List, [], length, None, Some, IfSome, IfNone};
+ghost use Rattle.std.specs.Prelude.{◌≡◌, ◌≤◌, ℕ, true, List, [], length, None, Some, IfSome, IfNone, OnErr};
 ghost use Rattle.card_core.specs.Domains.{HasSelected};
 ghost use Rattle.card_core.specs.Kept.{AreCards};
 ghost use Rattle.card_core.specs.Offers.{OffersAs};
@@ -136,6 +136,7 @@ pub fn initialize_update<F: Flash>(
     ensures entries { records.new.tables.entries.items ≡ records.old.tables.entries.items }
     ensures cards { AreCards records.new.tables }
     ensures same { (records.new.flash ≡ records.old.flash) × (records.new.live ≡ true) }
+    ensures refused { OnErr result (records.new ≡ records.old) }
     ensures room { length reply.new.items ≤ 239 }
 {
     let tables = records.tables();

@@ -1,6 +1,6 @@
 //! PUT KEY: keys of a domain are put.
 
-ghost use Rattle.std.specs.Prelude.{◌≡◌, ◌≤◌, ◌+◌, ◌↔◌, ◌++◌, ◌&&◌, ℕ, List, [], IsTrue, length, true};
+ghost use Rattle.std.specs.Prelude.{◌≡◌, ◌≤◌, ◌+◌, ◌↔◌, ◌++◌, ◌&&◌, ℕ, List, [], IsTrue, length, true, OnErr};
 ghost use Rattle.cmac_kdf.specs.Blocks.{IsBytes};
 ghost use Rattle.card_core.specs.Domains.{is_domain_in};
 ghost use Rattle.card_core.specs.Kept.{AreCards};
@@ -94,6 +94,7 @@ pub fn put_key<F: Flash>(
     ensures entries { records.new.tables.entries.items ≡ records.old.tables.entries.items }
     ensures cards { AreCards records.new.tables }
     ensures same { (records.new.flash ≡ records.old.flash) × (records.new.live ≡ true) }
+    ensures refused { OnErr result (records.new ≡ records.old) }
     ensures room { length reply.new.items ≤ 239 }
 {
     let Held::Secured(session) = held else {

@@ -3,6 +3,7 @@
 ghost use Rattle.std.specs.Prelude.{◌≡◌, ◌≢◌, ◌⊎◌, ◌<◌, ◌≤◌, ◌++◌, ◌==◌, ℕ, List, [], length, false, true, None, Some, IsSome, Contains, OnOk, OnErr, IfErr, slice_index_or};
 ghost use Rattle.apdu_core.specs.Apdu.{apdu_of};
 ghost use Rattle.apdu_core.specs.Reply.{status_bytes};
+ghost use Rattle.card_core.specs.Commits.{MayCommit};
 ghost use Rattle.card_core.specs.Domains.{is_domain_in};
 ghost use Rattle.card_core.specs.Holds.{HoldsAs, IsInSession, held_passed};
 ghost use Rattle.card_core.specs.Kept.{AreCards, StandsOn};
@@ -13,7 +14,7 @@ ghost use Rattle.policy_rules.specs.Classes.{managing};
 ghost use Rattle.policy_rules.specs.Instructions.{instruction_of};
 ghost use Rattle.policy_rules.specs.State.{State};
 ghost use Rattle.policy_rules.specs.Volatile.{Secured};
-ghost use Rattle.policy_rules.specs.declared.instruction.TheConstants.{SELECT, MANAGE_CHANNEL, GET_DATA};
+ghost use Rattle.policy_rules.specs.declared.instruction.TheConstants.{SELECT, MANAGE_CHANNEL, GET_DATA, INITIALIZE_UPDATE};
 ghost use Rattle.scp03_card.specs.Protected.{protected};
 ghost use Rattle.scp03_card.specs.Session.{Session};
 
@@ -79,6 +80,8 @@ fn act<F: Flash>(
         → CarriesOut page judged (record { tables = records.new.tables; live = live.new; held = held.new }) reply.new.items result }
     ensures cards { AreCards records.new.tables }
     ensures same { (records.new.flash ≡ records.old.flash) × (records.new.live ≡ true) }
+    ensures refused { OnErr result (records.new ≡ records.old) }
+    ensures idle { (command.now.ins ≡ INITIALIZE_UPDATE → ⊥) → (Contains managing command.now.ins → ⊥) → records.new ≡ records.old }
     ensures kept { (command.now.ins ≡ GET_DATA) ⊎ Contains managing command.now.ins → held.new ≡ held.old }
     ensures room { length reply.new.items ≤ 239 }
 {
@@ -197,6 +200,8 @@ pub fn serve<F: Flash>(
         → Serves page state bytes.now (record { tables = records.new.tables; live = live.new; held = held.new }) reply.new.items result }
     ensures cards { AreCards records.new.tables }
     ensures same { (records.new.flash ≡ records.old.flash) × (records.new.live ≡ true) }
+    ensures refused { IsSome result → records.new ≡ records.old }
+    ensures idle { (MayCommit bytes.now → ⊥) → records.new ≡ records.old }
 {
     let admitted = match admit(records.tables(), live, bytes) {
         Ok(admitted) => admitted,

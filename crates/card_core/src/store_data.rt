@@ -1,6 +1,6 @@
 //! STORE DATA: data objects of a domain are put.
 
-ghost use Rattle.std.specs.Prelude.{◌≡◌, ◌↔◌, ◌<◌, ◌≤◌, ℕ, List, [], length, true, false, None, IfNone, IfSome, IsTrue};
+ghost use Rattle.std.specs.Prelude.{◌≡◌, ◌↔◌, ◌<◌, ◌≤◌, ℕ, List, [], length, true, false, None, IfNone, IfSome, IsTrue, OnErr};
 ghost use Rattle.card_core.specs.Domains.{is_domain_in};
 ghost use Rattle.card_core.specs.Kept.{AreCards};
 ghost use Rattle.card_core.specs.Manages.{Manages};
@@ -124,6 +124,7 @@ pub fn store_data<F: Flash>(
     ensures entries { records.new.tables.entries.items ≡ records.old.tables.entries.items }
     ensures cards { AreCards records.new.tables }
     ensures same { (records.new.flash ≡ records.old.flash) × (records.new.live ≡ true) }
+    ensures refused { OnErr result (records.new ≡ records.old) }
 {
     judge_store_data(records.tables(), domain, objects)?;
     let mut rest = objects;

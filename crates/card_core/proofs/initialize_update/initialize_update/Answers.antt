@@ -87,6 +87,12 @@ returns-in-Err-clause-cards g c =
     absurd (spent_absurd order.page c.tables-tables.result.now c.args.records.now.tables order.said c.tables-tables.ensures.tables order.says c.in_ok-found.found.slot
     c.in_ok-found.found.thing.now c.in_ok-found.ensures.at c.in_ok-found.ensures.next c.in-Err.ensures.spent)
 
+pub returns-in-Err-clause-refused : goal.returns-in-Err-clause-refused
+returns-in-Err-clause-refused g c =
+    let order = in_order c.args.records.now.tables c.requires.cards in
+    absurd (spent_absurd order.page c.tables-tables.result.now c.args.records.now.tables order.said c.tables-tables.ensures.tables order.says c.in_ok-found.found.slot
+    c.in_ok-found.found.thing.now c.in_ok-found.ensures.at c.in_ok-found.ensures.next c.in-Err.ensures.spent)
+
 pub returns-in-Ok-clause-done : goal.returns-in-Ok-clause-done
 returns-in-Ok-clause-done g c page admitted entry told well ascending chosen request =
     let means = request.means in

@@ -153,3 +153,28 @@ returns-in_err-partial-clause-done g c = λ page judged stands at is.
     let card : Kept = record { tables = c.args.records.now.tables; live = c.args.live.now; held = c.args.held.now } in
     refusal_carried page card judged c.args.reply.now.items c.from_residual.result c.in_err-partial.field-0.0 c.from_residual.ensures.1
     (refusal_shows page card judged (ne_eqb judged.command.ins EXTERNAL_AUTHENTICATE other) stands.shows) judges c.requires.empty
+
+-- these alone change the registry
+pub returns-in-Initialize-clause-idle : goal.returns-in-Initialize-clause-idle
+returns-in-Initialize-clause-idle g c = λ other unmanaged.
+    let request : IsRequestOf (Initialize c.in-Initialize.version c.in-Initialize.challenge) (apdu_of c.args.command.now) =
+    record { parameters = search rules; data_field = search rules; means = search rules } in
+    absurd (other request.means.0)
+
+pub returns-in-PutKey-clause-idle : goal.returns-in-PutKey-clause-idle
+returns-in-PutKey-clause-idle g c = λ other unmanaged.
+    let request : IsRequestOf (PutKey c.in-PutKey.replaced c.in-PutKey.version c.in-PutKey.keys) (apdu_of c.args.command.now) =
+    record { parameters = search rules; data_field = search rules; means = search rules } in
+    absurd (unmanaged (subst (Contains managing) (sym request.means.0) (0, omega arith, refl)))
+
+pub returns-in-Store-clause-idle : goal.returns-in-Store-clause-idle
+returns-in-Store-clause-idle g c = λ other unmanaged.
+    let request : IsRequestOf (Store c.in-Store.objects) (apdu_of c.args.command.now) =
+    record { parameters = search rules; data_field = search rules; means = search rules } in
+    absurd (unmanaged (subst (Contains managing) (sym request.means.0) (1, omega arith, refl)))
+
+pub returns-in-DeleteKey-clause-idle : goal.returns-in-DeleteKey-clause-idle
+returns-in-DeleteKey-clause-idle g c = λ other unmanaged.
+    let request : IsRequestOf (DeleteKey c.in-DeleteKey.version c.in-DeleteKey.identifier) (apdu_of c.args.command.now) =
+    record { parameters = search rules; data_field = search rules; means = search rules } in
+    absurd (unmanaged (subst (Contains managing) (sym request.means.0) (2, omega arith, refl)))

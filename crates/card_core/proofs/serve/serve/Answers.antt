@@ -1,4 +1,4 @@
-use Rattle.std.proofs.Common.{◌≡◌, ℕ, ◌<◌, List, true, false, None, Some, Err, refl, sym, ap, subst, ◌∙◌}
+use Rattle.std.proofs.Common.{◌≡◌, ℕ, ◌<◌, List, true, false, None, Some, Err, refl, sym, ap, subst, inl, inr, ◌∙◌}
 use Rattle.std.specs.Prelude.{slice_index_or, slice_set, take}
 use Rattle.std.proofs.lemmas.List.{length-set, set-get_or}
 use Rattle.scp03_card.specs.Opens.{Opens, accepting}
@@ -161,3 +161,14 @@ returns-in-Err-open_command-clause-served g c = λ page state stands.
     (subst (λ (h : Held). OpensAs command standing h c.open_command.new.held c.open_command.new.plain (Err c.in-Err-open_command.rule)) old opens)
     (c.close_plain-in-Err-open_command.ensures.closed ∙ rw c.requires.empty refl) in
     rw (c.close_plain-in-Err-open_command.ensures.rule, passed, here) served
+
+-- a command that commits nothing
+pub returns-then-not-is_protected-clause-idle : goal.returns-then-not-is_protected-clause-idle
+returns-then-not-is_protected-clause-idle g c = λ none.
+    let command : Apdu = apdu_of c.in-Ok.admitted.command in
+    c.act-served.ensures.idle (λ offer. none (command, c.in-Ok.ensures.spelled, inl offer)) (λ managed. none (command, c.in-Ok.ensures.spelled, inr managed))
+
+pub returns-in-Ok-open_command-clause-idle : goal.returns-in-Ok-open_command-clause-idle
+returns-in-Ok-open_command-clause-idle g c = λ none.
+    let command : Apdu = apdu_of c.in-Ok.admitted.command in
+    c.act-served-in-Ok-open_command.ensures.idle (λ offer. none (command, c.in-Ok.ensures.spelled, inl offer)) (λ managed. none (command, c.in-Ok.ensures.spelled, inr managed))
