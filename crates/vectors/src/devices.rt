@@ -2,7 +2,10 @@
 
 ghost use Rattle.std.specs.Prelude.{◌<◌};
 
+mod recorded;
+
 use flash_core::{FileFlash, Flash, FlashFailed, FuseFlash, MemFlash, OnceFlash, Page};
+use recorded::{Call, RecordedFlash};
 use std::alloc::Global;
 use std::fs::{self, File, Files};
 use std::test::Fail;
@@ -75,6 +78,45 @@ fn each_device_fails_where_it_is_told_to(rt: HostRuntime) -> Result<(), Fail> {
     Ok(())
 }
 
+/// Calls of each kind, whatever they answer.
+fn call_six_times<F: Flash>(flash: &mut F) {
+    let mut page = filled(9);
+    let _ = flash.read(1, &mut page);
+    let _ = flash.write(2, &page);
+    let _ = flash.sync();
+    let _ = flash.read(3, &mut page);
+    let _ = flash.write(4, &page);
+    let _ = flash.sync();
+}
+
+/// A device that fails passes on each call that it does not fail, and makes no other.
+#[test]
+fn the_calls_that_do_not_fail_are_passed_on(rt: HostRuntime) -> Result<(), Fail> {
+    let all = [
+        Call::Read(1),
+        Call::Write(2),
+        Call::Sync,
+        Call::Read(3),
+        Call::Write(4),
+        Call::Sync,
+    ];
+    for failing in 0..7usize {
+        let inner = RecordedFlash::new(MemFlash::new(rt.alloc(), 9)?);
+        let mut fuse = FuseFlash::new(inner, failing as u64);
+        call_six_times(&mut fuse);
+        assert_eq!(rt; fuse.into_inner().calls(), &all[..failing.min(6)]);
+
+        let inner = RecordedFlash::new(MemFlash::new(rt.alloc(), 9)?);
+        let mut once = OnceFlash::new(inner, failing as u64);
+        call_six_times(&mut once);
+        let once = once.into_inner();
+        let (before, after) = once.calls().split_at(failing.min(once.calls().len()));
+        assert_eq!(rt; before, &all[..failing.min(6)], "{failing}");
+        assert_eq!(rt; after, all.get(failing + 1..).unwrap_or(&[]), "{failing}");
+    }
+    Ok(())
+}
+
 /// What a file holds of four calls: nothing before the first write, zeros behind its end.
 fn keeps_pages<R: Files<File = File>>(rt: &R, path: &str) -> Result<[u8; 3], FlashFailed> {
     let mut flash = FileFlash::new(rt, path);
@@ -122,5 +164,41 @@ fn a_file_is_of_one_device_at_a_time(rt: HostRuntime) -> Result<(), Fail> {
     drop(second);
     assert_eq!(rt; first.write(3, &filled(8)), Err(FlashFailed));
     assert_eq!(rt; first_byte(&mut third, 3), 9);
+    Ok(())
+}
+
+/// A page whose bytes all differ, and differ from those of another number.
+fn numbered(number: u8) -> Page {
+    let mut page = filled(0);
+    for (index, byte) in page.bytes.iter_mut().enumerate() {
+        *byte = (index as u8).wrapping_mul(7) ^ number;
+    }
+    page
+}
+
+/// Two pages are written twice each, and their neighbours stay zeros.
+#[test]
+fn a_file_keeps_each_byte_of_a_page(rt: HostRuntime) -> Result<(), Fail> {
+    // An earlier run may have left one.
+    let _ = fs::remove_file(&rt, "bytes.img");
+    let mut flash = FileFlash::new(&rt, "bytes.img");
+    for (page, number) in [(7, 1), (3, 2), (7, 3), (3, 4)] {
+        flash.write(page, &numbered(number))?;
+    }
+    flash.sync()?;
+    drop(flash);
+    let mut flash = FileFlash::new(&rt, "bytes.img");
+    for (page, wanted) in [
+        (2, filled(0)),
+        (3, numbered(4)),
+        (4, filled(0)),
+        (6, filled(0)),
+        (7, numbered(3)),
+        (8, filled(0)),
+    ] {
+        let mut into = filled(0xEE);
+        flash.read(page, &mut into)?;
+        assert_eq!(rt; into.bytes, wanted.bytes, "page {page}");
+    }
     Ok(())
 }
