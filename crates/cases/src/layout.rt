@@ -3,66 +3,23 @@
 //! The words are those of `gp show`, with the content of keys and files. The places of the slots are known here
 //! apart from the card's own code. Each thing gets the next slot of its kind, and an Executable Load File the next load pages.
 
+mod slot;
+mod things;
+
 use crate::case_error::CaseError;
 use crate::image::Image;
-use crate::words::{Words, byte};
-use arrayvec::ArrayVec;
+use crate::words::Words;
+use slot::{
+    ENTRIES, FILES, KEYS, LOAD_PAGES, Name, OBJECTS, Slot, Slots, name_page, push, push_name,
+    push_padded, slot_of,
+};
 use std::alloc::Global;
+use things::{EntryWords, FileWords, KeyWords, ObjectWords};
 
 /// The front of the superblock: the mark of a card, and its layout.
 const SUPERBLOCK: [u8; 5] = [0x47, 0x50, 0x43, 0x44, 0x02];
 
-/// The first load page.
-const LOAD_PAGES: usize = 96;
-
 const PAGE_SIZE: usize = 256;
-
-/// Where the slots of a kind begin, how many there are, and how many bytes one has.
-#[derive(Clone, Copy)]
-struct Slots {
-    first: usize,
-    count: usize,
-    size: usize,
-}
-
-const ENTRIES: Slots = Slots {
-    first: 0x100,
-    count: 32,
-    size: 64,
-};
-
-const FILES: Slots = Slots {
-    first: 0x900,
-    count: 16,
-    size: 256,
-};
-
-const KEYS: Slots = Slots {
-    first: 0x1900,
-    count: 48,
-    size: 64,
-};
-
-const OBJECTS: Slots = Slots {
-    first: 0x2500,
-    count: 16,
-    size: 128,
-};
-
-impl Slots {
-    fn place(&self, slot: usize) -> Option<usize> {
-        if slot < self.count {
-            slot.checked_mul(self.size)?.checked_add(self.first)
-        } else {
-            None
-        }
-    }
-}
-
-/// A slot's bytes.
-type Slot = ArrayVec<u8, 256>;
-
-type Name = ArrayVec<u8, 16>;
 
 /// The pages, and what was laid out in them.
 #[derive(Drop)]
@@ -111,11 +68,11 @@ impl Layout {
     // LIFE
     fn lay_card(&mut self, words: &mut Words<'_>) -> Result<(), CaseError> {
         let life: [u8; 1] = words.array().ok_or(CaseError::NoForm)?;
+        words.end().ok_or(CaseError::NoForm)?;
         self.image.put(0, &SUPERBLOCK)?;
         self.image.put(SUPERBLOCK.len(), &life)
     }
 
-    // AID in DOMAIN from FILE module MODULE life LL priv PPPPPP receipts NNNN
     fn lay_entry(&mut self, words: &mut Words<'_>) -> Result<(), CaseError> {
         let EntryWords {
             aid,
@@ -141,7 +98,6 @@ impl Layout {
         self.put(ENTRIES, number, &slot)
     }
 
-    // AID in DOMAIN bytes N fill BB
     fn lay_file(&mut self, words: &mut Words<'_>) -> Result<(), CaseError> {
         let FileWords {
             aid,
@@ -182,7 +138,6 @@ impl Layout {
         Ok(())
     }
 
-    // OWNER VV II KEY CCCCCC
     fn lay_key(&mut self, words: &mut Words<'_>) -> Result<(), CaseError> {
         let key = KeyWords::read(words).ok_or(CaseError::NoForm)?;
         let mut slot = Slot::new();
@@ -197,7 +152,6 @@ impl Layout {
         self.put(KEYS, number, &slot)
     }
 
-    // OWNER TTTT VALUE
     fn lay_object(&mut self, words: &mut Words<'_>) -> Result<(), CaseError> {
         let object = ObjectWords::read(words).ok_or(CaseError::NoForm)?;
         let mut slot = Slot::new();
@@ -214,155 +168,4 @@ impl Layout {
         let place = slots.place(number).ok_or(CaseError::NoRegistry)?;
         self.image.put(place, slot)
     }
-}
-
-#[derive(Drop)]
-struct EntryWords {
-    aid: Name,
-    domain: Name,
-    file: Name,
-    module: Name,
-    life: [u8; 1],
-    privileges: [u8; 3],
-    receipts: [u8; 2],
-}
-
-impl EntryWords {
-    fn read(words: &mut Words<'_>) -> Option<EntryWords> {
-        let aid = words.bytes()?;
-        words.fixed(b"in")?;
-        let domain = words.bytes()?;
-        words.fixed(b"from")?;
-        let file = words.bytes()?;
-        words.fixed(b"module")?;
-        let module = words.bytes()?;
-        words.fixed(b"life")?;
-        let life = words.array()?;
-        words.fixed(b"priv")?;
-        let privileges = words.array()?;
-        words.fixed(b"receipts")?;
-        let receipts = words.array()?;
-        words.end()?;
-        Some(EntryWords {
-            aid,
-            domain,
-            file,
-            module,
-            life,
-            privileges,
-            receipts,
-        })
-    }
-}
-
-#[derive(Drop)]
-struct FileWords {
-    aid: Name,
-    domain: Name,
-    len: u16,
-    fill: u8,
-}
-
-impl FileWords {
-    fn read(words: &mut Words<'_>) -> Option<FileWords> {
-        let aid = words.bytes()?;
-        words.fixed(b"in")?;
-        let domain = words.bytes()?;
-        words.fixed(b"bytes")?;
-        let len = u16::try_from(words.number()?).ok()?;
-        words.fixed(b"fill")?;
-        let fill = byte(words.take()?)?;
-        words.end()?;
-        Some(FileWords {
-            aid,
-            domain,
-            len,
-            fill,
-        })
-    }
-}
-
-#[derive(Drop)]
-struct KeyWords {
-    owner: Name,
-    version: [u8; 1],
-    identifier: [u8; 1],
-    key: ArrayVec<u8, 32>,
-    counter: [u8; 3],
-}
-
-impl KeyWords {
-    fn read(words: &mut Words<'_>) -> Option<KeyWords> {
-        let key = KeyWords {
-            owner: words.bytes()?,
-            version: words.array()?,
-            identifier: words.array()?,
-            key: words.bytes()?,
-            counter: words.array()?,
-        };
-        words.end()?;
-        Some(key)
-    }
-}
-
-#[derive(Drop)]
-struct ObjectWords {
-    owner: Name,
-    tag: [u8; 2],
-    value: ArrayVec<u8, 120>,
-}
-
-impl ObjectWords {
-    fn read(words: &mut Words<'_>) -> Option<ObjectWords> {
-        let object = ObjectWords {
-            owner: words.bytes()?,
-            tag: words.array()?,
-            value: words.bytes()?,
-        };
-        words.end()?;
-        Some(object)
-    }
-}
-
-// The slot of the thing with a name.
-fn slot_of(names: &[Name], name: &Name) -> Result<u8, CaseError> {
-    let slot = names
-        .iter()
-        .position(|other| other.as_slice() == name.as_slice())
-        .ok_or(CaseError::NoRegistry)?;
-    u8::try_from(slot).map_err(|_| CaseError::NoRegistry)
-}
-
-fn push(slot: &mut Slot, bytes: &[u8]) -> Result<(), CaseError> {
-    slot.try_extend_from_slice(bytes)
-        .map_err(|_| CaseError::NoRegistry)
-}
-
-// Pushes bytes, and zeros up to this count.
-fn push_padded(slot: &mut Slot, bytes: &[u8], count: usize) -> Result<(), CaseError> {
-    push(slot, bytes)?;
-    for _ in bytes.len()..count {
-        push(slot, &[0])?;
-    }
-    Ok(())
-}
-
-// Pushes the length of a name, and the name in 16 bytes.
-fn push_name(slot: &mut Slot, name: &Name) -> Result<(), CaseError> {
-    push(slot, &[name.len() as u8])?;
-    push_padded(slot, name, 16)
-}
-
-// Names a load page in a file's slot: the low eight bits of its number among the load pages, and apart from them the ninth.
-fn name_page(slot: &mut Slot, index: usize, page: usize) -> Result<(), CaseError> {
-    let number = page.saturating_sub(LOAD_PAGES);
-    let low = slot
-        .get_mut(index.saturating_add(64))
-        .ok_or(CaseError::NoRegistry)?;
-    *low = (number % 256) as u8;
-    let high = slot.get_mut(192 + index / 8).ok_or(CaseError::NoRegistry)?;
-    if number >= 256 {
-        *high |= 0x80 >> (index % 8);
-    }
-    Ok(())
 }

@@ -1,0 +1,63 @@
+//! What a case answers of the device, the streams and the registry.
+
+use crate::bench::{Bench, Power, write_line};
+use crate::case_error::CaseError;
+use crate::tool::{Streams, call};
+
+impl<'a> Bench<'a> {
+    pub(super) fn write_counts(&self, out: &mut Vec<u8>) -> Result<(), CaseError> {
+        let called = self.called.as_ref().ok_or(CaseError::NoForm)?;
+        let text = format!(in self.alloc;
+            "done {}, flushes {}, written {}, handed on {}",
+            called.done,
+            called.sink.flushes(),
+            called.sink.written().len(),
+            called.sink.handed_on().len()
+        )?;
+        write_line(out, &[text.as_bytes()])
+    }
+
+    pub(super) fn write_sent(&self, out: &mut Vec<u8>) -> Result<(), CaseError> {
+        let Power::On(player) = &self.power else {
+            return Err(CaseError::NoForm);
+        };
+        let digits = hex::encode(self.alloc, player.sent())?;
+        write_line(out, &[digits.as_bytes()])
+    }
+
+    pub(super) fn write_calls(&self, out: &mut Vec<u8>) -> Result<(), CaseError> {
+        let calls = self.calls.get();
+        let text = format!(in self.alloc;
+            "reads {}, writes {}, syncs {}",
+            calls.reads, calls.writes, calls.syncs
+        )?;
+        write_line(out, &[text.as_bytes()])
+    }
+
+    // How many lines of the registry begin with a word.
+    pub(super) fn write_count(&mut self, word: &[u8], out: &mut Vec<u8>) -> Result<(), CaseError> {
+        let device = self.take_device()?;
+        let streams = Streams::ample(self.alloc);
+        let (called, flash) = call(self.alloc, Some("show"), b"", &streams, device)?;
+        self.power = Power::Off(flash);
+        let count = count_lines(called.sink.written(), word);
+        let text = format!(in self.alloc; "{count}")?;
+        write_line(out, &[text.as_bytes()])
+    }
+}
+
+// How many lines begin with this word and a space.
+fn count_lines(text: &[u8], word: &[u8]) -> usize {
+    let mut count: usize = 0;
+    let mut rest = text;
+    for _ in 0..text.len() {
+        let Some(at) = rest.iter().position(|byte| *byte == b'\n') else {
+            break;
+        };
+        if let [b' ', ..] = rest[..at].strip_prefix(word).unwrap_or(b"") {
+            count = count.saturating_add(1);
+        }
+        rest = &rest[at + 1..];
+    }
+    count
+}
