@@ -1,8 +1,8 @@
 -- Why a card is not powered on.
 use Rattle.std.specs.Prelude.{◌≡◌, ℕ, List}
 use Rattle.card_types.specs.Registry.{Registry}
+use Rattle.faults.specs.Faults.{Rose}
 use Rattle.flash_core.specs.declared.page.Page.{Page}
-use Rattle.flash_core.specs.Faults.{Rose}
 use Rattle.rec_store.specs.Reopens.{Reopens}
 use Rattle.rec_store.specs.declared.open.OpenCause.{OpenCause}
 use Rattle.rec_store.specs.declared.open.OpenCause.TheVariants as mounted

@@ -9,7 +9,7 @@ ghost use Rattle.card_core.specs.PowerOn.{PowerFails};
 ghost use Rattle.card_core.specs.declared.held.Held.TheVariants as holding;
 ghost use Rattle.card_types.specs.InOrder.{IsInOrder};
 ghost use Rattle.card_types.specs.Registry.{Registry};
-ghost use Rattle.flash_core.specs.Faults.{HasCause};
+ghost use Rattle.faults.specs.Faults.{HasCause};
 ghost use Rattle.page_journal.specs.Moments.{Always, LeavesOnly};
 ghost use Rattle.policy_rules.specs.Changes.{Changes, OpensInSession};
 ghost use Rattle.policy_rules.specs.State.{State, powered_on};

@@ -7,7 +7,7 @@ ghost use Rattle.card_core.specs.Card.{Stands};
 ghost use Rattle.card_core.specs.LoadRead.{IsLoadRead};
 ghost use Rattle.card_types.specs.Says.{file_of};
 ghost use Rattle.card_types.specs.Slots.{held};
-ghost use Rattle.flash_core.specs.Faults.{HasCause, Rose};
+ghost use Rattle.faults.specs.Faults.{HasCause};
 ghost use Rattle.page_journal.specs.Moments.{LeavesOnly};
 ghost use Rattle.policy_rules.specs.State.{State};
 ghost use Rattle.rec_store.specs.Reopens.{Reopens, load_page};
@@ -33,7 +33,7 @@ fn feed_page<F: Flash>(
     ensures fed { F.tells → (message : List ℕ) → Holds256 hasher.old message
         → OnOk result (Holds256 hasher.new (message ++ take count (load_page (F.pages records.old.flash) page))) }
     ensures read { IsLoadRead F.tells F.pages F.moment F.may_leave F.left_since F.faults records.old records.new }
-    ensures failed { OnErr result (Rose (F.faults records.old.flash) (F.faults records.new.flash)) }
+    ensures cause { HasCause (F.faults records.old.flash) (F.faults records.new.flash) result }
 {
     let mut into = Page { bytes: [0; 256] };
     records.read_load(page, &mut into)?;
@@ -48,7 +48,7 @@ fn digest_of<F: Flash>(records: &mut Records<F>, file: LoadFile) -> Result<[u8; 
     ensures digest { F.tells → IfOk result (λ digest.
         digest ≡ sha256 (take file.len (concat (map (load_page (F.pages records.old.flash)) (take ((file.len + 255) / 256) file.pages))))) }
     ensures read { IsLoadRead F.tells F.pages F.moment F.may_leave F.left_since F.faults records.old records.new }
-    ensures failed { OnErr result (Rose (F.faults records.old.flash) (F.faults records.new.flash)) }
+    ensures cause { HasCause (F.faults records.old.flash) (F.faults records.new.flash) result }
 {
     let len = usize::from(file.len);
     let mut hasher = Sha256::new();

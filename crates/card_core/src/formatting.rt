@@ -2,7 +2,7 @@
 
 ghost use Rattle.std.specs.Prelude.{OnOk};
 ghost use Rattle.card_types.specs.Factory.{factory_registry};
-ghost use Rattle.flash_core.specs.Faults.{HasCause};
+ghost use Rattle.faults.specs.Faults.{HasCause};
 ghost use Rattle.rec_store.specs.Reopens.{Keeps};
 
 use card_types::{CardLife, factory_file, factory_key, issuer_domain};

@@ -3,11 +3,11 @@ use Rattle.std.proofs.Common.{◌≡◌, ◌≢◌, ◌⊎◌, inl, inr, Bool, t
 use Rattle.std.proofs.lemmas.Bool.{cases_eq, cases_lt}
 use Rattle.std.proofs.lemmas.List.{take-append-le}
 use Rattle.std.proofs.lemmas.Option.{slice_get-get_or, slice_get_cases, slice_get_past}
+use Rattle.faults.specs.Faults.{next_count}
 use Rattle.flash_core.specs.declared.page.Page.{Page}
 use Rattle.flash_core.specs.declared.memory.Call.{Call}
 use Rattle.flash_core.specs.declared.memory.Call.TheVariants.{Write, Sync}
 use Rattle.flash_core.specs.Device.{SameBut, NoneNew, AnyBytesIn, Only, Elapses}
-use Rattle.flash_core.specs.Faults.{next_count}
 use Rattle.flash_core.specs.Replay.{Medium, settled, after_call, after_calls, MayLeave}
 use Rattle.flash_core.specs.Memory.{MemoryFlash, medium, medium_at, LeftSince, CutBy}
 use Rattle.flash_core.specs.MemoryLaws.{at_the_end}

@@ -1,5 +1,4 @@
 pub mod Device
-pub mod Faults
 pub mod Memory
 pub mod MemoryLaws
 pub mod Replay

@@ -1,6 +1,6 @@
 -- What stands for a device with something around it.
 use Rattle.std.specs.Prelude.{◌≡◌, ℕ, ◌+◌, Option, Some, None, Result, IsErr}
-use Rattle.flash_core.specs.Faults.{next_count}
+use Rattle.faults.specs.Faults.{next_count}
 
 -- a device that takes so many calls more, and how many it has refused
 pub record Fused (F : Type 0) : Type 0 where

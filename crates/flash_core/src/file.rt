@@ -1,7 +1,7 @@
 //! A file as a device: the edge that is trusted to keep what is written.
 
 ghost use Rattle.std.specs.Prelude.{◌≡◌, ◌+◌, ◌*◌, ◌<◌, ◌≤◌, ℕ, List, [], length, IfOk, OnOk, OnErr};
-ghost use Rattle.flash_core.specs.Faults.{HasCause, next_count};
+ghost use Rattle.faults.specs.Faults.{HasCause, next_count};
 
 use crate::flash::{Flash, FlashFailed};
 use crate::page::{PAGES, Page};
@@ -57,7 +57,6 @@ impl<'a, R: Files<File = File>> FileFlash<'a, R> {
     // Counts a refusal of a file call.
     fn counted(&mut self, answer: io::Result<()>) -> Result<(), FlashFailed>
         ensures cause { HasCause self.old self.new result }
-        ensures quiet { OnOk result (self.new ≡ self.old) }
     {
         match answer {
             Ok(()) => Ok(()),

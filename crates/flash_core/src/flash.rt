@@ -1,10 +1,10 @@
 //! What a flash device is.
 
 ghost use Rattle.std.specs.Prelude.{◌≡◌, ◌<◌, ◌≤◌, List, ℕ, Some, slice_get, OnOk};
+ghost use Rattle.faults.specs.Faults.{HasCause};
 ghost use Rattle.flash_core.specs.declared.page.TheConstants.{PAGES};
 ghost use Rattle.flash_core.specs.declared.page.Page.{Page as PageOf};
 ghost use Rattle.flash_core.specs.Device.{SameBut, NoneNew, AnyBytesIn, Only, Elapses};
-ghost use Rattle.flash_core.specs.Faults.{HasCause};
 
 use crate::page::Page;
 

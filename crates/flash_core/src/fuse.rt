@@ -1,8 +1,8 @@
 //! A device that fails from some call on.
 
 ghost use Rattle.std.specs.Prelude.{◌≡◌, ◌+◌, ◌<◌, ◌≤◌, Some, slice_get, IsErr, OnOk, OnErr};
+ghost use Rattle.faults.specs.Faults.{HasCause, next_count};
 ghost use Rattle.flash_core.specs.Device.{SameBut, NoneNew, AnyBytesIn, Only, Elapses};
-ghost use Rattle.flash_core.specs.Faults.{HasCause, next_count};
 ghost use Rattle.flash_core.specs.Wrapped.{Fused, IsSpent, IsPassed};
 
 use crate::flash::{Flash, FlashFailed};

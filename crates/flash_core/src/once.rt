@@ -1,8 +1,8 @@
 //! A device that fails once.
 
 ghost use Rattle.std.specs.Prelude.{◌≡◌, ℕ, ◌+◌, ◌-◌, ◌<◌, ◌≤◌, Some, None, slice_get, MatchOption, OnOk, OnErr};
+ghost use Rattle.faults.specs.Faults.{HasCause, next_count};
 ghost use Rattle.flash_core.specs.Device.{SameBut, NoneNew, AnyBytesIn, Only, Elapses};
-ghost use Rattle.flash_core.specs.Faults.{HasCause, next_count};
 ghost use Rattle.flash_core.specs.Wrapped.{Tripped, IsTripped, IsBefore, IsAfter};
 
 use crate::flash::{Flash, FlashFailed};

@@ -1,8 +1,8 @@
 -- Where each line is good, the input is short and nothing fails, a run finishes.
 use Rattle.std.proofs.Common.{◌≡◌, ℕ, ◌<◌, List, [], ◌∷◌, ◌++◌, length, refl, ap, subst, ◌∙◌, inl, inr, arith, length-append}
 use Rattle.std.specs.Str.Lines.{lines}
+use Rattle.faults.specs.Faults.{Rose}
 use Rattle.io_edge.proofs.Cuts.{lines_ahead}
-use Rattle.io_edge.specs.Faults.{Rose}
 use Rattle.io_edge.specs.Lines.{IsLine, IsCut}
 use Rattle.io_edge.specs.declared.line.TheConstants.{INPUT_LIMIT}
 use Rattle.policy_rules.specs.State.{State}

@@ -6,7 +6,7 @@ use Rattle.card_core.specs.declared.power.PowerCause.{PowerCause}
 use Rattle.card_core.specs.declared.power.PowerCause.TheVariants.{Memory, FlashFailed, NotACard}
 use Rattle.card_types.proofs.Members.{contains_first}
 use Rattle.card_types.specs.Registry.{Registry}
-use Rattle.flash_core.specs.Faults.{Rose}
+use Rattle.faults.specs.Faults.{Rose}
 use Rattle.flash_core.specs.declared.page.Page.{Page}
 use Rattle.page_journal.specs.Moments.{Always, LeavesOnly}
 use Rattle.policy_rules.specs.State.{State}

@@ -4,12 +4,12 @@ use Rattle.std.proofs.Math.Seq.{take-length}
 use Rattle.card_core.specs.Card.{CardOver, Stands}
 use Rattle.card_types.proofs.Members.{contains_cases, contains_first}
 use Rattle.card_types.specs.Registry.{Registry}
+use Rattle.faults.specs.Faults.{Rose}
 use Rattle.flash_core.specs.declared.page.Page.{Page}
 use Rattle.page_journal.specs.Moments.{Always, LeavesOnly}
 use Rattle.policy_rules.specs.State.{State}
 use Rattle.rec_store.specs.Reopens.{Reopens, ReopensAsOne}
 use Rattle.rec_store.proofs.Leaving.{joined, weaker}
-use Rattle.flash_core.specs.Faults.{Rose}
 use Rattle.gp_tool.specs.Ends.{EndCause, Faults, Outside, exit_status}
 use Rattle.gp_tool.specs.Flush.{AfterFlush}
 use Rattle.gp_tool.specs.Show.{shown}

@@ -2,7 +2,7 @@
 use Rattle.std.specs.Prelude.{◌≡◌, ◌⊎◌, ℕ, ◌+◌, ◌-◌, ◌<◌, ◌≤◌, List, [], ◌∷◌, ◌++◌, length, take}
 use Rattle.std.specs.List.{AllByRecursion}
 use Rattle.std.specs.Str.Lines.{lines, strip_carriage_return}
-use Rattle.io_edge.specs.Faults.{Rose, next_count}
+use Rattle.faults.specs.Faults.{Rose, next_count}
 use Rattle.io_edge.specs.Lines.{NoNewline, IsLine, IsCut, IsNextText}
 use Rattle.io_edge.specs.declared.line.TheConstants.{INPUT_LIMIT, LINE_LIMIT}
 use Rattle.policy_rules.specs.Run.{Command}

@@ -1,8 +1,8 @@
 -- How the verb `format` ends, and what it leaves.
 use Rattle.std.specs.Prelude.{◌≡◌, List}
 use Rattle.card_types.specs.Factory.{factory_registry}
+use Rattle.faults.specs.Faults.{next_count}
 use Rattle.flash_core.specs.declared.page.Page.{Page}
-use Rattle.io_edge.specs.Faults.{next_count}
 use Rattle.rec_store.specs.Reopens.{Keeps}
 use Rattle.gp_tool.specs.Ends.{Outside}
 use Rattle.gp_tool.specs.declared.ending.Ending.{Ending}

@@ -1,7 +1,7 @@
 -- What comes of one line.
 use Rattle.std.specs.Prelude.{◌≡◌, ℕ, ◌+◌, List, [], ◌∷◌, ◌++◌, length, take}
 use Rattle.card_types.specs.Registry.{Registry}
-use Rattle.io_edge.specs.Faults.{Rose}
+use Rattle.faults.specs.Faults.{Rose}
 use Rattle.policy_rules.specs.Run.{Command}
 use Rattle.policy_rules.specs.State.{State}
 use Rattle.policy_rules.specs.Step.{Outcome, Step}

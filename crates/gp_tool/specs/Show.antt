@@ -9,8 +9,8 @@ use Rattle.card_types.specs.Registry.{Registry, Entry, LoadFile, Key, Counter, O
 use Rattle.card_types.specs.declared.card_life.CardLife.{CardLife}
 use Rattle.card_types.specs.declared.life.LifeMark.{LifeMark}
 use Rattle.card_types.specs.declared.privileges.Privileges.{Privileges}
+use Rattle.faults.specs.Faults.{Rose}
 use Rattle.hex.specs.Hex.{encode_lower}
-use Rattle.io_edge.specs.Faults.{Rose}
 use Rattle.gp_tool.specs.declared.show.fault.ShowFault.{ShowFault}
 use Rattle.gp_tool.specs.declared.show.fault.ShowFault.TheVariants.{Flash, Write}
 use Rattle.scp03_card.specs.Offer.{counter_bytes}

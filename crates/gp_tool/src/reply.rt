@@ -1,8 +1,8 @@
 //! The lines that are written.
 
 ghost use Rattle.std.specs.Prelude.{◌≡◌, ◌≤◌, ◌<◌, ◌*◌, ◌+◌, ◌++◌, [], ◌∷◌, ℕ, length, take, OnOk, OnErr};
+ghost use Rattle.faults.specs.Faults.{HasCause};
 ghost use Rattle.hex.specs.Hex.{encode_lower};
-ghost use Rattle.io_edge.specs.Faults.{HasCause};
 ghost use Rattle.gp_tool.specs.Plays.{bad_line};
 
 use arrayvec::ArrayVec;

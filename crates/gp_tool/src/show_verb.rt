@@ -3,7 +3,7 @@
 ghost use Rattle.std.specs.Prelude.{◌≡◌, ◌≢◌, ◌⊎◌, ◌≤◌, ℕ, List, true};
 ghost use Rattle.card_core.specs.Card.{Stands};
 ghost use Rattle.card_types.specs.Registry.{Registry};
-ghost use Rattle.io_edge.specs.Faults.{Rose};
+ghost use Rattle.faults.specs.Faults.{Rose};
 ghost use Rattle.page_journal.specs.Moments.{LeavesOnly};
 ghost use Rattle.policy_rules.specs.State.{State};
 ghost use Rattle.rec_store.specs.Reopens.{Reopens};

@@ -3,7 +3,7 @@
 ghost use Rattle.std.specs.Prelude.{◌≡◌, ◌≢◌, ◌⊎◌, ◌≤◌, ◌<◌, ◌++◌, ℕ, length, take, OnOk, OnErr};
 ghost use Rattle.std.specs.Str.Lines.{lines};
 ghost use Rattle.card_types.specs.Registry.{Registry};
-ghost use Rattle.io_edge.specs.Faults.{HasCause, Rose};
+ghost use Rattle.faults.specs.Faults.{HasCause, Rose};
 ghost use Rattle.io_edge.specs.declared.line.TheConstants.{INPUT_LIMIT};
 ghost use Rattle.policy_rules.specs.State.{powered_on};
 ghost use Rattle.rec_store.specs.Reopens.{Reopens};

@@ -1,6 +1,5 @@
 pub mod Ahead
 pub mod Counted
-pub mod Faults
 pub mod Held
 pub mod Lines
 pub mod Memory

@@ -3,7 +3,7 @@
 -- before a newline is dropped, and a last piece that is not empty counts.
 use Rattle.std.specs.Prelude.{◌≡◌, ◌≢◌, ◌⊎◌, ℕ, ◌+◌, ◌-◌, ◌<◌, ◌≤◌, List, [], ◌∷◌, ◌++◌, length, Option, None, Some, Result, Ok, Err, MatchResult, All}
 use Rattle.std.specs.Str.Lines.{lines, strip_carriage_return}
-use Rattle.io_edge.specs.Faults.{Rose}
+use Rattle.faults.specs.Faults.{Rose}
 use Rattle.io_edge.specs.declared.line.TheConstants.{INPUT_LIMIT, LINE_LIMIT}
 use Rattle.io_edge.specs.declared.line.Line.{Line}
 use Rattle.io_edge.specs.declared.line.LineStop.{LineStop}

@@ -2,9 +2,9 @@
 
 ghost use Rattle.std.specs.Prelude.{◌≡◌, ◌<◌, ◌≤◌, ◌+◌, ◌*◌, ◌++◌, List, [], ℕ, length, take, Option, None, Some, Ok, IfOk, OnErr, slice_index, MatchOption};
 ghost use Rattle.std.specs.Str.Lines.{strip_carriage_return};
+ghost use Rattle.faults.specs.Faults.{HasCause};
 ghost use Rattle.io_edge.specs.Lines.{NoNewline};
 ghost use Rattle.io_edge.specs.Ahead.{Finds};
-ghost use Rattle.io_edge.specs.Faults.{HasCause};
 
 use crate::buffer::Buffer;
 use crate::line::LINE_LIMIT;

@@ -1,7 +1,7 @@
 //! Calls that fail by their number.
 
 ghost use Rattle.std.specs.Prelude.{◌≡◌, ◌↔◌, IsTrue, Contains};
-ghost use Rattle.io_edge.specs.Faults.{next_count};
+ghost use Rattle.faults.specs.Faults.{next_count};
 
 // Whether the next call is one of those that fail. It counts that call.
 pub fn is_refused(fails: &[u32], calls: &mut u64) -> bool

@@ -1,7 +1,7 @@
 //! A sink that keeps what is written in memory.
 
 ghost use Rattle.std.specs.Prelude.{◌≡◌, ◌⊎◌, ◌↔◌, ◌+◌, ◌<◌, ◌≤◌, ◌++◌, List, [], ℕ, length, take, vec_len, vec_capacity, IsErr, IfOk, OnOk, OnErr, Contains};
-ghost use Rattle.io_edge.specs.Faults.{HasCause, next_count};
+ghost use Rattle.faults.specs.Faults.{HasCause, next_count};
 ghost use Rattle.io_edge.specs.Memory.{MemorySink};
 
 use crate::calls::is_refused;

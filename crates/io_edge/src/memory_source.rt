@@ -1,7 +1,7 @@
 //! Sources over bytes in memory.
 
 ghost use Rattle.std.specs.Prelude.{◌≡◌, ◌<◌, ◌≤◌, ◌↔◌, ◌++◌, List, [], ℕ, length, min, take, drop, vec_len, Ok, IsTrue, IsErr, IfOk, OnErr, Contains};
-ghost use Rattle.io_edge.specs.Faults.{HasCause, next_count};
+ghost use Rattle.faults.specs.Faults.{HasCause, next_count};
 ghost use Rattle.io_edge.specs.Memory.{MemorySource};
 
 use crate::calls::is_refused;

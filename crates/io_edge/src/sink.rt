@@ -1,7 +1,7 @@
 //! What bytes go to.
 
 ghost use Rattle.std.specs.Prelude.{◌≡◌, ◌++◌, List, ℕ, take, OnOk, OnErr};
-ghost use Rattle.io_edge.specs.Faults.{HasCause, next_count};
+ghost use Rattle.faults.specs.Faults.{HasCause, next_count};
 
 /// A write or a flush was refused.
 #[derive(Clone, Copy, Debug, PartialEq, Eq)]

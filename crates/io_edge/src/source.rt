@@ -1,7 +1,7 @@
 //! What bytes come from.
 
 ghost use Rattle.std.specs.Prelude.{◌≡◌, ◌<◌, ◌≤◌, ◌++◌, List, [], ℕ, length, take, Ok, IfOk, OnErr};
-ghost use Rattle.io_edge.specs.Faults.{HasCause};
+ghost use Rattle.faults.specs.Faults.{HasCause};
 
 /// A read was refused, and nothing was taken.
 #[derive(Clone, Copy, Debug, PartialEq, Eq)]

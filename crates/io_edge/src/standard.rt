@@ -2,8 +2,8 @@
 
 ghost use Rattle.std.specs.Prelude.{◌≡◌, ◌<◌, ◌≤◌, ℕ, [], length, IfOk, OnOk};
 ghost use Rattle.std.specs.Io.KnownBytes.{Appends, Keeps, ReadConsumes};
+ghost use Rattle.faults.specs.Faults.{HasCause, next_count};
 ghost use Rattle.io_edge.specs.Counted.{CountedReader, CountedWriter};
-ghost use Rattle.io_edge.specs.Faults.{HasCause, next_count};
 
 use crate::sink::{Sink, WriteFailed};
 use crate::source::{ReadFailed, Source};

@@ -1,7 +1,7 @@
 -- What contracts see of a store, and what it keeps.
 use Rattle.std.specs.Prelude.{◌≡◌, ◌⊎◌, ℕ, ◌<◌, ◌≤◌, Bool, true, List, Option, Some, is_some, IfSome, slice_get}
+use Rattle.faults.specs.Faults.{Rose}
 use Rattle.flash_core.specs.declared.page.Page.{Page}
-use Rattle.flash_core.specs.Faults.{Rose}
 use Rattle.page_journal.specs.declared.cause.MountCause.{MountCause}
 use Rattle.page_journal.specs.declared.cause.MountCause.TheVariants.{Memory, FlashFailed, BadJournal}
 use Rattle.page_journal.specs.Journal.{is_open, descriptor, IsValid, stored}

@@ -1,9 +1,9 @@
 //! A commit and the end of one that was cut off, at every moment.
 
 ghost use Rattle.std.specs.Prelude.{◌≡◌, ◌⊎◌, ℕ, ◌<◌, ◌≤◌, List, [], length, Some, false, true, slice_get, OnOk};
+ghost use Rattle.faults.specs.Faults.{HasCause};
 ghost use Rattle.flash_core.specs.declared.page.Page.{Page as PageOf};
 ghost use Rattle.flash_core.specs.Device.{Only};
-ghost use Rattle.flash_core.specs.Faults.{HasCause};
 ghost use Rattle.frame_pool.specs.Staged.{AreDistinct};
 ghost use Rattle.page_journal.specs.Journal.{is_open, stored, IsValid};
 ghost use Rattle.page_journal.specs.Moments.{Always, LeavesOnly, Leaves, current};

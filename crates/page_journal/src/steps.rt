@@ -1,9 +1,9 @@
 //! The steps of a commit on the device, each of which ends with a sync.
 
 ghost use Rattle.std.specs.Prelude.{◌≡◌, ℕ, ◌+◌, ◌<◌, ◌≤◌, List, length, Some, slice_get, slice_index, OnOk};
+ghost use Rattle.faults.specs.Faults.{HasCause};
 ghost use Rattle.flash_core.specs.declared.page.Page.{Page as PageOf};
 ghost use Rattle.flash_core.specs.Device.{Only};
-ghost use Rattle.flash_core.specs.Faults.{HasCause};
 ghost use Rattle.page_journal.specs.Journal.{IsValid};
 ghost use Rattle.page_journal.specs.Phases.{IsCopy, IsRecord, IsStaged, IsInDescriptor, CopiesOf, Names, HomesOf, CopiesHome};
 ghost use Rattle.page_journal.specs.Store.{AreStorePages};

@@ -1,9 +1,9 @@
 //! The store.
 
 ghost use Rattle.std.specs.Prelude.{◌≡◌, ◌≢◌, ◌⊎◌, ◌<◌, ◌≤◌, ◌↔◌, ℕ, List, [], ◌∷◌, length, Some, None, Ok, true, false, slice_get, is_none, IsOk, IsSome, IfSome, IfOk, IfErr, OnOk, OnErr, IsTrue};
+ghost use Rattle.faults.specs.Faults.{HasCause, Rose};
 ghost use Rattle.flash_core.specs.declared.page.Page.{Page as PageOf};
 ghost use Rattle.flash_core.specs.Device.{NoneNew, SameBut, Only};
-ghost use Rattle.flash_core.specs.Faults.{HasCause, Rose};
 ghost use Rattle.frame_pool.specs.Staged.{staged, with_page};
 ghost use Rattle.page_journal.specs.Journal.{is_open, stored, IsValid, IsSound};
 ghost use Rattle.page_journal.specs.Moments.{Always, LeavesOnly, Leaves, current};

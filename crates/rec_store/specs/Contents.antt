@@ -2,8 +2,8 @@
 use Rattle.std.specs.Prelude.{◌≡◌, ℕ, Bool, List}
 use Rattle.card_types.specs.Registry.{Registry}
 use Rattle.card_types.specs.declared.tables.Tables.{Tables}
+use Rattle.faults.specs.Faults.{Rose}
 use Rattle.flash_core.specs.declared.page.Page.{Page}
-use Rattle.flash_core.specs.Faults.{Rose}
 use Rattle.page_journal.specs.declared.cause.MountCause.{MountCause}
 use Rattle.page_journal.specs.declared.cause.MountCause.TheVariants as mount
 use Rattle.rec_store.specs.Reopens.{Reopens}

@@ -4,7 +4,7 @@ ghost use Rattle.std.specs.Prelude.{◌≡◌, ◌⊎◌, [], false, true, IsOk,
 ghost use Rattle.card_check.specs.IsCard.{IsCard};
 ghost use Rattle.card_types.specs.Registry.{Registry};
 ghost use Rattle.card_types.specs.Says.{Says};
-ghost use Rattle.flash_core.specs.Faults.{HasCause};
+ghost use Rattle.faults.specs.Faults.{HasCause};
 ghost use Rattle.page_journal.specs.Moments.{LeavesOnly};
 ghost use Rattle.rec_store.specs.Reopens.{Keeps, Reopens, load_page};
 

@@ -5,7 +5,7 @@ ghost use Rattle.card_check.specs.IsCard.{IsCard, IsInLoadPages};
 ghost use Rattle.card_types.specs.Registry.{Registry};
 ghost use Rattle.card_types.specs.Says.{Says, used};
 ghost use Rattle.card_types.specs.declared.tables.Tables.{Tables};
-ghost use Rattle.flash_core.specs.Faults.{HasCause};
+ghost use Rattle.faults.specs.Faults.{HasCause};
 ghost use Rattle.rec_store.specs.FirstSlots.{HasFirst, HaveRoom};
 ghost use Rattle.rec_store.specs.KeySlot.{IsRoomyKey};
 ghost use Rattle.rec_store.specs.Reopens.{Keeps, load_page, store_in};

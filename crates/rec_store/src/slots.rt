@@ -3,8 +3,8 @@
 ghost use Rattle.std.specs.Prelude.{◌≡◌, ◌≢◌, ◌⊎◌, ◌+◌, ◌*◌, ◌/◌, ◌%◌, ◌<◌, ◌≤◌, ℕ, List, [], Option, true, length, slice_get, All, IsSome, IfSome, IfOk, OnOk, OnErr, IfErr};
 ghost use Rattle.card_types.specs.Says.{used};
 ghost use Rattle.card_types.specs.Slots.{held};
+ghost use Rattle.faults.specs.Faults.{HasCause, Rose};
 ghost use Rattle.flash_core.specs.declared.page.Page.{Page as PageOf};
-ghost use Rattle.flash_core.specs.Faults.{HasCause, Rose};
 ghost use Rattle.frame_pool.specs.Staged.{staged, with_page};
 ghost use Rattle.rec_store.specs.Contents.{SlotsFail};
 ghost use Rattle.rec_store.specs.Reopens.{store_in, store_page};

@@ -7,8 +7,8 @@ ghost use Rattle.card_types.specs.Ascending.{counter_order};
 ghost use Rattle.card_types.specs.InOrder.{IsInOrder};
 ghost use Rattle.card_types.specs.Registry.{Counter, Registry};
 ghost use Rattle.card_types.specs.Says.{Says, counter_of, keeps_counter};
-ghost use Rattle.io_edge.specs.Faults.{HasCause};
 ghost use Rattle.card_types.specs.declared.limits.TheConstants.{COUNTER_LIMIT};
+ghost use Rattle.faults.specs.Faults.{HasCause};
 ghost use Rattle.gp_tool.specs.Listing.{Writes};
 ghost use Rattle.gp_tool.specs.Show.{counter_line};
 

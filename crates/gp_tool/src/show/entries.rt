@@ -9,7 +9,7 @@ ghost use Rattle.card_types.specs.AidOrder.{aid_order};
 ghost use Rattle.card_types.specs.InOrder.{IsInOrder};
 ghost use Rattle.card_types.specs.Registry.{Entry as NamedEntry, Registry};
 ghost use Rattle.card_types.specs.Says.{Says, entry_of};
-ghost use Rattle.io_edge.specs.Faults.{HasCause};
+ghost use Rattle.faults.specs.Faults.{HasCause};
 ghost use Rattle.gp_tool.specs.Listing.{Writes};
 ghost use Rattle.gp_tool.specs.Show.{entry_kind, entry_line, entry_names, entry_state};
 

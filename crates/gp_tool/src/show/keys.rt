@@ -7,7 +7,7 @@ ghost use Rattle.card_types.specs.Ascending.{key_order};
 ghost use Rattle.card_types.specs.InOrder.{IsInOrder};
 ghost use Rattle.card_types.specs.Registry.{Key, Registry};
 ghost use Rattle.card_types.specs.Says.{Says, key_of};
-ghost use Rattle.io_edge.specs.Faults.{HasCause};
+ghost use Rattle.faults.specs.Faults.{HasCause};
 ghost use Rattle.gp_tool.specs.Listing.{Writes};
 ghost use Rattle.gp_tool.specs.Show.{key_line};
 

@@ -11,7 +11,7 @@ ghost use Rattle.card_types.specs.Least.{NoneFits};
 ghost use Rattle.card_types.specs.Nearer.{IsLeastFound};
 ghost use Rattle.card_types.specs.Says.{used};
 ghost use Rattle.card_types.specs.Slots.{held};
-ghost use Rattle.io_edge.specs.Faults.{HasCause};
+ghost use Rattle.faults.specs.Faults.{HasCause};
 ghost use Rattle.gp_tool.specs.Listing.{Writes, comes_past};
 
 use crate::show::line::LINE_ROOM;

@@ -48,4 +48,5 @@ loop-index-preserved g c =
           subst (Holds256 c.feed_page.new.hasher)
           (fed page (has_pages (stored (F.pages old.flash))) file.pages file.len c.loop-index.index c.min-count.result (omega (arith, before, long, size)) before (c.min-count.ensures ∙ omega (arith, c.from-len.ensures)))
           more),
+      c.in_ok-feed_page.ensures.cause.ok ∙ c.loop-index.invariant.2,
     )

@@ -1,4 +1,4 @@
-use Rattle.std.proofs.Common.{map, take}
+use Rattle.std.proofs.Common.{◌≡◌, map, take}
 use Rattle.std.specs.List.{concat}
 use Rattle.card_core.specs.LoadRead.{IsLoadRead}
 use Rattle.rec_store.specs.Reopens.{load_page}
@@ -10,3 +10,4 @@ invariant-loop-index g l =
     let F = g.F.Flash in
     IsLoadRead F.tells F.pages F.moment F.may_leave F.left_since F.faults l.fn.records l.records
     × (F.tells → Holds256 l.hasher (take l.fn.file.len (concat (map (load_page (F.pages l.fn.records.flash)) (take l.index l.fn.file.pages)))))
+    × (F.faults l.records.flash ≡ F.faults l.fn.records.flash)

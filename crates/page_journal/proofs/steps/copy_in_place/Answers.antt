@@ -1,4 +1,4 @@
-use Rattle.std.proofs.Common.{rules, ◌≡◌, ◌+◌, List, Some, slice_get, get_or, sym, ◌∙◌, subst, arith}
+use Rattle.std.proofs.Common.{rules, ◌≡◌, ◌+◌, List, Some, slice_get, get_or, sym, ◌∙◌, subst}
 use Rattle.flash_core.specs.declared.page.Page.{Page}
 use Rattle.flash_core.specs.Device.{SameBut}
 use Rattle.page_journal.specs.Phases.{IsInDescriptor}
@@ -41,5 +41,5 @@ loop-index-preserved g c =
           (sym ((i.touched told).seen (47 + index) (copy_unnamed bytes index c.requires)) ∙ r.written told)
           (subst (λ n. SameBut n (F.pages c.loop-index.flash) (F.pages c.write.new.self)) home (subst (λ (l : List Page). SameBut c.from.result l (F.pages c.write.new.self)) (r.torn told) (e.torn told)))
           (subst (λ n. slice_get (F.pages c.write.new.self) n ≡ Some c.read.new.into) home (e.written told));
-      later = omega (arith, i.later, r.cause.later, e.cause.later);
+      faults = e.cause.ok ∙ r.cause.ok ∙ i.faults;
     }

@@ -1,4 +1,4 @@
-use Rattle.std.proofs.Common.{◌≤◌}
+use Rattle.std.proofs.Common.{◌≡◌}
 use Rattle.page_journal.specs.Phases.{IsInDescriptor, CopiesHome}
 use Rattle.page_journal.specs.Touches.{Touches}
 use Rattle.page_journal.proofs.steps.copy_in_place.Given as goal
@@ -9,5 +9,5 @@ invariant-loop-index g l =
     record {
       touched : F.tells → Touches F.pages F.moment F.may_leave F.left_since (IsInDescriptor l.descriptor.bytes) l.fn.flash l.flash;
       homes : F.tells → CopiesHome l.index l.descriptor.bytes (F.pages l.fn.flash) (F.pages l.flash);
-      later : F.faults l.fn.flash ≤ F.faults l.flash;
+      faults : F.faults l.flash ≡ F.faults l.fn.flash;
     }

@@ -1,8 +1,8 @@
-use Rattle.std.proofs.Common.{◌≡◌, List, slice_get, ap, ◌∙◌, arith}
+use Rattle.std.proofs.Common.{◌≡◌, List, slice_get, refl, ap, ◌∙◌, arith}
 use Rattle.flash_core.specs.declared.page.Page.{Page}
 use Rattle.page_journal.specs.Phases.{IsStaged}
 use Rattle.page_journal.proofs.Runs.{start, by_write, quiet, goes_on, wider}
-use Rattle.page_journal.proofs.Causes.{risen, since_before, on_ok}
+use Rattle.page_journal.proofs.Causes.{on_ok}
 use Rattle.page_journal.proofs.Copies.{homes_more, is_staged}
 use Rattle.page_journal.proofs.steps.put_in_place.Goals as goal
 
@@ -12,7 +12,7 @@ loop-index-init g c =
     record {
       touched = λ told. start F.pages F.moment F.may_leave F.left_since g.met.F.Flash.only_now told (IsStaged c.args.pool.now) c.args.flash.now;
       homes = λ told i entry lt. absurd (omega (arith, lt));
-      later = omega arith;
+      faults = refl;
     }
 
 pub write-requires : goal.write-requires
@@ -28,11 +28,6 @@ returns-in_err-write-clause-touches g c told =
     (is_staged c.args.pool.now c.loop-index.index home _ c.len-index-end.ensures.distinct c.at-home.ensures)
     (by_write F.pages F.moment F.may_leave F.left_since g.met.F.Flash.only_now told home _ _ (e.torn told) (e.loss told) (e.time told)))
 
-pub returns-in_err-write-clause-cause : goal.returns-in_err-write-clause-cause
-returns-in_err-write-clause-cause g c =
-    let e = c.in_err-write.ensures in
-    risen c.from_residual.result _ _ _ c.loop-index.invariant.later e.cause.later e.cause.failed
-
 pub loop-index-preserved : goal.loop-index-preserved
 loop-index-preserved g c =
     let F = g.F.Flash in
@@ -46,7 +41,7 @@ loop-index-preserved g c =
           (is_staged c.args.pool.now c.loop-index.index home _ c.len-index-end.ensures.distinct c.at-home.ensures)
           (by_write F.pages F.moment F.may_leave F.left_since g.met.F.Flash.only_now told home _ _ (e.torn told) (e.loss told) (e.time told)));
       homes = λ told. homes_more c.loop-index.index home c.args.pool.now _ _ _ c.len-index-end.ensures.distinct (i.homes told) c.at-home.ensures (e.torn told) (e.written told);
-      later = omega (arith, i.later, e.cause.later);
+      faults = e.cause.ok ∙ i.faults;
     }
 
 pub returns-clause-touches : goal.returns-clause-touches
@@ -61,6 +56,3 @@ returns-clause-homes g c told =
     let F = g.F.Flash in
     on_ok c.sync.result _ (λ i entry lt there.
     ap (λ (pages : List Page). slice_get pages entry.0) (c.sync.ensures.torn told) ∙ c.loop-index.invariant.homes told i entry (omega (arith, lt, c.loop-index-test.false, c.len-index-end.ensures.length)) there)
-
-pub returns-clause-cause : goal.returns-clause-cause
-returns-clause-cause g c = since_before c.sync.result _ _ _ c.loop-index.invariant.later c.sync.ensures.cause

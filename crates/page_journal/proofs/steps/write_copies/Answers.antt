@@ -1,7 +1,6 @@
-use Rattle.std.proofs.Common.{◌≡◌, ◌+◌, arith}
+use Rattle.std.proofs.Common.{◌≡◌, ◌+◌, refl, ◌∙◌, arith}
 use Rattle.page_journal.specs.Phases.{IsCopy}
 use Rattle.page_journal.proofs.Runs.{start, by_write, goes_on, wider}
-use Rattle.page_journal.proofs.Causes.{risen}
 use Rattle.page_journal.proofs.Copies.{copies_more}
 use Rattle.page_journal.proofs.steps.write_copies.Goals as goal
 
@@ -11,7 +10,7 @@ loop-index-init g c =
     record {
       touched = λ told. start F.pages F.moment F.may_leave F.left_since g.met.F.Flash.only_now told IsCopy c.args.flash.now;
       copies = λ told i entry lt. absurd (omega (arith, lt));
-      later = omega arith;
+      faults = refl;
     }
 
 pub returns-in_err-write-clause-touches : goal.returns-in_err-write-clause-touches
@@ -21,11 +20,6 @@ returns-in_err-write-clause-touches g c told =
     goes_on F.pages F.moment F.may_leave F.left_since g.met.F.Flash.only_now told IsCopy _ _ _ (c.loop-index.invariant.touched told)
     (wider F.pages F.moment F.may_leave F.left_since g.met.F.Flash.only_now told (λ p. p ≡ 47 + c.loop-index.index) IsCopy _ _ (λ p same. (omega (arith, same), omega (arith, same, c.loop-index-test.true, c.len-index-end.ensures.room)))
     (by_write F.pages F.moment F.may_leave F.left_since g.met.F.Flash.only_now told (47 + c.loop-index.index) _ _ (e.torn told) (e.loss told) (e.time told)))
-
-pub returns-in_err-write-clause-cause : goal.returns-in_err-write-clause-cause
-returns-in_err-write-clause-cause g c =
-    let e = c.in_err-write.ensures in
-    risen c.from_residual.result _ _ _ c.loop-index.invariant.later e.cause.later e.cause.failed
 
 pub loop-index-preserved : goal.loop-index-preserved
 loop-index-preserved g c =
@@ -38,7 +32,7 @@ loop-index-preserved g c =
           (wider F.pages F.moment F.may_leave F.left_since g.met.F.Flash.only_now told (λ p. p ≡ 47 + c.loop-index.index) IsCopy _ _ (λ p same. (omega (arith, same), omega (arith, same, c.loop-index-test.true, c.len-index-end.ensures.room)))
           (by_write F.pages F.moment F.may_leave F.left_since g.met.F.Flash.only_now told (47 + c.loop-index.index) _ _ (e.torn told) (e.loss told) (e.time told)));
       copies = λ told. copies_more c.loop-index.index _ c.args.pool.now _ _ _ (i.copies told) c.at.ensures (e.torn told) (e.written told);
-      later = omega (arith, i.later, e.cause.later);
+      faults = e.cause.ok ∙ i.faults;
     }
 
 pub returns-clause-touches : goal.returns-clause-touches
@@ -46,6 +40,3 @@ returns-clause-touches g c = c.loop-index.invariant.touched
 
 pub returns-clause-copies : goal.returns-clause-copies
 returns-clause-copies g c told = λ i entry lt there. c.loop-index.invariant.copies told i entry (omega (arith, lt, c.loop-index-test.false, c.len-index-end.ensures.length)) there
-
-pub returns-clause-cause : goal.returns-clause-cause
-returns-clause-cause g c = record { later = c.loop-index.invariant.later; failed = tt }

@@ -32,5 +32,5 @@ loop-number-preserved g c =
     record {
       held = λ told. held_more g.T.Slot.holds first size number (c.FIRST.result + number) (g.F.Flash.pages c.loop-number.flash) (g.F.Flash.pages c.write.new.self) _ c.args.slots.now at (written.torn told) (written.written told) c.page_of.ensures (was.held told);
       others = λ told page out. (written.torn told).others page (another page first number (c.FIRST.result + number) at lt out) ∙ was.others told page out;
-      later = omega (arith, was.later, written.cause.later);
+      faults = written.cause.ok ∙ was.faults;
     }

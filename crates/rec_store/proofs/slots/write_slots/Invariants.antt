@@ -11,5 +11,5 @@ invariant-loop-number g l =
     record {
       held : F.tells → AreHeld g.T.Slot.holds (slot_from (store_in (slice_get (F.pages l.flash))) g.T.Slot.FIRST g.T.Slot.SIZE) (l.number * (256 / g.T.Slot.SIZE)) l.slots;
       others : F.tells → (page : ℕ) → (page < g.T.Slot.FIRST) ⊎ (45 ≤ page) → slice_get (F.pages l.flash) page ≡ slice_get (F.pages l.fn.flash) page;
-      later : F.faults l.fn.flash ≤ F.faults l.flash;
+      faults : F.faults l.flash ≡ F.faults l.fn.flash;
     }
