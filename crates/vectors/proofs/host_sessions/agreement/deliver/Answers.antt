@@ -1,9 +1,8 @@
-use Rattle.std.proofs.Common.{◌≡◌, ◌∙◌, List, ℕ, ap, subst, sym, take, arith}
+use Rattle.std.proofs.Common.{◌≡◌, ◌∙◌, ℕ, ap, subst, sym, take, arith}
 use Rattle.apdu_core.specs.Apdu.{Apdu, Short, apdu_of}
 use Rattle.apdu_core.proofs.OneSpelling.{one_command}
 use Rattle.scp03_card.specs.Kept.{StandsFor}
 use Rattle.scp03_card.specs.Opens.{Opens, accepting}
-use Rattle.scp03_card.specs.Session.{Session}
 use Rattle.scp03_host.specs.Wrapped.{having_sent, wrapped}
 use Rattle.scp03_host.proofs.AgreementLemmas.{accepting_is, opens_sent}
 use Rattle.vectors.proofs.host_sessions.agreement.deliver.Goals as goal
