@@ -7,6 +7,7 @@
 //! - `codes`: CMAC, derivation and CBC, by the published examples.
 //! - `data_objects`: BER-TLV elements, and the places of refusals.
 //! - `devices`: flash devices in memory, those that fail, and a file.
+//! - `domains`: which security domains are above which.
 //! - `frames`: thirty frames.
 //! - `host_sessions`: the host side of SCP03.
 //! - `journal`: committed pages, with power lost and faults at each call.
@@ -33,6 +34,8 @@ mod data_objects;
 mod devices;
 #[cfg(test)]
 mod digits;
+#[cfg(test)]
+mod domains;
 #[cfg(test)]
 mod frames;
 #[cfg(test)]

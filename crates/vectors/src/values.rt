@@ -1,7 +1,10 @@
-//! Values of the registry: identifiers, privileges, codes, and sequence counters.
+//! Values of the registry: identifiers, privileges, codes and sequence counters, and how they are found.
 
 use bitflags::Flags;
-use card_types::{Aid, CardLife, Level, Life, LifeMark, Privileges, Tables, keys_of_set};
+use card_types::{
+    Aid, CardLife, Found, Kind, Level, Life, LifeMark, Privileges, Tables, find, keys_of_set,
+    next_after, set_of,
+};
 use std::test::Fail;
 
 /// The AID of the Issuer Security Domain on most GlobalPlatform cards.
@@ -71,6 +74,42 @@ fn has_the_codes(rt: HostRuntime) {
         assert_eq!(rt; level.code(), code);
         assert_eq!(rt; Level::from_code(code), Some(level));
     }
+}
+
+#[test]
+fn makes_the_factory_card(rt: HostRuntime) -> Result<(), Fail> {
+    let tables = Tables::factory(rt.alloc())?;
+    let issuer = tables.entries[0].ok_or("the Issuer Security Domain")?;
+    assert_eq!(rt; issuer.aid.as_bytes(), ISSUER_DOMAIN.as_slice());
+    assert_eq!(rt; find(&tables, &issuer.aid), Some(Found::Entry(0)));
+    let kinds = [
+        (Kind::Issuer, Some(Found::Entry(0))),
+        (Kind::Entries, None),
+        (Kind::Files, Some(Found::File(0))),
+    ];
+    for (kind, first) in kinds {
+        assert_eq!(rt; next_after(&tables, kind, None), first);
+    }
+    assert_eq!(rt; next_after(&tables, Kind::Issuer, Some(&issuer.aid)), None);
+    assert_eq!(rt; set_of(&tables.keys, 0, 0x30), Some([0, 1, 2]));
+    Ok(())
+}
+
+#[test]
+fn finds_the_keys_of_a_set(rt: HostRuntime) -> Result<(), Fail> {
+    let tables = Tables::factory(rt.alloc())?;
+    let set = keys_of_set(&tables, 0, 0x30).ok_or("the factory key set")?;
+    for (identifier, key) in [(1, set.enc), (2, set.mac), (3, set.dek)] {
+        assert_eq!(rt; key.identifier, identifier);
+        assert_eq!(rt; key.version, 0x30);
+    }
+    for (owner, version) in [(0, 0x31), (0, 0x70), (0, 0xFF), (1, 0x30)] {
+        assert!(rt;
+            keys_of_set(&tables, owner, version).is_none(),
+            "{owner} {version}"
+        );
+    }
+    Ok(())
 }
 
 #[test]
