@@ -9,11 +9,11 @@ ghost use Rattle.scp03_card.specs.Opens.{accepting};
 ghost use Rattle.scp03_card.specs.Protected.{protected};
 ghost use Rattle.scp03_card.specs.Session as model;
 
-use aes_block::{Aes128, Aes192, Aes256, BlockKey, SealingAes128};
+use aes_block::{Aes128, Aes192, Aes256, BlockKey};
 use apdu_core::{Command, Status};
 use arrayvec::ArrayVec;
 use card_types::{Aid, Level};
-use scp03_card::{AuthRefusal, Offer, OpenRefusal, Session, StaticKeys, offer};
+use scp03_card::{Offer, OpenRefusal, Session, StaticKeys, offer};
 use std::test::Fail;
 
 const KEY: [u8; 32] = [
@@ -184,30 +184,6 @@ fn longer<K: BlockKey>(card: (u64, u64), host: u128, sent: &[u8], answer: &[u8])
     exchange(&mut session, sent, answer, b"010203", b"05", 0x9000)
 }
 
-#[test]
-fn refused_answers(rt: HostRuntime) {
-    for host in [
-        0x76857f0738ab1423_cc3a9195e19f90a3,
-        // The card cryptogram.
-        0x5102ce101bd72357_cc3a9195e19f90a3,
-    ] {
-        assert_eq!(rt; answer(host), Ok(Some(AuthRefusal::Cryptogram)), "{host:x}");
-    }
-    for host in [
-        0x76857f0738ab1422_cc3a9195e19f90a2,
-        // That of level 01.
-        0x76857f0738ab1422_2d8dc8e0cddd3b2a,
-    ] {
-        assert_eq!(rt; answer(host), Ok(Some(AuthRefusal::Mac)), "{host:x}");
-    }
-    assert_eq!(rt; answer(HOST_FULL), Ok(None));
-}
-
-fn answer(host: u128) -> Result<Option<AuthRefusal>, &'static str> {
-    let offer = offered::<SealingAes128>(0)?;
-    Ok(offer.authenticate(Level::Full, &host.to_be_bytes()).err())
-}
-
 // Each is sent as the second command of a session at level 33, which takes the right one after all of them.
 #[test]
 fn refused_commands(rt: HostRuntime) -> Result<(), Fail> {
@@ -250,16 +226,5 @@ fn refused_commands(rt: HostRuntime) -> Result<(), Fail> {
     assert_eq!(rt; open(&mut session, right, &mut plain), Some(Ok(3)));
     let front = &plain[..3];
     assert_eq!(rt; front, [1, 2, 3].as_slice());
-    Ok(())
-}
-
-// A block that is 80 and zeros is a data field of no bytes.
-#[test]
-fn a_padding_alone_is_opened(rt: HostRuntime) -> Result<(), Fail> {
-    let mut session = begun::<Aes128>(0, CARD, Level::Full, HOST_FULL)?;
-    let mut plain = [0; 255];
-    assert_eq!(rt; open(&mut session, GET_DATA, &mut plain), Some(Ok(0)));
-    let sent = b"84e2900018202618d60155e0824624e2b9972ad74f0939fadb101786ec";
-    assert_eq!(rt; open(&mut session, sent, &mut plain), Some(Ok(0)));
     Ok(())
 }

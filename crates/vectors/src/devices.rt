@@ -4,6 +4,7 @@ ghost use Rattle.std.specs.Prelude.{◌<◌};
 
 mod recorded;
 
+use arrayvec::ArrayVec;
 use flash_core::{FileFlash, Flash, FlashFailed, FuseFlash, MemFlash, OnceFlash, Page};
 use recorded::{Call, RecordedFlash};
 use std::alloc::Global;
@@ -109,10 +110,13 @@ fn the_calls_that_do_not_fail_are_passed_on(rt: HostRuntime) -> Result<(), Fail>
         let inner = RecordedFlash::new(MemFlash::new(rt.alloc(), 9)?);
         let mut once = OnceFlash::new(inner, failing as u64);
         call_six_times(&mut once);
-        let once = once.into_inner();
-        let (before, after) = once.calls().split_at(failing.min(once.calls().len()));
-        assert_eq!(rt; before, &all[..failing.min(6)], "{failing}");
-        assert_eq!(rt; after, all.get(failing + 1..).unwrap_or(&[]), "{failing}");
+        let mut others: ArrayVec<Call, 6> = ArrayVec::new();
+        for (number, call) in all.iter().enumerate() {
+            if number != failing {
+                let _fits = others.try_push(*call);
+            }
+        }
+        assert_eq!(rt; once.into_inner().calls(), others.as_slice(), "{failing}");
     }
     Ok(())
 }
@@ -170,8 +174,10 @@ fn a_file_is_of_one_device_at_a_time(rt: HostRuntime) -> Result<(), Fail> {
 /// A page whose bytes all differ, and differ from those of another number.
 fn numbered(number: u8) -> Page {
     let mut page = filled(0);
-    for (index, byte) in page.bytes.iter_mut().enumerate() {
-        *byte = (index as u8).wrapping_mul(7) ^ number;
+    let mut next = number;
+    for byte in page.bytes.iter_mut() {
+        *byte = next;
+        next = next.wrapping_add(7);
     }
     page
 }

@@ -1,10 +1,7 @@
 //! Sources, sinks and lines.
 
-ghost use Rattle.std.specs.Prelude.{[]};
-
 use io_edge::{
-    INPUT_LIMIT, LINE_LIMIT, LineStop, Lines, MemSink, MemSource, ReadFailed, Sink, SliceSource,
-    Source, StdSink, StdSource,
+    LineStop, Lines, MemSink, MemSource, ReadFailed, Sink, SliceSource, Source, StdSink, StdSource,
 };
 use std::alloc::{AllocError, Global};
 use std::io;
@@ -68,36 +65,6 @@ fn measure<S: Source>(lines: &mut Lines, source: &mut S) -> Result<(u32, usize),
 }
 
 #[test]
-fn takes_lines_up_to_the_limit(rt: HostRuntime) -> Result<(), Fail> {
-    let long = Err(LineStop::TooLong(2));
-    let cases: [(usize, &[u8], Result<(u32, usize), LineStop>); 8] = [
-        (522, b"", Ok((2, 522))),
-        (522, b"\n", Ok((2, 522))),
-        (522, b"\r\n", Ok((2, 522))),
-        (522, b"\n00", Ok((2, 522))),
-        (522, b"\r", long),
-        (523, b"", long),
-        (523, b"\n", long),
-        (30_000, b"\r\n", long),
-    ];
-    for (count, end, want) in cases {
-        let mut bytes = Vec::new(rt.alloc());
-        bytes.push(b'\n')?;
-        for _ in 0..count {
-            bytes.push(b'0')?;
-        }
-        bytes.extend_from_slice(end)?;
-        for piece in [7, 4096] {
-            let mut source = MemSource::new(rt.alloc(), &bytes, piece, &[])?;
-            let mut lines = Lines::new();
-            assert_eq!(rt; measure(&mut lines, &mut source), Ok((1, 0)));
-            assert_eq!(rt; measure(&mut lines, &mut source), want, "{count} {end:?}");
-        }
-    }
-    Ok(())
-}
-
-#[test]
 fn gives_a_stop_again(rt: HostRuntime) -> Result<(), Fail> {
     let long = [b'0'; 523];
     let cases: [(&[u8], &[u32], LineStop); 3] = [
@@ -111,26 +78,6 @@ fn gives_a_stop_again(rt: HostRuntime) -> Result<(), Fail> {
         for _ in 0..3 {
             assert_eq!(rt; measure(&mut lines, &mut source), Err(want));
         }
-    }
-    Ok(())
-}
-
-/// Two lines and a last one without a newline, of which each read gives one.
-#[test]
-fn gives_the_lines_before_a_refused_read(rt: HostRuntime) -> Result<(), Fail> {
-    let cases: [(u32, &[u8], LineStop); 6] = [
-        (0, b"", LineStop::ReadFailed),
-        (1, b"one|", LineStop::ReadFailed),
-        (2, b"one|two|", LineStop::ReadFailed),
-        (3, b"one|two|", LineStop::ReadFailed),
-        (4, b"one|two|last|", LineStop::ReadFailed),
-        (5, b"one|two|last|", LineStop::End),
-    ];
-    for (call, want, stop) in cases {
-        let mut source = MemSource::new(rt.alloc(), b"one\ntwo\nlast", 4, &[call])?;
-        let (text, last) = cut(rt.alloc(), &mut source)?;
-        assert_eq!(rt; text.as_slice(), want, "at {call}");
-        assert_eq!(rt; last, Some(stop), "at {call}");
     }
     Ok(())
 }
@@ -162,47 +109,6 @@ fn reads_on_only_where_a_line_may_yet_fit(rt: HostRuntime) -> Result<(), Fail> {
     Ok(())
 }
 
-/// Lines of `LINE_LIMIT` bytes, without end.
-#[derive(Drop)]
-struct Endless {
-    // How many bytes of the line were given.
-    at: usize,
-}
-
-impl Source for Endless {
-    ghost tells = { ⊥ };
-
-    ghost left = { λ _. [] };
-
-    ghost faults = { λ _. 0 };
-
-    fn read_some(&mut self, buf: &mut [u8]) -> Result<usize, ReadFailed> {
-        for place in buf.iter_mut() {
-            if self.at < LINE_LIMIT {
-                *place = b'0';
-                self.at += 1;
-            } else {
-                *place = b'\n';
-                self.at = 0;
-            }
-        }
-        Ok(buf.len())
-    }
-}
-
-#[test]
-fn takes_an_input_up_to_the_limit(rt: HostRuntime) {
-    let mut source = Endless { at: 0 };
-    let mut lines = Lines::new();
-    for _ in 0..INPUT_LIMIT / (LINE_LIMIT + 1) {
-        assert!(rt; measure(&mut lines, &mut source).is_ok());
-    }
-    assert_eq!(rt;
-        measure(&mut lines, &mut source),
-        Err(LineStop::InputTooLong)
-    );
-}
-
 /// A reader and writer that refuses each call.
 #[derive(Drop)]
 struct Refuses;
@@ -229,28 +135,6 @@ fn write_twice<K: Sink>(sink: &mut K) -> [bool; 3] {
     let second = sink.write_all(b"6d00\n");
     let flushed = sink.flush();
     [first.is_err(), second.is_err(), flushed.is_err()]
-}
-
-#[test]
-fn keeps_what_was_written(rt: HostRuntime) -> Result<(), Fail> {
-    let cases: [(usize, &[u32], &[u8], [bool; 3]); 7] = [
-        (9, &[], b"90006d00\n", [false, false, false]),
-        (8, &[], b"9000", [false, true, false]),
-        (4, &[2], b"9000", [false, true, true]),
-        (3, &[], b"", [true, true, false]),
-        (9, &[0], b"6d00\n", [true, false, false]),
-        (9, &[1, 2], b"9000", [false, true, true]),
-        (9, &[3], b"90006d00\n", [false, false, false]),
-    ];
-    for (room, fails, want, refused) in cases {
-        let mut sink = MemSink::new(rt.alloc(), room, fails)?;
-        assert_eq!(rt; write_twice(&mut sink), refused, "{room} {fails:?}");
-        assert_eq!(rt; sink.written(), want, "{room} {fails:?}");
-        let handed_on: &[u8] = if refused[2] { b"" } else { want };
-        assert_eq!(rt; sink.handed_on(), handed_on, "{room} {fails:?}");
-        assert_eq!(rt; sink.flushes(), 1, "{room} {fails:?}");
-    }
-    Ok(())
 }
 
 #[test]
