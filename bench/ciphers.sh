@@ -11,7 +11,6 @@
 set -euo pipefail
 
 here=$(dirname "$(readlink -f "${BASH_SOURCE[0]}")")
-crate=$here/../crates/cipher_bench
 tries=${TRIES:-5}
 core=${CORE:-$(($(nproc) - 1))}
 only=${1:-}
@@ -24,10 +23,7 @@ export OPENSSL_ia32cap="~0x200020000000000"
 tmp=$(mktemp -d "${TMPDIR:-/tmp}/ciphers.XXXXXX")
 trap 'rm -rf "$tmp"' EXIT
 
-if [[ ! -x $crate/out/cipher_bench ]]; then
-    echo "building cipher_bench (some minutes the first time)" >&2
-    (cd "$crate" && rt run -- seal 16 1 </dev/null >&2)
-fi
+ours=$("$here/built.sh" cipher_bench seal 16 1)
 cc -O2 -o "$tmp/ciphers" "$here/ciphers.c" -lnettle -lcrypto
 
 # Runs one library's call and leaves the checksum in `sum` and the processor time in `took`, in milliseconds.
@@ -36,7 +32,7 @@ measure() {
     shift
     local program=("$tmp/ciphers" "$library")
     if [[ $library == ours ]]; then
-        program=("$crate/out/cipher_bench")
+        program=("$ours")
     fi
     { TIMEFORMAT=%3U; time taskset -c "$core" "${program[@]}" "$@" >"$tmp/sum"; } 2>"$tmp/took"
     sum=$(<"$tmp/sum")

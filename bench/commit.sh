@@ -8,17 +8,13 @@
 set -euo pipefail
 
 here=$(cd "$(dirname "$0")/.." && pwd)
-program=$here/crates/commit_bench/out/commit_bench
 count=${COUNT:-10000}
 tries=${TRIES:-1}
 
 tmp=$(mktemp -d "${TMPDIR:-/tmp}/commits.XXXXXX")
 trap 'rm -rf "$tmp"' EXIT
 
-if [ ! -x "$program" ]; then
-    echo "building commit_bench (some minutes the first time)" >&2
-    (cd "$here/crates/commit_bench" && rt run -- "$tmp/first.img" 1 1 </dev/null >&2)
-fi
+program=$("$here/bench/built.sh" commit_bench "$tmp/first.img" 1 1)
 cc -O2 -o "$tmp/commit" "$here/bench/commit.c"
 
 ours() { "$program" "$tmp/ours.img" "$count" "$1"; }
