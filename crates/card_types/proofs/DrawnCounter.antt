@@ -1,22 +1,18 @@
 -- What tables say after the counter that a key keeps was drawn.
-use Rattle.std.proofs.Common.{◌≡◌, ℕ, zero, suc, ◌<◌, true, List, [], ◌∷◌, length, Option, None, Some, refl, ap, sym, subst, ◌∙◌, arith}
+use Rattle.std.proofs.Common.{◌≡◌, ℕ, zero, suc, ◌<◌, true, List, [], ◌∷◌, length, Option, None, Some, refl, arith}
 use Rattle.std.specs.Prelude.{MatchOption}
 use Rattle.std.specs.Option.{option_map}
 use Rattle.std.proofs.lemmas.Option.{MatchOption-at_some}
-use Rattle.std.proofs.lemmas.List.{length-set}
 use Rattle.std.proofs.lemmas.List.Sorted.{IsPermutation-refl}
 use Rattle.card_types.specs.Ascending.{counter_order, key_order}
 use Rattle.card_types.specs.Changed.{IsChanged}
 use Rattle.card_types.specs.Counters.{HasNextCounter, raised, raised_key}
-use Rattle.card_types.specs.InOrder.{IsInOrder}
-use Rattle.card_types.specs.Layout.{HasIssuer}
 use Rattle.card_types.specs.Registry as registry
 use Rattle.card_types.specs.Says.{Says, counter_of, domain_aid, keeps_counter, key_of}
 use Rattle.card_types.specs.SlotChange.{SetsKey}
 use Rattle.card_types.specs.Slots.{held}
 use Rattle.card_types.specs.Well.{Well}
 use Rattle.card_types.specs.declared.limits.TheConstants.{COUNTER_LIMIT}
-use Rattle.card_types.specs.declared.tables.Entry.{Entry}
 use Rattle.card_types.specs.declared.tables.KeyRec.{KeyRec}
 use Rattle.card_types.specs.declared.tables.Tables.{Tables}
 use Rattle.card_types.proofs.ChangedKeys.{key_changed}
@@ -24,16 +20,6 @@ use Rattle.card_types.proofs.ChangedSlot.{shown}
 use Rattle.card_types.proofs.KeyNames.{counters_shown}
 use Rattle.card_types.proofs.RaisedCounter.{counters_replaced, raised_found_well}
 use Rattle.card_types.proofs.SetNames.{counter_in_slot}
-
--- the key whose counter is drawn
-pub drawn_key : (keys : List (Option KeyRec)) (slot : ℕ) → HasNextCounter keys slot
-    → (key : KeyRec) × (held keys slot ≡ Some key) × (keeps_counter key ≡ true) × (key.counter < COUNTER_LIMIT)
-drawn_key keys slot has = by (held keys slot) refl has
-  where
-    by : (o : Option KeyRec) → held keys slot ≡ o → MatchOption o ⊥ (λ key. (keeps_counter key ≡ true) × (key.counter < COUNTER_LIMIT))
-        → (key : KeyRec) × (held keys slot ≡ Some key) × (keeps_counter key ≡ true) × (key.counter < COUNTER_LIMIT)
-    by None at is = absurd is
-    by (Some key) at is = (key, at, is.0, is.1)
 
 -- what is so of the key in the slot
 pub drawn_next : (keys : List (Option KeyRec)) (slot : ℕ) (key : KeyRec) → held keys slot ≡ Some key → HasNextCounter keys slot
@@ -66,18 +52,3 @@ module _ (before after : Tables) (slot : ℕ) (key : KeyRec) (at : held before.k
     drawn_well below =
         raised_found_well said (domain_aid before.entries.items key.owner) key.version says.ascending.counters (counter_of before.entries.items key)
         (counter_in_slot page before said says slot key at keeps) below
-
-  pub drawn_in_order : key.counter < COUNTER_LIMIT → IsInOrder before → IsInOrder after
-  drawn_in_order below order = record {
-    layout = record {
-      entries = ap (λ (slots : List (Option Entry)). length slots) set.entries ∙ order.layout.entries;
-      files = rw set.files order.layout.files;
-      keys = rw set.keys (length-set before.keys.items slot (Some (raised_key key)) ∙ order.layout.keys);
-      objects = rw set.objects order.layout.objects;
-      issuer = subst HasIssuer (sym set.entries) order.layout.issuer;
-    };
-    page = order.page;
-    said = raised order.said (domain_aid before.entries.items key.owner) key.version;
-    says = drawn_says order.page order.said order.says;
-    well = drawn_well order.page order.said order.says below order.well;
-  }

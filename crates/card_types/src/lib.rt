@@ -3,7 +3,6 @@
 
 mod aid;
 mod card_life;
-mod counter;
 mod factory;
 mod found;
 mod key_set;

@@ -1,4 +1,4 @@
-//! Values of the registry: identifiers, privileges, codes and sequence counters, and how they are found.
+//! Values of the registry: identifiers, privileges and codes, and how things are found.
 
 use bitflags::Flags;
 use card_types::{
@@ -109,29 +109,5 @@ fn finds_the_keys_of_a_set(rt: HostRuntime) -> Result<(), Fail> {
             "{owner} {version}"
         );
     }
-    Ok(())
-}
-
-#[test]
-fn draws_sequence_counters(rt: HostRuntime) -> Result<(), Fail> {
-    let mut tables = Tables::factory(rt.alloc())?;
-    assert!(rt; tables.has_next_counter(0));
-    assert_eq!(rt; tables.draw_counter(0), 0);
-    assert!(rt; tables.has_next_counter(0));
-    assert_eq!(rt; tables.draw_counter(0), 1);
-    for (slot, counter) in [(0, 2), (1, 0), (2, 0)] {
-        let key = tables.keys[slot].as_ref().ok_or("a factory key")?;
-        assert_eq!(rt; key.counter, counter);
-        assert_eq!(rt; tables.has_next_counter(slot as u8), slot == 0);
-    }
-    assert_eq!(rt;
-        keys_of_set(&tables, 0, 0x30)
-            .ok_or("the factory key set")?
-            .enc
-            .counter,
-        2
-    );
-    tables.keys[0].as_mut().ok_or("a factory key")?.counter = 0xFF_FFFF;
-    assert!(rt; !tables.has_next_counter(0));
     Ok(())
 }
