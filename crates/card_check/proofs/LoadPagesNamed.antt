@@ -121,9 +121,6 @@ module _ (before pages : List ℕ) where
       ap (λ (p : ℕ). (before ++ take i pages) ++ p ∷ []) is ∙ taken_more before pages i within in
       subst (AreMarked marks) on (record { marked = has; are = are_push (before ++ take i pages) page are new })
 
-  pub marking_ends : (marks : List Bool) (i : ℕ) → length pages ≤ i → AreMarked marks (before ++ take i pages) → AreMarked marks (before ++ pages)
-  marking_ends marks i past marked = subst (λ (ps : List ℕ). AreMarked marks (before ++ ps)) (take_all i pages past) marked
-
   -- each page is new where the pages are load pages
   pub new_page : (i page : ℕ) → i < length pages → page ≡ get_or pages i 0 → AreLoadPages (before ++ pages) → IsNewPage (before ++ take i pages) page
   new_page i page within is are =

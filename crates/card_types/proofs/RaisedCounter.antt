@@ -55,14 +55,6 @@ module _ {X : Type 0} (order : X → X → Ordering) (total : IsTotalOrder order
         (IsPermutation-trans _ _ _ (IsPermutation-cons y _ _ rest) (IsPermutation-middle (y ∷ []) x (map f ys)))))
   ]
 
--- what is found among changed things, by a test that the change leaves alone
-pub find_mapped : {X : Type 0} (f : X → X) (p : X → Bool) → ((x : X) → p (f x) ≡ p x) → (xs : List X) → find p (map f xs) ≡ option_map f (find p xs)
-find_mapped f p alike [] = refl
-find_mapped f p alike (x ∷ xs) = elim (cases_Bool (p x)) [
-  | inl fit ↦ find_first p (f x) (map f xs) (alike x ∙ fit) ∙ ap (option_map f) (sym (find_first p x xs fit))
-  | inr misfit ↦ find_later p (f x) (map f xs) (alike x ∙ misfit) ∙ find_mapped f p alike xs ∙ ap (option_map f) (sym (find_later p x xs misfit))
-]
-
 module _ (owner : List ℕ) (version : ℕ) where
   -- the counter of the key set
   abbrev pub is_of_set : Counter → Bool
@@ -90,48 +82,12 @@ module _ (registry : Registry) (owner : List ℕ) (version : ℕ) where
       let names = names_of owner version other fits in
       rw (aid_same_equal counter.owner other.owner (owned ∙ sym names.0), same_number counter.version other.version (versioned ∙ sym names.1)) refl
 
-  -- all but the counters is as it was
-  pub same_life : (raised registry owner version).life ≡ registry.life
-  same_life = refl
-
-  pub same_entries : (raised registry owner version).entries ≡ registry.entries
-  same_entries = refl
-
-  pub same_files : (raised registry owner version).files ≡ registry.files
-  same_files = refl
-
-  pub same_keys : (raised registry owner version).keys ≡ registry.keys
-  same_keys = refl
-
-  pub same_objects : (raised registry owner version).objects ≡ registry.objects
-  same_objects = refl
-
   -- a counter is found by its names
   pub counter_found : IsStrictlySortedBy counter_order registry.counters → (counter : Counter) → Contains registry.counters counter
       → counter.owner ≡ owner → counter.version ≡ version → counter_named registry owner version ≡ Some counter
   counter_found sorted counter there owned versioned =
       least_found counter_order counter_order_total (is_of_set owner version) registry.counters sorted counter there (of_set owner version counter owned versioned)
       (λ other among fits above. (let tied = set_ties counter owned versioned other fits in cc))
-
-  -- the counter of the key set is one higher
-  pub raised_found : (counter : Counter) → counter_named registry owner version ≡ Some counter
-      → counter_named (raised registry owner version) owner version ≡ Some (record counter { number = counter.number + 1 })
-  raised_found counter found =
-      find_mapped (raised_counter owner version) (is_of_set owner version) (λ x. refl) registry.counters ∙ ap (option_map (raised_counter owner version)) found
-      ∙ ap Some (set_raised owner version counter (found_fits (is_of_set owner version) registry.counters counter found).1)
-
-  -- and no other is
-  pub other_found : (other : List ℕ) (number : ℕ) → ((other ≡ owner) → number ≡ version → ⊥)
-      → counter_named (raised registry owner version) other number ≡ counter_named registry other number
-  other_found other number differs =
-      find_mapped (raised_counter owner version) (is_of_set other number) (λ x. refl) registry.counters ∙ by (counter_named registry other number) refl
-    where
-      by : (o : Option Counter) → counter_named registry other number ≡ o → option_map (raised_counter owner version) o ≡ o
-      by None found = refl
-      by (Some counter) found =
-          (let names = names_of other number counter (found_fits (is_of_set other number) registry.counters counter found).1 in
-          ap Some (other_kept owner version counter (false_from_ne_true (is_of_set owner version counter) (λ fits.
-          (let set = names_of owner version counter fits in differs (sym names.0 ∙ set.0) (sym names.1 ∙ set.1))))))
 
   -- the counters are those with that one change
   pub counters_replaced : (counter : Counter) → IsStrictlySortedBy counter_order registry.counters → Contains registry.counters counter

@@ -75,10 +75,6 @@ abbrev pub key_named : Registry → List ℕ → ℕ → ℕ → Option Key
 key_named registry owner version identifier =
     find (λ key. same_aid key.owner owner && key.version == version && key.identifier == identifier) registry.keys
 
--- the counters of a domain's key sets, by ascending key version number
-abbrev pub counters_of : Registry → List ℕ → List Counter
-counters_of registry owner = filter (λ counter. same_aid counter.owner owner) registry.counters
-
 -- the counter of a domain's key set with this key version number
 abbrev pub counter_named : Registry → List ℕ → ℕ → Option Counter
 counter_named registry owner version = find (λ counter. same_aid counter.owner owner && counter.version == version) registry.counters

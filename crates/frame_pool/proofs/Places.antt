@@ -153,14 +153,6 @@ distinct_push pages number page none distinct i j a b ai bj same = by_place (pus
 pub here : (frames : List Frame) (at number : ℕ) (d : Frame) → at < length frames → (get_or frames at d).number ≡ number → (x : Page) × (slice_get (entries frames) at ≡ Some (number, x))
 here frames at number d lt is = ((get_or frames at d).page, at_place frames at d lt ∙ ap (λ n. Some (n, (get_or frames at d).page)) is)
 
--- what is read of a frame is what it holds
-pub bytes_here : (frames : List Frame) (at number : ℕ) (d : Frame) (x : Page) → d ≡ get_or frames at d → slice_get (entries frames) at ≡ Some (number, x) → (d.number ≡ number) × (d.page ≡ x)
-bytes_here frames at number d x read is =
-    let within : at < length frames = omega (arith, slice_get_within (entries frames) at (number, x) is, length_entries frames) in
-    let got : Some ((get_or frames at d).number, (get_or frames at d).page) ≡ Some (number, x) = sym (at_place frames at d within) ∙ is in
-    let pair : ((get_or frames at d).number, (get_or frames at d).page) ≡ (number, x) = cc got in
-    (ap (λ (f : Frame). f.number) read ∙ ap (λ (o : ℕ × Page). o.0) pair, ap (λ (f : Frame). f.page) read ∙ ap (λ (o : ℕ × Page). o.1) pair)
-
 pub entries_push : (frames : List Frame) (f : Frame) → entries (frames ++ f ∷ []) ≡ entries frames ++ (f.number, f.page) ∷ []
 entries_push [] f = refl
 entries_push (g ∷ frames) f = ap (λ l. (g.number, g.page) ∷ l) (entries_push frames f)

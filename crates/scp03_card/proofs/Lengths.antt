@@ -7,7 +7,7 @@ use Rattle.card_types.specs.declared.level.Level.{Level}
 use Rattle.cmac_kdf.specs.Cmac.{cmac}
 use Rattle.cmac_kdf.specs.Derivation.{derivation_data, derived_blocks, kdf}
 use Rattle.cmac_kdf.proofs.CmacLemmas.{cmac_is_block}
-use Rattle.scp03_card.specs.Offer.{Offer, card_challenge, card_cryptogram, host_cryptogram, context, counter_bytes, s_mac}
+use Rattle.scp03_card.specs.Offer.{Offer, card_challenge, host_cryptogram, context, counter_bytes, s_mac}
 use Rattle.scp03_card.specs.Opens.{IsAuthentic, field_of}
 use Rattle.scp03_card.specs.Session.{Session, authentication, c_mac, chain_of, message, with_message}
 use Rattle.scp03_card.proofs.SessionLemmas.{chain_more}
@@ -20,10 +20,6 @@ length-kdf key constant context =
 pub length-card_challenge : (enc : List ℕ) (counter : ℕ) (aid : List ℕ) → length (card_challenge enc counter aid) ≡ 8
 unfolding card_challenge
 length-card_challenge enc counter aid = length-kdf enc 0x02 (counter_bytes counter ++ aid)
-
-pub length-card_cryptogram : (offer : Offer) → length (card_cryptogram offer) ≡ 8
-unfolding card_cryptogram
-length-card_cryptogram offer = length-kdf (s_mac offer) 0x00 (context offer)
 
 pub length-host_cryptogram : (offer : Offer) → length (host_cryptogram offer) ≡ 8
 unfolding host_cryptogram

@@ -143,14 +143,6 @@ module _ (session : Session) (reply body : List ℕ) (status : ℕ) (split : rep
   -- ---- an error with R-MAC
 
   module _ (m : has_r_mac session.level ≡ true) (e : is_success_or_warning status ≡ false) where
-    pub error_unwraps : length body ≡ 0 → status < 2 ^ 16 → Unwraps session reply [] status
-    error_unwraps none word = record {
-      sent = sym (protected_error session [] status m e) ∙ sym (split ∙ ap (λ (b : List ℕ). b ++ status_bytes status) (nil_from_length body none));
-      bytes = record { at = λ j. omega arith };
-      word = word;
-      alone = λ a. refl;
-    }
-
     pub error_alone : (other : List ℕ) (another : ℕ) → Unwraps session reply other another → (other ≡ []) × (body ≡ []) × (another ≡ status)
     error_alone other another u =
         let both = parts other another u in
