@@ -113,6 +113,6 @@ pub record GivesStop (tells : Type 0) (old new : Reading) (left left' : List ℕ
   pub short : old.stop ≡ None → cause ≡ ReadFailed → length (strip_carriage_return new.held) ≤ LINE_LIMIT
 
 -- The reading after a call, by its answer.
-abbrev pub Gives : Type 0 → Reading → Reading → List ℕ → List ℕ → Result Line LineStop → Type 0
-Gives tells old new left left' (Ok line) = GivesLine tells old new left left' line
-Gives tells old new left left' (Err stop) = GivesStop tells old new left left' stop
+abbrev pub GivesNext : Type 0 → Reading → Reading → List ℕ → List ℕ → Result Line LineStop → Type 0
+GivesNext tells old new left left' (Ok line) = GivesLine tells old new left left' line
+GivesNext tells old new left left' (Err stop) = GivesStop tells old new left left' stop

@@ -5,7 +5,7 @@ ghost use Rattle.std.specs.Borrow.{sem};
 ghost use Rattle.std.specs.Io.BufRead.{Rests};
 ghost use Rattle.std.specs.Str.Lines.{lines, strip_carriage_return};
 ghost use Rattle.io_edge.specs.Ahead.{Finds};
-ghost use Rattle.io_edge.specs.Lines.{Reading, NoNewline, IsLine, IsNumbered, IsWithin, Stops, LineCause, Gives, ahead, room};
+ghost use Rattle.io_edge.specs.Lines.{Reading, NoNewline, IsLine, IsNumbered, IsWithin, Stops, LineCause, GivesNext, ahead, room};
 ghost use Rattle.io_edge.specs.declared.line.TheConstants.{INPUT_LIMIT, LINE_LIMIT};
 
 use crate::ahead::{Ahead, look_ahead};
@@ -83,7 +83,7 @@ impl Lines {
         ensures number { IfOk result (λ line. line.number ≡ self.old.number + 1) }
         ensures text { IfOk result (λ line. length line.text.now ≤ LINE_LIMIT) }
         ensures* after_borrow { sem 𝓛 (Rests the_row self.entry (λ new.
-            Gives S.tells self.old new (S.left source.old) (S.left source.new) result)) }
+            GivesNext S.tells self.old new (S.left source.old) (S.left source.new) result)) }
 
         // Why there is none, where it is said for the first time.
         ensures stop { S.tells → self.old.stop ≡ None → IfErr result (Stops (room self.old) (self.old.number + 1) (ahead self.old (S.left source.old))) }
