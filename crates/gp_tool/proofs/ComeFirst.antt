@@ -2,7 +2,7 @@
 use Rattle.std.proofs.Common.{◌≡◌, ℕ, ◌-◌, ◌≤◌, List, [], ◌∷◌, ◌++◌, length, refl, sym, ap, subst, ◌∙◌, arith, length-append}
 use Rattle.std.specs.Str.Lines.{lines}
 use Rattle.io_edge.proofs.Cuts.{line_suffix, lines_ahead}
-use Rattle.io_edge.specs.Lines.{IsLine}
+use Rattle.io_edge.specs.Lines.{IsNextLine}
 use Rattle.gp_tool.specs.Ends.{ComeFirst}
 
 -- how many bytes may be taken of what stands ahead, where so many might be taken of the whole
@@ -10,7 +10,7 @@ abbrev pub room_left : ℕ → List ℕ → List ℕ → ℕ
 room_left room input ahead = room - (length input - length ahead)
 
 -- what follows a line is shorter
-line_shrinks : (room : ℕ) (ahead line after : List ℕ) → IsLine room ahead line after → length after ≤ length ahead
+line_shrinks : (room : ℕ) (ahead line after : List ℕ) → IsNextLine room ahead line after → length after ≤ length ahead
 line_shrinks room ahead line after next =
     let suffix = line_suffix room ahead line after next in
     let all = ap length suffix.1 ∙ length-append suffix.0 after in
@@ -27,7 +27,7 @@ shrinks room input (line ∷ given) ahead first =
 pub room_whole : (room : ℕ) (input ahead : List ℕ) → ahead ≡ input → room_left room input ahead ≡ room
 room_whole room input ahead same = (let all = ap length same in omega (arith, all))
 
-pub room_further : (room : ℕ) (input line after ahead : List ℕ) (given : List (List ℕ)) → IsLine room input line after
+pub room_further : (room : ℕ) (input line after ahead : List ℕ) (given : List (List ℕ)) → IsNextLine room input line after
     → ComeFirst (room_left room input after) after given ahead → room_left room input ahead ≡ room_left (room_left room input after) after ahead
 room_further room input line after ahead given next first =
     let more = shrinks (room_left room input after) after given ahead first in
@@ -36,15 +36,15 @@ room_further room input line after ahead given next first =
 
 -- one line more
 pub come_more : (room : ℕ) (input : List ℕ) (given : List (List ℕ)) (ahead line after : List ℕ)
-    → ComeFirst room input given ahead → IsLine (room_left room input ahead) ahead line after → ComeFirst room input (given ++ line ∷ []) after
+    → ComeFirst room input given ahead → IsNextLine (room_left room input ahead) ahead line after → ComeFirst room input (given ++ line ∷ []) after
 come_more room input [] ahead line after first next =
-    let here : IsLine room ahead line after = subst (λ (n : ℕ). IsLine n ahead line after) (room_whole room input ahead first) next in
-    (after, subst (λ (bytes : List ℕ). IsLine room bytes line after) first here, refl)
+    let here : IsNextLine room ahead line after = subst (λ (n : ℕ). IsNextLine n ahead line after) (room_whole room input ahead first) next in
+    (after, subst (λ (bytes : List ℕ). IsNextLine room bytes line after) first here, refl)
 come_more room input (l ∷ given) ahead line after first next = (
   first.0,
   first.1,
   come_more (room_left room input first.0) first.0 given ahead line after first.2
-      (subst (λ (n : ℕ). IsLine n ahead line after) (room_further room input l first.0 ahead given first.1 first.2) next),
+      (subst (λ (n : ℕ). IsNextLine n ahead line after) (room_further room input l first.0 ahead given first.1 first.2) next),
 )
 
 -- the lines of the input are those that come first, and then those of what stands ahead

@@ -3,7 +3,7 @@ use Rattle.std.proofs.Common.{◌≡◌, ℕ, ◌<◌, List, [], ◌∷◌, ◌+
 use Rattle.std.specs.Str.Lines.{lines}
 use Rattle.faults.specs.Faults.{Rose}
 use Rattle.io_edge.proofs.Cuts.{lines_ahead}
-use Rattle.io_edge.specs.Lines.{IsLine, IsCut}
+use Rattle.io_edge.specs.Lines.{IsNextLine, IsCut}
 use Rattle.io_edge.specs.declared.line.TheConstants.{INPUT_LIMIT}
 use Rattle.policy_rules.specs.State.{State}
 use Rattle.policy_rules.specs.Step.{Outcome}
@@ -19,7 +19,7 @@ good_after (first ∷ given) line more good = good_after given line more good.1
 
 -- a line that comes next is good
 good_next : (input : List ℕ) (given : List (List ℕ)) (ahead : List ℕ) (room : ℕ) (line after : List ℕ)
-    → Reached input given ahead → AreGood (lines input) → IsLine room ahead line after → IsGood line
+    → Reached input given ahead → AreGood (lines input) → IsNextLine room ahead line after → IsGood line
 good_next input given ahead room line after reached good next =
     let all : lines input ≡ given ++ line ∷ lines after
     = lines_come INPUT_LIMIT input given ahead reached ∙ ap (λ rest. given ++ rest) (lines_ahead room ahead line after next) in

@@ -3,7 +3,7 @@ use Rattle.std.proofs.Common.{◌≡◌, ℕ, ◌+◌, ◌-◌, ◌≤◌, List,
 use Rattle.std.proofs.lemmas.List.{append-nil}
 use Rattle.std.specs.Str.Lines.{lines}
 use Rattle.card_types.specs.Registry.{Registry}
-use Rattle.io_edge.specs.Lines.{Reading, ahead, room, IsCut, IsLine}
+use Rattle.io_edge.specs.Lines.{Reading, ahead, room, IsCut, IsNextLine}
 use Rattle.io_edge.specs.declared.line.TheConstants.{INPUT_LIMIT, LINE_LIMIT}
 use Rattle.policy_rules.specs.State.{State}
 use Rattle.policy_rules.specs.Step.{Outcome}
@@ -59,7 +59,7 @@ module _ (reads writes : Type 0) (first : State) (Now : State → Type 0) (Since
       let behind : old.passed ≡ length before.left - length (ahead old now.left) = omega arith in
       ap (λ n. INPUT_LIMIT - n) behind
 
-  reached_more : (line after : List ℕ) → (reads → IsLine (room old) (ahead old now.left) line after) → reads → Reached before.left (going.given ++ line ∷ []) after
+  reached_more : (line after : List ℕ) → (reads → IsNextLine (room old) (ahead old now.left) line after) → reads → Reached before.left (going.given ++ line ∷ []) after
   reached_more line after next told =
       come_more INPUT_LIMIT before.left going.given (ahead old now.left) line after (going.reached told) (rw (← room_is told) (next told))
 
@@ -161,7 +161,7 @@ module _ (reads writes : Type 0) (first : State) (Now : State → Type 0) (Since
           reached = going.reached;
           comes = λ told.
               (let comes = next.next told in
-              (comes.0, subst (λ (n : ℕ). IsLine n (ahead old now.left) next.line comes.0) (room_is told) comes.1));
+              (comes.0, subst (λ (n : ℕ). IsNextLine n (ahead old now.left) next.line comes.0) (room_is told) comes.1));
           fits = next.fits;
           spelled = fails.spelled;
           step = fails.step;

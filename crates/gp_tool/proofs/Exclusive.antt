@@ -1,7 +1,7 @@
 -- Of the endings without a fault one alone may come, with one text.
 use Rattle.std.proofs.Common.{◌≡◌, ◌⊎◌, ℕ, ◌+◌, ◌≤◌, List, [], ◌∷◌, ◌++◌, length, refl, sym, ap, subst, ◌∙◌, inl, inr, arith}
 use Rattle.io_edge.proofs.NextLine.{line_not_cut, one_cut, one_line}
-use Rattle.io_edge.specs.Lines.{IsCut, IsLine}
+use Rattle.io_edge.specs.Lines.{IsCut, IsNextLine}
 use Rattle.io_edge.specs.declared.line.TheConstants.{INPUT_LIMIT, LINE_LIMIT}
 use Rattle.policy_rules.specs.Run.{Input}
 use Rattle.policy_rules.specs.State.{State}
@@ -33,7 +33,7 @@ IsShortCut room ahead = (text : List ℕ) × IsCut room ahead text × (length te
 abbrev Halts : ℕ → List ℕ → Type 0
 Halts room ahead = IsBad room ahead ⊎ IsShortCut room ahead
 
-not_good : (room : ℕ) (ahead line after : List ℕ) → Halts room ahead → IsLine room ahead line after → IsGood line → ⊥
+not_good : (room : ℕ) (ahead line after : List ℕ) → Halts room ahead → IsNextLine room ahead line after → IsGood line → ⊥
 not_good room ahead line after (inl (text, inl none)) next good =
     let same = one_line room ahead line text after none.0 next none.1 in
     none.2 good.0.0 (subst (λ (l : List ℕ). Spells l good.0.0) same.0 good.0.1)

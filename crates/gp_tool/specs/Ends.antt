@@ -3,7 +3,7 @@ use Rattle.std.specs.Prelude.{◌≡◌, ◌⊎◌, ℕ, ◌+◌, ◌-◌, ◌<�
 use Rattle.std.specs.List.{AllByRecursion}
 use Rattle.std.specs.Str.Lines.{lines, strip_carriage_return}
 use Rattle.faults.specs.Faults.{Rose, next_count}
-use Rattle.io_edge.specs.Lines.{NoNewline, IsLine, IsCut, IsNextText}
+use Rattle.io_edge.specs.Lines.{NoNewline, IsNextLine, IsCut, IsNextText}
 use Rattle.io_edge.specs.declared.line.TheConstants.{INPUT_LIMIT, LINE_LIMIT}
 use Rattle.policy_rules.specs.Run.{Command}
 use Rattle.policy_rules.specs.State.{State}
@@ -47,7 +47,7 @@ room_for input ahead = INPUT_LIMIT - (length input - length ahead)
 abbrev pub ComeFirst : ℕ → List ℕ → List (List ℕ) → List ℕ → Type 0
 ComeFirst room input [] ahead = ahead ≡ input
 ComeFirst room input (line ∷ lines) ahead =
-    (after : List ℕ) × IsLine room input line after × ComeFirst (room - (length input - length after)) after lines ahead
+    (after : List ℕ) × IsNextLine room input line after × ComeFirst (room - (length input - length after)) after lines ahead
 
 -- the same, of an input of which nothing was taken before
 abbrev pub Reached : List ℕ → List (List ℕ) → List ℕ → Type 0
@@ -56,7 +56,7 @@ Reached input given ahead = ComeFirst INPUT_LIMIT input given ahead
 -- the next line has no form, or is too long
 abbrev pub IsBad : ℕ → List ℕ → Type 0
 IsBad room ahead =
-    (text : List ℕ) × (((after : List ℕ) × IsLine room ahead text after × HasNoForm text) ⊎ (IsNextText room ahead text × (LINE_LIMIT < length text)))
+    (text : List ℕ) × (((after : List ℕ) × IsNextLine room ahead text after × HasNoForm text) ⊎ (IsNextText room ahead text × (LINE_LIMIT < length text)))
 
 -- the text of the replies to some commands is what stands before its last line, and that line; they are empty where it is
 abbrev pub IsText : List Outcome → List ℕ → List ℕ → Type 0
@@ -131,7 +131,7 @@ pub record IsAtFlashFault (reads writes : Type 0) (Fails : List Outcome → Stat
   pub next : Outcome
   pub course : Course first given outcomes state
   pub reached : reads → Reached old.left given ahead
-  pub comes : reads → (after : List ℕ) × IsLine (room_for old.left ahead) ahead line after
+  pub comes : reads → (after : List ℕ) × IsNextLine (room_for old.left ahead) ahead line after
   pub fits : length line ≤ LINE_LIMIT
   pub spelled : Spells line (Command bytes ∷ [])
   pub step : Step state bytes next

@@ -2,7 +2,7 @@
 -- their bytes. `Same`, `Before`, `After`, `Leaving`, `count` and `count'` are as in `ServesLine`.
 use Rattle.std.specs.Prelude.{◌≡◌, ◌⊎◌, ℕ, ◌+◌, ◌<◌, ◌≤◌, List, [], ◌∷◌, ◌++◌, length, take, None}
 use Rattle.std.specs.Str.Lines.{strip_carriage_return}
-use Rattle.io_edge.specs.Lines.{Reading, NoNewline, IsLine, IsCut, IsWithin, ahead, room}
+use Rattle.io_edge.specs.Lines.{Reading, NoNewline, IsNextLine, IsCut, IsWithin, ahead, room}
 use Rattle.io_edge.specs.declared.line.TheConstants.{LINE_LIMIT}
 use Rattle.card_types.specs.Registry.{Registry}
 use Rattle.policy_rules.specs.State.{State}
@@ -16,14 +16,14 @@ use Rattle.gp_tool.specs.declared.ending.Ending.TheVariants.{Finished, BadLine, 
 -- The next line of what is ahead, within the room, was played: the card stands behind it.
 pub record TakesLine (reads : Type 0) (After : State → Type 0) (Leaving : List Registry → Type 0) (count count' : ℕ) (state : State) (room : ℕ) (ahead after : List ℕ) : Type 0 where
   pub line : List ℕ
-  pub next : reads → IsLine room ahead line after
+  pub next : reads → IsNextLine room ahead line after
   pub fits : length line ≤ LINE_LIMIT
   pub played : PlaysLine line After Leaving count count' state
 
 -- The device failed in the command of the next line.
 pub record FailsNext (reads : Type 0) (Leaving : List Registry → Type 0) (state : State) (room : ℕ) (ahead : List ℕ) : Type 0 where
   pub line : List ℕ
-  pub next : reads → (after : List ℕ) × IsLine room ahead line after
+  pub next : reads → (after : List ℕ) × IsNextLine room ahead line after
   pub fits : length line ≤ LINE_LIMIT
   pub fails : FailsLine line Leaving state
 

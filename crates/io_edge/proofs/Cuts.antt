@@ -6,7 +6,7 @@ use Rattle.std.proofs.lemmas.List.Splits.{slice_split_at, slice_split_none, leng
 use Rattle.std.specs.Prelude.{Result, Ok, Err, OnOk}
 use Rattle.std.specs.List.{slice_split, All}
 use Rattle.std.specs.Str.Lines.{lines, lines_of_parts, strip_carriage_return}
-use Rattle.io_edge.specs.Lines.{NoNewline, IsLine}
+use Rattle.io_edge.specs.Lines.{NoNewline, IsNextLine}
 
 no_newline : (b : ℕ) → b ≢ 10 → (b == 10) ≡ false
 no_newline b other = elim (eqb_tells b 10) [ inl here ↦ absurd (other here.1) | inr apart ↦ apart.0 ]
@@ -37,19 +37,19 @@ lines-last : (bytes : List ℕ) → NoNewline bytes → 0 < length bytes → lin
 lines-last bytes none some = ap lines_of_parts (slice_split_none (λ b. b == 10) bytes (none_pass bytes none)) ∙ only_part bytes some
 
 -- what is ahead has the next line, and then the lines of what follows it
-pub lines_ahead : (room : ℕ) (ahead text after : List ℕ) → IsLine room ahead text after → lines ahead ≡ text ∷ lines after
+pub lines_ahead : (room : ℕ) (ahead text after : List ℕ) → IsNextLine room ahead text after → lines ahead ≡ text ∷ lines after
 lines_ahead room ahead text after (inl whole) =
     ap lines whole.is ∙ lines-whole whole.piece after whole.no_newline ∙ ap (λ line. line ∷ lines after) (sym whole.stripped)
 lines_ahead room ahead text after (inr last) =
     lines-last ahead last.no_newline last.some ∙ ap (λ line. line ∷ []) (sym last.is) ∙ ap (λ rest. text ∷ lines rest) (sym last.nothing)
 
 pub lines_if_ok : {X E : Type 0} (result : Result X E) (room : ℕ) (ahead text after : List ℕ)
-    → OnOk result (IsLine room ahead text after) → OnOk result (lines ahead ≡ text ∷ lines after)
+    → OnOk result (IsNextLine room ahead text after) → OnOk result (lines ahead ≡ text ∷ lines after)
 lines_if_ok (Ok x) room ahead text after line = lines_ahead room ahead text after line
 lines_if_ok (Err e) room ahead text after line = tt
 
 -- what follows the next line is an end of what is ahead, and the line with its end fits the room
-pub line_suffix : (room : ℕ) (ahead text after : List ℕ) → IsLine room ahead text after
+pub line_suffix : (room : ℕ) (ahead text after : List ℕ) → IsNextLine room ahead text after
     → (front : List ℕ) × (ahead ≡ front ++ after) × (length front ≤ room)
 line_suffix room ahead text after (inl whole) =
     let within = whole.within in (

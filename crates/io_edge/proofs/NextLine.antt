@@ -7,7 +7,7 @@ use Rattle.std.proofs.lemmas.List.Splits.{slice_split_at}
 use Rattle.std.specs.List.{slice_split}
 use Rattle.std.specs.Str.Lines.{strip_carriage_return}
 use Rattle.io_edge.proofs.Cuts.{none_pass}
-use Rattle.io_edge.specs.Lines.{NoNewline, IsCut, IsLine}
+use Rattle.io_edge.specs.Lines.{NoNewline, IsCut, IsNextLine}
 
 -- a newline is one
 has_newline : (piece after : List ℕ) → NoNewline (piece ++ 10 ∷ after) → ⊥
@@ -25,7 +25,7 @@ first_newline piece other after another none clear same =
     (pieces, ap (drop 1) (append_cancel_left other (10 ∷ after) (10 ∷ another) (ap (λ p. p ++ 10 ∷ after) (sym pieces) ∙ same)))
 
 -- the next line is one, and so is what follows it
-pub one_line : (room : ℕ) (ahead text other after another : List ℕ) → IsLine room ahead text after → IsLine room ahead other another
+pub one_line : (room : ℕ) (ahead text other after another : List ℕ) → IsNextLine room ahead text after → IsNextLine room ahead other another
     → (text ≡ other) × (after ≡ another)
 one_line room ahead text other after another (inl whole) (inl again) =
     let same = first_newline whole.piece again.piece after another whole.no_newline again.no_newline (sym whole.is ∙ again.is) in
@@ -44,7 +44,7 @@ one_cut room ahead text other cut again =
     cut.stripped ∙ ap strip_carriage_return (sym (before_limit room ahead text cut) ∙ before_limit room ahead other again) ∙ sym again.stripped
 
 -- a line that ends within the room is not cut by its end
-pub line_not_cut : (room : ℕ) (ahead text after other : List ℕ) → IsLine room ahead text after → IsCut room ahead other → ⊥
+pub line_not_cut : (room : ℕ) (ahead text after other : List ℕ) → IsNextLine room ahead text after → IsCut room ahead other → ⊥
 line_not_cut room ahead text after other (inl whole) cut =
     let within = whole.within in
     let more : ℕ = room - length whole.piece - 1 in

@@ -46,8 +46,8 @@ pub record IsLast (room : ℕ) (ahead text after : List ℕ) : Type 0 where
   pub nothing : after ≡ []
 
 -- the next line is text, and after follows it
-abbrev pub IsLine : ℕ → List ℕ → List ℕ → List ℕ → Type 0
-IsLine room ahead text after = IsWhole room ahead text after ⊎ IsLast room ahead text after
+abbrev pub IsNextLine : ℕ → List ℕ → List ℕ → List ℕ → Type 0
+IsNextLine room ahead text after = IsWhole room ahead text after ⊎ IsLast room ahead text after
 
 -- the room ends before the next line does: of that line it holds text
 pub record IsCut (room : ℕ) (ahead text : List ℕ) : Type 0 where
@@ -60,7 +60,7 @@ pub record IsCut (room : ℕ) (ahead text : List ℕ) : Type 0 where
 
 -- the next line, as it would be given
 abbrev pub IsNextText : ℕ → List ℕ → List ℕ → Type 0
-IsNextText room ahead text = ((after : List ℕ) × IsLine room ahead text after) ⊎ IsCut room ahead text
+IsNextText room ahead text = ((after : List ℕ) × IsNextLine room ahead text after) ⊎ IsCut room ahead text
 
 -- What holds of the bytes ahead where no line is given, and the next one would have this number.
 abbrev pub Stops : ℕ → ℕ → List ℕ → LineStop → Type 0
@@ -96,7 +96,7 @@ pub record GivesLine (tells : Type 0) (old new : Reading) (left left' : List ℕ
   pub number : new.number ≡ given.number
   pub stop : new.stop ≡ None
   pub within : IsWithin new
-  pub line : tells → IsLine (room old) (ahead old left) given.text.now (ahead new left')
+  pub line : tells → IsNextLine (room old) (ahead old left) given.text.now (ahead new left')
   pub lines : tells → lines (ahead old left) ≡ given.text.now ∷ lines (ahead new left')
   pub further : old.passed < new.passed
   pub passed : tells → new.passed + length (ahead new left') ≡ old.passed + length (ahead old left)

@@ -1,7 +1,7 @@
 //! How the next line is cut off the bytes held.
 
 ghost use Rattle.std.specs.Prelude.{◌≡◌, ◌≢◌, ◌<◌, ◌≤◌, ◌+◌, ◌++◌, List, [], ℕ, length, take, IfOk, IfErr, OnOk, OnErr, slice_index};
-ghost use Rattle.io_edge.specs.Lines.{NoNewline, IsWhole, IsLast, IsLine, IsCut, IsNumbered, Stops};
+ghost use Rattle.io_edge.specs.Lines.{NoNewline, IsWhole, IsLast, IsNextLine, IsCut, IsNumbered, Stops};
 ghost use Rattle.io_edge.specs.Ahead.{Finds};
 
 use crate::ahead::{Ahead, stripped_len};
@@ -18,7 +18,7 @@ pub fn cut_whole(
 ) -> Result<usize, LineStop>
     requires within { length buffer.old.held ≤ room }
     requires found { Finds room buffer.old.held (Ahead.Newline at) }
-    ensures line { (left : List ℕ) → OnOk result (IsLine room (buffer.old.held ++ left) buffer.new.text (buffer.new.held ++ left)) }
+    ensures line { (left : List ℕ) → OnOk result (IsNextLine room (buffer.old.held ++ left) buffer.new.text (buffer.new.held ++ left)) }
     ensures text { OnOk result (length buffer.new.text ≤ LINE_LIMIT) }
     ensures count { IfOk result (λ n. (0 < n) × (n + length buffer.new.held ≡ length buffer.old.held)) }
     ensures stop { (left : List ℕ) → IfErr result (Stops room number (buffer.old.held ++ left)) }
@@ -37,7 +37,7 @@ pub fn cut_whole(
 // Cuts off the last line, which has no newline.
 pub fn cut_last(buffer: &mut Buffer, room: usize, number: u32) -> Result<usize, LineStop>
     requires found { Finds room buffer.old.held Ahead.Last }
-    ensures line { OnOk result (IsLine room buffer.old.held buffer.new.text buffer.new.held) }
+    ensures line { OnOk result (IsNextLine room buffer.old.held buffer.new.text buffer.new.held) }
     ensures text { OnOk result (length buffer.new.text ≤ LINE_LIMIT) }
     ensures count { IfOk result (λ n. (0 < n) × (n + length buffer.new.held ≡ length buffer.old.held)) }
     ensures stop { IfErr result (Stops room number buffer.old.held) }

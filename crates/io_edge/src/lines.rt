@@ -5,7 +5,7 @@ ghost use Rattle.std.specs.Borrow.{sem};
 ghost use Rattle.std.specs.Io.BufRead.{Rests};
 ghost use Rattle.std.specs.Str.Lines.{lines, strip_carriage_return};
 ghost use Rattle.io_edge.specs.Ahead.{Finds};
-ghost use Rattle.io_edge.specs.Lines.{Reading, NoNewline, IsLine, IsNumbered, IsWithin, Stops, LineCause, GivesNext, ahead, room};
+ghost use Rattle.io_edge.specs.Lines.{Reading, NoNewline, IsNextLine, IsNumbered, IsWithin, Stops, LineCause, GivesNext, ahead, room};
 ghost use Rattle.io_edge.specs.declared.line.TheConstants.{INPUT_LIMIT, LINE_LIMIT};
 
 use crate::ahead::{Ahead, look_ahead};
@@ -40,7 +40,7 @@ fn advance<S: Source>(
     number: u32,
 ) -> Result<usize, LineStop>
     requires within { length buffer.old.held ≤ room }
-    ensures line { S.tells → OnOk result (IsLine room (buffer.old.held ++ S.left source.old) buffer.new.text (buffer.new.held ++ S.left source.new)) }
+    ensures line { S.tells → OnOk result (IsNextLine room (buffer.old.held ++ S.left source.old) buffer.new.text (buffer.new.held ++ S.left source.new)) }
     ensures lines { S.tells → OnOk result (lines (buffer.old.held ++ S.left source.old) ≡ buffer.new.text ∷ lines (buffer.new.held ++ S.left source.new)) }
     ensures text { OnOk result (length buffer.new.text ≤ LINE_LIMIT) }
     ensures within { length buffer.new.held ≤ room }
