@@ -11,7 +11,7 @@ use Rattle.std.proofs.lemmas.List.Sums.{length-filter}
 use Rattle.std.proofs.lemmas.Option.{MatchOption-at_some}
 use Rattle.card_types.specs.AidOrder.{same_aid}
 use Rattle.card_types.specs.Hierarchy.{EndsAt, IsLine}
-use Rattle.card_types.specs.KeySets.{HasKeys, IsKey}
+use Rattle.card_types.specs.KeySets.{HasKeys, IsKeyOf}
 use Rattle.card_types.specs.Privileges.{has, security_domain}
 use Rattle.card_types.specs.Registry as registry
 use Rattle.card_types.specs.Registry.{domain_of, entry_named, file_named, keys_of}
@@ -212,7 +212,7 @@ module _ (page : ℕ → List ℕ) (tables : Tables) (card : IsCard page tables)
         size = is.size;
         name = is.name;
         alone = λ other has.
-            (let another = in_used (IsKey key.owner key.version key.identifier) (held tables.keys.items other) has in
+            (let another = in_used (IsKeyOf key.owner key.version key.identifier) (held tables.keys.items other) has in
             one_key_slot page tables said says other slot another.0 key another.1 at another.2.same_owner another.2.same_version another.2.same_identifier);
         whole = λ low.
             (let counter = (is.whole low).counter in

@@ -10,7 +10,7 @@ use Rattle.std.proofs.lemmas.List.Sorted.{length_permutation, sum_by-IsPermutati
 use Rattle.std.proofs.lemmas.List.Sums.{length-filter, sum_by-cons}
 use Rattle.card_types.specs.AidOrder.{same_aid}
 use Rattle.card_types.specs.Hierarchy.{EndsAt, IsLine}
-use Rattle.card_types.specs.KeySets.{HasKey, HasKeys, IsKey}
+use Rattle.card_types.specs.KeySets.{HasKey, HasKeys, IsKeyOf}
 use Rattle.card_types.specs.Privileges.{has, security_domain}
 use Rattle.card_types.specs.Registry as registry
 use Rattle.card_types.specs.Registry.{domain_of, entry_named, file_named, is_domain, keys_of}
@@ -145,7 +145,7 @@ module _ (page : ℕ → List ℕ) (whole : HasPages page) (tables : Tables) (ca
 
   has_key_named : (owner version identifier slot : ℕ) → HasKey tables.keys.items owner version identifier slot → HasKeyNamed said (domain_aid entries owner) version identifier
   has_key_named owner version identifier slot has =
-      let key = in_used (IsKey owner version identifier) (held tables.keys.items slot) has in
+      let key = in_used (IsKeyOf owner version identifier) (held tables.keys.items slot) has in
       record {
         key = key_of entries key.0;
         is_there = (keys_shown page tables said says).there slot key.0 key.1 refl;
@@ -156,7 +156,7 @@ module _ (page : ℕ → List ℕ) (whole : HasPages page) (tables : Tables) (ca
 
   whole_set : (owner version : ℕ) (slots : List ℕ) → version < 0x70 → HasKeys tables.keys.items owner version slots → IsWholeSet said (domain_aid entries owner) version
   whole_set owner version slots low has =
-      let first = in_used (IsKey owner version 1) (held tables.keys.items has.first) has.first_key in
+      let first = in_used (IsKeyOf owner version 1) (held tables.keys.items has.first) has.first_key in
       record {
         first = has_key_named owner version 1 has.first has.first_key;
         second = has_key_named owner version 2 has.second has.second_key;

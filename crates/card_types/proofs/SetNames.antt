@@ -9,7 +9,7 @@ use Rattle.std.proofs.lemmas.Option.{MatchOption-at_some}
 use Rattle.std.proofs.lemmas.List.Elements.{All-contains}
 use Rattle.card_types.specs.AidOrder.{same_aid}
 use Rattle.card_types.specs.Ascending.{counter_order, key_order}
-use Rattle.card_types.specs.KeySets.{HasKey, HasKeys, IsKey, IsSetOf}
+use Rattle.card_types.specs.KeySets.{HasKey, HasKeys, IsKeyOf, IsSetOf}
 use Rattle.card_types.specs.Registry as registry
 use Rattle.card_types.specs.Registry.{counter_named, key_named}
 use Rattle.card_types.specs.Says.{Says, counter_of, domain_aid, keeps_counter, key_of}
@@ -28,12 +28,12 @@ same_number a b same = ap (nat_cmp a) (sym same) ∙ tied_itself nat_cmp_total a
 
 -- the key in a slot that has one of this name
 pub is_key_held : (keys : List (Option KeyRec)) (owner version identifier slot : ℕ) (key : KeyRec) → held keys slot ≡ Some key → HasKey keys owner version identifier slot
-    → IsKey owner version identifier key
-is_key_held keys owner version identifier slot key at has = MatchOption-at_some ⊥ (IsKey owner version identifier) _ at has
+    → IsKeyOf owner version identifier key
+is_key_held keys owner version identifier slot key at has = MatchOption-at_some ⊥ (IsKeyOf owner version identifier) _ at has
 
-pub has_from_held : (keys : List (Option KeyRec)) (owner version identifier slot : ℕ) (key : KeyRec) → held keys slot ≡ Some key → IsKey owner version identifier key
+pub has_from_held : (keys : List (Option KeyRec)) (owner version identifier slot : ℕ) (key : KeyRec) → held keys slot ≡ Some key → IsKeyOf owner version identifier key
     → HasKey keys owner version identifier slot
-has_from_held keys owner version identifier slot key at is = subst (λ (o : Option KeyRec). MatchOption o ⊥ (IsKey owner version identifier)) (sym at) is
+has_from_held keys owner version identifier slot key at is = subst (λ (o : Option KeyRec). MatchOption o ⊥ (IsKeyOf owner version identifier)) (sym at) is
 
 -- the slots of the set that a key version number asks for have its keys
 pub slots_of_set : (keys : List (Option KeyRec)) (owner version : ℕ) (slots : List ℕ) → 1 ≤ version → IsSetOf keys owner version slots

@@ -5,14 +5,14 @@ use Rattle.card_types.specs.Slots.{held}
 use Rattle.card_types.specs.declared.tables.KeyRec.{KeyRec}
 
 -- the key of this owner with this key version number and key identifier
-pub record IsKey (owner version identifier : ℕ) (key : KeyRec) : Type 0 where
+pub record IsKeyOf (owner version identifier : ℕ) (key : KeyRec) : Type 0 where
   pub same_owner : key.owner ≡ owner
   pub same_version : key.version ≡ version
   pub same_identifier : key.identifier ≡ identifier
 
 -- the slot holds that key
 abbrev pub HasKey : List (Option KeyRec) → ℕ → ℕ → ℕ → ℕ → Type 0
-HasKey keys owner version identifier slot = MatchOption (held keys slot) ⊥ (IsKey owner version identifier)
+HasKey keys owner version identifier slot = MatchOption (held keys slot) ⊥ (IsKeyOf owner version identifier)
 
 -- the slots hold the three keys of this key version number
 pub record HasKeys (keys : List (Option KeyRec)) (owner version : ℕ) (slots : List ℕ) : Type 0 where

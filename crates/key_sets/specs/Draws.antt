@@ -1,7 +1,7 @@
 -- A sequence counter of a key set that is drawn (GlobalPlatform Amendment D, chapter 6).
 use Rattle.std.specs.Prelude.{◌≡◌, ℕ, ◌<◌, List, Option, Some, slice_set}
 use Rattle.card_types.specs.Counters.{raised_key}
-use Rattle.card_types.specs.KeySets.{IsKey}
+use Rattle.card_types.specs.KeySets.{IsKeyOf}
 use Rattle.card_types.specs.Slots.{held}
 use Rattle.card_types.specs.declared.limits.TheConstants.{COUNTER_LIMIT}
 use Rattle.card_types.specs.declared.tables.KeyRec.{KeyRec}
@@ -9,7 +9,7 @@ use Rattle.card_types.specs.declared.tables.KeyRec.{KeyRec}
 -- the slot holds the key that keeps the counter of the key set: that with key identifier 01
 pub record KeepsCounter (slots : List (Option KeyRec)) (owner version slot : ℕ) (key : KeyRec) : Type 0 where
   pub at : held slots slot ≡ Some key
-  pub is : IsKey owner version 1 key
+  pub is : IsKeyOf owner version 1 key
 
 -- the answer is the counter, and the key has the next one
 pub record Draws (owner version : ℕ) (old new : List (Option KeyRec)) (number : ℕ) : Type 0 where

@@ -1,7 +1,7 @@
 use Rattle.std.proofs.Common.{◌≡◌, List, Option, Some, ap, ◌∙◌, rules}
 use Rattle.std.specs.Prelude.{⊤}
 use Rattle.std.proofs.lemmas.Option.{MatchOption-at_some}
-use Rattle.card_types.specs.KeySets.{IsKey}
+use Rattle.card_types.specs.KeySets.{IsKeyOf}
 use Rattle.card_types.specs.Slots.{held}
 use Rattle.card_types.specs.declared.limits.TheConstants.{COUNTER_LIMIT}
 use Rattle.card_types.specs.declared.tables.KeyRec.{KeyRec}
@@ -17,6 +17,6 @@ returns-in_err-next-clause-spent g c =
     let key = c.unwrap-key.result.now in
     let at : held slots slot ≡ Some key = search rules in
     let there : held c.keys.result.now slot ≡ Some key = ap (λ (keys : List (Option KeyRec)). held keys slot) c.keys.ensures.key_slots ∙ at in
-    let is : IsKey c.args.owner c.args.version 1 key = search rules in
+    let is : IsKeyOf c.args.owner c.args.version 1 key = search rules in
     let last : key.counter ≡ COUNTER_LIMIT = last_counter key (MatchOption-at_some ⊤ IsRoomyKey key there (of_slot IsRoomyKey c.keys.result.now slot c.keys.ensures.counters)) c.in_err-next.ensures.err in
     on_err c.from_residual.result (record { slot = slot; key = key; keeps = record { at = at; is = is }; last = last })
