@@ -5,7 +5,7 @@ use Rattle.std.proofs.Math.Nat.{mul-suc}
 use Rattle.std.proofs.lemmas.List.{length-append}
 use Rattle.std.proofs.lemmas.Nat.{mod_below}
 use Rattle.aes_block.specs.Words.{word_bytes, first_bytes}
-use Rattle.aes_block.specs.Cipher.{IsKey, IsKeyLength}
+use Rattle.aes_block.specs.Cipher.{IsAesKeyLength, IsKey}
 
 bytes-append : (s t : List ℕ) → ((i : ℕ) → slice_index s i < 2 ^ 8) → ((i : ℕ) → slice_index t i < 2 ^ 8)
     → (i : ℕ) → slice_index (s ++ t) i < 2 ^ 8
@@ -40,11 +40,11 @@ bytes-first w (suc n) i = bytes-append (first_bytes w n) (word_bytes (slice_inde
 pub first_bytes_are_key : (w : List ℕ) (n : ℕ) → IsKey (4 * n) (first_bytes w n)
 first_bytes_are_key w n = record { len = length-first w n; bytes = λ i. bytes-first w n i }
 
-pub words_of_size : (n : ℕ) → IsKeyLength n → 4 * (n / 4) ≡ n
+pub words_of_size : (n : ℕ) → IsAesKeyLength n → 4 * (n / 4) ≡ n
 words_of_size n h = elim h [
   | inl e ↦ omega arith
   | inr g ↦ elim g [ inl e ↦ omega arith | inr e ↦ omega arith ]
 ]
 
-pub key_of_size : (w : List ℕ) (n : ℕ) → IsKeyLength n → IsKey n (first_bytes w (n / 4))
+pub key_of_size : (w : List ℕ) (n : ℕ) → IsAesKeyLength n → IsKey n (first_bytes w (n / 4))
 key_of_size w n h = subst (λ (k : ℕ). IsKey k (first_bytes w (n / 4))) (words_of_size n h) (first_bytes_are_key w (n / 4))

@@ -16,8 +16,8 @@ pub record IsKey (n : ℕ) (key : List ℕ) : Type 0 where
   pub bytes : (i : ℕ) → slice_index key i < 2 ^ 8
 
 -- the lengths of a key (5, table 3)
-abbrev pub IsKeyLength : ℕ → Type 0
-IsKeyLength n = (n ≡ 16) ⊎ (n ≡ 24) ⊎ (n ≡ 32)
+abbrev pub IsAesKeyLength : ℕ → Type 0
+IsAesKeyLength n = (n ≡ 16) ⊎ (n ≡ 24) ⊎ (n ≡ 32)
 
 -- the sum of two lists of bytes, byte by byte (4.1); of lists of two lengths it is as long as the shorter
 unfoldable pub xor_bytes : List ℕ → List ℕ → List ℕ

@@ -1,5 +1,5 @@
 ghost use Rattle.std.specs.Prelude.{◌≡◌, ℕ, List, length};
-ghost use Rattle.aes_block.specs.Cipher.{IsBlock, IsKey, IsKeyLength, cipher};
+ghost use Rattle.aes_block.specs.Cipher.{IsAesKeyLength, IsBlock, IsKey, cipher};
 
 /// A key of the cipher, with its key schedule made.
 ///
@@ -29,7 +29,7 @@ pub trait BlockKey: Drop {
         ensures alone { (b : List ℕ) → IsBlock b → cipher (key_bytes self.now) b ≡ block.old → b ≡ block.new };
 
     // A key has one of the standard's lengths.
-    ghost standard_length: { IsKeyLength LEN };
+    ghost standard_length: { IsAesKeyLength LEN };
 
     // The key's bytes are bytes, LEN in number.
     ghost whole_key: { (k : Self) → IsKey LEN (key_bytes k) };

@@ -2,7 +2,7 @@
 
 ghost use Rattle.std.proofs.Common.{inl, inr, refl};
 ghost use Rattle.std.specs.Prelude.{◌≡◌, ℕ, ◌+◌, ◌*◌, ◌/◌, ◌<◌, ◌≤◌};
-ghost use Rattle.aes_block.specs.Cipher.{IsKeyLength};
+ghost use Rattle.aes_block.specs.Cipher.{IsAesKeyLength};
 
 /// A length of keys (FIPS 197, section 5, table 3).
 pub trait KeySize {
@@ -12,7 +12,7 @@ pub trait KeySize {
     ghost BYTES: { ℕ };
 
     // It is one of the standard's.
-    ghost standard: { IsKeyLength BYTES };
+    ghost standard: { IsAesKeyLength BYTES };
 }
 
 /// Keys of sixteen bytes.

@@ -1,7 +1,7 @@
 // The key schedule.
 
 ghost use Rattle.std.specs.Prelude.{◌≡◌, ℕ, ◌+◌, ◌-◌, ◌*◌, ◌/◌, ◌<◌, ◌≤◌, length};
-ghost use Rattle.aes_block.specs.Cipher.{IsKeyLength};
+ghost use Rattle.aes_block.specs.Cipher.{IsAesKeyLength};
 ghost use Rattle.aes_block.specs.Words.{key_word, key_words, schedule_core, sub_word};
 
 use crate::column::{first, fourth, second, third};
@@ -47,7 +47,7 @@ fn carried(key_len: usize, i: usize, before: u32) -> u32
 
 /// KEYEXPANSION (FIPS 197, 5.2), for a key of 16, 24 or 32 bytes.
 pub fn expand(key: &[u8], words: &mut [u32])
-    requires standard { IsKeyLength (length key.now) }
+    requires standard { IsAesKeyLength (length key.now) }
     requires whole { length words.old ≡ length key.now + 28 }
     ensures { words.new ≡ key_words key.now }
 {
