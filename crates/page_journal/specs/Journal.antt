@@ -44,5 +44,5 @@ abbrev pub stored : List Page → ℕ → Option Page
 stored pages page = slice_get pages (place pages page)
 
 -- they stand for a list: behind an open gate the descriptor has a valid form
-abbrev pub IsSound : List Page → Type 0
-IsSound pages = is_open pages ≡ true → IsValid (descriptor pages)
+abbrev pub HasValidJournal : List Page → Type 0
+HasValidJournal pages = is_open pages ≡ true → IsValid (descriptor pages)

@@ -2,12 +2,12 @@
 use Rattle.std.specs.Prelude.{◌≡◌, ◌⊎◌, ℕ, ◌<◌, ◌≤◌, List, Option, None, Some, Contains}
 use Rattle.flash_core.specs.declared.page.Page.{Page}
 use Rattle.frame_pool.specs.Staged.{staged}
-use Rattle.page_journal.specs.Journal.{stored, IsSound}
+use Rattle.page_journal.specs.Journal.{stored, HasValidJournal}
 
 -- A power loss leaves the committed pages of a list: all store pages, and all load pages but the loose ones. It
 -- leaves any bytes in a loose page.
 pub record Leaves (pages : ℕ → Option Page) (loose : List ℕ) (outcome : List Page) : Type 0 where
-  pub sound : IsSound outcome
+  pub sound : HasValidJournal outcome
   pub store : (page : ℕ) → page < 45 → stored outcome page ≡ pages page
   pub load : (page : ℕ) → 96 ≤ page → (Contains loose page → ⊥) → stored outcome page ≡ pages page
 

@@ -5,7 +5,7 @@ ghost use Rattle.faults.specs.Faults.{HasCause, Rose};
 ghost use Rattle.flash_core.specs.declared.page.Page.{Page as PageOf};
 ghost use Rattle.flash_core.specs.Device.{NoneNew, SameBut, Only};
 ghost use Rattle.frame_pool.specs.Staged.{staged, with_page};
-ghost use Rattle.page_journal.specs.Journal.{is_open, stored, IsValid, IsSound};
+ghost use Rattle.page_journal.specs.Journal.{HasValidJournal, IsValid, is_open, stored};
 ghost use Rattle.page_journal.specs.Moments.{Always, LeavesOnly, Leaves, current};
 ghost use Rattle.page_journal.specs.Store.{IsListed, HasJournal, CauseHolds, MountFails};
 
@@ -48,7 +48,7 @@ impl<F: Flash> PageStore<F> {
         ensures ready { IfOk result (λ s. (s.staged ≡ []) × (s.live ≡ true)) }
         ensures pages { F.tells → IfOk result (λ s. F.pages s.flash ≡ F.pages flash) }
         ensures settled { F.tells → IfOk result (λ s. IsTrue s.settled ↔ (is_open (F.pages flash) ≡ false)) }
-        ensures sound { F.tells → IfOk result (λ s. IsSound (F.pages flash)) }
+        ensures sound { F.tells → IfOk result (λ s. HasValidJournal (F.pages flash)) }
         ensures only { F.tells → IfOk result (λ s. Only (F.pages flash) (F.may_leave s.flash)) }
         ensures moments { F.tells → IfOk result (λ s. LeavesOnly F.moment F.left_since flash s.flash (F.may_leave flash)) }
         ensures later { IfOk result (λ s. F.faults flash ≤ F.faults s.flash) }

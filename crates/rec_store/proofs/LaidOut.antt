@@ -7,7 +7,7 @@ use Rattle.card_types.specs.Says.{Says}
 use Rattle.card_types.specs.declared.tables.Tables.{Tables}
 use Rattle.flash_core.specs.Device.{Only, SameBut}
 use Rattle.flash_core.specs.declared.page.Page.{Page}
-use Rattle.page_journal.specs.Journal.{IsSound, bytes_of, copied_place, descriptor, is_open, stored}
+use Rattle.page_journal.specs.Journal.{HasValidJournal, bytes_of, copied_place, descriptor, is_open, stored}
 use Rattle.rec_store.specs.Reopens.{Keeps, load_page, store_in, store_page}
 use Rattle.rec_store.specs.StoredTables.{HoldsTables}
 use Rattle.rec_store.proofs.Reopening.{keeps, none_loose, only_leaves, tables_same}
@@ -17,7 +17,7 @@ module _ (pages : List Page) (closed : is_open pages ≡ false) where
   at_home : (n : ℕ) → stored pages n ≡ slice_get pages n
   at_home n = ap (λ b. slice_get pages (if b then copied_place (descriptor pages) n else n)) closed
 
-  sound : IsSound pages
+  sound : HasValidJournal pages
   sound opened = absurd (false≢true (sym closed ∙ opened))
 
   keeps_shut : (may_leave : List Page → Type 0) (t : Tables) (registry : Registry) → HoldsTables (store_in (slice_get pages)) t → Only pages may_leave → IsCard (load_page pages) t → Says (load_page pages) t registry → Keeps pages may_leave registry

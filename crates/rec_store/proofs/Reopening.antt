@@ -17,7 +17,7 @@ use Rattle.card_types.specs.declared.tables.LoadFile.{LoadFile}
 use Rattle.card_types.specs.declared.tables.Tables.{Tables}
 use Rattle.flash_core.specs.Device.{NoneNew, Only}
 use Rattle.flash_core.specs.declared.page.Page.{Page}
-use Rattle.page_journal.specs.Journal.{IsSound, bytes_of, stored}
+use Rattle.page_journal.specs.Journal.{HasValidJournal, bytes_of, stored}
 use Rattle.page_journal.specs.Moments.{Always, Leaves, current, first_of}
 use Rattle.rec_store.specs.EntrySlot.{HoldsEntry}
 use Rattle.rec_store.specs.FileSlot.{HoldsFile}
@@ -123,7 +123,7 @@ module _ (list : ℕ → Option Page) (loose : List ℕ) (outcome : List Page) (
   }
 
 -- pages that hold a registry, of which all else that power loss leaves are loose pages
-pub keeps : (pages : List Page) (may_leave : List Page → Type 0) (registry : Registry) (t : Tables) → IsSound pages → HoldsTables (store_page pages) t → IsCard (load_page pages) t → Says (load_page pages) t registry
+pub keeps : (pages : List Page) (may_leave : List Page → Type 0) (registry : Registry) (t : Tables) → HasValidJournal pages → HoldsTables (store_page pages) t → IsCard (load_page pages) t → Says (load_page pages) t registry
     → (loose : List ℕ) → Always may_leave (Leaves (stored pages) loose) → ((n : ℕ) → Contains loose n → IsFree t n) → Keeps pages may_leave registry
 keeps pages may_leave registry t sound held card says loose leaves free = record {
   reopens = λ outcome possible. left (stored pages) loose outcome t (leaves outcome possible) free card registry held says;
@@ -199,6 +199,6 @@ pub none_loose : (t : Tables) (n : ℕ) → Contains [] n → IsFree t n
 none_loose t n among = absurd (omega (arith, among.1))
 
 -- the pages as read are all that power loss may leave
-pub only_leaves : (pages : List Page) (may_leave : List Page → Type 0) → IsSound pages → Only pages may_leave → Always may_leave (Leaves (stored pages) [])
+pub only_leaves : (pages : List Page) (may_leave : List Page → Type 0) → HasValidJournal pages → Only pages may_leave → Always may_leave (Leaves (stored pages) [])
 only_leaves pages may_leave sound only outcome possible =
     subst (Leaves (stored pages) []) (sym (only outcome possible)) (record { sound = sound; store = λ n lt. refl; load = λ n high tight. refl })

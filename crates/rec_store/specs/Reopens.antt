@@ -6,7 +6,7 @@ use Rattle.card_types.specs.Says.{Says, used}
 use Rattle.card_types.specs.declared.tables.Tables.{Tables}
 use Rattle.flash_core.specs.declared.page.Page.{Page}
 use Rattle.frame_pool.specs.Staged.{staged}
-use Rattle.page_journal.specs.Journal.{IsSound, bytes_of, stored}
+use Rattle.page_journal.specs.Journal.{HasValidJournal, bytes_of, stored}
 use Rattle.page_journal.specs.Moments.{Always, Leaves, current}
 use Rattle.rec_store.specs.StoredTables.{HoldsTables}
 
@@ -43,7 +43,7 @@ NoLoadPage pool = (number : ℕ) → 45 ≤ number → staged pool number ≡ No
 
 -- after a power loss that left these pages the card has this registry
 pub record Reopens (pages : List Page) (registry : Registry) : Type 0 where
-  pub sound : IsSound pages
+  pub sound : HasValidJournal pages
   pub holds : HoldsRegistry (store_page pages) (load_page pages) registry
 
 -- or one of these

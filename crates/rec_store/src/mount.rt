@@ -7,7 +7,7 @@ ghost use Rattle.card_types.specs.Registry.{Registry};
 ghost use Rattle.card_types.specs.Says.{Says, used};
 ghost use Rattle.card_types.specs.declared.tables.Tables.{Tables as TablesOf};
 ghost use Rattle.flash_core.specs.Device.{Only};
-ghost use Rattle.page_journal.specs.Journal.{IsSound, stored};
+ghost use Rattle.page_journal.specs.Journal.{HasValidJournal, stored};
 ghost use Rattle.page_journal.specs.Moments.{Always, Leaves, LeavesOnly};
 ghost use Rattle.page_journal.specs.Store.{IsListed};
 ghost use Rattle.rec_store.specs.Contents.{CardFails, OpenFails, SlotsFail, opened_cause};
@@ -81,7 +81,7 @@ fn open<F: Flash>(mut tables: Tables, mut store: PageStore<F>) -> Result<Records
     requires slots { HasSlots tables }
     requires live { store.live ≡ true }
     requires none { store.staged ≡ [] }
-    requires sound { F.tells → IsSound (F.pages store.flash) }
+    requires sound { F.tells → HasValidJournal (F.pages store.flash) }
     requires only { F.tells → Only (F.pages store.flash) (F.may_leave store.flash) }
     ensures ready { IfOk result (λ r. (r.staged ≡ []) × (r.live ≡ true)) }
     ensures card { IfOk result (λ r. (page : ℕ → List ℕ) → HasPages page → IsCard page r.tables) }
@@ -108,7 +108,7 @@ fn read_card<F: Flash>(tables: &mut Tables, store: &mut PageStore<F>) -> Result<
     requires slots { HasSlots tables.old }
     requires live { store.old.live ≡ true }
     requires none { store.old.staged ≡ [] }
-    requires sound { F.tells → IsSound (F.pages store.old.flash) }
+    requires sound { F.tells → HasValidJournal (F.pages store.old.flash) }
     requires only { F.tells → Only (F.pages store.old.flash) (F.may_leave store.old.flash) }
     ensures ready { OnOk result ((store.new.staged ≡ []) × (store.new.settled ≡ true) × (store.new.live ≡ true)) }
     ensures card { OnOk result ((page : ℕ → List ℕ) → HasPages page → IsCard page tables.new) }
