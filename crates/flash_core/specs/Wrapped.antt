@@ -9,7 +9,7 @@ pub record Fused (F : Type 0) : Type 0 where
   pub refused : ℕ
 
 -- a call of it was refused: it did not reach the device inside
-pub record IsSpent {F T E : Type 0} (old new : Fused F) (result : Result T E) : Type 0 where
+pub record IsRefusedByFuse {F T E : Type 0} (old new : Fused F) (result : Result T E) : Type 0 where
   pub failed : IsErr result
   pub inner : new.inner ≡ old.inner
   pub left : new.left ≡ 0

@@ -3,7 +3,7 @@
 ghost use Rattle.std.specs.Prelude.{◌≡◌, ◌+◌, ◌<◌, ◌≤◌, Some, slice_get, IsErr, OnOk, OnErr};
 ghost use Rattle.faults.specs.Faults.{HasCause, next_count};
 ghost use Rattle.flash_core.specs.Device.{SameBut, NoneNew, AnyBytesIn, Only, Elapses};
-ghost use Rattle.flash_core.specs.Wrapped.{Fused, IsSpent, IsPassed};
+ghost use Rattle.flash_core.specs.Wrapped.{Fused, IsRefusedByFuse, IsPassed};
 
 use crate::flash::{Flash, FlashFailed};
 use crate::page::{PAGES, Page};
@@ -85,7 +85,7 @@ impl<F: Flash> Flash for FuseFlash<F> {
         ensures loss { F.tells → NoneNew (F.may_leave self.old.inner) (F.may_leave self.new.inner) }
         ensures time { F.tells → Elapses (F.moment self.old.inner) (F.moment self.new.inner) (F.left_since self.old.inner) (F.left_since self.new.inner) (F.may_leave self.new.inner) }
         ensures cause { HasCause (F.faults self.old.inner + self.old.refused) (F.faults self.new.inner + self.new.refused) result }
-        ensures spent { self.old.left ≡ 0 → IsSpent self.old self.new result }
+        ensures spent { self.old.left ≡ 0 → IsRefusedByFuse self.old self.new result }
         ensures passed { 0 < self.old.left → IsPassed self.old self.new }
     {
         self.passes()?;
@@ -99,7 +99,7 @@ impl<F: Flash> Flash for FuseFlash<F> {
         ensures loss { F.tells → AnyBytesIn page (F.may_leave self.old.inner) (F.may_leave self.new.inner) }
         ensures time { F.tells → Elapses (F.moment self.old.inner) (F.moment self.new.inner) (F.left_since self.old.inner) (F.left_since self.new.inner) (F.may_leave self.new.inner) }
         ensures cause { HasCause (F.faults self.old.inner + self.old.refused) (F.faults self.new.inner + self.new.refused) result }
-        ensures spent { self.old.left ≡ 0 → IsSpent self.old self.new result }
+        ensures spent { self.old.left ≡ 0 → IsRefusedByFuse self.old self.new result }
         ensures passed { 0 < self.old.left → IsPassed self.old self.new }
     {
         self.passes()?;
@@ -112,7 +112,7 @@ impl<F: Flash> Flash for FuseFlash<F> {
         ensures loss { F.tells → NoneNew (F.may_leave self.old.inner) (F.may_leave self.new.inner) }
         ensures time { F.tells → Elapses (F.moment self.old.inner) (F.moment self.new.inner) (F.left_since self.old.inner) (F.left_since self.new.inner) (F.may_leave self.new.inner) }
         ensures cause { HasCause (F.faults self.old.inner + self.old.refused) (F.faults self.new.inner + self.new.refused) result }
-        ensures spent { self.old.left ≡ 0 → IsSpent self.old self.new result }
+        ensures spent { self.old.left ≡ 0 → IsRefusedByFuse self.old self.new result }
         ensures passed { 0 < self.old.left → IsPassed self.old self.new }
     {
         self.passes()?;
