@@ -10,7 +10,7 @@ use Rattle.gp_tool.proofs.ComeFirst.{room_further, room_left, room_whole}
 use Rattle.gp_tool.proofs.Complete.{never_bad, never_cut}
 use Rattle.gp_tool.proofs.OneText.{plays_once}
 use Rattle.gp_tool.specs.Ends.{AreShort, ComeFirst, Course, IsBad, Outside}
-use Rattle.gp_tool.specs.Form.{AreSpelled, Spells}
+use Rattle.gp_tool.specs.Form.{AreSpelled, SpellsInputs}
 use Rattle.gp_tool.specs.Good.{AreGood, IsGood}
 use Rattle.gp_tool.specs.Laws.{EndsTold, IsFaultless}
 use Rattle.gp_tool.specs.Plays.{Plays, bad_line, text_of}
@@ -36,7 +36,7 @@ Halts room ahead = IsBad room ahead ⊎ IsShortCut room ahead
 not_good : (room : ℕ) (ahead line after : List ℕ) → Halts room ahead → IsNextLine room ahead line after → IsGood line → ⊥
 not_good room ahead line after (inl (text, inl none)) next good =
     let same = one_line room ahead line text after none.0 next none.1 in
-    none.2 good.0.0 (subst (λ (l : List ℕ). Spells l good.0.0) same.0 good.0.1)
+    none.2 good.0.0 (subst (λ (l : List ℕ). SpellsInputs l good.0.0) same.0 good.0.1)
 not_good room ahead line after (inl (text, inr (inl whole, long))) next good =
     let same = one_line room ahead line text after whole.0 next whole.1 in
     let few = good.1 in

@@ -8,7 +8,7 @@ use Rattle.policy_rules.proofs.OneOutcome.{one_run}
 use Rattle.policy_rules.specs.Run.{Command, Input, Run}
 use Rattle.policy_rules.specs.State.{State}
 use Rattle.policy_rules.specs.Step.{Outcome}
-use Rattle.gp_tool.specs.Form.{AreSpelled, IsBlank, IsComment, IsHex, Spells}
+use Rattle.gp_tool.specs.Form.{AreSpelled, IsBlank, IsComment, IsHex, SpellsInputs}
 use Rattle.gp_tool.specs.Plays.{Plays}
 
 -- the first byte of a line in digits
@@ -53,7 +53,7 @@ no_nothing_reset line (inr comment) reset =
     omega (arith, first)
 
 -- a line gives a card one thing
-spells_once : (line : List ℕ) (a b : List Input) → Spells line a → Spells line b → a ≡ b
+spells_once : (line : List ℕ) (a b : List Input) → SpellsInputs line a → SpellsInputs line b → a ≡ b
 spells_once line a b (inl none) (inl again) = none.1 ∙ sym again.1
 spells_once line a b (inl none) (inr (inl reset)) = absurd (no_nothing_reset line none.0 reset.0)
 spells_once line a b (inl none) (inr (inr hex)) = absurd (no_digits_nothing line hex.0 none.0 hex.1)

@@ -9,7 +9,7 @@ use Rattle.policy_rules.specs.Run.{Command}
 use Rattle.policy_rules.specs.State.{State}
 use Rattle.policy_rules.specs.Step.{Outcome, Step}
 use Rattle.gp_tool.specs.Flush.{FlushesLast, IsHandedOn}
-use Rattle.gp_tool.specs.Form.{HasNoForm, Spells}
+use Rattle.gp_tool.specs.Form.{HasNoForm, SpellsInputs}
 use Rattle.gp_tool.specs.Plays.{Plays, bad_line, reply_line, text_of}
 use Rattle.gp_tool.specs.declared.ending.Ending.{Ending}
 use Rattle.gp_tool.specs.declared.ending.Ending.TheVariants.{Finished, BadLine, FlashFault, ReadFault, WriteFault, InputTooLong}
@@ -133,7 +133,7 @@ pub record IsAtFlashFault (reads writes : Type 0) (Fails : List Outcome → Stat
   pub reached : reads → Reached old.left given ahead
   pub comes : reads → (after : List ℕ) × IsNextLine (room_for old.left ahead) ahead line after
   pub fits : length line ≤ LINE_LIMIT
-  pub spelled : Spells line (Command bytes ∷ [])
+  pub spelled : SpellsInputs line (Command bytes ∷ [])
   pub step : Step state bytes next
   pub written : writes → new.written ≡ old.written ++ text_of outcomes
   pub device : Fails outcomes state next

@@ -16,16 +16,16 @@ abbrev pub IsHex : List ℕ → List ℕ → Type 0
 IsHex line bytes = (decode_of line ≡ Ok bytes) × (0 < length bytes)
 
 -- a line gives a card nothing, a reset, or a command
-abbrev pub Spells : List ℕ → List Input → Type 0
-Spells line inputs =
+abbrev pub SpellsInputs : List ℕ → List Input → Type 0
+SpellsInputs line inputs =
     ((IsBlank line ⊎ IsComment line) × (inputs ≡ []))
     ⊎ ((line ≡ codes "reset") × (inputs ≡ Reset ∷ []))
     ⊎ ((bytes : List ℕ) × IsHex line bytes × (inputs ≡ Command bytes ∷ []))
 
 abbrev pub HasNoForm : List ℕ → Type 0
-HasNoForm line = (inputs : List Input) → Spells line inputs → ⊥
+HasNoForm line = (inputs : List Input) → SpellsInputs line inputs → ⊥
 
 -- lines, each of a form, give these inputs
 abbrev pub AreSpelled : List (List ℕ) → List Input → Type 0
 AreSpelled [] inputs = inputs ≡ []
-AreSpelled (line ∷ lines) inputs = (first : List Input) × (more : List Input) × Spells line first × AreSpelled lines more × (inputs ≡ first ++ more)
+AreSpelled (line ∷ lines) inputs = (first : List Input) × (more : List Input) × SpellsInputs line first × AreSpelled lines more × (inputs ≡ first ++ more)

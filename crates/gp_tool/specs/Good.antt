@@ -3,11 +3,11 @@ use Rattle.std.specs.Prelude.{ℕ, ◌≤◌, List, length}
 use Rattle.std.specs.List.{AllByRecursion}
 use Rattle.io_edge.specs.declared.line.TheConstants.{LINE_LIMIT}
 use Rattle.policy_rules.specs.Run.{Input}
-use Rattle.gp_tool.specs.Form.{Spells}
+use Rattle.gp_tool.specs.Form.{SpellsInputs}
 
 -- the line has a form, and is not too long
 abbrev pub IsGood : List ℕ → Type 0
-IsGood line = ((inputs : List Input) × Spells line inputs) × (length line ≤ LINE_LIMIT)
+IsGood line = ((inputs : List Input) × SpellsInputs line inputs) × (length line ≤ LINE_LIMIT)
 
 abbrev pub AreGood : List (List ℕ) → Type 0
 AreGood lines = AllByRecursion IsGood lines

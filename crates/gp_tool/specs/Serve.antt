@@ -6,7 +6,7 @@ use Rattle.policy_rules.specs.Run.{Command}
 use Rattle.policy_rules.specs.State.{State}
 use Rattle.policy_rules.specs.Step.{Outcome, Step}
 use Rattle.gp_tool.specs.Device.{registries}
-use Rattle.gp_tool.specs.Form.{HasNoForm, Spells}
+use Rattle.gp_tool.specs.Form.{HasNoForm, SpellsInputs}
 use Rattle.gp_tool.specs.Plays.{Plays, reply_line, text_of}
 use Rattle.gp_tool.specs.declared.serve.Served.{Served}
 use Rattle.gp_tool.specs.declared.serve.Served.TheVariants.{Done, NoForm, WriteFault, FlashFault}
@@ -27,7 +27,7 @@ pub record PlaysLine (line : List ℕ) (After : State → Type 0) (Leaving : Lis
 pub record FailsLine (line : List ℕ) (Leaving : List Registry → Type 0) (state : State) : Type 0 where
   pub bytes : List ℕ
   pub next : Outcome
-  pub spelled : Spells line (Command bytes ∷ [])
+  pub spelled : SpellsInputs line (Command bytes ∷ [])
   pub step : Step state bytes next
   pub leaves : Leaving (state.registry ∷ next.state.registry ∷ [])
 
