@@ -3,7 +3,7 @@ use Rattle.std.proofs.Common.{◌≡◌, ℕ, ◌+◌, ◌*◌, ◌/◌, ◌%◌
 use Rattle.std.proofs.lemmas.Nat.{and_le_r}
 use Rattle.bitflags.specs.Sets.{known_bits, known_from}
 use Rattle.card_types.specs.declared.privileges.Privileges.{Privileges}
-use Rattle.card_types.specs.Privileges.{IsNamed, Spells, bits_of, bytes_of, named_bits, privilege_table}
+use Rattle.card_types.specs.Privileges.{IsNamed, Spells, bits_of, named_bits, privilege_bytes, privilege_table}
 
 -- the table names the bits that have names
 pub known_bits-privilege_table : known_bits privilege_table ≡ named_bits
@@ -20,7 +20,7 @@ IfSome-IsNamed (Some privileges) bits value known =
 
 -- the number is that of the three bytes
 pub bits_of-bytes : (privileges : Privileges) (first second third : ℕ)
-    → IsNamed privileges → bytes_of privileges ≡ first ∷ second ∷ third ∷ []
+    → IsNamed privileges → privilege_bytes privileges ≡ first ∷ second ∷ third ∷ []
     → bits_of privileges ≡ first * 65536 + second * 256 + third
 bits_of-bytes privileges first second third named spelled =
     let high : bits_of privileges / 65536 % 256 ≡ first = cc in
@@ -36,7 +36,7 @@ pub answer-named : (o : Option Privileges) (bits first second third : ℕ)
     → IfSome o (λ privileges. bits_of privileges ≡ bits)
     → (bit_and bits (known_bits privilege_table) ≡ bits → IsSome o)
     → (privileges : Privileges) → IsNamed privileges
-    → bytes_of privileges ≡ first ∷ second ∷ third ∷ [] → o ≡ Some privileges
+    → privilege_bytes privileges ≡ first ∷ second ∷ third ∷ [] → o ≡ Some privileges
 answer-named None bits first second third number value known privileges named spelled =
     let same : bits_of privileges ≡ bits =
     bits_of-bytes privileges first second third named spelled ∙ sym number in

@@ -57,8 +57,8 @@ abbrev pub receipt_generation : ℕ
 receipt_generation = 0x000080
 
 -- the three bytes
-abbrev pub bytes_of : Privileges → List ℕ
-bytes_of privileges =
+abbrev pub privilege_bytes : Privileges → List ℕ
+privilege_bytes privileges =
     let bits = bits_of privileges in bits / 65536 % 256 ∷ bits / 256 % 256 ∷ bits % 256 ∷ []
 
 -- each bit has a name
@@ -68,4 +68,4 @@ IsNamed privileges = bit_and (bits_of privileges) named_bits ≡ bits_of privile
 -- the bytes spell privileges that have names: their three bytes, or the first where the others are 0
 pub record Spells (privileges : Privileges) (bytes : List ℕ) : Type 0 where
   pub named : IsNamed privileges
-  pub spelling : (bytes ≡ bytes_of privileges) ⊎ (bytes ++ 0 ∷ 0 ∷ [] ≡ bytes_of privileges)
+  pub spelling : (bytes ≡ privilege_bytes privileges) ⊎ (bytes ++ 0 ∷ 0 ∷ [] ≡ privilege_bytes privileges)

@@ -1,6 +1,6 @@
 //! Privileges (GlobalPlatform Card Specification 2.3.1, 11.1.2).
 ghost use Rattle.std.specs.Prelude.{⊤, ◌≡◌, [], ◌∷◌, IfSome, IfNone};
-ghost use Rattle.card_types.specs.Privileges.{IsNamed, Spells, bits_of, bytes_of, privilege_table};
+ghost use Rattle.card_types.specs.Privileges.{IsNamed, Spells, bits_of, privilege_bytes, privilege_table};
 
 use bitflags::{Flag, Flags, bitflag_items};
 
@@ -73,7 +73,7 @@ impl Privileges {
 
     /// The three bytes. A bit above them, which only `from_bits_retain` can set, is left out.
     pub fn to_bytes(&self) -> [u8; 3]
-        ensures { result ≡ bytes_of self.now }
+        ensures { result ≡ privilege_bytes self.now }
     {
         let [_, first, second, third] = self.0.to_be_bytes();
         [first, second, third]
@@ -83,8 +83,8 @@ impl Privileges {
 /// The privileges with these three bytes, where each bit has a name.
 fn from_three(first: u8, second: u8, third: u8) -> Option<Privileges>
     ensures named { IfSome result IsNamed }
-    ensures some { IfSome result (λ privileges. bytes_of privileges ≡ first ∷ second ∷ third ∷ []) }
-    ensures back { (privileges : Privileges) → IsNamed privileges → bytes_of privileges ≡ first ∷ second ∷ third ∷ [] → result ≡ Some privileges }
+    ensures some { IfSome result (λ privileges. privilege_bytes privileges ≡ first ∷ second ∷ third ∷ []) }
+    ensures back { (privileges : Privileges) → IsNamed privileges → privilege_bytes privileges ≡ first ∷ second ∷ third ∷ [] → result ≡ Some privileges }
 {
     Privileges::from_bits(u32::from_be_bytes([0, first, second, third]))
 }

@@ -4,7 +4,7 @@ use Rattle.std.specs.Int.{to_be_bytes, w16}
 use Rattle.std.specs.List.{flat_map}
 use Rattle.card_types.specs.CardLife as card_life
 use Rattle.card_types.specs.LifeMark.{code_of}
-use Rattle.card_types.specs.Privileges.{bytes_of, has, security_domain}
+use Rattle.card_types.specs.Privileges.{has, privilege_bytes, security_domain}
 use Rattle.card_types.specs.Registry.{Registry, Entry, LoadFile, Key, Counter, Object}
 use Rattle.card_types.specs.declared.card_life.CardLife.{CardLife}
 use Rattle.card_types.specs.declared.life.LifeMark.{LifeMark}
@@ -30,7 +30,7 @@ entry_names entry =
 
 abbrev pub entry_state : LifeMark → Privileges → ℕ → List ℕ
 entry_state life privileges receipts =
-    codes " life " ++ encode_lower (code_of life ∷ []) ++ codes " priv " ++ encode_lower (bytes_of privileges) ++ codes " receipts "
+    codes " life " ++ encode_lower (code_of life ∷ []) ++ codes " priv " ++ encode_lower (privilege_bytes privileges) ++ codes " receipts "
     ++ encode_lower (to_be_bytes w16 receipts)
 
 abbrev pub entry_line : Entry → List ℕ
