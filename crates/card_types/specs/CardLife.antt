@@ -3,9 +3,9 @@ use Rattle.std.specs.Prelude.{ℕ}
 use Rattle.card_types.specs.declared.card_life.CardLife.{CardLife}
 use Rattle.card_types.specs.declared.card_life.CardLife.TheVariants.{OpReady, Initialized, Secured, Locked, Terminated}
 
-abbrev pub code_of : CardLife → ℕ
-code_of OpReady = 0x01
-code_of Initialized = 0x07
-code_of Secured = 0x0F
-code_of Locked = 0x7F
-code_of Terminated = 0xFF
+abbrev pub card_life_code : CardLife → ℕ
+card_life_code OpReady = 0x01
+card_life_code Initialized = 0x07
+card_life_code Secured = 0x0F
+card_life_code Locked = 0x7F
+card_life_code Terminated = 0xFF

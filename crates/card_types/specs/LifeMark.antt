@@ -11,5 +11,5 @@ life_code Selectable = 0x07
 life_code Personalized = 0x0F
 
 -- the lock adds the high bit
-abbrev pub code_of : LifeMark → ℕ
-code_of mark = life_code mark.life + (if mark.locked then 0x80 else 0)
+abbrev pub life_mark_code : LifeMark → ℕ
+life_mark_code mark = life_code mark.life + (if mark.locked then 0x80 else 0)

@@ -1,6 +1,6 @@
 //! Life cycle states of the card (GlobalPlatform Card Specification 2.3.1, 11.1.1).
 ghost use Rattle.std.specs.Prelude.{◌≡◌, IfSome, IfNone};
-ghost use Rattle.card_types.specs.CardLife.{code_of};
+ghost use Rattle.card_types.specs.CardLife.{card_life_code};
 
 /// The life cycle state of the card.
 #[derive(Clone, Copy, Debug, PartialEq, Eq)]
@@ -15,9 +15,9 @@ pub enum CardLife {
 impl CardLife {
     /// The state with this code.
     pub fn from_code(code: u8) -> Option<CardLife>
-        ensures some { IfSome result (λ life. code_of life ≡ code) }
-        ensures none { IfNone result ((life : CardLife) → code_of life ≡ code → ⊥) }
-        ensures back { (life : CardLife) → code_of life ≡ code → result ≡ Some life }
+        ensures some { IfSome result (λ life. card_life_code life ≡ code) }
+        ensures none { IfNone result ((life : CardLife) → card_life_code life ≡ code → ⊥) }
+        ensures back { (life : CardLife) → card_life_code life ≡ code → result ≡ Some life }
     {
         match code {
             0x01 => Some(CardLife::OpReady),
@@ -31,7 +31,7 @@ impl CardLife {
 
     /// Its code.
     pub fn code(&self) -> u8
-        ensures { result ≡ code_of self.now }
+        ensures { result ≡ card_life_code self.now }
     {
         *self as u8
     }

@@ -1,7 +1,7 @@
 //! Life cycle states of applications and security domains (GlobalPlatform Card Specification
 //! 2.3.1, 11.1.1).
 ghost use Rattle.std.specs.Prelude.{◌≡◌, IfSome, IfNone};
-ghost use Rattle.card_types.specs.LifeMark.{code_of, life_code};
+ghost use Rattle.card_types.specs.LifeMark.{life_code, life_mark_code};
 
 /// The life cycle state of an application or a security domain. Only a domain is personalized.
 #[derive(Clone, Copy, Debug, PartialEq, Eq)]
@@ -24,9 +24,9 @@ const LOCK: u8 = 0x80;
 impl LifeMark {
     /// The state and mark with this code.
     pub fn from_code(code: u8) -> Option<LifeMark>
-        ensures some { IfSome result (λ mark. code_of mark ≡ code) }
-        ensures none { IfNone result ((mark : LifeMark) → code_of mark ≡ code → ⊥) }
-        ensures back { (mark : LifeMark) → code_of mark ≡ code → result ≡ Some mark }
+        ensures some { IfSome result (λ mark. life_mark_code mark ≡ code) }
+        ensures none { IfNone result ((mark : LifeMark) → life_mark_code mark ≡ code → ⊥) }
+        ensures back { (mark : LifeMark) → life_mark_code mark ≡ code → result ≡ Some mark }
     {
         Some(LifeMark {
             life: life_with(code % LOCK)?,
@@ -36,7 +36,7 @@ impl LifeMark {
 
     /// Its code.
     pub fn code(&self) -> u8
-        ensures { result ≡ code_of self.now }
+        ensures { result ≡ life_mark_code self.now }
     {
         let life = self.life as u8;
         if self.locked { life + LOCK } else { life }

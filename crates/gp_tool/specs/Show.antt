@@ -2,8 +2,8 @@
 use Rattle.std.specs.Prelude.{◌≡◌, ℕ, List, [], ◌∷◌, ◌++◌, codes, decimal, length, cond}
 use Rattle.std.specs.Int.{to_be_bytes, w16}
 use Rattle.std.specs.List.{flat_map}
-use Rattle.card_types.specs.CardLife as card_life
-use Rattle.card_types.specs.LifeMark.{code_of}
+use Rattle.card_types.specs.CardLife.{card_life_code}
+use Rattle.card_types.specs.LifeMark.{life_mark_code}
 use Rattle.card_types.specs.Privileges.{has, privilege_bytes, security_domain}
 use Rattle.card_types.specs.Registry.{Registry, Entry, LoadFile, Key, Counter, Object}
 use Rattle.card_types.specs.declared.card_life.CardLife.{CardLife}
@@ -17,7 +17,7 @@ use Rattle.scp03_card.specs.Offer.{counter_bytes}
 use Rattle.sha2.specs.Sha256.{sha256}
 
 abbrev pub card_line : CardLife → List ℕ
-card_line life = codes "card " ++ encode_lower (card_life.code_of life ∷ []) ++ 10 ∷ []
+card_line life = codes "card " ++ encode_lower (card_life_code life ∷ []) ++ 10 ∷ []
 
 abbrev pub entry_kind : Privileges → List ℕ
 entry_kind privileges = cond (has security_domain privileges) (codes "domain ") (codes "app ")
@@ -30,7 +30,7 @@ entry_names entry =
 
 abbrev pub entry_state : LifeMark → Privileges → ℕ → List ℕ
 entry_state life privileges receipts =
-    codes " life " ++ encode_lower (code_of life ∷ []) ++ codes " priv " ++ encode_lower (privilege_bytes privileges) ++ codes " receipts "
+    codes " life " ++ encode_lower (life_mark_code life ∷ []) ++ codes " priv " ++ encode_lower (privilege_bytes privileges) ++ codes " receipts "
     ++ encode_lower (to_be_bytes w16 receipts)
 
 abbrev pub entry_line : Entry → List ℕ

@@ -5,8 +5,8 @@ use Rattle.std.proofs.lemmas.Grind.{same_number_lists, common_steps}
 use Rattle.std.proofs.lemmas.Bool.{cases_lt}
 use Rattle.std.proofs.lemmas.List.{get_or_past}
 use Rattle.byteorder.specs.Endian.{big_from}
-use Rattle.card_types.specs.CardLife as card_life
-use Rattle.card_types.specs.LifeMark as life_mark
+use Rattle.card_types.specs.CardLife.{card_life_code}
+use Rattle.card_types.specs.LifeMark.{life_mark_code}
 use Rattle.card_types.specs.Says.{keeps_counter}
 use Rattle.card_types.specs.Well.{pages_of}
 use Rattle.card_types.specs.declared.card_life.CardLife.{CardLife}
@@ -29,7 +29,7 @@ use Rattle.rec_store.specs.Superblock.{IsSuperblock}
 card_life_of : ℕ → CardLife
 card_life_of n = if n == 0x01 then OpReady else (if n == 0x07 then Initialized else (if n == 0x0F then Secured else (if n == 0x7F then Locked else Terminated)))
 
-card_life_back : (life : CardLife) → card_life_of (card_life.code_of life) ≡ life
+card_life_back : (life : CardLife) → card_life_of (card_life_code life) ≡ life
 unfolding card_life_of
 card_life_back OpReady = refl
 card_life_back Initialized = refl
@@ -46,7 +46,7 @@ life_of n = if n == 0x03 then Installed else (if n == 0x07 then Selectable else 
 mark_of : ℕ → LifeMark
 mark_of n = record { life = life_of (n % 0x80); locked = if n % 0x80 == n then false else true }
 
-mark_back : (life : Life) (locked : Bool) → mark_of (life_mark.code_of (record { life = life; locked = locked })) ≡ record { life = life; locked = locked }
+mark_back : (life : Life) (locked : Bool) → mark_of (life_mark_code (record { life = life; locked = locked })) ≡ record { life = life; locked = locked }
 unfolding mark_of life_of
 mark_back Installed false = refl
 mark_back Selectable false = refl
@@ -55,7 +55,7 @@ mark_back Installed true = refl
 mark_back Selectable true = refl
 mark_back Personalized true = refl
 
-one_mark : (a b : LifeMark) → life_mark.code_of a ≡ life_mark.code_of b → a ≡ b
+one_mark : (a b : LifeMark) → life_mark_code a ≡ life_mark_code b → a ≡ b
 one_mark a b same = sym (mark_back a.life a.locked) ∙ ap mark_of same ∙ mark_back b.life b.locked
 
 one_bytes : (slot : List ℕ) (at : ℕ) (a b : List ℕ) → HasBytesAt slot at a → HasBytesAt slot at b → a ≡ b

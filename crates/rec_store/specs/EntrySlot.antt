@@ -3,7 +3,7 @@
 use Rattle.std.specs.Prelude.{◌≡◌, ◌%◌, ◌^◌, ◌<◌, ℕ, List, Option, None, Some, slice_index}
 use Rattle.byteorder.specs.Endian.{big_from}
 use Rattle.card_types.specs.Aid.{IsAid}
-use Rattle.card_types.specs.LifeMark.{code_of}
+use Rattle.card_types.specs.LifeMark.{life_mark_code}
 use Rattle.card_types.specs.Privileges.{bits_of}
 use Rattle.card_types.specs.declared.tables.Entry.{Entry}
 use Rattle.rec_store.specs.Bytes.{HasAid, HasBytesAt}
@@ -15,7 +15,7 @@ pub record IsEntryIn (slot : List ℕ) (entry : Entry) : Type 0 where
   pub file : slice_index slot 19 ≡ entry.file
   pub module_aid : IsAid entry.«module»
   pub module_ : HasBytesAt slot 20 entry.«module»
-  pub life : slice_index slot 37 ≡ code_of entry.life
+  pub life : slice_index slot 37 ≡ life_mark_code entry.life
   pub privileges : big_from 38 3 slot ≡ bits_of entry.privileges % 2 ^ 24
   pub receipts : big_from 41 2 slot ≡ entry.receipts
 
