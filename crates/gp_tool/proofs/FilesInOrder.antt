@@ -15,7 +15,7 @@ use Rattle.card_types.specs.Registry as registry
 use Rattle.card_types.specs.Says.{Says, file_of}
 use Rattle.card_types.specs.declared.tables.LoadFile.{LoadFile}
 use Rattle.card_types.specs.declared.tables.Tables.{Tables}
-use Rattle.gp_tool.specs.Listing.{is_next_file, is_past}
+use Rattle.gp_tool.specs.Listing.{is_next_file, is_past_last}
 
 abbrev pub file_order : registry.LoadFile → registry.LoadFile → Ordering
 file_order = on (λ (file : registry.LoadFile). file.aid) aid_order
@@ -30,14 +30,14 @@ module _ (page : ℕ → List ℕ) (tables : Tables) (said : registry.Registry) 
   pub files_sorted : IsStrictlySortedBy file_order said.files
   files_sorted = sorted_by_name aid_order (λ (file : registry.LoadFile). file.aid) said.files says.ascending.files
 
-  same_past : (last : Option LoadFile) (file : LoadFile) → is_next_file last file ≡ is_past file_order (option_map view last) (view file)
+  same_past : (last : Option LoadFile) (file : LoadFile) → is_next_file last file ≡ is_past_last file_order (option_map view last) (view file)
   same_past None file = refl
   same_past (Some l) file = refl
 
   pub file_found : (last : Option LoadFile) (slot : ℕ) (file : LoadFile) → IsLeast (is_next_file last) (λ a b. aid_order a.aid b.aid) tables.files.items slot file
-      → find (is_past file_order (option_map view last)) said.files ≡ Some (view file)
+      → find (is_past_last file_order (option_map view last)) said.files ≡ Some (view file)
   file_found last slot file is =
-      least_file page tables said says (is_past file_order (option_map view last)) slot file
+      least_file page tables said says (is_past_last file_order (option_map view last)) slot file
       (record {
         at = is.at;
         fitting = sym (same_past last file) ∙ is.fitting;
@@ -45,6 +45,6 @@ module _ (page : ℕ → List ℕ) (tables : Tables) (said : registry.Registry) 
       })
 
   pub no_file_found : (last : Option LoadFile) → NoneFits (is_next_file last) tables.files.items
-      → find (is_past file_order (option_map view last)) said.files ≡ None
+      → find (is_past_last file_order (option_map view last)) said.files ≡ None
   no_file_found last none =
-      no_file page tables said says (is_past file_order (option_map view last)) (λ slot file at fits. none slot file at (same_past last file ∙ fits))
+      no_file page tables said says (is_past_last file_order (option_map view last)) (λ slot file at fits. none slot file at (same_past last file ∙ fits))

@@ -11,17 +11,17 @@ use Rattle.std.proofs.lemmas.List.Sorted.{length_permutation}
 use Rattle.card_types.proofs.Shows.{least_shown, none_shown, shows_kept}
 use Rattle.card_types.specs.Least.{IsLeast, NoneFits}
 use Rattle.card_types.specs.Says.{used}
-use Rattle.gp_tool.specs.Listing.{comes_past, is_past}
+use Rattle.gp_tool.specs.Listing.{comes_past, is_past_last}
 
 module _ {T X : Type 0} (named : T → X) (listed : T → Bool) (slots : List (Option T)) (xs : List X) (same : IsPermutation (map named (filter listed (used slots))) xs) where
   pub none_listed : (c : X → X → Ordering) (last : Option T) → NoneFits (comes_past named listed c last) slots
-      → find (is_past c (option_map named last)) xs ≡ None
-  none_listed c last none = none_shown named listed slots xs (shows_kept named listed slots xs same) (is_past c (option_map named last)) none
+      → find (is_past_last c (option_map named last)) xs ≡ None
+  none_listed c last none = none_shown named listed slots xs (shows_kept named listed slots xs same) (is_past_last c (option_map named last)) none
 
   pub next_listed : (c : X → X → Ordering) → IsTotalOrder c → IsStrictlySortedBy c xs → (last : Option T) (slot : ℕ) (thing : T)
-      → IsLeast (comes_past named listed c last) (λ a b. c (named a) (named b)) slots slot thing → find (is_past c (option_map named last)) xs ≡ Some (named thing)
+      → IsLeast (comes_past named listed c last) (λ a b. c (named a) (named b)) slots slot thing → find (is_past_last c (option_map named last)) xs ≡ Some (named thing)
   next_listed c total sorted last slot thing is =
-      least_shown named listed slots xs (shows_kept named listed slots xs same) c total sorted (is_past c (option_map named last)) slot thing is
+      least_shown named listed slots xs (shows_kept named listed slots xs same) c total sorted (is_past_last c (option_map named last)) slot thing is
 
 -- no more are listed than there are slots
 filtered_few : {T : Type 0} (p : T → Bool) (ts : List T) → length (filter p ts) ≤ length ts

@@ -9,7 +9,7 @@ use Rattle.std.proofs.lemmas.Grind.{flat_map-append}
 use Rattle.std.proofs.lemmas.List.{append-nil, flat_map_more}
 use Rattle.gp_tool.proofs.Listed.{IsSplit, end_of, next_of, none_done}
 use Rattle.gp_tool.proofs.Parts.{part_written}
-use Rattle.gp_tool.specs.Listing.{is_past}
+use Rattle.gp_tool.specs.Listing.{is_past_last}
 
 -- So many lines of the list were written, up to that of the last one.
 pub record IsWritten {X : Type 0} (c : X → X → Ordering) (line_of : X → List ℕ) (tells : Type 0) (xs : List X) (count : ℕ) (last : Option X) (old new : List ℕ) : Type 0 where
@@ -29,7 +29,7 @@ module _ {X : Type 0} {c : X → X → Ordering} {line_of : X → List ℕ} {tel
     text = λ told. sym (append-nil old);
   }
 
-  pub all_written : {count : ℕ} {last : Option X} {old new : List ℕ} → IsWritten c line_of tells xs count last old new → find (is_past c last) xs ≡ None
+  pub all_written : {count : ℕ} {last : Option X} {old new : List ℕ} → IsWritten c line_of tells xs count last old new → find (is_past_last c last) xs ≡ None
       → tells → new ≡ old ++ flat_map line_of xs
   all_written {last = last} {old = old} written none told =
       written.text told ∙ ap (λ done. old ++ flat_map line_of done) (sym (end_of c xs last written.done written.rest written.split none))
@@ -47,7 +47,7 @@ module _ {X : Type 0} {c : X → X → Ordering} {line_of : X → List ℕ} {tel
 
   -- the next line was written
   pub next_written : {count : ℕ} {last : Option X} {old mid new : List ℕ} → IsTotalOrder c → IsWritten c line_of tells xs count last old mid
-      → (x : X) → find (is_past c last) xs ≡ Some x → (tells → new ≡ mid ++ line_of x) → IsWritten c line_of tells xs (count + 1) (Some x) old new
+      → (x : X) → find (is_past_last c last) xs ≡ Some x → (tells → new ≡ mid ++ line_of x) → IsWritten c line_of tells xs (count + 1) (Some x) old new
   next_written {last = last} {old = old} total written x found wrote =
       let next = next_of c total xs last written.done written.rest written.split x found in
       record {
@@ -60,7 +60,7 @@ module _ {X : Type 0} {c : X → X → Ordering} {line_of : X → List ℕ} {tel
 
   -- or a part of it
   pub part_of_lines : {count : ℕ} {last : Option X} {old mid new : List ℕ} → IsTotalOrder c → IsWritten c line_of tells xs count last old mid
-      → (x : X) → find (is_past c last) xs ≡ Some x → tells → (n : ℕ) × (new ≡ mid ++ take n (line_of x)) → (n : ℕ) × (new ≡ old ++ take n (flat_map line_of xs))
+      → (x : X) → find (is_past_last c last) xs ≡ Some x → tells → (n : ℕ) × (new ≡ mid ++ take n (line_of x)) → (n : ℕ) × (new ≡ old ++ take n (flat_map line_of xs))
   part_of_lines {last = last} {old = old} {mid = mid} {new = new} total written x found told part =
       let next = next_of c total xs last written.done written.rest written.split x found in
       let all : flat_map line_of xs ≡ flat_map line_of written.done ++ (line_of x ++ flat_map line_of next.0)

@@ -7,13 +7,13 @@ use Rattle.card_types.specs.AidOrder.{aid_order}
 use Rattle.card_types.specs.declared.tables.LoadFile.{LoadFile}
 
 -- past the last one, if there is one
-abbrev pub is_past : {X : Type 0} → (X → X → Ordering) → Option X → X → Bool
-is_past order None x = true
-is_past order (Some last) x = is_lt (order last x)
+abbrev pub is_past_last : {X : Type 0} → (X → X → Ordering) → Option X → X → Bool
+is_past_last order None x = true
+is_past_last order (Some last) x = is_lt (order last x)
 
 -- a thing that is listed comes past the last one, by what the registry has of both
 abbrev pub comes_past : {T X : Type 0} → (T → X) → (T → Bool) → (X → X → Ordering) → Option T → T → Bool
-comes_past named listed order last thing = listed thing && is_past order (option_map named last) (named thing)
+comes_past named listed order last thing = listed thing && is_past_last order (option_map named last) (named thing)
 
 -- an Executable Load File comes past the last one, by their AIDs
 abbrev pub is_next_file : Option LoadFile → LoadFile → Bool
