@@ -4,16 +4,16 @@ use Rattle.std.specs.Prelude.{Contains, filter}
 use Rattle.std.proofs.lemmas.List.Elements.{All-from_recursion}
 use Rattle.std.proofs.lemmas.Bool.{cond_both}
 use Rattle.card_types.specs.AidOrder.{same_aid}
-use Rattle.card_types.specs.Factory.{factory_registry, issuer_of_factory, key_of}
+use Rattle.card_types.specs.Factory.{factory_registry, issuer_of_factory, key_of_factory}
 use Rattle.card_types.specs.Registry as registry
 use Rattle.card_types.specs.Registry.{keys_of}
 use Rattle.card_types.specs.Well.{HasKeyNamed, IsWellCounter, IsWellEntry, IsWellFile, IsWellKey, IsWellObject, IsWholeSet, Well}
 use Rattle.card_types.specs.declared.factory.TheConstants.{ISSUER, FACTORY_FILE, FACTORY_VERSION}
 use Rattle.card_types.specs.declared.limits.TheConstants.{DOMAIN_KEYS}
 
-has_key : (identifier : ℕ) → Contains factory_registry.keys (key_of identifier) → HasKeyNamed factory_registry ISSUER FACTORY_VERSION identifier
+has_key : (identifier : ℕ) → Contains factory_registry.keys (key_of_factory identifier) → HasKeyNamed factory_registry ISSUER FACTORY_VERSION identifier
 has_key identifier there = record {
-  key = key_of identifier;
+  key = key_of_factory identifier;
   is_there = there;
   owner_is = refl;
   version_is = refl;
@@ -49,7 +49,7 @@ well_issuer = record {
   receipts = omega arith;
 }
 
-well_key : (identifier : ℕ) → 1 ≤ identifier → identifier ≤ 3 → IsWellKey factory_registry (key_of identifier)
+well_key : (identifier : ℕ) → 1 ≤ identifier → identifier ≤ 3 → IsWellKey factory_registry (key_of_factory identifier)
 well_key identifier least most = record {
   owner = refl;
   size = refl;

@@ -47,8 +47,8 @@ pub record IsFactory (tables : Tables) : Type 0 where
   pub objects : tables.objects.items ≡ replicate 16 None
 
 -- a key of the factory's key set, by names
-abbrev pub key_of : ℕ → registry.Key
-key_of identifier = record { owner = ISSUER; version = FACTORY_VERSION; identifier = identifier; bytes = FACTORY_KEY }
+abbrev pub key_of_factory : ℕ → registry.Key
+key_of_factory identifier = record { owner = ISSUER; version = FACTORY_VERSION; identifier = identifier; bytes = FACTORY_KEY }
 
 -- the Issuer Security Domain, by names
 abbrev pub issuer_of_factory : registry.Entry
@@ -68,7 +68,7 @@ factory_registry = record {
   life = OpReady;
   entries = issuer_of_factory ∷ [];
   files = record { aid = FACTORY_FILE; domain = ISSUER; bytes = [] } ∷ [];
-  keys = key_of 1 ∷ key_of 2 ∷ key_of 3 ∷ [];
+  keys = key_of_factory 1 ∷ key_of_factory 2 ∷ key_of_factory 3 ∷ [];
   counters = record { owner = ISSUER; version = FACTORY_VERSION; number = 0 } ∷ [];
   objects = [];
 }
