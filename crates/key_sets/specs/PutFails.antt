@@ -13,15 +13,15 @@ abbrev pub has_version : ℕ → ℕ → List (Option KeyRec) → Bool
 has_version owner version slots = list_any (is_of owner version) (used slots)
 
 -- of these keys, those of the domain
-abbrev pub keys_of : ℕ → List KeyRec → List KeyRec
-keys_of owner keys = filter (λ key. key.owner == owner) keys
+abbrev pub keys_of_owner : ℕ → List KeyRec → List KeyRec
+keys_of_owner owner keys = filter (λ key. key.owner == owner) keys
 
 -- so many keys are not put in the place of those with the key version number `replaced`
 abbrev pub PutFails : ℕ → ℕ → ℕ → ℕ → List (Option KeyRec) → PutRefusal → Type 0
 PutFails owner replaced version added slots Unknown = (replaced ≢ 0) × (has_version owner replaced slots ≡ false)
 PutFails owner replaced version added slots Taken = (version ≢ replaced) × (has_version owner version slots ≡ true)
 PutFails owner replaced version added slots Full =
-    (KEYS < length (staying owner replaced slots) + added) ⊎ (DOMAIN_KEYS < length (keys_of owner (staying owner replaced slots)) + added)
+    (KEYS < length (staying owner replaced slots) + added) ⊎ (DOMAIN_KEYS < length (keys_of_owner owner (staying owner replaced slots)) + added)
 
 -- none of the refusals holds
 abbrev pub NoneHolds : (PutRefusal → Type 0) → Type 0

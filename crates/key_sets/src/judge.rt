@@ -3,7 +3,7 @@
 ghost use Rattle.std.specs.Prelude.{◌≡◌, ◌≤◌, ◌+◌, ◌↔◌, length, IfErr, IsTrue, OnOk};
 ghost use Rattle.card_types.specs.declared.limits.TheConstants.{DOMAIN_KEYS, KEYS};
 ghost use Rattle.key_sets.specs.InSlots.{holds_one_of as holds_one_of_by, holds_staying as holds_staying_by, holds_staying_of as holds_staying_of_by};
-ghost use Rattle.key_sets.specs.PutFails.{HoldsFirst, NoneHolds, PutFails, has_version as has_version_in, keys_of};
+ghost use Rattle.key_sets.specs.PutFails.{HoldsFirst, NoneHolds, PutFails, has_version as has_version_in, keys_of_owner};
 ghost use Rattle.key_sets.specs.Puts.{is_of as is_of_by, staying};
 
 use crate::refusal::PutRefusal;
@@ -62,7 +62,7 @@ fn holds_staying_of(slot: &Option<KeyRec>, owner: u8, version: u8) -> bool
 
 // How many of those are the domain's.
 fn count_staying_of(keys: &[Option<KeyRec>], owner: u8, version: u8) -> usize
-    ensures number { result ≡ length (keys_of owner (staying owner version keys.now)) }
+    ensures number { result ≡ length (keys_of_owner owner (staying owner version keys.now)) }
     ensures most { result ≤ length keys.now }
 {
     keys.iter()
@@ -74,7 +74,7 @@ fn count_staying_of(keys: &[Option<KeyRec>], owner: u8, version: u8) -> usize
 fn have_room(keys: &[Option<KeyRec>], owner: u8, replaced: u8, added: usize) -> bool
     requires room { length keys.now ≡ KEYS }
     requires few { added ≤ 3 }
-    ensures { IsTrue result ↔ ((length (staying owner replaced keys.now) + added ≤ KEYS) × (length (keys_of owner (staying owner replaced keys.now)) + added ≤ DOMAIN_KEYS)) }
+    ensures { IsTrue result ↔ ((length (staying owner replaced keys.now) + added ≤ KEYS) × (length (keys_of_owner owner (staying owner replaced keys.now)) + added ≤ DOMAIN_KEYS)) }
 {
     count_staying(keys, owner, replaced) + added <= KEYS
         && count_staying_of(keys, owner, replaced) + added <= DOMAIN_KEYS
