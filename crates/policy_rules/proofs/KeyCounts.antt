@@ -42,9 +42,9 @@ module _ (page : ℕ → List ℕ) (tables : Tables) (said : registry.Registry) 
       own_is page tables said says well domain entry at slot.0 key slot.1
 
   -- and of them the domain's own
-  pub own_count : length (slots.keys_of domain (staying domain replaced tables.keys.items))
+  pub own_count : length (slots.keys_of_owner domain (staying domain replaced tables.keys.items))
       ≡ length (filter (λ key. same_aid key.owner (domain_aid tables.entries.items domain)) (keys_but (domain_aid tables.entries.items domain) replaced said.keys))
   own_count =
       let mine : registry.Key → Bool = λ key. same_aid key.owner (domain_aid tables.entries.items domain) in
-      sym (length-map (slots.keys_of domain stay) named) ∙ ap length (map_kept named (λ key. key.owner == domain) mine stay own_alike)
+      sym (length-map (slots.keys_of_owner domain stay) named) ∙ ap length (map_kept named (λ key. key.owner == domain) mine stay own_alike)
       ∙ sym (as_many_pass mine (map named stay) stay_named (keys_staying page tables said says well domain entry at replaced))

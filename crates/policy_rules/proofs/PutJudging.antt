@@ -66,7 +66,7 @@ module _ (page : ℕ → List ℕ) (tables : Tables) (domain : ℕ) (admitted : 
       by_slots.stay_count page tables admitted.at.registry acts.says acts.well domain acts.entry acts.at replaced
       ∙ (λ i. length (keys_but (sym acts.on i) (request.means.1 i) admitted.at.registry.keys))
 
-  own_count : length (slots.keys_of domain (slots_of.staying domain replaced tables.keys.items)) ≡ length (own_keys_left admitted)
+  own_count : length (slots.keys_of_owner domain (slots_of.staying domain replaced tables.keys.items)) ≡ length (own_keys_left admitted)
   own_count =
       by_slots.own_count page tables admitted.at.registry acts.says acts.well domain acts.entry acts.at replaced
       ∙ (λ i. length (filter (λ key. same_aid key.owner (sym acts.on i)) (keys_but (sym acts.on i) (request.means.1 i) admitted.at.registry.keys)))
