@@ -16,8 +16,8 @@ abbrev pub cryptogram_in : List ℕ → List ℕ
 cryptogram_in reply = take 8 (drop 21 reply)
 
 -- the offer, as the host sees it
-abbrev pub offer_in : (enc mac dek host reply : List ℕ) → Offer
-offer_in enc mac dek host reply = record { enc = enc; mac = mac; dek = dek; host = host; card = challenge_in reply }
+abbrev pub offer_from_reply : (enc mac dek host reply : List ℕ) → Offer
+offer_from_reply enc mac dek host reply = record { enc = enc; mac = mac; dek = dek; host = host; card = challenge_in reply }
 
 -- the card has shown that it has the keys
 abbrev pub IsOfCard : Offer → List ℕ → Type 0

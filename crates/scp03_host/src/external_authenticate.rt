@@ -5,7 +5,7 @@ ghost use Rattle.apdu_core.specs.Apdu.{Short};
 ghost use Rattle.scp03_card.specs.Kept.{StandsFor};
 ghost use Rattle.scp03_card.specs.Offer.{Offer, host_cryptogram};
 ghost use Rattle.scp03_card.specs.Session.{answered, chain_of};
-ghost use Rattle.scp03_host.specs.Begin.{IsOfCard, answer_to, offer_in};
+ghost use Rattle.scp03_host.specs.Begin.{IsOfCard, answer_to, offer_from_reply};
 
 use crate::host_session::HostSession;
 use crate::refusals::BeginRefusal;
@@ -31,12 +31,12 @@ pub fn begin<K: BlockKey>(
 ) -> Result<HostSession<K>, BeginRefusal>
     requires { channel < 4 }
     ensures session { IfOk result (λ kept. StandsFor kept
-        (answered (offer_in (K.key_bytes keys.enc) (K.key_bytes keys.mac) (K.key_bytes keys.dek) host.now reply.now) level)) }
+        (answered (offer_from_reply (K.key_bytes keys.enc) (K.key_bytes keys.mac) (K.key_bytes keys.dek) host.now reply.now) level)) }
     ensures sent { OnOk result (Short
-        (answer_to (offer_in (K.key_bytes keys.enc) (K.key_bytes keys.mac) (K.key_bytes keys.dek) host.now reply.now) level channel) out.new.items) }
+        (answer_to (offer_from_reply (K.key_bytes keys.enc) (K.key_bytes keys.mac) (K.key_bytes keys.dek) host.now reply.now) level channel) out.new.items) }
     ensures short { (result ≡ Err BeginRefusal.Short) ↔ (length reply.now ≢ 32) }
     ensures cryptogram { (result ≡ Err BeginRefusal.CardCryptogram) ↔ (length reply.now ≡ 32)
-        × (IsOfCard (offer_in (K.key_bytes keys.enc) (K.key_bytes keys.mac) (K.key_bytes keys.dek) host.now reply.now) reply.now → ⊥) }
+        × (IsOfCard (offer_from_reply (K.key_bytes keys.enc) (K.key_bytes keys.mac) (K.key_bytes keys.dek) host.now reply.now) reply.now → ⊥) }
     ensures unchanged { OnErr result (out.new ≡ out.old) }
 {
     if reply.len() != UPDATE_REPLY {
