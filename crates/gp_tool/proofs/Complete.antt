@@ -8,7 +8,7 @@ use Rattle.io_edge.specs.declared.line.TheConstants.{INPUT_LIMIT}
 use Rattle.policy_rules.specs.State.{State}
 use Rattle.policy_rules.specs.Step.{Outcome}
 use Rattle.gp_tool.proofs.ComeFirst.{lines_come, shrinks}
-use Rattle.gp_tool.specs.Ends.{Outside, Reached, Ends, EndCause, Faults, IsBad, room_for}
+use Rattle.gp_tool.specs.Ends.{Outside, Reached, Ends, EndCause, Faults, IsBad, room_ahead}
 use Rattle.gp_tool.specs.Good.{AreGood, IsGood}
 use Rattle.gp_tool.specs.declared.ending.Ending.{Ending}
 use Rattle.gp_tool.specs.declared.ending.Ending.TheVariants.{Finished, BadLine, FlashFault, ReadFault, WriteFault, InputTooLong}
@@ -27,7 +27,7 @@ good_next input given ahead room line after reached good next =
 
 -- the limit does not come within a short input
 pub never_cut : (input : List ℕ) (given : List (List ℕ)) (ahead cut : List ℕ)
-    → Reached input given ahead → length input < INPUT_LIMIT → IsCut (room_for input ahead) ahead cut → ⊥
+    → Reached input given ahead → length input < INPUT_LIMIT → IsCut (room_ahead input ahead) ahead cut → ⊥
 never_cut input given ahead cut reached short is_cut =
     let less = shrinks INPUT_LIMIT input given ahead reached in
     let part = ap length is_cut.is ∙ length-append is_cut.piece is_cut.rest in
@@ -35,14 +35,14 @@ never_cut input given ahead cut reached short is_cut =
     omega arith
 
 pub never_bad : (input : List ℕ) (given : List (List ℕ)) (ahead : List ℕ)
-    → Reached input given ahead → AreGood (lines input) → length input < INPUT_LIMIT → IsBad (room_for input ahead) ahead → ⊥
+    → Reached input given ahead → AreGood (lines input) → length input < INPUT_LIMIT → IsBad (room_ahead input ahead) ahead → ⊥
 never_bad input given ahead reached good short (line, inl none) =
-    let spelled = good_next input given ahead (room_for input ahead) line none.0 reached good none.1 in
+    let spelled = good_next input given ahead (room_ahead input ahead) line none.0 reached good none.1 in
     none.2 spelled.0.0 spelled.0.1
 never_bad input given ahead reached good short (line, inr long) =
     elim long.0 [
       | inl next ↦
-          (let fits = good_next input given ahead (room_for input ahead) line next.0 reached good next.1 in
+          (let fits = good_next input given ahead (room_ahead input ahead) line next.0 reached good next.1 in
           let few = fits.1 in
           let many = long.1 in
           omega arith)

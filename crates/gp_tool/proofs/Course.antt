@@ -11,7 +11,7 @@ use Rattle.gp_tool.proofs.ComeFirst.{come_more, lines_come}
 use Rattle.gp_tool.proofs.Moments.{Joins, among_first, among_more, plays_ends}
 use Rattle.gp_tool.proofs.PlaysMore.{plays_more, plays_none, text_more}
 use Rattle.gp_tool.specs.Device.{registries}
-use Rattle.gp_tool.specs.Ends.{AreShort, Course, Ends, IsBad, Outside, Reached, room_for}
+use Rattle.gp_tool.specs.Ends.{AreShort, Course, Ends, IsBad, Outside, Reached, room_ahead}
 use Rattle.gp_tool.specs.Going.{Going}
 use Rattle.gp_tool.specs.Plays.{Plays, bad_line, reply_line, text_of}
 use Rattle.gp_tool.specs.Turn.{GoesOn, EndsWith}
@@ -53,7 +53,7 @@ all_written old text more written now before after = after ∙ ap (λ w. w ++ mo
 
 module _ (reads writes : Type 0) (first : State) (Now : State → Type 0) (Since : List Registry → Type 0) (count : ℕ) (before now : Outside) (old : Reading) (going : Going reads writes first Now Since count before now old) where
   -- the room is that behind the bytes that were passed
-  room_is : reads → room old ≡ room_for before.left (ahead old now.left)
+  room_is : reads → room old ≡ room_ahead before.left (ahead old now.left)
   room_is told =
       let passed = going.passed told in
       let behind : old.passed ≡ length before.left - length (ahead old now.left) = omega arith in
@@ -64,7 +64,7 @@ module _ (reads writes : Type 0) (first : State) (Now : State → Type 0) (Since
       come_more INPUT_LIMIT before.left going.given (ahead old now.left) line after (going.reached told) (rw (← room_is told) (next told))
 
   -- the next line is bad, by the room behind the bytes that were passed
-  bad_there : (reads → IsBad (room old) (ahead old now.left)) → reads → IsBad (room_for before.left (ahead old now.left)) (ahead old now.left)
+  bad_there : (reads → IsBad (room old) (ahead old now.left)) → reads → IsBad (room_ahead before.left (ahead old now.left)) (ahead old now.left)
   bad_there bad told = subst (λ (n : ℕ). IsBad n (ahead old now.left)) (room_is told) (bad told)
 
   -- what power lost may leave behind the commands of one line more

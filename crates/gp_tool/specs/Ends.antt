@@ -40,8 +40,8 @@ pub record Course (first : State) (given : List (List ℕ)) (outcomes : List Out
   pub plays : Plays first given outcomes state
 
 -- how many bytes may be taken of what stands ahead
-abbrev pub room_for : List ℕ → List ℕ → ℕ
-room_for input ahead = INPUT_LIMIT - (length input - length ahead)
+abbrev pub room_ahead : List ℕ → List ℕ → ℕ
+room_ahead input ahead = INPUT_LIMIT - (length input - length ahead)
 
 -- The lines come first in an input of which so many bytes may be taken, and this stands ahead behind them.
 abbrev pub ComeFirst : ℕ → List ℕ → List (List ℕ) → List ℕ → Type 0
@@ -89,7 +89,7 @@ pub record IsAtBadLine (reads writes : Type 0) (Rests : List Outcome → State �
   pub ahead : List ℕ
   pub course : Course first given outcomes state
   pub reached : reads → Reached old.left given ahead
-  pub bad : reads → IsBad (room_for old.left ahead) ahead
+  pub bad : reads → IsBad (room_ahead old.left ahead) ahead
   pub written : writes → new.written ≡ old.written ++ (text_of outcomes ++ bad_line (length given + 1))
   pub device : Rests outcomes state
 
@@ -104,7 +104,7 @@ pub record IsAtReadFault (reads writes : Type 0) (Rests : List Outcome → State
   pub reached : reads → Reached old.left given (held ++ new.left)
   pub no_line : reads → NoNewline held
   pub short : reads → length (strip_carriage_return held) ≤ LINE_LIMIT
-  pub within : reads → length held ≤ room_for old.left (held ++ new.left)
+  pub within : reads → length held ≤ room_ahead old.left (held ++ new.left)
   pub written : writes → new.written ≡ old.written ++ text_of outcomes
   pub device : Rests outcomes state
 
@@ -116,7 +116,7 @@ pub record IsAtLimit (reads writes : Type 0) (Rests : List Outcome → State →
   pub ahead : List ℕ
   pub course : Course first given outcomes state
   pub reached : reads → Reached old.left given ahead
-  pub cut : reads → (text : List ℕ) × IsCut (room_for old.left ahead) ahead text × (length text ≤ LINE_LIMIT)
+  pub cut : reads → (text : List ℕ) × IsCut (room_ahead old.left ahead) ahead text × (length text ≤ LINE_LIMIT)
   pub written : writes → new.written ≡ old.written ++ text_of outcomes
   pub device : Rests outcomes state
 
@@ -131,7 +131,7 @@ pub record IsAtFlashFault (reads writes : Type 0) (Fails : List Outcome → Stat
   pub next : Outcome
   pub course : Course first given outcomes state
   pub reached : reads → Reached old.left given ahead
-  pub comes : reads → (after : List ℕ) × IsNextLine (room_for old.left ahead) ahead line after
+  pub comes : reads → (after : List ℕ) × IsNextLine (room_ahead old.left ahead) ahead line after
   pub fits : length line ≤ LINE_LIMIT
   pub spelled : SpellsInputs line (Command bytes ∷ [])
   pub step : Step state bytes next
@@ -150,7 +150,7 @@ pub record IsAtWriteFault (reads writes : Type 0) (Rests : List Outcome → Stat
   pub course : Course first given outcomes state
   pub reached : reads → Reached old.left given ahead
   pub is_text : IsText outcomes before line
-      ⊎ ((reads → IsBad (room_for old.left ahead) ahead) × (before ≡ text_of outcomes) × (line ≡ bad_line (length given + 1)))
+      ⊎ ((reads → IsBad (room_ahead old.left ahead) ahead) × (before ≡ text_of outcomes) × (line ≡ bad_line (length given + 1)))
   pub written : writes → (count : ℕ) × (new.written ≡ old.written ++ (before ++ take count line))
   pub flushes : FlushesLast writes old.flushes new.flushes old.written (before ++ line) new.written
   pub device : Rests outcomes state
