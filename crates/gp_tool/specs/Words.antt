@@ -5,14 +5,14 @@ use Rattle.gp_tool.specs.declared.verb.Verb.{Verb}
 use Rattle.gp_tool.specs.declared.verb.Verb.TheVariants.{Format, Run, Show}
 
 -- a verb's word
-abbrev pub word_of : Verb → List ℕ
-word_of Format = codes "format"
-word_of Run = codes "run"
-word_of Show = codes "show"
+abbrev pub word_of_verb : Verb → List ℕ
+word_of_verb Format = codes "format"
+word_of_verb Run = codes "run"
+word_of_verb Show = codes "show"
 
 -- the words are the verb's alone
 abbrev pub Name : Verb → List (String Global) → Type 0
-Name verb words = map string_bytes words ≡ word_of verb ∷ []
+Name verb words = map string_bytes words ≡ word_of_verb verb ∷ []
 
 abbrev pub AreFormat : List (String Global) → Type 0
 AreFormat words = Name Format words
