@@ -1,5 +1,5 @@
 pub mod Ahead
+pub mod Buffered
 pub mod Counted
-pub mod Held
 pub mod Lines
 pub mod Memory

@@ -2,7 +2,7 @@
 
 ghost use Rattle.std.specs.Prelude.{◌≡◌, ◌<◌, ◌≤◌, ◌+◌, ◌-◌, ◌*◌, ◌++◌, List, [], ℕ, length, take, drop, slice_range, OnErr, IfOk, IsErr, Ok};
 ghost use Rattle.faults.specs.Faults.{HasCause};
-ghost use Rattle.io_edge.specs.Held.{Held};
+ghost use Rattle.io_edge.specs.Buffered.{Buffered};
 ghost use Rattle.io_edge.specs.declared.buffer.TheConstants.{ROOM};
 
 use crate::source::{ReadFailed, Source};
@@ -110,7 +110,7 @@ pub struct Buffer {
 }
 
 impl Model for Buffer {
-    ghost Value = { Held };
+    ghost Value = { Buffered };
 
     ghost view = { λ b. record { text = slice_range b.bytes b.from b.to; held = slice_range b.bytes b.start b.end } };
 

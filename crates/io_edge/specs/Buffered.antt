@@ -1,6 +1,6 @@
 use Rattle.std.specs.Prelude.{ℕ, List}
 
 -- a buffer: the text that was cut off last, and the bytes that are held behind it
-pub record Held : Type 0 where
+pub record Buffered : Type 0 where
   pub text : List ℕ
   pub held : List ℕ
