@@ -8,7 +8,7 @@ ghost use Rattle.card_types.specs.Privileges.{IsNamed};
 use crate::domains::{is_domain, leads_to_issuer};
 use crate::names::is_alone;
 use crate::room::FACTORY_SLOT;
-use crate::slots::{Admits, all_admitted};
+use crate::slots::{Asks, all_admitted};
 use bitflags::Flags;
 use card_types::{Entry, FACTORY_MODULE, Found, Life, Privileges, RECEIPT_LIMIT, Tables, in_slot};
 
@@ -20,7 +20,7 @@ pub fn has_card_entries(tables: &Tables) -> bool
     all_admitted(&tables.entries, tables)
 }
 
-impl Admits<Entry> for Tables {
+impl Asks<Entry> for Tables {
     ghost ready = { HasRoom };
 
     ghost admits = { IsCardEntry };

@@ -7,7 +7,7 @@ ghost use Rattle.card_check.specs.EachSlot.{EachSlot};
 use crate::domains::is_domain;
 use crate::names::is_alone;
 use crate::room::FACTORY_SLOT;
-use crate::slots::{Admits, all_admitted};
+use crate::slots::{Asks, all_admitted};
 use card_types::{Found, LoadFile, Tables};
 
 /// Whether every Executable Load File is one that a card may have, but for the pages that it names.
@@ -18,7 +18,7 @@ pub fn has_card_files(tables: &Tables) -> bool
     all_admitted(&tables.files, tables)
 }
 
-impl Admits<LoadFile> for Tables {
+impl Asks<LoadFile> for Tables {
     ghost ready = { HasRoom };
 
     ghost admits = { IsCardFile };

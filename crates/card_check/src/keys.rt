@@ -10,7 +10,7 @@ ghost use Rattle.card_types.specs.Says.{keeps_counter};
 ghost use Rattle.card_types.specs.declared.limits.TheConstants.{COUNTER_LIMIT, KEYS};
 
 use crate::domains::is_domain;
-use crate::slots::{Admits, all_admitted};
+use crate::slots::{Asks, all_admitted};
 use card_types::{COUNTER_LIMIT, DOMAIN_KEYS, KEYS, KeyRec, Tables, in_slot, set_of};
 
 /// The length of a key.
@@ -33,7 +33,7 @@ pub fn has_card_keys(tables: &Tables) -> bool
     all_admitted(&tables.keys, tables)
 }
 
-impl Admits<KeyRec> for Tables {
+impl Asks<KeyRec> for Tables {
     ghost ready = { HasRoom };
 
     ghost admits = { IsCardKey };

@@ -7,7 +7,7 @@ ghost use Rattle.card_types.specs.Well.{IsObject};
 ghost use Rattle.card_types.specs.declared.limits.TheConstants.{OBJECTS};
 
 use crate::domains::is_domain;
-use crate::slots::{Admits, all_admitted};
+use crate::slots::{Asks, all_admitted};
 use card_types::{OBJECTS, Object, Tables, in_slot};
 
 /// The tag of the Issuer Identification Number.
@@ -33,7 +33,7 @@ pub fn has_card_objects(tables: &Tables) -> bool
     all_admitted(&tables.objects, tables)
 }
 
-impl Admits<Object> for Tables {
+impl Asks<Object> for Tables {
     ghost ready = { HasRoom };
 
     ghost admits = { IsCardObject };

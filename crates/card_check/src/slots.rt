@@ -6,7 +6,7 @@ ghost use Rattle.card_check.specs.EachSlot.{EachSlot};
 use card_types::in_slot;
 
 /// What is asked of a thing in a slot.
-pub trait Admits<T> {
+pub trait Asks<T> {
     ghost ready: { Self → Type 0 };
 
     ghost admits: { Self → ℕ → T → Type 0 };
@@ -17,7 +17,7 @@ pub trait Admits<T> {
 }
 
 /// Whether each thing in a slot is admitted.
-pub fn all_admitted<T, A: Admits<T>>(slots: &[Option<T>], asks: &A) -> bool
+pub fn all_admitted<T, A: Asks<T>>(slots: &[Option<T>], asks: &A) -> bool
     requires ready { A.ready asks.now }
     requires few { length slots.now ≤ 255 }
     ensures { IsTrue result ↔ EachSlot slots.now (A.admits asks.now) }

@@ -3,4 +3,4 @@ use Rattle.card_types.specs.Slots.{held}
 use Rattle.card_check.proofs.slots.all_admitted.Given as goal
 
 abbrev pub invariant-loop-slot : goal.invariant-loop-slot
-invariant-loop-slot g l = (k : ℕ) (thing : _) → k < l.slot → held l.slots k ≡ Some thing → g.A.Admits.admits l.asks k thing
+invariant-loop-slot g l = (k : ℕ) (thing : _) → k < l.slot → held l.slots k ≡ Some thing → g.A.Asks.admits l.asks k thing
