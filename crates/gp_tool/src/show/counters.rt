@@ -24,11 +24,11 @@ const LONE_VERSION: u8 = 0x70;
 
 /// The sequence counters, by their owners' AIDs and their key version numbers. A key keeps each.
 #[derive(Drop)]
-pub struct Counters<'a> {
+pub struct ListedCounters<'a> {
     pub tables: &'a Tables,
 }
 
-impl Listing<KeyRec> for Counters<'_> {
+impl Listing<KeyRec> for ListedCounters<'_> {
     ghost Named = { Counter };
 
     ghost named = { λ counters key. counter_of counters.tables.now.entries.items key };
@@ -50,7 +50,7 @@ impl Listing<KeyRec> for Counters<'_> {
     ghost total = { counter_order_total };
 }
 
-impl TextListing<KeyRec> for Counters<'_> {
+impl TextListing<KeyRec> for ListedCounters<'_> {
     ghost text = { λ counters key. counter_line (counter_of counters.tables.now.entries.items key) };
 
     ghost can_spell = { λ _ key. key.counter ≤ COUNTER_LIMIT };
@@ -75,5 +75,5 @@ pub fn show_counters<K: Sink>(tables: &Tables, sink: &mut K) -> Result<(), Write
     ensures flushes { K.flushes sink.new ≡ K.flushes sink.old }
     ensures cause { HasCause (K.faults sink.old) (K.faults sink.new) result }
 {
-    write_lines(&Counters { tables }, &tables.keys, sink)
+    write_lines(&ListedCounters { tables }, &tables.keys, sink)
 }

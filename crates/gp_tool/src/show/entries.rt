@@ -23,11 +23,11 @@ use io_edge::{Sink, WriteFailed};
 
 /// The entries, in ascending order of their AIDs.
 #[derive(Drop)]
-pub struct Entries<'a> {
+pub struct ListedEntries<'a> {
     pub tables: &'a Tables,
 }
 
-impl Listing<Entry> for Entries<'_> {
+impl Listing<Entry> for ListedEntries<'_> {
     ghost Named = { NamedEntry };
 
     ghost named = { λ entries entry. entry_of entries.tables.now.entries.items entries.tables.now.files.items entry };
@@ -47,7 +47,7 @@ impl Listing<Entry> for Entries<'_> {
     ghost total = { on_total (λ (entry : NamedEntry). entry.aid) nat_list_cmp_total };
 }
 
-impl TextListing<Entry> for Entries<'_> {
+impl TextListing<Entry> for ListedEntries<'_> {
     ghost text = { λ entries entry. entry_line (entry_of entries.tables.now.entries.items entries.tables.now.files.items entry) };
 
     ghost can_spell = { λ _ _. Unit {0} };
@@ -110,5 +110,5 @@ pub fn show_entries<K: Sink>(tables: &Tables, sink: &mut K) -> Result<(), WriteF
     ensures flushes { K.flushes sink.new ≡ K.flushes sink.old }
     ensures cause { HasCause (K.faults sink.old) (K.faults sink.new) result }
 {
-    write_lines(&Entries { tables }, &tables.entries, sink)
+    write_lines(&ListedEntries { tables }, &tables.entries, sink)
 }

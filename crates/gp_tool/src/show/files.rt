@@ -28,9 +28,9 @@ use io_edge::Sink;
 
 /// The Executable Load Files, in ascending order of their AIDs.
 #[derive(Drop)]
-pub struct Files;
+pub struct ListedFiles;
 
-impl Listing<LoadFile> for Files {
+impl Listing<LoadFile> for ListedFiles {
     ghost Named = { List ℕ };
 
     ghost named = { λ _ file. file.aid };
@@ -80,7 +80,7 @@ fn next_file(tables: &Tables, last: Option<LoadFile>) -> Option<(u8, LoadFile)>
     ensures some { IfSome result (λ found. IsLeast (is_next_file last) (λ a b. aid_order a.aid b.aid) tables.now.files.items found.0 found.1) }
     ensures none { IfNone result (NoneFits (is_next_file last) tables.now.files.items) }
 {
-    match next(&Files, &tables.files, last.as_ref()) {
+    match next(&ListedFiles, &tables.files, last.as_ref()) {
         Some(found) => Some((found.slot, *found.thing)),
         None => None,
     }

@@ -20,11 +20,11 @@ use io_edge::{Sink, WriteFailed};
 
 /// The keys, by their owners' AIDs, their key version numbers and their key identifiers.
 #[derive(Drop)]
-pub struct Keys<'a> {
+pub struct ListedKeys<'a> {
     pub tables: &'a Tables,
 }
 
-impl Listing<KeyRec> for Keys<'_> {
+impl Listing<KeyRec> for ListedKeys<'_> {
     ghost Named = { Key };
 
     ghost named = { λ keys key. key_of keys.tables.now.entries.items key };
@@ -50,7 +50,7 @@ impl Listing<KeyRec> for Keys<'_> {
     ghost total = { key_order_total };
 }
 
-impl TextListing<KeyRec> for Keys<'_> {
+impl TextListing<KeyRec> for ListedKeys<'_> {
     ghost text = { λ keys key. key_line (key_of keys.tables.now.entries.items key) };
 
     ghost can_spell = { λ _ _. Unit {0} };
@@ -76,5 +76,5 @@ pub fn show_keys<K: Sink>(tables: &Tables, sink: &mut K) -> Result<(), WriteFail
     ensures flushes { K.flushes sink.new ≡ K.flushes sink.old }
     ensures cause { HasCause (K.faults sink.old) (K.faults sink.new) result }
 {
-    write_lines(&Keys { tables }, &tables.keys, sink)
+    write_lines(&ListedKeys { tables }, &tables.keys, sink)
 }

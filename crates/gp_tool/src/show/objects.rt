@@ -20,11 +20,11 @@ use io_edge::{Sink, WriteFailed};
 
 /// The data objects, by their owners' AIDs and their tags.
 #[derive(Drop)]
-pub struct Objects<'a> {
+pub struct ListedObjects<'a> {
     pub tables: &'a Tables,
 }
 
-impl Listing<Object> for Objects<'_> {
+impl Listing<Object> for ListedObjects<'_> {
     ghost Named = { NamedObject };
 
     ghost named = { λ objects object. object_of objects.tables.now.entries.items object };
@@ -46,7 +46,7 @@ impl Listing<Object> for Objects<'_> {
     ghost total = { object_order_total };
 }
 
-impl TextListing<Object> for Objects<'_> {
+impl TextListing<Object> for ListedObjects<'_> {
     ghost text = { λ objects object. object_line (object_of objects.tables.now.entries.items object) };
 
     ghost can_spell = { λ _ _. Unit {0} };
@@ -70,5 +70,5 @@ pub fn show_objects<K: Sink>(tables: &Tables, sink: &mut K) -> Result<(), WriteF
     ensures flushes { K.flushes sink.new ≡ K.flushes sink.old }
     ensures cause { HasCause (K.faults sink.old) (K.faults sink.new) result }
 {
-    write_lines(&Objects { tables }, &tables.objects, sink)
+    write_lines(&ListedObjects { tables }, &tables.objects, sink)
 }
