@@ -1,9 +1,8 @@
 -- The registry that the slots of a card lay out.
 use Rattle.std.proofs.Common.{◌≡◌, ℕ, ◌==◌, List, refl, sym, ◌∙◌}
 use Rattle.std.specs.Prelude.{filter, map, nat_lt}
-use Rattle.std.specs.Ordering.{nat_cmp, ordering_then}
+use Rattle.std.specs.Ordering.{nat_cmp}
 use Rattle.std.specs.declared.cmp.Ordering.{Ordering}
-use Rattle.std.specs.declared.cmp.Ordering.TheVariants.{Less, Equal, Greater}
 use Rattle.std.proofs.lemmas.Bool.{and_parts, eqb-true}
 use Rattle.std.proofs.lemmas.Cmp.{nat_list_cmp_total, on_total}
 use Rattle.std.proofs.lemmas.Map.Lookups.{exact_unsigned}
@@ -18,17 +17,12 @@ use Rattle.card_types.specs.declared.tables.Object.{Object}
 use Rattle.card_types.specs.declared.tables.Tables.{Tables}
 use Rattle.card_types.proofs.KeyNames.{counter_order_total, key_order_total}
 use Rattle.card_types.proofs.LeastOfList.{names_sorted}
+use Rattle.card_types.proofs.NotAbove.{then_equal}
 use Rattle.card_types.proofs.ObjectNames.{object_order_total}
 use Rattle.card_types.proofs.SameAid.{aid_equal_same}
 use Rattle.card_check.specs.CardSlots.{HasCardSlots}
 use Rattle.card_check.proofs.CardNames.{one_entry, one_file, one_key, one_object}
 use Rattle.card_check.proofs.Sorting.{Sorted, sort_kept, sort_used}
-
--- two orders one after the other tie where both do
-then_equal : (first second : Ordering) → ordering_then first second ≡ Equal → (first ≡ Equal) × (second ≡ Equal)
-then_equal Less second tied = cc
-then_equal Equal second tied = (refl, tied)
-then_equal Greater second tied = cc
 
 module _ (page : ℕ → List ℕ) (tables : Tables) (card : HasCardSlots tables) where
   abbrev view_entry : Entry → registry.Entry

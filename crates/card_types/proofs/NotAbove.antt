@@ -1,7 +1,7 @@
--- What is not above what, in a total order.
+-- What is not above what in a total order, and what ties in two orders one after the other.
 use Rattle.std.proofs.Common.{◌≡◌, ◌≢◌, refl, sym, ap, ◌∙◌}
 use Rattle.std.specs.Cmp.{IsTotalOrder}
-use Rattle.std.specs.Ordering.{ordering_reverse}
+use Rattle.std.specs.Ordering.{ordering_reverse, ordering_then}
 use Rattle.std.specs.declared.cmp.Ordering.{Ordering}
 use Rattle.std.specs.declared.cmp.Ordering.TheVariants.{Less, Equal, Greater}
 
@@ -26,3 +26,9 @@ module _ {T : Type 0} {order : T → T → Ordering} (total : IsTotalOrder order
 
   pub not_below : (a b : T) → (order a b ≡ Less → ⊥) → order b a ≢ Greater
   not_below a b least above = least (total.antisymm a b ∙ ap ordering_reverse above)
+
+-- two orders one after the other tie where both do
+pub then_equal : (first second : Ordering) → ordering_then first second ≡ Equal → (first ≡ Equal) × (second ≡ Equal)
+then_equal Less second tied = cc
+then_equal Equal second tied = (refl, tied)
+then_equal Greater second tied = cc
