@@ -13,6 +13,7 @@ use Rattle.std.proofs.lemmas.Map.Lookups.{exact_unsigned}
 use Rattle.card_types.proofs.ChangeExists.{put_in}
 use Rattle.card_types.proofs.KeyNames.{counter_order_total, key_order_total}
 use Rattle.card_types.proofs.Members.{contains_cases, filtered}
+use Rattle.card_types.proofs.NotAbove.{then_equal}
 use Rattle.card_types.proofs.SameAid.{aid_equal_same, same_aid_decides}
 use Rattle.card_types.specs.AidOrder.{aid_order, same_aid}
 use Rattle.card_types.specs.Ascending.{IsAscending, counter_order, key_order}
@@ -42,21 +43,16 @@ module _ {X : Type 0} (order : X → X → Ordering) (total : IsTotalOrder order
         },
       )
 
-both_equal : (a b : Ordering) → ordering_then a b ≡ Equal → (a ≡ Equal) × (b ≡ Equal)
-both_equal Less b tied = cc
-both_equal Equal b tied = (refl, tied)
-both_equal Greater b tied = cc
-
 -- keys that tie have one name, and so do counters
 key_tie : (a b : Key) → key_order a b ≡ Equal → (a.owner ≡ b.owner) × (a.version ≡ b.version) × (a.identifier ≡ b.identifier)
 key_tie a b tied =
-    let owner = both_equal (aid_order a.owner b.owner) (ordering_then (nat_cmp a.version b.version) (nat_cmp a.identifier b.identifier)) tied in
-    let rest = both_equal (nat_cmp a.version b.version) (nat_cmp a.identifier b.identifier) owner.1 in
+    let owner = then_equal (aid_order a.owner b.owner) (ordering_then (nat_cmp a.version b.version) (nat_cmp a.identifier b.identifier)) tied in
+    let rest = then_equal (nat_cmp a.version b.version) (nat_cmp a.identifier b.identifier) owner.1 in
     (aid_equal_same a.owner b.owner owner.0, exact_unsigned a.version b.version rest.0, exact_unsigned a.identifier b.identifier rest.1)
 
 counter_tie : (a b : Counter) → counter_order a b ≡ Equal → (a.owner ≡ b.owner) × (a.version ≡ b.version)
 counter_tie a b tied =
-    let both = both_equal (aid_order a.owner b.owner) (nat_cmp a.version b.version) tied in
+    let both = then_equal (aid_order a.owner b.owner) (nat_cmp a.version b.version) tied in
     (aid_equal_same a.owner b.owner both.0, exact_unsigned a.version b.version both.1)
 
 is_of_name : (owner other : List ℕ) (version number : ℕ) → other ≡ owner → number ≡ version → (same_aid other owner && number == version) ≡ true

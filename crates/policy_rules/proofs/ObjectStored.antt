@@ -3,9 +3,9 @@ use Rattle.std.proofs.Common.{◌≡◌, inl, inr, ℕ, Bool, true, false, ◌==
 use Rattle.std.specs.Prelude.{filter, find, not}
 use Rattle.std.specs.List.{list_any}
 use Rattle.std.specs.List.Sorted.{IsPermutation, IsStrictlySortedBy}
-use Rattle.std.specs.Ordering.{nat_cmp, ordering_then}
+use Rattle.std.specs.Ordering.{nat_cmp}
 use Rattle.std.specs.declared.cmp.Ordering.{Ordering}
-use Rattle.std.specs.declared.cmp.Ordering.TheVariants.{Less, Equal, Greater}
+use Rattle.std.specs.declared.cmp.Ordering.TheVariants.{Less, Equal}
 use Rattle.std.proofs.lemmas.Bool.{and_from, and_parts, cases_Bool, or_parts, eq-eqb, eqb-true}
 use Rattle.std.proofs.lemmas.List.Sorted.{IsPermutation-cons, IsPermutation-middle, IsPermutation-refl, IsPermutation-sym, IsPermutation-trans}
 use Rattle.std.proofs.lemmas.Map.Lookups.{exact_unsigned}
@@ -13,6 +13,7 @@ use Rattle.bertlv.specs.Spelling.{Element}
 use Rattle.card_types.proofs.AtMostOnce.{once_from_sorted, without_first}
 use Rattle.card_types.proofs.ChangeExists.{put_in, put_in_place}
 use Rattle.card_types.proofs.LeastOfList.{first_below, found_fits, none_fits, none_found, others_sorted}
+use Rattle.card_types.proofs.NotAbove.{then_equal}
 use Rattle.card_types.proofs.ObjectNames.{object_order_total}
 use Rattle.card_types.proofs.SameAid.{aid_equal_same, aid_same_equal, same_aid_decides}
 use Rattle.card_types.proofs.SetNames.{same_number}
@@ -73,12 +74,6 @@ module _ {X : Type 0} (p : X → Bool) where
           (IsPermutation-cons y ys (x ∷ filter (λ z. not (p z)) ys) behind)
           (IsPermutation-middle (y ∷ []) x (filter (λ z. not (p z)) ys))))
     ]
-
--- two orders one after the other tie where both do
-then_equal : (first second : Ordering) → ordering_then first second ≡ Equal → (first ≡ Equal) × (second ≡ Equal)
-then_equal Less second tied = cc
-then_equal Equal second tied = (refl, tied)
-then_equal Greater second tied = cc
 
 pub is_of_parts : (owner : List ℕ) (tag : ℕ) (x : Object) → is_object_of owner tag x ≡ true → (x.owner ≡ owner) × (x.tag ≡ tag)
 is_of_parts owner tag x fits =
