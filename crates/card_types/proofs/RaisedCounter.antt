@@ -1,13 +1,12 @@
 -- The registry in which the counter of one key set is one higher.
-use Rattle.std.proofs.Common.{◌≡◌, inl, inr, ℕ, ◌+◌, ◌<◌, ◌≤◌, Bool, true, false, ◌==◌, ◌&&◌, List, [], ◌∷◌, Option, None, Some, refl, ap, sym, subst, ◌∙◌, arith}
-use Rattle.std.specs.Prelude.{Contains, find, map}
+use Rattle.std.proofs.Common.{◌≡◌, inl, inr, ℕ, ◌+◌, ◌<◌, ◌≤◌, Bool, true, false, ◌==◌, ◌&&◌, List, [], ◌∷◌, Some, refl, ap, sym, subst, ◌∙◌, arith}
+use Rattle.std.specs.Prelude.{Contains, map}
 use Rattle.std.specs.Cmp.{IsTotalOrder}
 use Rattle.std.specs.List.Sorted.{IsPermutation, IsStrictlySortedBy}
-use Rattle.std.specs.Option.{option_map}
 use Rattle.std.specs.Ordering.{ordering_reverse}
 use Rattle.std.specs.declared.cmp.Ordering.{Ordering}
 use Rattle.std.specs.declared.cmp.Ordering.TheVariants.{Less, Equal, Greater}
-use Rattle.std.proofs.lemmas.Bool.{and_from, and_parts, cases_Bool, cond_both, eq-eqb, eqb-true, false_from_ne_true}
+use Rattle.std.proofs.lemmas.Bool.{and_from, and_parts, cases_Bool, cond_both, eq-eqb, eqb-true}
 use Rattle.std.proofs.lemmas.List.Elements.{All-contains, All-contains_itself, All-weaker}
 use Rattle.std.proofs.lemmas.List.Sorted.{IsPermutation-cons, IsPermutation-middle, IsPermutation-trans}
 use Rattle.card_types.specs.AidOrder.{same_aid}
@@ -18,7 +17,7 @@ use Rattle.card_types.specs.Registry.{Counter, Entry, Key, LoadFile, Object, Reg
 use Rattle.card_types.specs.Well.{HasCounterOf, HasKeyNamed, IsWellCounter, IsWellEntry, IsWellFile, IsWellKey, IsWellObject, IsWholeSet, Well}
 use Rattle.card_types.specs.declared.limits.TheConstants.{COUNTER_LIMIT}
 use Rattle.card_types.proofs.KeyNames.{counter_order_total}
-use Rattle.card_types.proofs.LeastOfList.{find_first, find_later, first_below, found_fits, least_found, names_sorted, others_sorted}
+use Rattle.card_types.proofs.LeastOfList.{first_below, least_found, names_sorted, others_sorted}
 use Rattle.card_types.proofs.Members.{contains_cases, contains_first, contains_later, contains_map, mapped}
 use Rattle.card_types.proofs.SameAid.{aid_same_equal, same_aid_decides}
 use Rattle.card_types.proofs.SetNames.{same_number}
