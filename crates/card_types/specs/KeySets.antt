@@ -1,6 +1,6 @@
 -- Key sets: the three keys of one key version number. Key version number 00 asks for any set (GlobalPlatform Card
 -- Specification 2.3.1, 11.8; Amendment D, 7.1.1).
-use Rattle.std.specs.Prelude.{◌≡◌, ℕ, ◌≤◌, ◌⊎◌, List, [], ◌∷◌, Option, MatchOption}
+use Rattle.std.specs.Prelude.{◌≡◌, ℕ, ◌≤◌, ◌==◌, ◌⊎◌, List, [], ◌∷◌, Bool, ◌&&◌, Option, MatchOption}
 use Rattle.card_types.specs.Slots.{held}
 use Rattle.card_types.specs.declared.tables.KeyRec.{KeyRec}
 
@@ -9,6 +9,10 @@ pub record IsKeyOf (owner version identifier : ℕ) (key : KeyRec) : Type 0 wher
   pub same_owner : key.owner ≡ owner
   pub same_version : key.version ≡ version
   pub same_identifier : key.identifier ≡ identifier
+
+-- the same, as a test
+abbrev pub is_key : ℕ → ℕ → ℕ → KeyRec → Bool
+is_key owner version identifier key = key.owner == owner && key.version == version && key.identifier == identifier
 
 -- the slot holds that key
 abbrev pub HasKey : List (Option KeyRec) → ℕ → ℕ → ℕ → ℕ → Type 0

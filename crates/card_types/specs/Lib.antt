@@ -16,6 +16,7 @@ pub mod InOrder
 pub mod Layout
 pub mod Least
 pub mod Nearer
+pub mod First
 pub mod Found
 pub mod Following
 pub mod KeySets

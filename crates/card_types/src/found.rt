@@ -1,15 +1,15 @@
 //! Entries and Executable Load Files by their AIDs.
 
-ghost use Rattle.std.specs.Prelude.{◌≡◌, ◌≢◌, ◌↔◌, IsTrue, IfSome, IfNone, vec_len, option_copied};
+ghost use Rattle.std.specs.Prelude.{◌≡◌, ◌≢◌, IfSome, IfNone, vec_len, option_copied};
 ghost use Rattle.card_types.specs.Found.{IsNext, NoneFollows, aid_of};
-ghost use Rattle.card_types.specs.AidOrder.{aid_order};
+ghost use Rattle.card_types.specs.AidOrder.{aid_order, same_aid};
 ghost use Rattle.card_types.specs.Following.{is_above};
 ghost use Rattle.std.proofs.lemmas.Cmp.{nat_list_cmp_total, on_total};
 
 use crate::aid::Aid;
 use crate::limits::{ENTRIES, FILES};
-use crate::search::{Search, least};
-use crate::tables::{Entry, LoadFile, Tables, in_slot};
+use crate::search::{Search, Wants, first_that, least};
+use crate::tables::{Entry, LoadFile, Tables};
 
 /// A thing of the registry, by its slot.
 #[derive(Clone, Copy, Debug, PartialEq, Eq)]
@@ -34,27 +34,33 @@ pub enum Kind {
     Files,
 }
 
-fn aid_at(tables: &Tables, found: Found) -> Option<&Aid>
-    ensures { option_copied result ≡ aid_of tables.now found }
-{
-    match found {
-        Found::Entry(slot) => match in_slot(&tables.entries, slot) {
-            Some(entry) => Some(&entry.aid),
-            None => None,
-        },
-        Found::File(slot) => match in_slot(&tables.files, slot) {
-            Some(file) => Some(&file.aid),
-            None => None,
-        },
+// Things with this AID.
+#[derive(Drop)]
+struct WithAid<'a> {
+    aid: &'a Aid,
+}
+
+impl WithAid<'_> {
+    fn is(&self, aid: &Aid) -> bool
+        ensures { result ≡ same_aid aid.now self.now.aid.now }
+    {
+        aid == self.aid
     }
 }
 
-fn has_aid(tables: &Tables, found: Found, aid: &Aid) -> bool
-    ensures { IsTrue result ↔ (aid_of tables.now found ≡ Some aid.now) }
-{
-    match aid_at(tables, found) {
-        Some(other) => other == aid,
-        None => false,
+impl Wants<Entry> for WithAid<'_> {
+    ghost fits = { λ with entry. same_aid entry.aid with.aid.now };
+
+    fn fits(&self, thing: &Entry) -> bool {
+        self.is(&thing.aid)
+    }
+}
+
+impl Wants<LoadFile> for WithAid<'_> {
+    ghost fits = { λ with file. same_aid file.aid with.aid.now };
+
+    fn fits(&self, thing: &LoadFile) -> bool {
+        self.is(&thing.aid)
     }
 }
 
@@ -65,17 +71,14 @@ pub fn find(tables: &Tables, aid: &Aid) -> Option<Found>
     ensures some { IfSome result (λ found. aid_of tables.now found ≡ Some aid.now) }
     ensures none { IfNone result ((found : Found) → aid_of tables.now found ≢ Some aid.now) }
 {
-    for slot in 0..ENTRIES as u8 {
-        if has_aid(tables, Found::Entry(slot), aid) {
-            return Some(Found::Entry(slot));
-        }
+    let with = WithAid { aid };
+    if let Some(found) = first_that(&tables.entries, &with) {
+        return Some(Found::Entry(found.slot));
     }
-    for slot in 0..FILES as u8 {
-        if has_aid(tables, Found::File(slot), aid) {
-            return Some(Found::File(slot));
-        }
+    match first_that(&tables.files, &with) {
+        Some(found) => Some(Found::File(found.slot)),
+        None => None,
     }
-    None
 }
 
 // Things with an AID above the given one, if one is given, by their AIDs.

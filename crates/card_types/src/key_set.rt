@@ -2,40 +2,57 @@
 
 ghost use Rattle.std.specs.Prelude.{◌≡◌, ◌≤◌, ◌↔◌, ◌⊎◌, ℕ, List, Some, IsSome, IsTrue, IfSome, IfNone, Contains, length};
 ghost use Rattle.card_types.specs.InOrder.{IsInOrder};
-ghost use Rattle.card_types.specs.KeySets.{HasKey, HasKeys, IsSetOf, NoSetOf};
+ghost use Rattle.card_types.specs.KeySets.{HasKey, HasKeys, IsKeyOf, IsSetOf, NoSetOf, is_key};
 ghost use Rattle.card_types.specs.NamedKeys.{AreKeysOf, HaveKeyLength};
 ghost use Rattle.card_types.specs.Registry.{Counter, Registry};
 ghost use Rattle.card_types.specs.Says.{Says, domain_aid};
 ghost use Rattle.card_types.specs.Slots.{held};
 ghost use Rattle.card_types.specs.Well.{Well};
+ghost use Rattle.card_types.specs.declared.limits.TheConstants.{KEYS};
 ghost use Rattle.card_types.specs.declared.tables.Entry.{Entry};
 
-use crate::limits::KEYS;
+use crate::search::{InSlot, Wants, first_that};
 use crate::tables::{KeyRec, Tables, in_slot};
 
 /// The highest key version number of a key set. Keys of higher ones stand alone.
 pub const LAST_VERSION: u8 = 0x6F;
 
-fn has_key(keys: &[Option<KeyRec>], owner: u8, version: u8, identifier: u8, slot: u8) -> bool
-    ensures { IsTrue result ↔ HasKey keys.now owner version identifier slot }
-{
-    match in_slot(keys, slot) {
-        Some(key) => key.owner == owner && key.version == version && key.identifier == identifier,
-        None => false,
+// The key of the domain in the slot `owner` with this key version number and key identifier.
+#[derive(Drop)]
+struct OneKey {
+    owner: u8,
+    version: u8,
+    identifier: u8,
+}
+
+impl Wants<KeyRec> for OneKey {
+    ghost fits = { λ one key. is_key one.owner one.version one.identifier key };
+
+    fn fits(&self, thing: &KeyRec) -> bool {
+        thing.owner == self.owner
+            && thing.version == self.version
+            && thing.identifier == self.identifier
     }
 }
 
-fn key_slot(keys: &[Option<KeyRec>], owner: u8, version: u8, identifier: u8) -> Option<u8>
-    requires { length keys.now ≡ KEYS }
-    ensures some { IfSome result (HasKey keys.now owner version identifier) }
+/// The key of the domain in the slot `owner` with this key version number and key identifier.
+pub fn find_key(
+    keys: &[Option<KeyRec>],
+    owner: u8,
+    version: u8,
+    identifier: u8,
+) -> Option<InSlot<'_, KeyRec>>
+    requires { length keys.now ≤ 256 }
+    ensures slot { IfSome result (λ found. held keys.now found.slot ≡ Some found.thing.now) }
+    ensures key { IfSome result (λ found. IsKeyOf owner version identifier found.thing.now) }
     ensures none { IfNone result ((slot : ℕ) → HasKey keys.now owner version identifier slot → ⊥) }
 {
-    for slot in 0..KEYS as u8 {
-        if has_key(keys, owner, version, identifier, slot) {
-            return Some(slot);
-        }
-    }
-    None
+    let one = OneKey {
+        owner,
+        version,
+        identifier,
+    };
+    first_that(keys, &one)
 }
 
 fn slots_of(keys: &[Option<KeyRec>], owner: u8, version: u8) -> Option<[u8; 3]>
@@ -43,10 +60,10 @@ fn slots_of(keys: &[Option<KeyRec>], owner: u8, version: u8) -> Option<[u8; 3]>
     ensures some { IfSome result (HasKeys keys.now owner version) }
     ensures none { IfNone result ((slots : List ℕ) → HasKeys keys.now owner version slots → ⊥) }
 {
-    let first = key_slot(keys, owner, version, 1)?;
-    let second = key_slot(keys, owner, version, 2)?;
-    let third = key_slot(keys, owner, version, 3)?;
-    Some([first, second, third])
+    let first = find_key(keys, owner, version, 1)?;
+    let second = find_key(keys, owner, version, 2)?;
+    let third = find_key(keys, owner, version, 3)?;
+    Some([first.slot, second.slot, third.slot])
 }
 
 fn is_asked(given: u8, version: u8) -> bool

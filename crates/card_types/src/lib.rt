@@ -21,7 +21,7 @@ pub use factory::{
     issuer_domain,
 };
 pub use found::{Found, Kind, find, next_after};
-pub use key_set::{KeySet, keys_of_set, set_of};
+pub use key_set::{KeySet, find_key, keys_of_set, set_of};
 pub use level::Level;
 pub use life::{Life, LifeMark};
 pub use limits::{
@@ -30,5 +30,5 @@ pub use limits::{
 };
 pub use pinned::constants;
 pub use privileges::Privileges;
-pub use search::{InSlot, Search, least};
+pub use search::{InSlot, Search, Wants, first_free, first_that, least};
 pub use tables::{Entry, ISSUER_SLOT, KeyRec, LoadFile, Object, Tables, in_slot};

@@ -1,11 +1,21 @@
-//! The least of the things in slots that fit.
+//! Searches of slots: the first free one, the first thing that fits, and the least one.
 
 ghost use Rattle.std.specs.Prelude.{◌≡◌, ℕ, ◌≤◌, Bool, true, List, Some, IfSome, IfNone, if◌then◌else◌, length};
 ghost use Rattle.std.specs.Cmp.{IsTotalOrder};
 ghost use Rattle.std.specs.Ordering.{is_lt};
 ghost use Rattle.std.specs.declared.cmp.Ordering.{Ordering};
+ghost use Rattle.card_types.specs.First.{IsFirstFitting, IsFirstFree, NoneFree};
 ghost use Rattle.card_types.specs.Least.{NoneFits};
 ghost use Rattle.card_types.specs.Nearer.{IsLeastFound, is_nearer};
+
+/// What is looked for among things of one type.
+pub trait Wants<T> {
+    ghost fits: { Self → T → Bool };
+
+    /// Whether the thing is one of those looked for.
+    fn fits(&self, thing: &T) -> bool
+        ensures { result ≡ fits self.now thing.now };
+}
 
 /// What is looked for among things of one type, and in which order.
 pub trait Search<T> {
@@ -31,6 +41,39 @@ pub trait Search<T> {
 pub struct InSlot<'a, T> {
     pub slot: u8,
     pub thing: &'a T,
+}
+
+/// The first slot that holds nothing.
+pub fn first_free<T>(slots: &[Option<T>]) -> Option<u8>
+    requires { length slots.now ≤ 256 }
+    ensures some { IfSome result (IsFirstFree slots.now) }
+    ensures none { IfNone result (NoneFree slots.now) }
+{
+    for (slot, thing) in slots.iter().enumerate() {
+        if thing.is_none() {
+            return Some(slot as u8);
+        }
+    }
+    None
+}
+
+/// The first of the things that are looked for.
+pub fn first_that<'a, T, W: Wants<T>>(slots: &'a [Option<T>], wanted: &W) -> Option<InSlot<'a, T>>
+    requires { length slots.now ≤ 256 }
+    ensures some { IfSome result (IsFirstFitting (W.fits wanted.now) slots.now) }
+    ensures none { IfNone result (NoneFits (W.fits wanted.now) slots.now) }
+{
+    for (slot, thing) in slots.iter().enumerate() {
+        if let Some(thing) = thing {
+            if wanted.fits(thing) {
+                return Some(InSlot {
+                    slot: slot as u8,
+                    thing,
+                });
+            }
+        }
+    }
+    None
 }
 
 /// The least of the things that are looked for.
