@@ -1,9 +1,10 @@
 -- How many things there are by names, and whether a slot is free.
 use Rattle.std.proofs.Common.{◌≡◌, ◌≢◌, ℕ, zero, suc, ◌<◌, ◌≤◌, List, [], ◌∷◌, length, Option, None, Some, refl, ap, ◌∙◌, arith}
-use Rattle.std.specs.Prelude.{map}
+use Rattle.std.specs.Prelude.{IfNone, IsSome, map}
 use Rattle.std.specs.List.Sorted.{IsPermutation}
 use Rattle.std.proofs.lemmas.List.{length-map}
 use Rattle.std.proofs.lemmas.List.Sorted.{length_permutation}
+use Rattle.card_types.specs.First.{NoneFree}
 use Rattle.card_types.specs.Registry as registry
 use Rattle.card_types.specs.Says.{Says, entry_of, file_of, key_of, object_of, used}
 use Rattle.card_types.specs.Slots.{held}
@@ -21,10 +22,16 @@ module _ {T : Type 0} where
   used_fewer (Some thing ∷ slots) zero within free = cc
   used_fewer (Some thing ∷ slots) (suc slot) within free = (let rest = used_fewer slots slot (omega arith) free in omega arith)
 
+  -- where each slot holds something, there are as many things as slots
   used_all : (slots : List (Option T)) → ((slot : ℕ) → slot < length slots → held slots slot ≢ None) → length (used slots) ≡ length slots
   used_all [] full = refl
   used_all (None ∷ slots) full = absurd (full 0 (omega arith) refl)
   used_all (Some thing ∷ slots) full = ap suc (used_all slots (λ slot within. full (suc slot) (omega arith)))
+
+  -- where there are fewer things than slots, a search finds a free slot
+  pub free_found : (slots : List (Option T)) (found : Option ℕ) → length (used slots) < length slots → IfNone found (NoneFree slots) → IsSome found
+  free_found slots None fewer none = absurd (omega (arith, fewer, used_all slots none))
+  free_found slots (Some slot) fewer none = refl
 
   counted : {X : Type 0} (view : T → X) (slots : List (Option T)) (shown : List X) → IsPermutation (map view (used slots)) shown → length shown ≡ length (used slots)
   counted view slots shown same = length_permutation _ shown same ∙ length-map (used slots) view

@@ -1,16 +1,15 @@
 -- Keys that stay and keys that go, slot by slot.
-use Rattle.std.proofs.Common.{◌≡◌, ◌≢◌, inl, inr, ℕ, zero, suc, ◌+◌, ◌<◌, Bool, true, false, ◌&&◌, List, [], ◌∷◌, length, Option, None, Some, refl, ap, sym, subst, ◌∙◌, arith}
-use Rattle.std.specs.Prelude.{filter, map, not, slice_set}
+use Rattle.std.proofs.Common.{◌≡◌, inl, inr, ℕ, zero, suc, ◌+◌, ◌<◌, Bool, true, false, ◌&&◌, List, [], ◌∷◌, length, Option, None, Some, refl, ap, subst, ◌∙◌, arith}
+use Rattle.std.specs.Prelude.{filter, not, slice_set}
 use Rattle.std.specs.List.{list_any}
 use Rattle.std.specs.List.Sorted.{IsPermutation}
 use Rattle.std.proofs.lemmas.Bool.{cases_Bool, cases_eq, or_parts}
-use Rattle.std.proofs.lemmas.List.{get_or-set_other, get_or-set_same, length-map}
-use Rattle.std.proofs.lemmas.List.Sorted.{IsPermutation-refl, IsPermutation-sym}
+use Rattle.std.proofs.lemmas.List.{get_or-set_other, get_or-set_same}
+use Rattle.std.proofs.lemmas.List.Sorted.{IsPermutation-sym}
 use Rattle.card_types.specs.Says.{used}
 use Rattle.card_types.specs.Slots.{held}
 use Rattle.card_types.specs.declared.tables.KeyRec.{KeyRec}
 use Rattle.card_types.proofs.ChangedSlot.{set_shown}
-use Rattle.card_types.proofs.Room.{no_room}
 use Rattle.key_sets.specs.InSlots.{holds_one_of}
 use Rattle.key_sets.specs.Puts.{is_of, staying}
 
@@ -60,12 +59,6 @@ module _ {T : Type 0} where
   pub put_in : (slots : List (Option T)) (slot : ℕ) (thing : T) → slot < length slots → held slots slot ≡ None
       → IsPermutation (used (slice_set slots slot (Some thing))) (thing ∷ used slots)
   put_in slots slot thing within free = IsPermutation-sym _ _ (rw free at (set_shown (λ (o : Option T). o) slots slot (Some thing) within))
-
-  -- where no slot is free, each holds something
-  pub all_used : (slots : List (Option T)) → ((slot : ℕ) → slot < length slots → held slots slot ≢ None) → length (used slots) ≡ length slots
-  all_used slots full =
-      let shown = map (λ (thing : T). thing) (used slots) in
-      sym (length-map (used slots) (λ (thing : T). thing)) ∙ no_room (λ (thing : T). thing) slots shown (IsPermutation-refl shown) full
 
 -- what is so after one turn of freeing, of the slots that were looked at
 module _ (owner version : ℕ) (slots : List (Option KeyRec)) (slot : ℕ) (before : (k : ℕ) → k < slot → holds_one_of owner version (held slots k) ≡ false) where

@@ -1,6 +1,6 @@
 //! Changes of key slots.
 
-ghost use Rattle.std.specs.Prelude.{◌≡◌, ◌<◌, ◌∷◌, None, length};
+ghost use Rattle.std.specs.Prelude.{◌≡◌, ◌<◌, ◌∷◌, length};
 ghost use Rattle.std.specs.List.Sorted.{IsPermutation};
 ghost use Rattle.card_types.specs.Says.{used};
 ghost use Rattle.card_types.specs.Slots.{held};
@@ -10,7 +10,7 @@ ghost use Rattle.key_sets.specs.Puts.{staying};
 ghost use Rattle.rec_store.specs.KeySlot.{IsRoomyKey};
 
 use crate::judge::is_of;
-use card_types::{KEYS, KeyRec, in_slot};
+use card_types::{KEYS, KeyRec, first_free, in_slot};
 use rec_store::RecordKeeper;
 
 fn goes(keys: &[Option<KeyRec>], slot: u8, owner: u8, version: u8) -> bool
@@ -37,20 +37,6 @@ pub fn free<R: RecordKeeper>(keeper: &mut R, owner: u8, version: u8)
     }
 }
 
-fn first_free(keys: &[Option<KeyRec>]) -> u8
-    requires slots { length keys.now ≡ KEYS }
-    requires room { length (used keys.now) < KEYS }
-    ensures free { held keys.now result ≡ None }
-    ensures range { result < KEYS }
-{
-    for slot in 0..KEYS as u8 {
-        if in_slot(keys, slot).is_none() {
-            return slot;
-        }
-    }
-    unreachable!()
-}
-
 /// Puts a key in the first free slot.
 pub fn put_key<R: RecordKeeper>(keeper: &mut R, key: KeyRec)
     requires roomy { R.roomy keeper.old }
@@ -61,6 +47,6 @@ pub fn put_key<R: RecordKeeper>(keeper: &mut R, key: KeyRec)
     ensures same_else { R.same_else keeper.old keeper.new }
     ensures roomy { R.roomy keeper.new }
 {
-    let slot = first_free(keeper.keys());
+    let slot = first_free(keeper.keys()).unwrap();
     keeper.set_key(slot, Some(key));
 }

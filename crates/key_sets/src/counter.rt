@@ -1,41 +1,18 @@
 //! Sequence counters are drawn.
 
-ghost use Rattle.std.specs.Prelude.{◌≡◌, ◌<◌, ◌≤◌, ℕ, List, length, ◌↔◌, IfOk, IsTrue, OnErr};
+ghost use Rattle.std.specs.Prelude.{◌≡◌, ◌<◌, ◌≤◌, ℕ, List, IfOk, OnErr};
 ghost use Rattle.card_types.specs.Counters.{raised_key};
-ghost use Rattle.card_types.specs.KeySets.{HasKey, HasKeys};
-ghost use Rattle.card_types.specs.declared.limits.TheConstants.{COUNTER_LIMIT, KEYS};
+ghost use Rattle.card_types.specs.KeySets.{HasKeys};
+ghost use Rattle.card_types.specs.declared.limits.TheConstants.{COUNTER_LIMIT};
 ghost use Rattle.key_sets.specs.Draws.{Draws, IsSpent};
 
 use arrayvec::ArrayVec;
-use card_types::{COUNTER_LIMIT, KEYS, KeyRec, in_slot};
+use card_types::{COUNTER_LIMIT, KeyRec, find_key};
 use rec_store::RecordKeeper;
 
 /// The sequence counter stands at FFFFFF.
 #[derive(Clone, Copy, Debug, PartialEq, Eq)]
 pub struct Spent;
-
-fn keeps_counter(keys: &[Option<KeyRec>], slot: u8, owner: u8, version: u8) -> bool
-    ensures { IsTrue result ↔ HasKey keys.now owner version 1 slot }
-{
-    match in_slot(keys, slot) {
-        Some(key) => key.owner == owner && key.version == version && key.identifier == 1,
-        None => false,
-    }
-}
-
-fn counter_slot(keys: &[Option<KeyRec>], owner: u8, version: u8) -> u8
-    requires slots { length keys.now ≡ KEYS }
-    requires there { (slot : ℕ) × HasKey keys.now owner version 1 slot }
-    ensures key { HasKey keys.now owner version 1 result }
-    ensures range { result < KEYS }
-{
-    for slot in 0..KEYS as u8 {
-        if keeps_counter(keys, slot, owner, version) {
-            return slot;
-        }
-    }
-    unreachable!()
-}
 
 // The key with the next counter.
 fn next_key(key: &KeyRec) -> Result<KeyRec, Spent>
@@ -67,10 +44,10 @@ pub fn draw_counter<R: RecordKeeper>(keeper: &mut R, owner: u8, version: u8) -> 
     ensures same_else { R.same_else keeper.old keeper.new }
     ensures roomy { R.roomy keeper.new }
 {
-    let slot = counter_slot(keeper.keys(), owner, version);
-    let key = in_slot(keeper.keys(), slot).unwrap();
-    let number = key.counter;
-    let next = next_key(key)?;
+    let found = find_key(keeper.keys(), owner, version, 1).unwrap();
+    let slot = found.slot;
+    let number = found.thing.counter;
+    let next = next_key(found.thing)?;
     keeper.set_key(slot, Some(next));
     Ok(number)
 }

@@ -1,4 +1,4 @@
-use Rattle.std.proofs.Common.{◌≡◌, List, Option, Some, ap, ◌∙◌, rules}
+use Rattle.std.proofs.Common.{◌≡◌, List, Option, Some, ap, sym, ◌∙◌, rules}
 use Rattle.std.specs.Prelude.{⊤}
 use Rattle.std.proofs.lemmas.Option.{MatchOption-at_some}
 use Rattle.card_types.specs.KeySets.{IsKeyOf}
@@ -13,10 +13,10 @@ use Rattle.key_sets.proofs.counter.draw_counter.Goals as goal
 pub returns-in_err-next-clause-spent : goal.returns-in_err-next-clause-spent
 returns-in_err-next-clause-spent g c =
     let slots = g.R.RecordKeeper.slots c.args.keeper.now in
-    let slot = c.counter_slot-slot.result in
-    let key = c.unwrap-key.result.now in
-    let at : held slots slot ≡ Some key = search rules in
-    let there : held c.keys.result.now slot ≡ Some key = ap (λ (keys : List (Option KeyRec)). held keys slot) c.keys.ensures.key_slots ∙ at in
+    let found = c.unwrap-found.result in
+    let key = found.thing.now in
+    let there : held c.keys.result.now found.slot ≡ Some key = search rules in
+    let at : held slots found.slot ≡ Some key = ap (λ (keys : List (Option KeyRec)). held keys found.slot) (sym c.keys.ensures.key_slots) ∙ there in
     let is : IsKeyOf c.args.owner c.args.version 1 key = search rules in
-    let last : key.counter ≡ COUNTER_LIMIT = last_counter key (MatchOption-at_some ⊤ IsRoomyKey key there (of_slot IsRoomyKey c.keys.result.now slot c.keys.ensures.counters)) c.in_err-next.ensures.err in
-    on_err c.from_residual.result (record { slot = slot; key = key; keeps = record { at = at; is = is }; last = last })
+    let last : key.counter ≡ COUNTER_LIMIT = last_counter key (MatchOption-at_some ⊤ IsRoomyKey key there (of_slot IsRoomyKey c.keys.result.now found.slot c.keys.ensures.counters)) c.in_err-next.ensures.err in
+    on_err c.from_residual.result (record { slot = found.slot; key = key; keeps = record { at = at; is = is }; last = last })
