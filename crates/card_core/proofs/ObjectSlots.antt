@@ -3,13 +3,14 @@ use Rattle.std.proofs.Common.{◌≡◌, inl, inr, ℕ, suc, ◌+◌, ◌/◌, �
 use Rattle.std.specs.Prelude.{Contains, not, slice_set}
 use Rattle.std.specs.List.{cons_option, list_any}
 use Rattle.std.specs.List.Sorted.{IsPermutation}
-use Rattle.std.proofs.lemmas.Bool.{and_parts, cases_eq, eq-eqb, eqb-true, ne_eqb}
+use Rattle.std.proofs.lemmas.Bool.{and_parts, cases_eq, eq-eqb, eqb-true, false_from_ne_true, ne_eqb}
 use Rattle.std.proofs.lemmas.List.{get_or-set_same, length-set}
 use Rattle.std.proofs.lemmas.List.Folds.{list_any_at}
 use Rattle.std.proofs.lemmas.List.FromFn.{get_or-range_with_len}
 use Rattle.std.proofs.lemmas.List.Sorted.{length_permutation, list_any-IsPermutation}
 use Rattle.bertlv.specs.Spelling.{Element}
 use Rattle.card_types.proofs.ChangedSlot.{set_shown}
+use Rattle.card_types.specs.Least.{NoneFits}
 use Rattle.card_types.specs.Says.{used}
 use Rattle.card_types.specs.Slots.{held}
 use Rattle.card_types.specs.declared.limits.TheConstants.{OBJECTS}
@@ -21,11 +22,11 @@ use Rattle.rec_store.specs.Places.{object_page}
 use Rattle.card_core.specs.ObjectsPut.{IsSlotFor, object_pages, object_with}
 
 -- where no slot has one, there is none
-pub none_tagged : (owner tag : ℕ) (slots : List (Option Object)) → ((slot : ℕ) → slot < length slots → is_tagged_in owner tag (held slots slot) ≡ false)
-    → has_object_in slots owner tag ≡ false
-none_tagged owner tag [] each = refl
-none_tagged owner tag (first ∷ slots) each =
-    (λ i. each 0 (omega arith) i || none_tagged owner tag slots (λ slot within. each (suc slot) (omega (arith, within))) i)
+pub none_tagged : (owner tag : ℕ) (slots : List (Option Object)) → NoneFits (λ object. is_tagged_in owner tag (Some object)) slots → has_object_in slots owner tag ≡ false
+none_tagged owner tag [] none = refl
+none_tagged owner tag (None ∷ slots) none = none_tagged owner tag slots (λ slot object at. none (suc slot) object at)
+none_tagged owner tag (Some first ∷ slots) none =
+    (λ i. false_from_ne_true (is_tagged_in owner tag (Some first)) (none 0 first refl) i || none_tagged owner tag slots (λ slot object at. none (suc slot) object at) i)
 
 module _ (slots : List (Option Object)) (owner tag : ℕ) (value : List ℕ) (slot : ℕ) (all : length slots ≡ OBJECTS) (is : IsSlotFor slots owner tag slot) where
   abbrev after : List (Option Object)

@@ -1,13 +1,12 @@
 //! STORE DATA: data objects of a domain are put.
 
-ghost use Rattle.std.specs.Prelude.{◌≡◌, ◌↔◌, ◌<◌, ◌≤◌, ℕ, List, [], length, true, false, None, IfNone, IfSome, IsTrue, OnErr};
+ghost use Rattle.std.specs.Prelude.{◌≡◌, ◌<◌, ◌≤◌, ℕ, List, [], length, true, false, Some, OnErr};
 ghost use Rattle.card_core.specs.Domains.{is_domain_in};
 ghost use Rattle.card_core.specs.Kept.{AreCards};
 ghost use Rattle.card_core.specs.Manages.{Manages};
 ghost use Rattle.card_core.specs.ObjectsPut.{IsSlotFor, PutsObject, object_pages, object_with};
 ghost use Rattle.card_types.specs.Ascending.{IsAscending};
 ghost use Rattle.card_types.specs.Says.{used};
-ghost use Rattle.card_types.specs.Slots.{held};
 ghost use Rattle.card_types.specs.declared.limits.TheConstants.{OBJECTS};
 ghost use Rattle.policy_rules.specs.Admission.{Admitted};
 ghost use Rattle.policy_rules.specs.Means.{ActsIn, IsRequestOf, IsWellFormed};
@@ -18,52 +17,24 @@ ghost use Rattle.rec_store.specs.Room.{HasRoomFor};
 use apdu_core::Status;
 use arrayvec::ArrayVec;
 use bertlv::{Tlv, read};
-use card_types::{OBJECTS, Object, in_slot};
+use card_types::{Object, Wants, first_free, first_that};
 use flash_core::Flash;
 use policy_rules::{Rule, judge_store_data};
 use rec_store::Records;
 
-fn is_free(objects: &[Option<Object>], slot: u8) -> bool
-    ensures { IsTrue result ↔ (held objects.now slot ≡ None) }
-{
-    in_slot(objects, slot).is_none()
+// The domain's data object with a tag.
+#[derive(Drop)]
+struct Tagged {
+    owner: u8,
+    tag: u16,
 }
 
-fn is_tagged(objects: &[Option<Object>], slot: u8, owner: u8, tag: u16) -> bool
-    ensures { result ≡ is_tagged_in owner tag (held objects.now slot) }
-{
-    match in_slot(objects, slot) {
-        Some(object) => object.owner == owner && object.tag == tag,
-        None => false,
-    }
-}
+impl Wants<Object> for Tagged {
+    ghost fits = { λ tagged object. is_tagged_in tagged.owner tagged.tag (Some object) };
 
-// The slot of the domain's data object with a tag.
-fn tagged_slot(objects: &[Option<Object>], owner: u8, tag: u16) -> Option<u8>
-    requires slots { length objects.now ≡ OBJECTS }
-    ensures some { IfSome result (λ slot. (slot < OBJECTS) × (is_tagged_in owner tag (held objects.now slot) ≡ true)) }
-    ensures none { IfNone result (has_object_in objects.now owner tag ≡ false) }
-{
-    for slot in 0..OBJECTS as u8 {
-        if is_tagged(objects, slot, owner, tag) {
-            return Some(slot);
-        }
+    fn fits(&self, thing: &Object) -> bool {
+        thing.owner == self.owner && thing.tag == self.tag
     }
-    None
-}
-
-fn free_slot(objects: &[Option<Object>]) -> u8
-    requires slots { length objects.now ≡ OBJECTS }
-    requires room { length (used objects.now) < OBJECTS }
-    ensures free { held objects.now result ≡ None }
-    ensures range { result < OBJECTS }
-{
-    for slot in 0..OBJECTS as u8 {
-        if is_free(objects, slot) {
-            return slot;
-        }
-    }
-    unreachable!()
 }
 
 // The slot of the domain's data object with a tag, or else the first free slot.
@@ -72,9 +43,9 @@ fn slot_for(objects: &[Option<Object>], owner: u8, tag: u16) -> u8
     requires room { has_object_in objects.now owner tag ≡ false → length (used objects.now) < OBJECTS }
     ensures { IsSlotFor objects.now owner tag result }
 {
-    match tagged_slot(objects, owner, tag) {
-        Some(slot) => slot,
-        None => free_slot(objects),
+    match first_that(objects, &Tagged { owner, tag }) {
+        Some(found) => found.slot,
+        None => first_free(objects).unwrap(),
     }
 }
 
