@@ -1,5 +1,5 @@
 -- The registry that the slots of a card lay out.
-use Rattle.std.proofs.Common.{◌≡◌, ℕ, ◌==◌, List, refl, sym, ◌∙◌}
+use Rattle.std.proofs.Common.{ℕ, ◌==◌, List, refl, sym, ◌∙◌}
 use Rattle.std.specs.Prelude.{filter, map, nat_lt}
 use Rattle.std.specs.Ordering.{nat_cmp}
 use Rattle.std.specs.declared.cmp.Ordering.{Ordering}

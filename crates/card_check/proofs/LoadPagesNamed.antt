@@ -1,6 +1,6 @@
 -- Load pages that are named one after the other, and the marks at them.
-use Rattle.std.proofs.Common.{◌≡◌, inl, inr, ℕ, zero, suc, ◌+◌, ◌<◌, ◌≤◌, Bool, true, false, List, [], ◌∷◌, ◌++◌, length, take, drop, get_or, replicate, refl, ap, sym, subst, ◌∙◌, append_assoc, add-one, drop-cons, get_or-set_other, get_or-set_same, arith}
-use Rattle.std.proofs.lemmas.List.{append-nil, take-append-drop, take_all, take_more}
+use Rattle.std.proofs.Common.{◌≡◌, inl, inr, ℕ, zero, suc, ◌+◌, ◌<◌, Bool, true, false, List, [], ◌∷◌, ◌++◌, length, take, drop, get_or, replicate, refl, ap, sym, subst, ◌∙◌, append_assoc, add-one, drop-cons, get_or-set_other, get_or-set_same, arith}
+use Rattle.std.proofs.lemmas.List.{append-nil, take-append-drop, take_more}
 use Rattle.std.proofs.Math.ListN.{length-set, set}
 use Rattle.std.specs.Prelude.{All, Contains, nat_eq, slice_set}
 use Rattle.std.specs.List.{AllByRecursion, IsDistinct}

@@ -1,6 +1,4 @@
-use Rattle.std.proofs.Common.{◌∙◌, ◌++◌, ◌∷◌, [], ap, ℕ}
-use Rattle.cmac_kdf.specs.Blocks.{zero_block}
-use Rattle.cmac_kdf.specs.Cmac.{cmac}
+use Rattle.std.proofs.Common.{◌∙◌, ◌∷◌, [], ap, ℕ}
 use Rattle.scp03_card.proofs.OfferLemmas.{kept_first_chain}
 use Rattle.scp03_card.proofs.session_keys.SessionKeys.first_chain.Goals as goal
 
