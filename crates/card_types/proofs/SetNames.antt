@@ -150,3 +150,10 @@ module _ (page : ℕ → List ℕ) (tables : Tables) (said : registry.Registry) 
             record { first = first.0; second = second.0; third = third.0; are = refl; first_key = first.1; second_key = second.1; third_key = third.1 },
           ),
         )
+
+    -- so too of a key in a slot that keeps a counter
+    pub set_beside : (slot : ℕ) (key : KeyRec) → held tables.keys.items slot ≡ Some key → keeps_counter key ≡ true
+        → (slots : List ℕ) × HasKeys tables.keys.items key.owner key.version slots
+    set_beside slot key at keeps =
+        let owner = key_owner_is_used page tables said says well slot key at in
+        (set_of_counter key.owner owner.0 (counter_of tables.entries.items key) owner.1 ((counters_shown page tables said says).there slot key at keeps) refl).1

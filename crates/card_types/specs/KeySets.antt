@@ -1,6 +1,6 @@
 -- Key sets: the three keys of one key version number. Key version number 00 asks for any set (GlobalPlatform Card
 -- Specification 2.3.1, 11.8; Amendment D, 7.1.1).
-use Rattle.std.specs.Prelude.{◌≡◌, ℕ, ◌≤◌, ◌==◌, ◌⊎◌, List, [], ◌∷◌, Bool, ◌&&◌, Option, MatchOption}
+use Rattle.std.specs.Prelude.{◌≡◌, ℕ, ◌≤◌, ◌==◌, ◌⊎◌, List, [], ◌∷◌, Bool, ◌&&◌, Option, Some, MatchOption}
 use Rattle.card_types.specs.Slots.{held}
 use Rattle.card_types.specs.declared.tables.KeyRec.{KeyRec}
 
@@ -17,6 +17,12 @@ is_key owner version identifier key = key.owner == owner && key.version == versi
 -- the slot holds that key
 abbrev pub HasKey : List (Option KeyRec) → ℕ → ℕ → ℕ → ℕ → Type 0
 HasKey keys owner version identifier slot = MatchOption (held keys slot) ⊥ (IsKeyOf owner version identifier)
+
+-- some slot holds this key, which is that one
+pub record HoldsKeyOf (keys : List (Option KeyRec)) (owner version identifier : ℕ) (key : KeyRec) : Type 0 where
+  pub slot : ℕ
+  pub at : held keys slot ≡ Some key
+  pub is : IsKeyOf owner version identifier key
 
 -- the slots hold the three keys of this key version number
 pub record HasKeys (keys : List (Option KeyRec)) (owner version : ℕ) (slots : List ℕ) : Type 0 where

@@ -1,11 +1,11 @@
 //! Key sets: in the list of keys, and by the domain and the key version number.
 
-ghost use Rattle.std.specs.Prelude.{◌≡◌, ◌≤◌, ◌↔◌, ◌⊎◌, ℕ, List, Some, IsSome, IsTrue, IfSome, IfNone, Contains, length};
+ghost use Rattle.std.specs.Prelude.{◌≡◌, ◌≤◌, ◌↔◌, ◌⊎◌, ℕ, List, true, Some, IsSome, IsTrue, IfSome, IfNone, Contains, length};
 ghost use Rattle.card_types.specs.InOrder.{IsInOrder};
-ghost use Rattle.card_types.specs.KeySets.{HasKey, HasKeys, IsKeyOf, IsSetOf, NoSetOf, is_key};
+ghost use Rattle.card_types.specs.KeySets.{HasKey, HasKeys, HoldsKeyOf, IsKeyOf, IsSetOf, NoSetOf, is_key};
 ghost use Rattle.card_types.specs.NamedKeys.{AreKeysOf, HaveKeyLength};
 ghost use Rattle.card_types.specs.Registry.{Counter, Registry};
-ghost use Rattle.card_types.specs.Says.{Says, domain_aid};
+ghost use Rattle.card_types.specs.Says.{Says, domain_aid, keeps_counter};
 ghost use Rattle.card_types.specs.Slots.{held};
 ghost use Rattle.card_types.specs.Well.{Well};
 ghost use Rattle.card_types.specs.declared.limits.TheConstants.{KEYS};
@@ -107,6 +107,34 @@ fn key_at(tables: &Tables, slot: u8) -> &KeyRec
     ensures { held tables.now.keys.items slot ≡ Some result.now }
 {
     in_slot(&tables.keys, slot).unwrap()
+}
+
+// A key that is there.
+fn key_named(tables: &Tables, owner: u8, version: u8, identifier: u8) -> &KeyRec
+    requires slots { length tables.now.keys.items ≡ KEYS }
+    requires there { (slot : ℕ) × HasKey tables.now.keys.items owner version identifier slot }
+    ensures { HoldsKeyOf tables.now.keys.items owner version identifier result.now }
+{
+    find_key(&tables.keys, owner, version, identifier)
+        .unwrap()
+        .thing
+}
+
+/// The keys of the key set whose sequence counter a key keeps: that key is Key-ENC.
+pub fn set_with<'a>(tables: &'a Tables, enc: &'a KeyRec) -> KeySet<'a>
+    requires in_order { IsInOrder tables.now }
+    requires there { (slot : ℕ) × (held tables.now.keys.items slot ≡ Some enc.now) }
+    requires counts { keeps_counter enc.now ≡ true }
+    ensures enc { result.enc.now ≡ enc.now }
+    ensures lengths { HaveKeyLength result }
+    ensures keys { (page : ℕ → List ℕ) (said : Registry) → Says page tables.now said
+        → AreKeysOf tables.now.entries.items said (domain_aid tables.now.entries.items enc.now.owner) enc.now.version result }
+{
+    KeySet {
+        enc,
+        mac: key_named(tables, enc.owner, enc.version, 2),
+        dek: key_named(tables, enc.owner, enc.version, 3),
+    }
 }
 
 /// The keys of the key set of the domain in the slot `owner` with this key version number.

@@ -21,7 +21,7 @@ pub use factory::{
     issuer_domain,
 };
 pub use found::{Found, Kind, find, next_after};
-pub use key_set::{KeySet, find_key, keys_of_set, set_of};
+pub use key_set::{KeySet, find_key, keys_of_set, set_of, set_with};
 pub use level::Level;
 pub use life::{Life, LifeMark};
 pub use limits::{

@@ -1,6 +1,5 @@
 -- The last sequence counter.
-use Rattle.std.proofs.Common.{◌≡◌, inl, inr, ◌≤◌, Err, Ok, arith}
-use Rattle.std.specs.Prelude.{OnErr, Result}
+use Rattle.std.proofs.Common.{◌≡◌, inl, inr, ◌≤◌, arith}
 use Rattle.std.proofs.lemmas.Bool.{cases_Bool}
 use Rattle.card_types.specs.Says.{keeps_counter}
 use Rattle.card_types.specs.declared.limits.TheConstants.{COUNTER_LIMIT}
@@ -13,8 +12,3 @@ last_counter key roomy most = elim (cases_Bool (keeps_counter key)) [
   | inl keeps ↦ (let limit = rw keeps at roomy in omega (arith, limit, most))
   | inr keeps_none ↦ (let limit = rw keeps_none at roomy in absurd (omega (arith, limit, most)))
 ]
-
--- a fact that holds, where there is an error
-pub on_err : {T E P : Type 0} (result : Result T E) → P → OnErr result P
-on_err (Ok value) fact = tt
-on_err (Err error) fact = fact

@@ -18,10 +18,10 @@ room_left owner replaced version added slots none = elim (cases_lt KEYS (length 
 ]
 
 -- and a slot for one of them, where this many were put already
-pub slot_left : (owner replaced version added : ℕ) (judged slots : List (Option KeyRec)) (put : ℕ) (keys : List KeyRec) → judged ≡ slots → NoneHolds (PutFails owner replaced version added judged)
+pub slot_left : (owner replaced version added : ℕ) (slots : List (Option KeyRec)) (put : ℕ) (keys : List KeyRec) → NoneHolds (PutFails owner replaced version added slots)
     → length keys ≡ length (staying owner replaced slots) + put → put < added → length keys < KEYS
-slot_left owner replaced version added judged slots put keys same none long lt =
-    let room = room_left owner replaced version added slots (subst (λ (keys : List (Option KeyRec)). NoneHolds (PutFails owner replaced version added keys)) same none) in
+slot_left owner replaced version added slots put keys none long lt =
+    let room = room_left owner replaced version added slots none in
     omega (arith, room, long, lt)
 
 module _ {T : Type 0} where

@@ -11,6 +11,12 @@ pub record KeepsCounter (slots : List (Option KeyRec)) (owner version slot : ℕ
   pub at : held slots slot ≡ Some key
   pub is : IsKeyOf owner version 1 key
 
+-- the key in the slot has the next counter, and all other slots are as they were
+pub record Raises (slot : ℕ) (old new : List (Option KeyRec)) : Type 0 where
+  pub key : KeyRec
+  pub at : held old slot ≡ Some key
+  pub raised : new ≡ slice_set old slot (Some (raised_key key))
+
 -- the answer is the counter, and the key has the next one
 pub record Draws (owner version : ℕ) (old new : List (Option KeyRec)) (number : ℕ) : Type 0 where
   pub slot : ℕ

@@ -1,13 +1,13 @@
 //! Sequence counters are drawn.
 
 ghost use Rattle.std.specs.Prelude.{◌≡◌, ◌<◌, ◌≤◌, ℕ, List, IfOk, OnErr};
-ghost use Rattle.card_types.specs.Counters.{raised_key};
+ghost use Rattle.card_types.specs.Counters.{HasNextCounter, raised_key};
 ghost use Rattle.card_types.specs.KeySets.{HasKeys};
-ghost use Rattle.card_types.specs.declared.limits.TheConstants.{COUNTER_LIMIT};
-ghost use Rattle.key_sets.specs.Draws.{Draws, IsSpent};
+ghost use Rattle.card_types.specs.declared.limits.TheConstants.{COUNTER_LIMIT, KEYS};
+ghost use Rattle.key_sets.specs.Draws.{Draws, IsSpent, Raises};
 
 use arrayvec::ArrayVec;
-use card_types::{COUNTER_LIMIT, KeyRec, find_key};
+use card_types::{COUNTER_LIMIT, KeyRec, find_key, in_slot};
 use rec_store::RecordKeeper;
 
 /// The sequence counter stands at FFFFFF.
@@ -15,22 +15,31 @@ use rec_store::RecordKeeper;
 pub struct Spent;
 
 // The key with the next counter.
-fn next_key(key: &KeyRec) -> Result<KeyRec, Spent>
-    ensures ok { IfOk result (λ next. (key.now.counter < COUNTER_LIMIT) × (next ≡ raised_key key.now)) }
-    ensures err { OnErr result (COUNTER_LIMIT ≤ key.now.counter) }
+fn next_key(key: &KeyRec) -> KeyRec
+    requires { key.now.counter < COUNTER_LIMIT }
+    ensures { result ≡ raised_key key.now }
 {
-    if key.counter >= COUNTER_LIMIT {
-        return Err(Spent);
-    }
     let mut bytes = ArrayVec::new();
     bytes.try_extend_from_slice(&key.bytes).unwrap();
-    Ok(KeyRec {
+    KeyRec {
         owner: key.owner,
         version: key.version,
         identifier: key.identifier,
         bytes,
         counter: key.counter + 1,
-    })
+    }
+}
+
+/// Puts the next sequence counter in the place of the one that the key in a slot keeps.
+pub fn raise_counter<R: RecordKeeper>(keeper: &mut R, slot: u8)
+    requires roomy { R.roomy keeper.old }
+    requires counts { HasNextCounter (R.slots keeper.old) slot }
+    ensures raises { Raises slot (R.slots keeper.old) (R.slots keeper.new) }
+    ensures same_else { R.same_else keeper.old keeper.new }
+    ensures roomy { R.roomy keeper.new }
+{
+    let next = next_key(in_slot(keeper.keys(), slot).unwrap());
+    keeper.set_key(slot, Some(next));
 }
 
 /// The sequence counter of a key set of the domain in the slot `owner`, with the next one put in its place.
@@ -47,7 +56,9 @@ pub fn draw_counter<R: RecordKeeper>(keeper: &mut R, owner: u8, version: u8) -> 
     let found = find_key(keeper.keys(), owner, version, 1).unwrap();
     let slot = found.slot;
     let number = found.thing.counter;
-    let next = next_key(found.thing)?;
-    keeper.set_key(slot, Some(next));
+    if number >= COUNTER_LIMIT {
+        return Err(Spent);
+    }
+    raise_counter(keeper, slot);
     Ok(number)
 }

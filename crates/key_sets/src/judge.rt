@@ -1,6 +1,6 @@
 //! Whether keys may be put.
 
-ghost use Rattle.std.specs.Prelude.{◌≡◌, ◌≤◌, ◌+◌, ◌↔◌, length, IfErr, IsTrue, OnOk};
+ghost use Rattle.std.specs.Prelude.{◌≡◌, ◌≢◌, ◌⊎◌, ◌<◌, ◌≤◌, ◌+◌, ◌↔◌, false, true, length, IfErr, IsTrue, OnOk};
 ghost use Rattle.card_types.specs.declared.limits.TheConstants.{DOMAIN_KEYS, KEYS};
 ghost use Rattle.key_sets.specs.InSlots.{holds_one_of as holds_one_of_by, holds_staying as holds_staying_by, holds_staying_of as holds_staying_of_by};
 ghost use Rattle.key_sets.specs.PutFails.{HoldsFirst, NoneHolds, PutFails, has_version as has_version_in, keys_of_owner};
@@ -80,6 +80,29 @@ fn have_room(keys: &[Option<KeyRec>], owner: u8, replaced: u8, added: usize) -> 
         && count_staying_of(keys, owner, replaced) + added <= DOMAIN_KEYS
 }
 
+/// Whether keys are to be replaced that are not there.
+pub fn lacks_replaced(keys: &[Option<KeyRec>], owner: u8, replaced: u8) -> bool
+    ensures { IsTrue result ↔ ((replaced ≢ 0) × (has_version_in owner replaced keys.now ≡ false)) }
+{
+    replaced != 0 && !has_version(keys, owner, replaced)
+}
+
+/// Whether the new key version number is there already, and is not the one replaced.
+pub fn is_taken(keys: &[Option<KeyRec>], owner: u8, replaced: u8, version: u8) -> bool
+    ensures { IsTrue result ↔ ((version ≢ replaced) × (has_version_in owner version keys.now ≡ true)) }
+{
+    version != replaced && has_version(keys, owner, version)
+}
+
+/// Whether the card or the domain would have too many keys with so many more.
+pub fn is_full(keys: &[Option<KeyRec>], owner: u8, replaced: u8, added: usize) -> bool
+    requires room { length keys.now ≡ KEYS }
+    requires few { added ≤ 3 }
+    ensures { IsTrue result ↔ ((KEYS < length (staying owner replaced keys.now) + added) ⊎ (DOMAIN_KEYS < length (keys_of_owner owner (staying owner replaced keys.now)) + added)) }
+{
+    !have_room(keys, owner, replaced, added)
+}
+
 /// Judges whether so many keys may be put.
 pub fn judge(
     keys: &[Option<KeyRec>],
@@ -93,13 +116,13 @@ pub fn judge(
     ensures ok { OnOk result (NoneHolds (PutFails owner replaced version added keys.now)) }
     ensures err { IfErr result (HoldsFirst (PutFails owner replaced version added keys.now)) }
 {
-    if replaced != 0 && !has_version(keys, owner, replaced) {
+    if lacks_replaced(keys, owner, replaced) {
         return Err(PutRefusal::Unknown);
     }
-    if version != replaced && has_version(keys, owner, version) {
+    if is_taken(keys, owner, replaced, version) {
         return Err(PutRefusal::Taken);
     }
-    if !have_room(keys, owner, replaced, added) {
+    if is_full(keys, owner, replaced, added) {
         return Err(PutRefusal::Full);
     }
     Ok(())

@@ -8,7 +8,9 @@
 //!  1. Keys that are put are there afterwards, with the keys that were not replaced and no others (`put_set` and `put_one`,
 //!     `put`). A deletion leaves the keys of other key version numbers and other domains (`delete`, `deletes`).
 //!  2. Keys are refused exactly where one of three refusals holds, and the first that does is answered (`exactly`).
-//!  3. A sequence counter that is drawn rises by one, and the last one is never drawn (`draw_counter`, `draws` and `spent`).
+//!     `place_set` and `place_one` refuse nothing: they leave the three tests to their caller (`judged`).
+//!  3. A sequence counter that is drawn rises by one, and the last one is never drawn (`draw_counter`, `draws` and `spent`;
+//!     `raise_counter`, `counts` and `raises`).
 //!  4. What is refused changes no slot (`unchanged`), and nothing but the key slots ever changes (`same_else`).
 #![tactic(auto)]
 
@@ -19,8 +21,8 @@ mod judge;
 mod put;
 mod refusal;
 
-pub use counter::{Spent, draw_counter};
+pub use counter::{Spent, draw_counter, raise_counter};
 pub use deletion::delete;
-pub use judge::{has_version, judge as judge_put};
-pub use put::{put_one, put_set};
+pub use judge::{has_version, is_full, is_taken, judge as judge_put, lacks_replaced};
+pub use put::{place_one, place_set, put_one, put_set};
 pub use refusal::PutRefusal;

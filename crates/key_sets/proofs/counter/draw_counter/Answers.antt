@@ -7,16 +7,16 @@ use Rattle.card_types.specs.declared.limits.TheConstants.{COUNTER_LIMIT}
 use Rattle.card_types.specs.declared.tables.KeyRec.{KeyRec}
 use Rattle.rec_store.specs.KeySlot.{IsRoomyKey}
 use Rattle.rec_store.proofs.Roomy.{of_slot}
-use Rattle.key_sets.proofs.Counting.{last_counter, on_err}
+use Rattle.key_sets.proofs.Counting.{last_counter}
 use Rattle.key_sets.proofs.counter.draw_counter.Goals as goal
 
-pub returns-in_err-next-clause-spent : goal.returns-in_err-next-clause-spent
-returns-in_err-next-clause-spent g c =
+pub returns-then-number-ge-COUNTER_LIMIT-clause-spent : goal.returns-then-number-ge-COUNTER_LIMIT-clause-spent
+returns-then-number-ge-COUNTER_LIMIT-clause-spent g c =
     let slots = g.R.RecordKeeper.slots c.args.keeper.now in
     let found = c.unwrap-found.result in
     let key = found.thing.now in
     let there : held c.keys.result.now found.slot ≡ Some key = search rules in
     let at : held slots found.slot ≡ Some key = ap (λ (keys : List (Option KeyRec)). held keys found.slot) (sym c.keys.ensures.key_slots) ∙ there in
     let is : IsKeyOf c.args.owner c.args.version 1 key = search rules in
-    let last : key.counter ≡ COUNTER_LIMIT = last_counter key (MatchOption-at_some ⊤ IsRoomyKey key there (of_slot IsRoomyKey c.keys.result.now found.slot c.keys.ensures.counters)) c.in_err-next.ensures.err in
-    on_err c.from_residual.result (record { slot = found.slot; key = key; keeps = record { at = at; is = is }; last = last })
+    let last : key.counter ≡ COUNTER_LIMIT = last_counter key (MatchOption-at_some ⊤ IsRoomyKey key there (of_slot IsRoomyKey c.keys.result.now found.slot c.keys.ensures.counters)) c.if-number-ge-COUNTER_LIMIT.true in
+    record { slot = found.slot; key = key; keeps = record { at = at; is = is }; last = last }

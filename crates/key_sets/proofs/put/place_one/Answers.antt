@@ -3,11 +3,11 @@ use Rattle.card_types.specs.Says.{used}
 use Rattle.card_types.specs.declared.tables.KeyRec.{KeyRec}
 use Rattle.key_sets.specs.Puts.{staying}
 use Rattle.key_sets.proofs.Putting.{slot_left}
-use Rattle.key_sets.proofs.put.put_one.Goals as goal
+use Rattle.key_sets.proofs.put.place_one.Goals as goal
 
 pub put_key-requires-clause-room : goal.put_key-requires-clause-room
 put_key-requires-clause-room g c =
     let R = g.R.RecordKeeper in
     let slots = R.slots c.args.keeper.now in
     let long : length (used (R.slots c.free.new.keeper)) ≡ length (staying c.args.owner c.args.replaced slots) + 0 = omega (arith, ap (λ (keys : List KeyRec). length keys) c.free.ensures.keys) in
-    slot_left c.args.owner c.args.replaced c.args.version 1 c.keys.result.now slots 0 (used (R.slots c.free.new.keeper)) c.keys.ensures.key_slots c.in_ok-judge.ensures.ok long (omega arith)
+    slot_left c.args.owner c.args.replaced c.args.version 1 slots 0 (used (R.slots c.free.new.keeper)) c.requires.judged long (omega arith)

@@ -4,14 +4,14 @@ use Rattle.card_types.specs.Says.{used}
 use Rattle.card_types.specs.declared.tables.KeyRec.{KeyRec}
 use Rattle.key_sets.specs.Puts.{set_keys, staying}
 use Rattle.key_sets.proofs.Putting.{put_three, slot_left}
-use Rattle.key_sets.proofs.put.put_set.Goals as goal
+use Rattle.key_sets.proofs.put.place_set.Goals as goal
 
 pub put_key-requires-clause-room : goal.put_key-requires-clause-room
 put_key-requires-clause-room g c =
     let R = g.R.RecordKeeper in
     let slots = R.slots c.args.keeper.now in
     let long : length (used (R.slots c.free.new.keeper)) ≡ length (staying c.args.owner c.args.replaced slots) + 0 = omega (arith, ap (λ (keys : List KeyRec). length keys) c.free.ensures.keys) in
-    slot_left c.args.owner c.args.replaced c.args.version 3 c.keys.result.now slots 0 (used (R.slots c.free.new.keeper)) c.keys.ensures.key_slots c.in_ok-judge.ensures.ok long (omega arith)
+    slot_left c.args.owner c.args.replaced c.args.version 3 slots 0 (used (R.slots c.free.new.keeper)) c.requires.judged long (omega arith)
 
 pub put_key-requires-2-clause-room : goal.put_key-requires-2-clause-room
 put_key-requires-2-clause-room g c =
@@ -20,7 +20,7 @@ put_key-requires-2-clause-room g c =
     let before = ap (λ (keys : List KeyRec). length keys) c.free.ensures.keys in
     let one = length_permutation _ _ c.put_key.ensures.keys in
     let long : length (used (R.slots c.put_key.new.keeper)) ≡ length (staying c.args.owner c.args.replaced slots) + 1 = omega (arith, before, one) in
-    slot_left c.args.owner c.args.replaced c.args.version 3 c.keys.result.now slots 1 (used (R.slots c.put_key.new.keeper)) c.keys.ensures.key_slots c.in_ok-judge.ensures.ok long (omega arith)
+    slot_left c.args.owner c.args.replaced c.args.version 3 slots 1 (used (R.slots c.put_key.new.keeper)) c.requires.judged long (omega arith)
 
 pub put_key-requires-3-clause-room : goal.put_key-requires-3-clause-room
 put_key-requires-3-clause-room g c =
@@ -30,7 +30,7 @@ put_key-requires-3-clause-room g c =
     let one = length_permutation _ _ c.put_key.ensures.keys in
     let two = length_permutation _ _ c.put_key-2.ensures.keys in
     let long : length (used (R.slots c.put_key-2.new.keeper)) ≡ length (staying c.args.owner c.args.replaced slots) + 2 = omega (arith, before, one, two) in
-    slot_left c.args.owner c.args.replaced c.args.version 3 c.keys.result.now slots 2 (used (R.slots c.put_key-2.new.keeper)) c.keys.ensures.key_slots c.in_ok-judge.ensures.ok long (omega arith)
+    slot_left c.args.owner c.args.replaced c.args.version 3 slots 2 (used (R.slots c.put_key-2.new.keeper)) c.requires.judged long (omega arith)
 
 pub returns-clause-put : goal.returns-clause-put
 returns-clause-put g c =
