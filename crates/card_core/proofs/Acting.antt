@@ -1,28 +1,33 @@
 -- What the commands of the secure channel do to a card.
-use Rattle.std.proofs.Common.{◌≡◌, ℕ, ◌<◌, List, [], length, false, Option, None, Some, Result, Ok, Err, refl, sym, ap, subst, ◌∙◌}
-use Rattle.std.specs.Prelude.{slice_index_or, slice_set, ◌==◌}
+use Rattle.std.proofs.Common.{◌≡◌, ℕ, ◌<◌, List, [], length, Option, None, Some, Result, Ok, Err, refl, sym, ap, subst, ◌∙◌}
+use Rattle.std.specs.Prelude.{slice_index_or, slice_set}
 use Rattle.std.proofs.lemmas.List.{get_or_default}
 use Rattle.apdu_core.specs.declared.reply.Status.{Status}
 use Rattle.card_types.specs.declared.tables.Entry.{Entry}
 use Rattle.card_types.specs.declared.tables.Tables.{Tables}
 use Rattle.policy_rules.specs.Admission.{Admitted}
-use Rattle.policy_rules.specs.Instructions.{ExternalAuthenticate, InitializeUpdate, instruction_of}
+use Rattle.policy_rules.specs.Commands.{TakesCommand}
+use Rattle.policy_rules.specs.ExternalAuthenticate.{external_authenticate}
+use Rattle.policy_rules.specs.InitializeUpdate.{initialize_update}
+use Rattle.policy_rules.specs.Step.{refusal_leaves}
+use Rattle.policy_rules.proofs.Judging.{does_so}
+use Rattle.std.proofs.Common.{inl}
+use Rattle.std.proofs.lemmas.List.{get_or-set_same, length-set, set-set}
 use Rattle.policy_rules.proofs.Selected.{selected_entry}
 use Rattle.policy_rules.specs.Means.{ActsIn, IsSelectedIn}
 use Rattle.policy_rules.specs.Volatile.{Offered, Volatile, channel_at, with_standing}
-use Rattle.policy_rules.specs.declared.instruction.TheConstants.{INITIALIZE_UPDATE, EXTERNAL_AUTHENTICATE}
 use Rattle.policy_rules.specs.declared.live.Live.{Live}
 use Rattle.policy_rules.specs.declared.live.TheConstants.{CHANNELS}
 use Rattle.policy_rules.specs.declared.rule.Rule.{Rule}
-use Rattle.card_core.specs.Holds.{Holds, HoldsAs}
+use Rattle.card_core.specs.Holds.{Holds, HoldsAs, without_offer_held}
 use Rattle.card_core.specs.Kept.{Shows, StandsOn}
 use Rattle.card_core.specs.Manages.{Manages}
 use Rattle.card_core.specs.Offers.{AnswersAs, OffersAs, standing_for}
-use Rattle.card_core.specs.Serves.{CarriesOut}
+use Rattle.card_core.specs.Serves.{CarriesOutBut}
 use Rattle.card_core.specs.declared.held.Held.{Held}
 use Rattle.card_core.specs.declared.held.Held.TheVariants as held
-use Rattle.card_core.proofs.Carrying.{answer_shows, does_as, refusal_shows}
-use Rattle.card_core.proofs.Standing.{HasFour, held_same, lost_shows, standing_shows}
+use Rattle.card_core.proofs.Carrying.{refusal_shows}
+use Rattle.card_core.proofs.Standing.{HasFour, held_same, standing_shows}
 
 module _ (page : ℕ → List ℕ) (tables : Tables) (live : Live) (all : List Held) (admitted : Admitted)
     (stands : StandsOn page (record { tables = tables; live = live; held = all }) admitted.at)
@@ -32,31 +37,45 @@ module _ (page : ℕ → List ℕ) (tables : Tables) (live : Live) (all : List H
   holds_for = stands.shows.holds.channels admitted.channel low
 
   -- EXTERNAL AUTHENTICATE
-  pub answer_carried : (slot : ℕ) (now : Held) (result : Result Status Rule) → admitted.command.ins ≡ EXTERNAL_AUTHENTICATE
-      → slice_index_or live.selected admitted.channel None ≡ Some slot → AnswersAs admitted now result
-      → CarriesOut page admitted (record { tables = tables; live = live; held = slice_set all admitted.channel now }) [] result
-  answer_carried slot now (Ok status) is opened (offer, level, answers, judges, holds, word) = (
+  pub answer_carried : (slot : ℕ) (now : Held) (result : Result Status Rule) → TakesCommand external_authenticate admitted.command
+      → slice_index_or live.selected admitted.channel None ≡ Some slot
+      → AnswersAs admitted (slice_index_or all admitted.channel held.Nothing) now result
+      → CarriesOutBut page admitted (record { tables = tables; live = live; held = slice_set all admitted.channel now }) [] result
+  answer_carried slot now (Ok status) takes opened (offer, level, answers, judges, holds, word) = (
     _,
     standing_shows page tables live all admitted.at stands.shows four admitted.channel low slot now _ opened holds,
     judges,
-    does_as admitted _ ExternalAuthenticate (ap instruction_of is)
+    does_so external_authenticate (λ holds here. inl here) admitted takes _
         (record { offer = offer; level = level; answers = answers; registry = refl; volatile = refl; body = refl; status = refl }),
     refl,
     word,
   )
-  answer_carried slot now (Err rule) is opened (judges, holds) = (
-    answer_shows page (record { tables = tables; live = live; held = slice_set all admitted.channel now }) admitted is
-        (lost_shows page tables live all admitted.at stands.shows four admitted.channel low now holds),
+  answer_carried slot now (Err rule) takes opened (judges, kept) = (
+    subst (λ (h : List Held). Shows page (record { tables = tables; live = live; held = h })
+        (record { registry = admitted.at.registry; volatile = refusal_leaves admitted rule })) (sym dropped)
+        (refusal_shows page (record { tables = tables; live = live; held = all }) admitted four low stands.shows rule),
     judges,
     refl,
   )
+    where
+      within : admitted.channel < length all
+      within = subst (λ (n : ℕ). admitted.channel < n) (sym four.held) low
+
+      dropped : slice_set (slice_set all admitted.channel now) admitted.channel
+          (without_offer_held (slice_index_or (slice_set all admitted.channel now) admitted.channel held.Nothing))
+          ≡ slice_set all admitted.channel (without_offer_held (slice_index_or all admitted.channel held.Nothing))
+      dropped =
+          ap (λ (h : Held). slice_set (slice_set all admitted.channel now) admitted.channel (without_offer_held h))
+          (get_or-set_same all admitted.channel now held.Nothing within)
+          ∙ ap (slice_set (slice_set all admitted.channel now) admitted.channel) kept
+          ∙ set-set all admitted.channel now (without_offer_held (slice_index_or all admitted.channel held.Nothing))
 
   -- INITIALIZE UPDATE
-  pub offer_carried : (slot : ℕ) (tables' : Tables) (now : Held) (body : List ℕ) (result : Result Status Rule) → admitted.command.ins ≡ INITIALIZE_UPDATE
+  pub offer_carried : (slot : ℕ) (tables' : Tables) (now : Held) (body : List ℕ) (result : Result Status Rule) → TakesCommand initialize_update admitted.command
       → slice_index_or live.selected admitted.channel None ≡ Some slot → tables'.entries.items ≡ tables.entries.items
       → OffersAs admitted page tables tables' (slice_index_or all admitted.channel held.Nothing) now body result
-      → CarriesOut page admitted (record { tables = tables'; live = live; held = slice_set all admitted.channel now }) body result
-  offer_carried slot tables' now body (Ok status) is opened entries (judges, made, word) =
+      → CarriesOutBut page admitted (record { tables = tables'; live = live; held = slice_set all admitted.channel now }) body result
+  offer_carried slot tables' now body (Ok status) takes opened entries (judges, made, word) =
       let shows = standing_shows page tables live all admitted.at stands.shows four admitted.channel low slot now _ opened made.holds in (
         _,
         record {
@@ -68,7 +87,7 @@ module _ (page : ℕ → List ℕ) (tables : Tables) (live : Live) (all : List H
           holds = shows.holds;
         },
         judges,
-        does_as admitted _ InitializeUpdate (ap instruction_of is) (record {
+        does_so initialize_update (λ holds here. inl here) admitted takes _ (record {
           owner = made.owner;
           counter = made.counter;
           offer = made.offer;
@@ -82,20 +101,19 @@ module _ (page : ℕ → List ℕ) (tables : Tables) (live : Live) (all : List H
         refl,
         word,
       )
-  offer_carried slot tables' now body (Err rule) is opened entries (judges, same, kept, empty) = (
+  offer_carried slot tables' now body (Err rule) takes opened entries (judges, same, kept, empty) = (
     refusal_shows page (record { tables = tables'; live = live; held = slice_set all admitted.channel now }) admitted
-        (ap (λ (ins : ℕ). ins == EXTERNAL_AUTHENTICATE) is)
+        (record { held = length-set all admitted.channel now ∙ four.held; channels = four.channels }) low
         (subst (λ (t : Tables). Shows page (record { tables = t; live = live; held = slice_set all admitted.channel now }) admitted.at) (sym same)
-        (held_same page (record { tables = tables; live = live; held = all }) admitted.at admitted.channel now (sym kept) stands.shows)),
+        (held_same page (record { tables = tables; live = live; held = all }) admitted.at admitted.channel now (sym kept) stands.shows)) rule,
     judges,
     empty,
   )
 
   -- card content management
-  pub managed_carried : (tables' : Tables) (body : List ℕ) (result : Result Status Rule) → (admitted.command.ins == EXTERNAL_AUTHENTICATE) ≡ false
-      → tables'.entries.items ≡ tables.entries.items → Manages admitted page tables tables' body result
-      → CarriesOut page admitted (record { tables = tables'; live = live; held = all }) body result
-  managed_carried tables' body (Ok status) other entries managed = (
+  pub managed_carried : (tables' : Tables) (body : List ℕ) (result : Result Status Rule) → tables'.entries.items ≡ tables.entries.items → Manages admitted page tables tables' body result
+      → CarriesOutBut page admitted (record { tables = tables'; live = live; held = all }) body result
+  managed_carried tables' body (Ok status) entries managed = (
     managed.done,
     record {
       says = record {
@@ -112,9 +130,9 @@ module _ (page : ℕ → List ℕ) (tables : Tables) (live : Live) (all : List H
     managed.body_is,
     managed.status_is,
   )
-  managed_carried tables' body (Err rule) other entries (judges, same, empty) = (
-    refusal_shows page (record { tables = tables'; live = live; held = all }) admitted other
-        (subst (λ (t : Tables). Shows page (record { tables = t; live = live; held = all }) admitted.at) (sym same) stands.shows),
+  managed_carried tables' body (Err rule) entries (judges, same, empty) = (
+    refusal_shows page (record { tables = tables'; live = live; held = all }) admitted (record { held = four.held; channels = four.channels }) low
+        (subst (λ (t : Tables). Shows page (record { tables = t; live = live; held = all }) admitted.at) (sym same) stands.shows) rule,
     judges,
     empty,
   )
@@ -143,7 +161,6 @@ module _ (page : ℕ → List ℕ) (tables : Tables) (live : Live) (all : List H
       let found = selected_entry page tables live admitted.at admitted.channel slot stands.shows.says low opened in
       record { says = stands.shows.says.registry; well = stands.sound.well; entry = found.0; at = found.1; on = found.2 }
 
-  pub managed_done : (tables' : Tables) (body : List ℕ) (result : Result Status Rule) → (admitted.command.ins == EXTERNAL_AUTHENTICATE) ≡ false
-      → tables'.entries.items ≡ tables.entries.items → Manages admitted page tables tables' body result
-      → CarriesOut page admitted (record { tables = tables'; live = live; held = all }) body result
+  pub managed_done : (tables' : Tables) (body : List ℕ) (result : Result Status Rule) → tables'.entries.items ≡ tables.entries.items → Manages admitted page tables tables' body result
+      → CarriesOutBut page admitted (record { tables = tables'; live = live; held = all }) body result
   managed_done = managed_carried page tables live all admitted stands four low

@@ -13,7 +13,7 @@ use Rattle.policy_rules.proofs.Selected.{selected_entry}
 use Rattle.policy_rules.specs.Admission.{Bars, IsToApplication, Of, command_rules, general_rules}
 use Rattle.policy_rules.specs.Classes.{IsKnown, channel_of, class_of}
 use Rattle.policy_rules.specs.FirstFailing.{IsFirst}
-use Rattle.policy_rules.specs.Means.{Says}
+use Rattle.policy_rules.specs.Means.{SaysState}
 use Rattle.policy_rules.specs.State.{State}
 use Rattle.policy_rules.specs.Volatile.{channel_at, selected_on}
 use Rattle.policy_rules.specs.declared.class.Class.{Class}
@@ -23,7 +23,7 @@ use Rattle.policy_rules.specs.declared.rule.RuleG.TheVariants.{G1, G2, G3, G4}
 use Rattle.card_core.specs.Domains.{is_domain_in}
 use Rattle.card_core.proofs.Standing.{none_selected, some_selected}
 
-module _ (page : ℕ → List ℕ) (tables : Tables) (live : Live) (state : State) (bytes : List ℕ) (command : Apdu) (says : Says page tables live state) (short : Short command bytes) where
+module _ (page : ℕ → List ℕ) (tables : Tables) (live : Live) (state : State) (bytes : List ℕ) (command : Apdu) (says : SaysState page tables live state) (short : Short command bytes) where
   abbrev number : ℕ
   number = channel_of command.class
 

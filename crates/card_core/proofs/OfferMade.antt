@@ -1,17 +1,11 @@
 -- The reply to INITIALIZE UPDATE, and the offer that is made.
 use Rattle.std.proofs.Common.{◌≡◌, ℕ, List, [], ◌∷◌, ◌++◌, Option, None, Some, Result, Ok, Err, refl, sym, ap, subst, ◌∙◌, inr, arith}
-use Rattle.std.specs.Prelude.{Contains, IsErrAnd}
+use Rattle.std.specs.Prelude.{IsErrAnd}
 use Rattle.std.proofs.lemmas.List.{append_assoc}
 use Rattle.apdu_core.specs.declared.reply.Status.{Status}
 use Rattle.card_core.specs.Offers.{OffersAs}
 use Rattle.card_core.specs.declared.held.Held.{Held}
-use Rattle.card_types.proofs.DrawnCounter.{drawn_next}
-use Rattle.card_types.proofs.KeyNames.{counters_shown}
-use Rattle.card_types.specs.Counters.{HasNextCounter}
 use Rattle.card_types.specs.Registry.{Counter, Object, Registry, object_named}
-use Rattle.card_types.specs.Says.{Says, counter_of}
-use Rattle.card_types.specs.Slots.{held}
-use Rattle.card_types.specs.declared.tables.KeyRec.{KeyRec}
 use Rattle.card_types.specs.declared.tables.Tables.{Tables}
 use Rattle.policy_rules.specs.Admission.{Admitted}
 use Rattle.policy_rules.specs.Commands.{Judges}
@@ -67,9 +61,3 @@ pub set_asked : (admitted : Admitted) (domain : List ℕ) (version : ℕ) (owner
 set_asked admitted domain version owner counter on asked uses =
     subst (λ (n : ℕ). UsesSet admitted.at.registry (acting admitted) n owner counter) asked
     (subst (λ (aid : List ℕ). UsesSet admitted.at.registry aid version owner counter) (sym on) uses)
-
-module _ (page : ℕ → List ℕ) (tables : Tables) (said : Registry) (says : Says page tables said) where
-  -- the counter that a key in a slot keeps is the registry's
-  pub counter_there : (slot : ℕ) (key : KeyRec) → held tables.keys.items slot ≡ Some key → HasNextCounter tables.keys.items slot
-      → Contains said.counters (counter_of tables.entries.items key)
-  counter_there slot key at next = (counters_shown page tables said says).there slot key at (drawn_next tables.keys.items slot key at next).0

@@ -1,7 +1,7 @@
 -- What a card keeps behind the check of the class, and behind secure messaging.
 use Rattle.std.proofs.Common.{◌≡◌, ℕ, ◌<◌, List, Bool, true, false, Option, None, Some, Err, refl, sym, ap, subst, ◌∙◌, inl, inr, length}
 use Rattle.std.specs.Prelude.{MatchOption, slice_index_or, slice_set, ◌==◌}
-use Rattle.std.proofs.lemmas.List.{get_or-set_same, get_or_default, length-set}
+use Rattle.std.proofs.lemmas.List.{get_or-set_same, get_or_default, length-set, set-get_or}
 use Rattle.apdu_core.specs.Apdu.{Apdu, Short}
 use Rattle.apdu_core.specs.Reply.{status_bytes}
 use Rattle.card_types.specs.declared.card_life.CardLife.{CardLife}
@@ -23,7 +23,7 @@ use Rattle.policy_rules.specs.declared.live.TheConstants.{CHANNELS}
 use Rattle.policy_rules.specs.declared.rule.Rule.TheVariants.{G}
 use Rattle.policy_rules.specs.declared.rule.RuleG.{RuleG}
 use Rattle.policy_rules.specs.declared.rule.RuleG.TheVariants.{G1, G2, G3, G4, G5, G6, G7, G8}
-use Rattle.card_core.specs.Holds.{HoldsAs, held_passed}
+use Rattle.card_core.specs.Holds.{HoldsAs, IsInSession, held_passed, without_offer_held}
 use Rattle.card_core.specs.Kept.{Shows, StandsOn}
 use Rattle.card_core.specs.Secured.{OpensAs}
 use Rattle.card_core.specs.Serves.{IsOver, Serves}
@@ -45,6 +45,18 @@ read_at all place number other four low is =
 pub written_at : (all : List Held) (place number : ℕ) (now other : Held) → length all ≡ CHANNELS → number < CHANNELS → place ≡ number
     → slice_index_or (slice_set all place now) place other ≡ now
 written_at all place number now other four low is = get_or-set_same all place now other (subst (λ (n : ℕ). n < length all) (sym is) (within all number four low))
+
+session_stays : (now : Held) → IsInSession now → without_offer_held now ≡ now
+session_stays held.Nothing secured = absurd secured
+session_stays (held.Offered offer) secured = absurd secured
+session_stays (held.Secured session) secured = refl
+
+-- no offer is dropped where there is a session
+pub session_kept : (all : List Held) (place number : ℕ) (now other : Held) → length all ≡ CHANNELS → number < CHANNELS → place ≡ number
+    → now ≡ without_offer_held (slice_index_or all place other) → IsInSession (slice_index_or all number held.Nothing) → slice_set all place now ≡ all
+session_kept all place number now other four low is dropped secured =
+    let here = dropped ∙ ap without_offer_held (read_at all place number other four low is) ∙ session_stays (slice_index_or all number held.Nothing) secured in
+    ap (slice_set all place) here ∙ ap (λ (n : ℕ). slice_set all n (slice_index_or all number held.Nothing)) is ∙ set-get_or all number held.Nothing
 
 -- the place is the channel's number
 pub placed : (page : ℕ → List ℕ) (tables : Tables) (live : Live) (all : List Held) (state : State) (place number : ℕ) (passed other now : Held) → place ≡ number → passed ≡ other

@@ -1,6 +1,6 @@
 -- What comes of a command is one step of the policy machine.
-use Rattle.std.proofs.Common.{◌≡◌, ◌⊎◌, ℕ, List, [], ◌∷◌, ◌++◌, Bool, true, false, Option, None, Some, Result, Ok, Err, refl, sym, ap, subst, ◌∙◌, inl, inr}
-use Rattle.std.specs.Prelude.{◌↔◌, All, Contains, IsTrue, IsSome, MatchOption}
+use Rattle.std.proofs.Common.{◌≡◌, ◌⊎◌, ℕ, List, [], ◌∷◌, Bool, true, false, Option, None, Some, Result, Ok, Err, refl, sym, ap, subst, ◌∙◌, inl, inr}
+use Rattle.std.specs.Prelude.{◌↔◌, All, Contains, IsTrue, MatchOption}
 use Rattle.std.proofs.lemmas.Bool.{true≢false}
 use Rattle.std.proofs.lemmas.List.Elements.{All-contains, All-from_recursion}
 use Rattle.apdu_core.specs.Apdu.{Apdu, Short}
@@ -13,10 +13,11 @@ use Rattle.scp03_card.specs.Session.{Session}
 use Rattle.policy_rules.proofs.KeepsSound.{steps_keep_sound}
 use Rattle.policy_rules.proofs.OneOutcome.{of_one}
 use Rattle.policy_rules.proofs.Opened.{is_management, managed_protected}
-use Rattle.policy_rules.specs.Admission.{Admits, Admitted, Bars, InSession, Leaves, Of, admitted_as, command_rules, general_rules, session_for}
+use Rattle.policy_rules.specs.Admission.{Admits, Admitted, Bars, InSession, BarredLeaves, Of, admitted_as, command_rules, general_rules, session_for}
 use Rattle.policy_rules.specs.Classes.{IsKnown, IsPlainGetData, IsPlainManagement, class_of, instructions_of, is_protected, is_secure, management, managing, protects}
 use Rattle.policy_rules.specs.FirstFailing.{IsFirst}
-use Rattle.policy_rules.specs.Instructions.{instruction_of}
+use Rattle.policy_rules.specs.Commands.{IsBuilt}
+use Rattle.policy_rules.proofs.FirstUnique.{behind}
 use Rattle.policy_rules.specs.Rules.{status_of}
 use Rattle.policy_rules.specs.Sound.{IsSound}
 use Rattle.policy_rules.specs.State.{State}
@@ -34,7 +35,7 @@ use Rattle.card_core.specs.Serves.{CarriesOut, Serves, rule_of, word_of}
 
 -- a general rule bars the bytes
 pub barred : (page : ℕ → List ℕ) (card : Kept) (state : State) (bytes reply : List ℕ) (rule : RuleG) (left : Volatile) → IsSound state
-    → IsFirst (Bars state bytes) general_rules (Some rule) → Leaves state bytes rule left
+    → IsFirst (Bars state bytes) general_rules (Some rule) → BarredLeaves state bytes rule left
     → Shows page card (record { registry = state.registry; volatile = left }) → reply ≡ status_bytes (status_of (G rule))
     → Serves page state bytes card reply (Some (G rule))
 barred page card state bytes reply rule left sound first leaves shows is =
@@ -67,7 +68,7 @@ carried_out page state bytes command session plain card body reply (Ok status) s
     (done.state, record { shows = shows; sound = steps_keep_sound state bytes _ sound step }, step)
 carried_out page state bytes command session plain card body reply (Err rule) sound admits (shows, judges, empty) is =
     let admitted : Admitted = admitted_as state command session plain in
-    let left = refusal_leaves (admitted_as state command session plain) in
+    let left = refusal_leaves (admitted_as state command session plain) rule in
     let step = inr (inl (record {
       admitted = admitted_as state command session plain;
       rule = rule;
@@ -81,25 +82,15 @@ carried_out page state bytes command session plain card body reply (Err rule) so
       step,
     )
 
--- rules behind others that pass
-behind : {R : Type 0} (fails : R → Type 0) (front rest : List R) (found : Option R) → IsFirst fails front None → IsFirst fails rest found
-    → IsFirst fails (front ++ rest) found
-behind fails [] rest found passed first = first
-behind fails (next ∷ front) rest found (inl failed) first = (let clash = failed.1 in cc)
-behind fails (next ∷ front) rest found (inr passed) first = inr (passed.0, behind fails front rest found passed.1 first)
-
--- what a class takes, by its instruction bytes
-abbrev IsBuilt : ℕ → Type 0
-IsBuilt ins = IsSome (instruction_of ins)
-
-all_built : (class : Class) → All IsBuilt (instructions_of class)
-all_built Interindustry = All-from_recursion IsBuilt (instructions_of Interindustry) (refl, (refl, (refl, tt)))
-all_built Plain = All-from_recursion IsBuilt (instructions_of Plain) (refl, (refl, (refl, (refl, (refl, tt)))))
-all_built Secure = All-from_recursion IsBuilt (instructions_of Secure) (refl, (refl, (refl, (refl, (refl, tt)))))
+-- what a class takes is built
+is_built_all : (class : Class) → All IsBuilt (instructions_of class)
+is_built_all Interindustry = All-from_recursion IsBuilt (instructions_of Interindustry) (inl tt, (inl tt, (inl tt, tt)))
+is_built_all Plain = All-from_recursion IsBuilt (instructions_of Plain) (inl tt, (inl tt, (inl tt, (inl tt, (inl tt, tt)))))
+is_built_all Secure = All-from_recursion IsBuilt (instructions_of Secure) (inl tt, (inl tt, (inl tt, (inl tt, (inl tt, tt)))))
 
 pub is_built : (class : Option Class) (ins : ℕ) → MatchOption class ⊥ (λ c. Contains (instructions_of c) ins) → IsBuilt ins
 is_built None ins known = absurd known
-is_built (Some class) ins known = All-contains IsBuilt (instructions_of class) ins (all_built class) known
+is_built (Some class) ins known = All-contains IsBuilt (instructions_of class) ins (is_built_all class) known
 
 -- a protected command is GET DATA, or one of card content management
 pub protected_one : (class : Option Class) (ins : ℕ) → MatchOption class ⊥ (λ c. Contains (instructions_of c) ins) → protects class ins ≡ true

@@ -18,7 +18,7 @@ use Rattle.policy_rules.specs.Admission.{channel_passed, placeless, session_pass
 use Rattle.policy_rules.specs.Classes.{channel_of}
 use Rattle.policy_rules.proofs.SetChannel.{lowest_is_closed}
 use Rattle.policy_rules.specs.ManageChannel.{lowest_closed}
-use Rattle.policy_rules.specs.Means.{IsSelectedIn, Says}
+use Rattle.policy_rules.specs.Means.{IsSelectedIn, SaysState}
 use Rattle.policy_rules.specs.State.{State, powered_on}
 use Rattle.policy_rules.specs.Volatile.{Channel, LoadSession, Nothing, Offered, Secured, Standing, Volatile, channel_at, first_volatile, fresh, load_of_others, standing_of, standing_so, with_channel, with_standing, without_load, without_offer}
 use Rattle.policy_rules.specs.declared.instruction.TheConstants.{LOAD}
@@ -31,9 +31,9 @@ use Rattle.card_core.specs.declared.held.Held.TheVariants as held
 
 -- a channel is set beside the slot of what it has selected
 says_set : (page : ℕ → List ℕ) (tables : Tables) (live : Live) (state : State) (number : ℕ) (slot : Option ℕ) (channel : Option Channel) (after : Volatile)
-    → Says page tables live state → number < length live.selected → number < length state.volatile.channels
+    → SaysState page tables live state → number < length live.selected → number < length state.volatile.channels
     → IsSelectedIn tables.entries.items slot channel → after.channels ≡ slice_set state.volatile.channels number channel
-    → Says page tables (record { selected = slice_set live.selected number slot }) (record { registry = state.registry; volatile = after })
+    → SaysState page tables (record { selected = slice_set live.selected number slot }) (record { registry = state.registry; volatile = after })
 says_set page tables live state number slot channel after says low few selected is = record {
   registry = says.registry;
   selected = λ other within.
@@ -54,9 +54,9 @@ says_set page tables live state number slot channel after says low few selected 
 
 -- a channel is set, with what it has selected in the same slot
 says_kept : (page : ℕ → List ℕ) (tables : Tables) (live : Live) (state : State) (number : ℕ) (channel : Option Channel) (after : Volatile)
-    → Says page tables live state → number < length state.volatile.channels
+    → SaysState page tables live state → number < length state.volatile.channels
     → IsSelectedIn tables.entries.items (slice_index_or live.selected number None) channel → after.channels ≡ slice_set state.volatile.channels number channel
-    → Says page tables live (record { registry = state.registry; volatile = after })
+    → SaysState page tables live (record { registry = state.registry; volatile = after })
 says_kept page tables live state number channel after says few selected is = record {
   registry = says.registry;
   selected = λ other within.

@@ -2,7 +2,7 @@
 use Rattle.std.specs.Prelude.{ℕ, List}
 use Rattle.card_check.specs.IsCard.{HasPages, IsCard}
 use Rattle.card_types.specs.declared.tables.Tables.{Tables}
-use Rattle.policy_rules.specs.Means.{Says}
+use Rattle.policy_rules.specs.Means.{SaysState}
 use Rattle.policy_rules.specs.Sound.{IsSound}
 use Rattle.policy_rules.specs.State.{State}
 use Rattle.policy_rules.specs.declared.live.Live.{Live}
@@ -21,7 +21,7 @@ AreCards tables = (page : ℕ → List ℕ) → HasPages page → IsCard page ta
 
 -- what is kept shows this state, over these load pages
 pub record Shows (page : ℕ → List ℕ) (card : Kept) (state : State) : Type 0 where
-  pub says : Says page card.tables card.live state
+  pub says : SaysState page card.tables card.live state
   pub holds : Holds card.held state.volatile
 
 -- and the state is sound

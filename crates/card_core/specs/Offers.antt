@@ -13,9 +13,9 @@ use Rattle.policy_rules.specs.Admission.{Admitted}
 use Rattle.policy_rules.specs.Commands.{Judges}
 use Rattle.policy_rules.specs.ExternalAuthenticate.{Answers}
 use Rattle.policy_rules.specs.InitializeUpdate.{AsksForSet, IsOfferOf, offer_body}
-use Rattle.policy_rules.specs.Volatile.{Offered, Secured, Standing, channel_at, standing_of, without_offer}
+use Rattle.policy_rules.specs.Volatile.{Offered, Secured, Standing, channel_at, standing_of}
 use Rattle.policy_rules.specs.declared.rule.Rule.{Rule}
-use Rattle.card_core.specs.Holds.{HoldsAs}
+use Rattle.card_core.specs.Holds.{HoldsAs, without_offer_held}
 use Rattle.card_core.specs.declared.held.Held.{Held}
 
 -- what the command's channel holds
@@ -39,9 +39,9 @@ OffersAs admitted page tables tables' old new body (Ok status) = Judges admitted
 OffersAs admitted page tables tables' old new body (Err rule) =
     Judges admitted (Some rule) × (tables' ≡ tables) × (new ≡ old) × (body ≡ [])
 
--- the offer became a session, or was lost
-abbrev pub AnswersAs : Admitted → Held → Result Status Rule → Type 0
-AnswersAs admitted new (Ok status) =
+-- the offer became a session, or was lost: but for an offer the channel holds what it held
+abbrev pub AnswersAs : Admitted → Held → Held → Result Status Rule → Type 0
+AnswersAs admitted old new (Ok status) =
     (offer : Offer) × (level : Level) × Answers admitted offer level × Judges admitted None
     × HoldsAs new (Secured (answered offer level)) × (status.0 ≡ 0x9000)
-AnswersAs admitted new (Err rule) = Judges admitted (Some rule) × HoldsAs new (without_offer (standing_for admitted))
+AnswersAs admitted old new (Err rule) = Judges admitted (Some rule) × (without_offer_held new ≡ without_offer_held old)

@@ -1,5 +1,5 @@
 -- What comes of a command.
-use Rattle.std.specs.Prelude.{◌≡◌, ℕ, List, [], false, Result, Ok, Err, Some, None, Option}
+use Rattle.std.specs.Prelude.{◌≡◌, ℕ, List, [], false, Result, Ok, Err, Some, None, Option, slice_index_or, slice_set}
 use Rattle.apdu_core.specs.declared.reply.Status.{Status}
 use Rattle.policy_rules.specs.Admission.{Admitted}
 use Rattle.card_types.specs.declared.card_life.CardLife.{CardLife}
@@ -12,18 +12,41 @@ use Rattle.policy_rules.specs.Step.{Step, refusal_leaves}
 use Rattle.policy_rules.specs.declared.class.Class.{Class}
 use Rattle.policy_rules.specs.declared.instruction.TheConstants.{GET_DATA}
 use Rattle.policy_rules.specs.declared.rule.Rule.{Rule}
+use Rattle.card_core.specs.Holds.{without_offer_held}
 use Rattle.card_core.specs.Kept.{Kept, Shows, StandsOn}
+use Rattle.card_core.specs.declared.held.Held.TheVariants as held
 
 -- one step of the policy machine was made, over these load pages
 abbrev pub Serves : (ℕ → List ℕ) → State → List ℕ → Kept → List ℕ → Option Rule → Type 0
 Serves page state bytes card reply rule = (next : State) × StandsOn page card next × Step state bytes (record { state = next; reply = reply; rule = rule })
 
--- an admitted command was carried out, or a rule of its own refused it
-abbrev pub CarriesOut : (ℕ → List ℕ) → Admitted → Kept → List ℕ → Result Status Rule → Type 0
-CarriesOut page admitted card body (Ok status) =
+-- no rule of its own refused an admitted command, and it did what it does
+abbrev pub IsDone : (ℕ → List ℕ) → Admitted → Kept → List ℕ → Status → Type 0
+IsDone page admitted card body status =
     (done : Effect) × Shows page card done.state × Judges admitted None × Does admitted done × (body ≡ done.body) × (status.0 ≡ done.status)
-CarriesOut page admitted card body (Err rule) =
-    Shows page card (record { registry = admitted.at.registry; volatile = refusal_leaves admitted }) × Judges admitted (Some rule) × (body ≡ [])
+
+-- such a rule refused it, and the card shows what the refusal leaves
+abbrev pub IsRefusedBy : (ℕ → List ℕ) → Admitted → Kept → List ℕ → Rule → Type 0
+IsRefusedBy page admitted card body rule =
+    Shows page card (record { registry = admitted.at.registry; volatile = refusal_leaves admitted rule }) × Judges admitted (Some rule) × (body ≡ [])
+
+-- a card whose channel has lost its offer, if it had one
+abbrev pub without_offer_at : Kept → ℕ → Kept
+without_offer_at card number = record {
+  tables = card.tables;
+  live = card.live;
+  held = slice_set card.held number (without_offer_held (slice_index_or card.held number held.Nothing));
+}
+
+-- an admitted command was carried out, or refused
+abbrev pub CarriesOut : (ℕ → List ℕ) → Admitted → Kept → List ℕ → Result Status Rule → Type 0
+CarriesOut page admitted card body (Ok status) = IsDone page admitted card body status
+CarriesOut page admitted card body (Err rule) = IsRefusedBy page admitted card body rule
+
+-- so too, but that where it was refused the offer of its channel is still to be dropped
+abbrev pub CarriesOutBut : (ℕ → List ℕ) → Admitted → Kept → List ℕ → Result Status Rule → Type 0
+CarriesOutBut page admitted card body (Ok status) = IsDone page admitted card body status
+CarriesOutBut page admitted card body (Err rule) = IsRefusedBy page admitted (without_offer_at card admitted.channel) body rule
 
 -- the status word of the reply, and the rule that refused the command
 abbrev pub word_of : Result Status Rule → ℕ

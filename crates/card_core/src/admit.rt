@@ -4,10 +4,10 @@ ghost use Rattle.std.specs.Prelude.{◌≡◌, ◌≢◌, ◌↔◌, IsTrue, fal
 ghost use Rattle.apdu_core.specs.Apdu.{Short, apdu_of};
 ghost use Rattle.card_core.specs.Domains.{is_domain_in};
 ghost use Rattle.card_core.specs.Serves.{IsOver};
-ghost use Rattle.policy_rules.specs.Admission.{Bars, Leaves, command_rules, general_rules};
+ghost use Rattle.policy_rules.specs.Admission.{Bars, BarredLeaves, command_rules, general_rules};
 ghost use Rattle.policy_rules.specs.Classes.{IsKnown, channel_of as channel_of_byte, class_of};
 ghost use Rattle.policy_rules.specs.FirstFailing.{IsFirst};
-ghost use Rattle.policy_rules.specs.Means.{Says};
+ghost use Rattle.policy_rules.specs.Means.{SaysState};
 ghost use Rattle.policy_rules.specs.State.{State};
 
 use apdu_core::Command;
@@ -41,7 +41,7 @@ pub fn is_over(card_life: CardLife, class: Class, ins: u8) -> bool
 
 /// A command whose class, channel and instruction the card takes.
 #[derive(Clone, Copy)]
-pub struct Admitted<'a> {
+pub struct Received<'a> {
     pub command: Command<'a>,
     pub class: Class,
 
@@ -53,19 +53,19 @@ pub struct Admitted<'a> {
 }
 
 /// The command that the bytes are, or the first of the rules on class, channel and instruction that fails.
-pub fn admit<'a>(tables: &Tables, live: &Live, bytes: &'a [u8]) -> Result<Admitted<'a>, RuleG>
-    ensures known { IfOk result (λ admitted. IsKnown admitted.command.class admitted.command.ins) }
-    ensures spelled { IfOk result (λ admitted. Short (apdu_of admitted.command) bytes.now) }
-    ensures class { IfOk result (λ admitted. class_of admitted.command.class ≡ Some admitted.class) }
-    ensures channel { IfOk result (λ admitted. admitted.channel ≡ channel_of_byte admitted.command.class) }
-    ensures selected { IfOk result (λ admitted. slice_index_or live.now.selected admitted.channel None ≡ Some admitted.selected) }
-    ensures domain { IfOk result (λ admitted. admitted.command.ins ≢ SELECT → admitted.command.ins ≢ MANAGE_CHANNEL
-        → is_domain_in tables.now.entries.items admitted.selected ≡ true) }
-    ensures passed { (page : ℕ → List ℕ) (state : State) → Says page tables.now live.now state
-        → IfOk result (λ admitted. IsFirst (Bars state bytes.now) command_rules None) }
-    ensures refused { (page : ℕ → List ℕ) (state : State) → Says page tables.now live.now state
+pub fn admit<'a>(tables: &Tables, live: &Live, bytes: &'a [u8]) -> Result<Received<'a>, RuleG>
+    ensures known { IfOk result (λ received. IsKnown received.command.class received.command.ins) }
+    ensures spelled { IfOk result (λ received. Short (apdu_of received.command) bytes.now) }
+    ensures class { IfOk result (λ received. class_of received.command.class ≡ Some received.class) }
+    ensures channel { IfOk result (λ received. received.channel ≡ channel_of_byte received.command.class) }
+    ensures selected { IfOk result (λ received. slice_index_or live.now.selected received.channel None ≡ Some received.selected) }
+    ensures domain { IfOk result (λ received. received.command.ins ≢ SELECT → received.command.ins ≢ MANAGE_CHANNEL
+        → is_domain_in tables.now.entries.items received.selected ≡ true) }
+    ensures passed { (page : ℕ → List ℕ) (state : State) → SaysState page tables.now live.now state
+        → IfOk result (λ received. IsFirst (Bars state bytes.now) command_rules None) }
+    ensures refused { (page : ℕ → List ℕ) (state : State) → SaysState page tables.now live.now state
         → IfErr result (λ rule. IsFirst (Bars state bytes.now) general_rules (Some rule)) }
-    ensures leaves { (state : State) → IfErr result (λ rule. Leaves state bytes.now rule state.volatile) }
+    ensures leaves { (state : State) → IfErr result (λ rule. BarredLeaves state bytes.now rule state.volatile) }
 {
     let Ok(command) = Command::read(bytes) else {
         return Err(RuleG::G1);
@@ -84,7 +84,7 @@ pub fn admit<'a>(tables: &Tables, live: &Live, bytes: &'a [u8]) -> Result<Admitt
     if is_not_for(tables, selected, ins) {
         return Err(RuleG::G4);
     }
-    Ok(Admitted {
+    Ok(Received {
         command,
         class,
         channel,

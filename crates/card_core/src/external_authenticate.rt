@@ -1,37 +1,42 @@
 //! EXTERNAL AUTHENTICATE: an offer becomes a session.
 
-ghost use Rattle.std.specs.Prelude.{◌≡◌};
-ghost use Rattle.apdu_core.specs.Apdu.{apdu_of};
-ghost use Rattle.card_core.specs.Holds.{HoldsAs};
+ghost use Rattle.std.specs.Prelude.{◌≡◌, IfErr, OnOk};
+ghost use Rattle.card_core.specs.Holds.{HoldsAs, IsOffered};
 ghost use Rattle.card_core.specs.Offers.{AnswersAs, standing_for};
 ghost use Rattle.policy_rules.specs.Admission.{Admitted};
+ghost use Rattle.policy_rules.specs.Means.{IsRequestOf, IsWellFormed};
+ghost use Rattle.policy_rules.specs.declared.external_authenticate.RuleEA.TheVariants.{EA1};
 ghost use Rattle.policy_rules.specs.declared.instruction.TheConstants.{EXTERNAL_AUTHENTICATE};
+ghost use Rattle.policy_rules.specs.declared.request.Request.TheVariants.{Authenticate};
+ghost use Rattle.policy_rules.specs.declared.rule.Rule.TheVariants.{EA};
 
 use crate::held::Held;
-use apdu_core::{Command, Status};
-use policy_rules::{Request, Rule, RuleEA, parse};
+use apdu_core::Status;
+use card_types::Level;
+use policy_rules::{EXTERNAL_AUTHENTICATE, Rule, RuleEA};
 use scp03_card::AuthRefusal;
 use std::mem;
 
-/// Makes the offer that the channel holds a session. A refused answer loses the offer.
-pub fn external_authenticate(held: &mut Held, command: &Command<'_>) -> Result<Status, Rule>
-    requires { command.now.ins ≡ EXTERNAL_AUTHENTICATE }
-    ensures { (admitted : Admitted) → admitted.command ≡ apdu_of command.now → HoldsAs held.old (standing_for admitted) → AnswersAs admitted held.new result }
+/// Judges the rule of EXTERNAL AUTHENTICATE that stands before those on its form: the channel has an offer.
+pub fn judge_offer(held: &Held, ins: u8) -> Result<(), Rule>
+    ensures offered { OnOk result (ins ≡ EXTERNAL_AUTHENTICATE → IsOffered held.now) }
+    ensures refused { IfErr result (λ rule. (rule ≡ EA EA1) × (ins ≡ EXTERNAL_AUTHENTICATE) × (IsOffered held.now → ⊥)) }
 {
-    if !held.is_offered() {
+    if ins == EXTERNAL_AUTHENTICATE && !held.is_offered() {
         return Err(Rule::EA(RuleEA::EA1));
     }
+    Ok(())
+}
+
+/// Makes the offer that the channel holds a session. A refused answer loses the offer.
+pub fn external_authenticate(held: &mut Held, level: Level, proof: &[u8]) -> Result<Status, Rule>
+    requires offered { IsOffered held.old }
+    requires formed { IsWellFormed (Authenticate level proof) }
+    ensures { (admitted : Admitted) → IsRequestOf (Authenticate level proof.entry) admitted.command → HoldsAs held.old (standing_for admitted)
+        → AnswersAs admitted held.old held.new result }
+{
     let Held::Offered(offer) = mem::replace(held, Held::Nothing) else {
-        return Err(Rule::EA(RuleEA::EA1));
-    };
-    let Request::Authenticate { level, proof } = parse(
-        command.ins,
-        command.p1,
-        command.p2,
-        command.body,
-    )?
-    else {
-        return Err(Rule::EA(RuleEA::EA1));
+        unreachable!()
     };
     let mut body = [0; 16];
     body.copy_from_slice(proof);

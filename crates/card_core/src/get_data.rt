@@ -5,7 +5,7 @@ ghost use Rattle.arrayvec.specs.ArrayVec.{array_vec_len};
 ghost use Rattle.bertlv.specs.Spelling.{Spelling};
 ghost use Rattle.bertlv.specs.Tag.{IsTag};
 ghost use Rattle.card_core.specs.Kept.{StandsOn};
-ghost use Rattle.card_core.specs.Serves.{CarriesOut};
+ghost use Rattle.card_core.specs.Serves.{CarriesOutBut};
 ghost use Rattle.card_core.specs.declared.held.Held.{Held};
 ghost use Rattle.card_types.specs.InOrder.{IsInOrder};
 ghost use Rattle.card_types.specs.Least.{IsLeast};
@@ -130,8 +130,8 @@ pub fn get_data(
     requires selected { slice_index_or live.now.selected channel None ≡ Some domain }
     requires empty { reply.old.items ≡ [] }
     ensures done { (page : ℕ → List ℕ) (all : List Held) (admitted : Admitted) → StandsOn page (record { tables = tables.now; live = live.now; held = all }) admitted.at
-        → channel ≡ admitted.channel → IsRequestOf (Get tag) admitted.command
-        → CarriesOut page admitted (record { tables = tables.now; live = live.now; held = all }) reply.new.items result }
+        → length all ≡ CHANNELS → channel ≡ admitted.channel → IsRequestOf (Get tag) admitted.command
+        → CarriesOutBut page admitted (record { tables = tables.now; live = live.now; held = all }) reply.new.items result }
     ensures room { length reply.new.items ≤ 239 }
 {
     match judge_get_data(tables, domain, tag) {

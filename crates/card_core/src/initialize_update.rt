@@ -8,7 +8,7 @@ ghost use Rattle.card_types.specs.Ascending.{IsAscending};
 ghost use Rattle.card_types.specs.InOrder.{IsInOrder};
 ghost use Rattle.card_types.specs.NamedKeys.{HaveKeyLength};
 ghost use Rattle.card_types.specs.Registry.{Registry, object_named};
-ghost use Rattle.card_types.specs.Says.{Says, domain_aid};
+ghost use Rattle.card_types.specs.Says.{Says, counter_of, domain_aid};
 ghost use Rattle.card_types.specs.Slots.{held as held_in};
 ghost use Rattle.card_types.specs.Well.{Well};
 ghost use Rattle.card_types.specs.declared.limits.TheConstants.{COUNTER_LIMIT};
@@ -27,10 +27,10 @@ use crate::reply::REPLY_LIMIT;
 use aes_block::{Aes128, BlockKey};
 use apdu_core::Status;
 use arrayvec::ArrayVec;
-use card_types::{Aid, KeySet, Object, Tables, in_slot, keys_of_set};
+use card_types::{Aid, KeyRec, KeySet, Object, Tables};
 use flash_core::Flash;
-use key_sets::{Spent, draw_counter};
-use policy_rules::{Datum, Rule, RuleIU, judge_get_data, judge_initialize_update};
+use key_sets::raise_counter;
+use policy_rules::{Datum, Rule, judge_get_data, judge_initialize_update};
 use rec_store::Records;
 use scp03_card::{Offer, StaticKeys, offer};
 
@@ -41,17 +41,18 @@ const DIVERSIFICATION: u16 = 0x00CF;
 const PROTOCOL: [u8; 2] = [0x03, 0x70];
 
 // The offer that the keys of a key set make.
-fn offer_of(set: &KeySet<'_>, counter: u32, aid: &Aid, host: &[u8; 8]) -> Offer<Aes128>
+fn offer_of(set: &KeySet<'_>, aid: &Aid, host: &[u8; 8]) -> Offer<Aes128>
     requires lengths { HaveKeyLength set.now }
-    requires counter { counter ≤ COUNTER_LIMIT }
-    ensures made { StandsForOffer result (offered set.now.enc.now.bytes.items set.now.mac.now.bytes.items set.now.dek.now.bytes.items counter aid.now host.now) }
+    requires counter { set.now.enc.now.counter ≤ COUNTER_LIMIT }
+    ensures made { StandsForOffer result
+        (offered set.now.enc.now.bytes.items set.now.mac.now.bytes.items set.now.dek.now.bytes.items set.now.enc.now.counter aid.now host.now) }
 {
     let keys = StaticKeys {
         enc: Aes128::from_key(&set.enc.bytes),
         mac: Aes128::from_key(&set.mac.bytes),
         dek: Aes128::from_key(&set.dek.bytes),
     };
-    offer(keys, counter, aid, host)
+    offer(keys, set.enc.counter, aid, host)
 }
 
 // The key diversification data of a domain, where it has such a data object.
@@ -87,27 +88,24 @@ fn write_diversification(tables: &Tables, owner: u8, reply: &mut ArrayVec<u8, RE
     }
 }
 
-// The body of the reply.
+// The body of the reply, where this is the Key-ENC of the key set.
 fn write_offer(
     tables: &Tables,
-    owner: u8,
-    version: u8,
-    counter: u32,
+    enc: &KeyRec,
     offer: &Offer<Aes128>,
     reply: &mut ArrayVec<u8, REPLY_LIMIT>,
 )
     requires in_order { IsInOrder tables.now }
-    requires counter { counter ≤ COUNTER_LIMIT }
+    requires counter { enc.now.counter ≤ COUNTER_LIMIT }
     requires empty { reply.old.items ≡ [] }
     ensures written { (page : ℕ → List ℕ) (said : Registry) (entry : Entry) (made : model.Offer) → Says page tables.now said → Well said
-        → held_in tables.now.entries.items owner ≡ Some entry → StandsForOffer offer.now made
-        → reply.new.items ≡ offer_body said (domain_aid tables.now.entries.items owner)
-        (record { owner = domain_aid tables.now.entries.items owner; version = version; number = counter }) made }
+        → held_in tables.now.entries.items enc.now.owner ≡ Some entry → StandsForOffer offer.now made
+        → reply.new.items ≡ offer_body said (domain_aid tables.now.entries.items enc.now.owner) (counter_of tables.now.entries.items enc.now) made }
     ensures size { length reply.new.items ≤ 142 }
 {
-    let [_, high, middle, low] = counter.to_be_bytes();
-    write_diversification(tables, owner, reply);
-    reply.push(version);
+    let [_, high, middle, low] = enc.counter.to_be_bytes();
+    write_diversification(tables, enc.owner, reply);
+    reply.push(enc.version);
     reply.try_extend_from_slice(&PROTOCOL).unwrap();
     reply.try_extend_from_slice(&offer.challenge()).unwrap();
     reply.try_extend_from_slice(&offer.cryptogram()).unwrap();
@@ -141,25 +139,12 @@ pub fn initialize_update<F: Flash>(
 {
     let tables = records.tables();
     let found = judge_initialize_update(tables, domain, version)?;
-    let owner = found.thing.owner;
-    let version = found.thing.version;
-    let counter = found.thing.counter;
-    let Some(entry) = in_slot(&tables.entries, domain) else {
-        return Err(Rule::IU(RuleIU::IU2));
-    };
-    let Some(set) = keys_of_set(tables, owner, version) else {
-        return Err(Rule::IU(RuleIU::IU2));
-    };
+    let slot = found.slot;
     let mut host = [0; 8];
     host.copy_from_slice(challenge);
-    let offer = offer_of(&set, counter, &entry.aid, &host);
-    write_offer(tables, owner, version, counter, &offer, reply);
-    // The counter drawn is that of the offer: the rules have looked at it.
-    match draw_counter(records, owner, version) {
-        Ok(_) => {
-            *held = Held::Offered(offer);
-            Ok(Status(0x9000))
-        }
-        Err(Spent) => Err(Rule::IU(RuleIU::IU3)),
-    }
+    let offer = offer_of(&found.keys, found.aid, &host);
+    write_offer(tables, found.keys.enc, &offer, reply);
+    raise_counter(records, slot);
+    *held = Held::Offered(offer);
+    Ok(Status(0x9000))
 }

@@ -13,6 +13,7 @@ mod get_data;
 mod held;
 mod initialize_update;
 mod manage_channel;
+mod management;
 mod pinned;
 mod power;
 mod put_key;

@@ -2,7 +2,7 @@
 
 ghost use Rattle.std.specs.Prelude.{◌≡◌, ◌≤◌, ◌<◌, ℕ, List, [], length};
 ghost use Rattle.card_core.specs.Kept.{StandsOn};
-ghost use Rattle.card_core.specs.Serves.{CarriesOut};
+ghost use Rattle.card_core.specs.Serves.{CarriesOutBut};
 ghost use Rattle.card_core.specs.declared.held.Held.{Held};
 ghost use Rattle.card_types.specs.Layout.{HasLayout};
 ghost use Rattle.card_types.specs.declared.tables.Tables.{Tables};
@@ -21,9 +21,9 @@ use policy_rules::{CHANNELS, Live, Rule, judge_more_channel};
 pub fn open_channel(live: &mut Live, reply: &mut ArrayVec<u8, REPLY_LIMIT>) -> Result<Status, Rule>
     requires empty { reply.old.items ≡ [] }
     ensures done { (page : ℕ → List ℕ) (tables : Tables) (all : List Held) (admitted : Admitted) → HasLayout tables
-        → StandsOn page (record { tables = tables; live = live.old; held = all }) admitted.at → length all ≡ CHANNELS
+        → StandsOn page (record { tables = tables; live = live.old; held = all }) admitted.at → length all ≡ CHANNELS → admitted.channel < CHANNELS
         → IsRequestOf MoreChannel admitted.command
-        → CarriesOut page admitted (record { tables = tables; live = live.new; held = all }) reply.new.items result }
+        → CarriesOutBut page admitted (record { tables = tables; live = live.new; held = all }) reply.new.items result }
     ensures room { length reply.new.items ≤ 239 }
 {
     match judge_more_channel(live) {
@@ -46,7 +46,7 @@ pub fn close_channel(
     requires high { number < CHANNELS }
     ensures done { (page : ℕ → List ℕ) (tables : Tables) (admitted : Admitted) → StandsOn page (record { tables = tables; live = live.old; held = held.old }) admitted.at
         → IsRequestOf (LessChannel number) admitted.command
-        → CarriesOut page admitted (record { tables = tables; live = live.new; held = held.new }) [] result }
+        → CarriesOutBut page admitted (record { tables = tables; live = live.new; held = held.new }) [] result }
 {
     let place = usize::from(number);
     if live.selected[place].is_none() {

@@ -20,8 +20,8 @@ use apdu_core::Status;
 use arrayvec::ArrayVec;
 use cmac_kdf::cbc_unseal_blocks;
 use flash_core::Flash;
-use key_sets::{put_one, put_set};
-use policy_rules::{PutKeys, Rule, SealedKey, judge_put_key};
+use key_sets::{place_one, place_set};
+use policy_rules::{PutKeys, Rule, SealedKey, judge_put_keys, judge_put_versions};
 use rec_store::Records;
 
 // A key that was sent, and whether its check value is that of the key.
@@ -100,15 +100,15 @@ pub fn put_key<F: Flash>(
     let Held::Secured(session) = held else {
         unreachable!()
     };
+    judge_put_versions(records.tables(), domain, replaced, version)?;
     let dek = session.dek();
     match keys {
         PutKeys::One(sent) => {
             let key = open_key(dek, sent);
-            judge_put_key(records.tables(), domain, replaced, version, keys, key.fits)?;
+            judge_put_keys(records.tables(), domain, replaced, keys, key.fits)?;
             reply.push(version);
             write_check(sent, reply);
-            // The keys are judged before they are put, so putting them refuses nothing.
-            put_one(records, domain, replaced, version, &key.bytes).unwrap();
+            place_one(records, domain, replaced, version, &key.bytes);
             Ok(Status(0x9000))
         }
         PutKeys::Three(first, second, third) => {
@@ -116,15 +116,14 @@ pub fn put_key<F: Flash>(
             let mac = open_key(dek, second);
             let kek = open_key(dek, third);
             let fit = all_fit(&enc, &mac, &kek);
-            judge_put_key(records.tables(), domain, replaced, version, keys, fit)?;
+            judge_put_keys(records.tables(), domain, replaced, keys, fit)?;
             reply.push(version);
             write_check(first, reply);
             write_check(second, reply);
             write_check(third, reply);
-            put_set(
+            place_set(
                 records, domain, replaced, version, &enc.bytes, &mac.bytes, &kek.bytes,
-            )
-            .unwrap();
+            );
             Ok(Status(0x9000))
         }
     }

@@ -3,7 +3,7 @@
 ghost use Rattle.std.specs.Prelude.{◌≡◌, ◌≤◌, ◌<◌, ℕ, List, [], length, slice_index_or, slice_set};
 ghost use Rattle.card_types.specs.InOrder.{IsInOrder};
 ghost use Rattle.card_core.specs.Kept.{StandsOn};
-ghost use Rattle.card_core.specs.Serves.{CarriesOut};
+ghost use Rattle.card_core.specs.Serves.{CarriesOutBut};
 ghost use Rattle.card_core.specs.declared.held.Held.{Held};
 ghost use Rattle.card_core.specs.declared.held.Held.TheVariants as holding;
 ghost use Rattle.policy_rules.specs.Admission.{Admitted};
@@ -95,7 +95,7 @@ pub fn select(
     ensures done { (page : ℕ → List ℕ) (all : List Held) (admitted : Admitted) → StandsOn page (record { tables = tables.now; live = live.old; held = all }) admitted.at
         → length all ≡ CHANNELS → channel ≡ admitted.channel → slice_index_or all channel holding.Nothing ≡ held.old
         → IsRequestOf (Select partial.entry) admitted.command
-        → CarriesOut page admitted (record { tables = tables.now; live = live.new; held = slice_set all channel held.new }) reply.new.items result }
+        → CarriesOutBut page admitted (record { tables = tables.now; live = live.new; held = slice_set all channel held.new }) reply.new.items result }
     ensures room { length reply.new.items ≤ 239 }
 {
     match judge_select(tables, partial) {

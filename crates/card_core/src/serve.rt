@@ -7,29 +7,27 @@ ghost use Rattle.card_core.specs.Commits.{MayCommit};
 ghost use Rattle.card_core.specs.Domains.{is_domain_in};
 ghost use Rattle.card_core.specs.Holds.{HoldsAs, IsInSession, held_passed};
 ghost use Rattle.card_core.specs.Kept.{AreCards, StandsOn};
-ghost use Rattle.card_core.specs.Serves.{CarriesOut, IsOver, Serves, rule_of, word_of};
-ghost use Rattle.policy_rules.specs.Admission.{Admitted as Judged};
+ghost use Rattle.card_core.specs.Serves.{CarriesOut, CarriesOutBut, IsOver, Serves, rule_of, word_of};
+ghost use Rattle.policy_rules.specs.Admission.{Admitted};
 ghost use Rattle.card_core.specs.declared.held.Held.TheVariants as holding;
 ghost use Rattle.policy_rules.specs.Classes.{managing};
-ghost use Rattle.policy_rules.specs.Instructions.{instruction_of};
+ghost use Rattle.policy_rules.specs.Commands.{IsBuilt};
 ghost use Rattle.policy_rules.specs.State.{State};
 ghost use Rattle.policy_rules.specs.Volatile.{Secured};
 ghost use Rattle.policy_rules.specs.declared.instruction.TheConstants.{SELECT, MANAGE_CHANNEL, GET_DATA, INITIALIZE_UPDATE};
 ghost use Rattle.scp03_card.specs.Protected.{protected};
 ghost use Rattle.scp03_card.specs.Session.{Session};
 
-use crate::admit::{Admitted, admit, is_over};
-use crate::delete_key::delete_key;
-use crate::external_authenticate::external_authenticate;
+use crate::admit::{Received, admit, is_over};
+use crate::external_authenticate::{external_authenticate, judge_offer};
 use crate::get_data::get_data;
 use crate::held::Held;
 use crate::initialize_update::initialize_update;
 use crate::manage_channel::{close_channel, open_channel};
-use crate::put_key::put_key;
+use crate::management::manage;
 use crate::reply::{REPLY_LIMIT, write_status};
 use crate::secure_messaging::{close_reply, open_command};
 use crate::select::select;
-use crate::store_data::store_data;
 use apdu_core::{Command, Status};
 use arrayvec::ArrayVec;
 use card_types::CardLife;
@@ -41,14 +39,14 @@ use policy_rules::{
 use rec_store::Records;
 
 // Checks the life cycle state of the card, and drops an offer that the command doesn't answer.
-fn pass_class(card_life: CardLife, admitted: &Admitted<'_>, held: &mut Held) -> Result<(), RuleG>
-    ensures ok { OnOk result (IsOver card_life admitted.now.class admitted.now.command.ins → ⊥) }
-    ensures kept { OnOk result (held.new ≡ held_passed (admitted.now.command.ins == EXTERNAL_AUTHENTICATE) held.old) }
-    ensures over { IfErr result (λ rule. (rule ≡ RuleG.G5) × IsOver card_life admitted.now.class admitted.now.command.ins) }
+fn pass_class(card_life: CardLife, received: &Received<'_>, held: &mut Held) -> Result<(), RuleG>
+    ensures ok { OnOk result (IsOver card_life received.now.class received.now.command.ins → ⊥) }
+    ensures kept { OnOk result (held.new ≡ held_passed (received.now.command.ins == EXTERNAL_AUTHENTICATE) held.old) }
+    ensures over { IfErr result (λ rule. (rule ≡ RuleG.G5) × IsOver card_life received.now.class received.now.command.ins) }
     ensures lost { OnErr result (held.new ≡ held_passed false held.old) }
 {
-    let ins = admitted.command.ins;
-    let over = is_over(card_life, admitted.class, ins);
+    let ins = received.command.ins;
+    let over = is_over(card_life, received.class, ins);
     if over || ins != EXTERNAL_AUTHENTICATE {
         held.drop_offer();
     }
@@ -57,27 +55,27 @@ fn pass_class(card_life: CardLife, admitted: &Admitted<'_>, held: &mut Held) -> 
 
 // Does what a command asks for, and appends the reply's data. Commands with large values of their own are out of line, so that the
 // others have a small stack frame.
-fn act<F: Flash>(
+fn carry_out<F: Flash>(
     records: &mut Records<F>,
     live: &mut Live,
     held: &mut [Held; CHANNELS],
-    admitted: &Admitted<'_>,
+    received: &Received<'_>,
     command: &Command<'_>,
     reply: &mut ArrayVec<u8, REPLY_LIMIT>,
 ) -> Result<Status, Rule>
     requires up { records.old.live ≡ true }
     requires clean { records.old.staged ≡ [] }
     requires cards { AreCards records.old.tables }
-    requires known { IsSome (instruction_of command.now.ins) }
-    requires channel { admitted.now.channel < CHANNELS }
-    requires selected { slice_index_or live.old.selected admitted.now.channel None ≡ Some admitted.now.selected }
-    requires domain { command.now.ins ≢ SELECT → command.now.ins ≢ MANAGE_CHANNEL → is_domain_in records.old.tables.entries.items admitted.now.selected ≡ true }
-    requires secured { Contains managing command.now.ins → IsInSession (slice_index_or held.old admitted.now.channel holding.Nothing) }
+    requires built { IsBuilt command.now.ins }
+    requires channel { received.now.channel < CHANNELS }
+    requires selected { slice_index_or live.old.selected received.now.channel None ≡ Some received.now.selected }
+    requires domain { command.now.ins ≢ SELECT → command.now.ins ≢ MANAGE_CHANNEL → is_domain_in records.old.tables.entries.items received.now.selected ≡ true }
+    requires secured { Contains managing command.now.ins → IsInSession (slice_index_or held.old received.now.channel holding.Nothing) }
     requires short { length command.now.body.now ≤ 255 }
     requires empty { reply.old.items ≡ [] }
-    ensures done { (page : ℕ → List ℕ) (judged : Judged) → StandsOn page (record { tables = records.old.tables; live = live.old; held = held.old }) judged.at
-        → admitted.now.channel ≡ judged.channel → judged.command ≡ apdu_of command.now
-        → CarriesOut page judged (record { tables = records.new.tables; live = live.new; held = held.new }) reply.new.items result }
+    ensures done { (page : ℕ → List ℕ) (judged : Admitted) → StandsOn page (record { tables = records.old.tables; live = live.old; held = held.old }) judged.at
+        → received.now.channel ≡ judged.channel → judged.command ≡ apdu_of command.now
+        → CarriesOutBut page judged (record { tables = records.new.tables; live = live.new; held = held.new }) reply.new.items result }
     ensures cards { AreCards records.new.tables }
     ensures same { (records.new.flash ≡ records.old.flash) × (records.new.live ≡ true) }
     ensures refused { OnErr result (records.new ≡ records.old) }
@@ -85,13 +83,11 @@ fn act<F: Flash>(
     ensures kept { (command.now.ins ≡ GET_DATA) ⊎ Contains managing command.now.ins → held.new ≡ held.old }
     ensures room { length reply.new.items ≤ 239 }
 {
-    let channel = admitted.channel;
+    let channel = received.channel;
     let place = usize::from(channel);
-    // Of its rules the one on the offer comes first, before those on the form.
-    if command.ins == EXTERNAL_AUTHENTICATE {
-        return external_authenticate(&mut held[place], command);
-    }
-    match parse(command.ins, command.p1, command.p2, command.body)? {
+    judge_offer(&held[place], command.ins)?;
+    let request = parse(command.ins, command.p1, command.p2, command.body)?;
+    match request {
         Request::Select { partial } => {
             select(
                 records.tables(),
@@ -108,38 +104,61 @@ fn act<F: Flash>(
             records.tables(),
             live,
             channel,
-            admitted.selected,
+            received.selected,
             tag,
             reply,
         ),
         Request::Initialize { version, challenge } => initialize_update(
             records,
             &mut held[place],
-            admitted.selected,
+            received.selected,
             version,
             challenge,
             reply,
         ),
-        Request::Authenticate { .. } => external_authenticate(&mut held[place], command),
-        Request::PutKey {
-            replaced,
-            version,
-            keys,
-        } => put_key(
-            records,
-            &held[place],
-            admitted.selected,
-            replaced,
-            version,
-            &keys,
-            reply,
-        ),
-        Request::Store { objects } => store_data(records, admitted.selected, objects),
-        Request::DeleteKey {
-            version,
-            identifier,
-        } => delete_key(records, admitted.selected, version, identifier, reply),
+        Request::Authenticate { level, proof } => {
+            external_authenticate(&mut held[place], level, proof)
+        }
+        Request::PutKey { .. } | Request::Store { .. } | Request::DeleteKey { .. } => {
+            manage(records, &held[place], received.selected, &request, reply)
+        }
     }
+}
+
+// So too, and a refusal leaves no offer on the channel.
+fn act<F: Flash>(
+    records: &mut Records<F>,
+    live: &mut Live,
+    held: &mut [Held; CHANNELS],
+    received: &Received<'_>,
+    command: &Command<'_>,
+    reply: &mut ArrayVec<u8, REPLY_LIMIT>,
+) -> Result<Status, Rule>
+    requires up { records.old.live ≡ true }
+    requires clean { records.old.staged ≡ [] }
+    requires cards { AreCards records.old.tables }
+    requires built { IsBuilt command.now.ins }
+    requires channel { received.now.channel < CHANNELS }
+    requires selected { slice_index_or live.old.selected received.now.channel None ≡ Some received.now.selected }
+    requires domain { command.now.ins ≢ SELECT → command.now.ins ≢ MANAGE_CHANNEL → is_domain_in records.old.tables.entries.items received.now.selected ≡ true }
+    requires secured { Contains managing command.now.ins → IsInSession (slice_index_or held.old received.now.channel holding.Nothing) }
+    requires short { length command.now.body.now ≤ 255 }
+    requires empty { reply.old.items ≡ [] }
+    ensures done { (page : ℕ → List ℕ) (judged : Admitted) → StandsOn page (record { tables = records.old.tables; live = live.old; held = held.old }) judged.at
+        → received.now.channel ≡ judged.channel → judged.command ≡ apdu_of command.now
+        → CarriesOut page judged (record { tables = records.new.tables; live = live.new; held = held.new }) reply.new.items result }
+    ensures cards { AreCards records.new.tables }
+    ensures same { (records.new.flash ≡ records.old.flash) × (records.new.live ≡ true) }
+    ensures refused { OnErr result (records.new ≡ records.old) }
+    ensures idle { (command.now.ins ≡ INITIALIZE_UPDATE → ⊥) → (Contains managing command.now.ins → ⊥) → records.new ≡ records.old }
+    ensures kept { IsInSession (slice_index_or held.old received.now.channel holding.Nothing) → (command.now.ins ≡ GET_DATA) ⊎ Contains managing command.now.ins → held.new ≡ held.old }
+    ensures room { length reply.new.items ≤ 239 }
+{
+    let served = carry_out(records, live, held, received, command, reply);
+    if served.is_err() {
+        held[usize::from(received.channel)].drop_offer();
+    }
+    served
 }
 
 // Closes a reply in plain, and answers the rule.
@@ -203,30 +222,30 @@ pub fn serve<F: Flash>(
     ensures refused { IsSome result → records.new ≡ records.old }
     ensures idle { (MayCommit bytes.now → ⊥) → records.new ≡ records.old }
 {
-    let admitted = match admit(records.tables(), live, bytes) {
-        Ok(admitted) => admitted,
+    let received = match admit(records.tables(), live, bytes) {
+        Ok(received) => received,
         Err(rule) => return close_plain(Err(Rule::G(rule)), reply),
     };
-    let channel = usize::from(admitted.channel);
-    if let Err(rule) = pass_class(records.tables().life, &admitted, &mut held[channel]) {
+    let channel = usize::from(received.channel);
+    if let Err(rule) = pass_class(records.tables().life, &received, &mut held[channel]) {
         return close_plain(Err(Rule::G(rule)), reply);
     }
-    if is_plain_management(admitted.class, admitted.command.ins) {
+    if is_plain_management(received.class, received.command.ins) {
         held[channel].end();
         return close_plain(Err(Rule::G(RuleG::G6)), reply);
     }
-    if !is_protected(admitted.class, admitted.command.ins) {
-        let served = act(records, live, held, &admitted, &admitted.command, reply);
+    if !is_protected(received.class, received.command.ins) {
+        let served = act(records, live, held, &received, &received.command, reply);
         return close_plain(served, reply);
     }
     let mut plain = [0; 255];
-    match open_command(&mut held[channel], &admitted.command, &mut plain) {
+    match open_command(&mut held[channel], &received.command, &mut plain) {
         Ok(count) => {
             let command = Command {
                 body: &plain[..count],
-                ..admitted.command
+                ..received.command
             };
-            let served = act(records, live, held, &admitted, &command, reply);
+            let served = act(records, live, held, &received, &command, reply);
             close_protected(served, &mut held[channel], reply)
         }
         Err(rule) => close_plain(Err(Rule::G(rule)), reply),

@@ -1,5 +1,5 @@
 -- The first rule of a list that fails, by the parts of the list.
-use Rattle.std.proofs.Common.{◌≡◌, List, [], ◌∷◌, Option, None, Some, sym, subst, ◌∙◌, inl, inr, arith}
+use Rattle.std.proofs.Common.{◌≡◌, List, [], ◌∷◌, ◌++◌, Option, None, Some, sym, subst, ◌∙◌, inl, inr, arith}
 use Rattle.std.specs.Prelude.{Contains}
 use Rattle.card_types.proofs.Members.{contains_cases}
 use Rattle.policy_rules.specs.FirstFailing.{IsFirst}
@@ -33,3 +33,9 @@ module _ {R : Type 0} (fails : R → Type 0) where
   first_fails [] found first = cc
   first_fails (next ∷ rules) found (inl first) = (let same : next ≡ found = (let is = first.1 in cc) in subst fails same first.0)
   first_fails (next ∷ rules) found (inr first) = first_fails rules found first.1
+
+  -- rules behind others that pass
+  pub behind : (front rest : List R) (found : Option R) → IsFirst fails front None → IsFirst fails rest found → IsFirst fails (front ++ rest) found
+  behind [] rest found passed first = first
+  behind (next ∷ front) rest found (inl failed) first = (let clash = failed.1 in cc)
+  behind (next ∷ front) rest found (inr passed) first = inr (passed.0, behind front rest found passed.1 first)

@@ -1,20 +1,20 @@
 -- A refused command leaves no offer.
-use Rattle.std.proofs.Common.{◌≡◌, ◌⊎◌, ℕ, Bool, zero, suc, List, [], ◌∷◌, false, true, Option, None, Some, refl, sym, subst, inl, inr}
-use Rattle.std.specs.Prelude.{MatchOption, slice_set, slice_index_or, if◌then◌else◌, not, ◌==◌}
+use Rattle.std.proofs.Common.{◌≡◌, ◌⊎◌, ℕ, Bool, zero, suc, List, [], ◌∷◌, false, true, Option, None, Some, refl, sym, subst, inl, inr, ap}
+use Rattle.std.specs.Prelude.{MatchOption, slice_set, slice_index_or, not, ◌==◌}
 use Rattle.std.proofs.lemmas.Bool.{and_parts, false≢true, not-true}
 use Rattle.apdu_core.specs.Apdu.{Apdu}
-use Rattle.policy_rules.specs.Admission.{Admitted, Bars, Leaves, Of, SessionEnds, admitted_as, channel_passed, class_passed, general_rules, message_joined, offer_passed, placeless, session_passed}
+use Rattle.policy_rules.specs.Admission.{Admitted, Bars, BarredLeaves, Of, SessionEnds, channel_passed, class_passed, general_rules, offer_passed, placeless}
 use Rattle.policy_rules.specs.Classes.{IsPlainManagement, channel_of, class_of, is_protected, is_secure, protects}
 use Rattle.policy_rules.specs.Laws.{RefusalsDropOffers, is_later}
 use Rattle.policy_rules.specs.State.{State}
-use Rattle.policy_rules.specs.Step.{Outcome, refusal_leaves}
+use Rattle.policy_rules.specs.Step.{Outcome, keeps_load, refusal_leaves}
 use Rattle.policy_rules.specs.Volatile.{Channel, Nothing, Offered, Secured, Standing, Volatile, channel_at, offer_in, standing_of, standing_so, with_standing, without_load, without_session}
 use Rattle.policy_rules.specs.declared.class.Class.{Class}
-use Rattle.policy_rules.specs.declared.instruction.TheConstants.{EXTERNAL_AUTHENTICATE, LOAD}
+use Rattle.policy_rules.specs.declared.instruction.TheConstants.{EXTERNAL_AUTHENTICATE}
+use Rattle.policy_rules.specs.declared.rule.Rule.{Rule}
 use Rattle.policy_rules.specs.declared.rule.Rule.TheVariants.{G}
 use Rattle.policy_rules.specs.declared.rule.RuleG.{RuleG}
 use Rattle.policy_rules.specs.declared.rule.RuleG.TheVariants.{G1, G2, G3, G4, G5, G6, G7, G8}
-use Rattle.scp03_card.specs.Session.{Session}
 use Rattle.policy_rules.proofs.FirstUnique.{first_fails}
 use Rattle.policy_rules.proofs.OneOutcome.{of_one}
 use Rattle.policy_rules.proofs.Passing.{either}
@@ -57,31 +57,12 @@ class_has_none volatile command other =
     (let number = channel_of command.class in
     subst (λ (keeps : Bool). HasNoOffer (channel_at (placeless volatile number keeps) number)) (sym other) (placeless_has_none volatile number))
 
-joined_has_none : (volatile : Volatile) (number : ℕ) (session : Option Session) → HasNoOffer (channel_at volatile number)
-    → HasNoOffer (channel_at (message_joined volatile number session) number)
-joined_has_none volatile number None none = none
-joined_has_none volatile number (Some session) none = with_standing_has_none volatile number (Secured session) refl
-
 -- what a refusal of an admitted command leaves
-admitted_has_none : (state : State) (command : Apdu) (session : Option Session) (plain : List ℕ)
-    → HasNoOffer (channel_at (refusal_leaves (admitted_as state command session plain)) (channel_of command.class))
-admitted_has_none state command session plain = by (command.ins == EXTERNAL_AUTHENTICATE) refl
-  where
-    number : ℕ
-    number = channel_of command.class
-
-    passed : Volatile
-    passed = message_joined (class_passed state.volatile command) number session
-
-    left : Volatile
-    left = session_passed passed command
-
-    by : (answers : Bool) → (command.ins == EXTERNAL_AUTHENTICATE) ≡ answers
-        → HasNoOffer (channel_at (if answers then placeless left number false else left) number)
-    by true is = placeless_has_none left number
-    by false is =
-        let none = joined_has_none (class_passed state.volatile command) number session (class_has_none state.volatile command is) in
-        either (λ (v : Volatile). HasNoOffer (channel_at v number)) (command.ins == LOAD) passed (without_load passed number) none none
+left_has_none : (admitted : Admitted) (rule : Rule) → HasNoOffer (channel_at (refusal_leaves admitted rule) admitted.channel)
+left_has_none admitted rule =
+    let left = placeless admitted.at.volatile admitted.channel false in
+    let none = placeless_has_none admitted.at.volatile admitted.channel in
+    either (λ (v : Volatile). HasNoOffer (channel_at v admitted.channel)) (keeps_load rule) left (without_load left admitted.channel) none none
 
 -- a protected command is not EXTERNAL AUTHENTICATE
 protected_is_other : (command : Apdu) → is_protected command ≡ true → (command.ins == EXTERNAL_AUTHENTICATE) ≡ false
@@ -117,7 +98,7 @@ unsecured_has_none volatile command left none (inr protected) (inr stays) =
     (class_has_none volatile command (protected_is_other command protected.0))
 
 barred_has_none : (state : State) (bytes : List ℕ) (rule : RuleG) (left : Volatile) → is_later (G rule) ≡ true → Bars state bytes rule
-    → Leaves state bytes rule left → Of bytes (λ command. HasNoOffer (channel_at left (channel_of command.class)))
+    → BarredLeaves state bytes rule left → Of bytes (λ command. HasNoOffer (channel_at left (channel_of command.class)))
 barred_has_none state bytes G1 left later bars leaves = absurd (false≢true later)
 barred_has_none state bytes G2 left later bars leaves = absurd (false≢true later)
 barred_has_none state bytes G3 left later bars leaves = absurd (false≢true later)
@@ -137,9 +118,12 @@ refusals_drop_offers state bytes outcome (inl barred) later =
     (barred_has_none state bytes barred.rule barred.left by (first_fails (Bars state bytes) general_rules barred.rule barred.first) barred.leaves)
 refusals_drop_offers state bytes outcome (inr (inl refuses)) later =
     let of = refuses.admits.1 in
-    let number = channel_of of.0.class in
     let taken = of.2 in
-    subst (λ (o : Outcome). Of bytes (λ command. HasNoOffer (channel_at o.state.volatile (channel_of command.class)))) (sym refuses.outcome_is)
-    (of.0, of.1, subst (λ (a : Admitted). HasNoOffer (channel_at (refusal_leaves a) number)) (sym taken.3) (admitted_has_none state of.0 taken.0 taken.1))
+    subst (λ (o : Outcome). Of bytes (λ command. HasNoOffer (channel_at o.state.volatile (channel_of command.class)))) (sym refuses.outcome_is) (
+      of.0,
+      of.1,
+      subst (λ (number : ℕ). HasNoOffer (channel_at (refusal_leaves refuses.admitted refuses.rule) number)) (ap (λ (a : Admitted). a.channel) taken.3)
+          (left_has_none refuses.admitted refuses.rule),
+    )
 refusals_drop_offers state bytes outcome (inr (inr accepts)) later =
     absurd (subst (λ (o : Outcome). MatchOption o.rule ⊥ (λ rule. is_later rule ≡ true)) accepts.outcome_is later)

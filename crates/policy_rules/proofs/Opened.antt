@@ -1,96 +1,50 @@
 -- What changes more than a sequence counter opens in a session.
 use Rattle.std.proofs.Common.{◌≡◌, ℕ, List, [], ◌∷◌, true, false, Option, None, Some, refl, sym, ap, subst, ◌∙◌, inl, inr, arith}
-use Rattle.std.specs.Prelude.{Contains, MatchOption, map}
+use Rattle.std.specs.Prelude.{not, ◌==◌, Contains, MatchOption}
 use Rattle.apdu_core.specs.Apdu.{Apdu}
-use Rattle.card_types.specs.Counters.{raised_counter}
-use Rattle.card_types.specs.Registry.{Counter, Registry}
+use Rattle.card_types.specs.Registry.{Registry}
 use Rattle.policy_rules.specs.Admission.{Admits, Admitted, Bars, IsTaken, general_rules, session_for}
-use Rattle.policy_rules.specs.Changes.{Changes, OpensInSession, IsSameButCounters, begun}
+use Rattle.policy_rules.specs.Changes.{Changes, OpensInSession, IsSameButCounters}
 use Rattle.policy_rules.specs.Classes.{class_of, instructions_of, is_protected, management, managing, protects}
-use Rattle.policy_rules.specs.Commands.{Does, DoesAs}
-use Rattle.policy_rules.specs.Instructions.{Delete, ExternalAuthenticate, GetData, InitializeUpdate, Instruction, ManageChannel, PutKey, Select, StoreData, instruction_of}
 use Rattle.policy_rules.specs.Laws.{ChangesAreOpened}
-use Rattle.policy_rules.specs.ManageChannel.{IsClosed, IsClosedAlready, IsOpened as IsChannelOpened}
-use Rattle.policy_rules.specs.Select.{IsSelected}
 use Rattle.policy_rules.specs.State.{Effect, State}
 use Rattle.policy_rules.specs.Step.{Outcome}
-use Rattle.policy_rules.specs.Volatile.{Channel}
 use Rattle.policy_rules.specs.declared.class.Class.{Class}
 use Rattle.policy_rules.specs.declared.class.Class.TheVariants.{Interindustry, Plain, Secure}
-use Rattle.policy_rules.specs.declared.instruction.TheConstants.{PUT_KEY, STORE_DATA, DELETE}
 use Rattle.policy_rules.specs.declared.rule.RuleG.TheVariants.{G4, G6}
 use Rattle.policy_rules.proofs.FirstUnique.{none_fails}
-use Rattle.policy_rules.proofs.Instructed.{by_managing, found_among, instruction_byte}
 use Rattle.scp03_card.specs.Opens.{Opens, accepting}
 use Rattle.scp03_card.specs.Session.{Session}
+use Rattle.std.proofs.lemmas.Bool.{true≢false}
+use Rattle.std.specs.List.{list_any}
+use Rattle.policy_rules.specs.CommandForm.{CommandForm}
+use Rattle.policy_rules.specs.Commands.{Does, DoesAs, OneOf, forms_of}
+use Rattle.policy_rules.proofs.AllLawful.{AllOf, all_lawful}
+use Rattle.policy_rules.proofs.Instructed.{among, each_byte, found_among}
+use Rattle.policy_rules.proofs.Lawful.{IsLawful, same_as}
 
-same_all : (registry : Registry) → IsSameButCounters registry registry
-same_all registry = record { life = refl; entries = refl; files = refl; keys = refl; counters = refl; objects = refl }
-
-same_as : (before after : Registry) → after ≡ before → IsSameButCounters before after
-same_as before after same = subst (IsSameButCounters before) (sym same) (same_all before)
-
-begun_raised : (owner : List ℕ) (version : ℕ) (counters : List Counter) → map begun (map (raised_counter owner version) counters) ≡ map begun counters
-begun_raised owner version [] = refl
-begun_raised owner version (counter ∷ counters) = ap (λ (rest : List Counter). begun counter ∷ rest) (begun_raised owner version counters)
-
--- the commands without secure messaging change no more
-selects_same : (admitted : Admitted) (done : Effect) (found : Option _) → MatchOption found ⊥ (IsSelected admitted done)
-    → IsSameButCounters admitted.at.registry done.state.registry
-selects_same admitted done None does = absurd does
-selects_same admitted done (Some entry) does = same_as admitted.at.registry done.state.registry does.registry
-
-opens_same : (admitted : Admitted) (done : Effect) (found : Option ℕ) → MatchOption found ⊥ (IsChannelOpened admitted done)
-    → IsSameButCounters admitted.at.registry done.state.registry
-opens_same admitted done None does = absurd does
-opens_same admitted done (Some number) does = same_as admitted.at.registry done.state.registry (ap (λ (e : Effect). e.state.registry) does)
-
-closes_same : (admitted : Admitted) (done : Effect) (channel : Option Channel)
-    → MatchOption channel (IsClosedAlready admitted done) (λ c. IsClosed admitted done) → IsSameButCounters admitted.at.registry done.state.registry
-closes_same admitted done None does = same_as admitted.at.registry done.state.registry (ap (λ (e : Effect). e.state.registry) does)
-closes_same admitted done (Some channel) does = same_as admitted.at.registry done.state.registry (ap (λ (e : Effect). e.state.registry) does)
-
-other_same : (admitted : Admitted) (done : Effect) → (Contains managing admitted.command.ins → ⊥) → (instruction : Instruction)
-    → instruction_of admitted.command.ins ≡ Some instruction → DoesAs instruction admitted done → IsSameButCounters admitted.at.registry done.state.registry
-other_same admitted done other Select is does = selects_same admitted done _ does
-other_same admitted done other ManageChannel is (inl opens) = opens_same admitted done _ opens.1
-other_same admitted done other ManageChannel is (inr closes) = closes_same admitted done _ closes.1
-other_same admitted done other GetData is does = same_as admitted.at.registry done.state.registry (ap (λ (s : State). s.registry) does.state)
-other_same admitted done other InitializeUpdate is does =
-    subst (IsSameButCounters admitted.at.registry) (sym does.registry) (record {
-      life = refl;
-      entries = refl;
-      files = refl;
-      keys = refl;
-      counters = begun_raised does.owner does.counter.version admitted.at.registry.counters;
-      objects = refl;
-    })
-other_same admitted done other ExternalAuthenticate is does = same_as admitted.at.registry done.state.registry does.registry
-other_same admitted done other PutKey is does = absurd (other (subst (Contains managing) (sym (instruction_byte admitted.command.ins PutKey is)) (0, omega arith, refl)))
-other_same admitted done other StoreData is does = absurd (other (subst (Contains managing) (sym (instruction_byte admitted.command.ins StoreData is)) (1, omega arith, refl)))
-other_same admitted done other Delete is does = absurd (other (subst (Contains managing) (sym (instruction_byte admitted.command.ins Delete is)) (2, omega arith, refl)))
-
-by_found : (P : Instruction → Type 0) (R : Type 0) (found : Option Instruction) → ((instruction : Instruction) → found ≡ Some instruction → P instruction → R)
-    → MatchOption found ⊥ P → R
-by_found P R None each does = absurd does
-by_found P R (Some instruction) each does = each instruction refl does
+-- a command that is none of card content management changes no more than the numbers of sequence counters
+others_quiet : (admitted : Admitted) (done : Effect) → (Contains managing admitted.command.ins → ⊥) → (forms : List CommandForm) → AllOf IsLawful forms
+    → OneOf (λ form. DoesAs form admitted done) forms → IsSameButCounters admitted.at.registry done.state.registry
+others_quiet admitted done other [] lawful does = absurd does
+others_quiet admitted done other (form ∷ forms) lawful (inl does) =
+    lawful.0.quiet (λ managed. other (subst (Contains managing) (sym does.0.0) managed)) admitted done does.1
+others_quiet admitted done other (form ∷ forms) lawful (inr does) = others_quiet admitted done other forms lawful.1 does
 
 -- Card content management outside of secure messaging does not pass.
 abbrev IsOfClass : Option Class → ℕ → Type 0
 IsOfClass class ins = MatchOption class ⊥ (λ c. Contains (instructions_of c) ins)
 
 never_interindustry : (ins : ℕ) → Contains managing ins → Contains (instructions_of Interindustry) ins → ⊥
-never_interindustry ins managed =
-    by_managing (λ n. Contains (instructions_of Interindustry) n → ⊥)
-    (λ there. (let clash = found_among (instructions_of Interindustry) PUT_KEY there in cc))
-    (λ there. (let clash = found_among (instructions_of Interindustry) STORE_DATA there in cc))
-    (λ there. (let clash = found_among (instructions_of Interindustry) DELETE there in cc)) ins managed
+never_interindustry ins managed known =
+    let apart = each_byte (λ n. not (list_any (λ one. one == n) (instructions_of Interindustry))) managing refl ins managed in
+    (let clash = found_among (instructions_of Interindustry) ins known in true≢false (sym apart ∙ ap not clash))
 
 always_protected : (ins : ℕ) → Contains managing ins → protects (Some Secure) ins ≡ true
-always_protected ins managed = by_managing (λ n. protects (Some Secure) n ≡ true) refl refl refl ins managed
+always_protected ins managed = each_byte (protects (Some Secure)) managing refl ins managed
 
 pub is_management : (ins : ℕ) → Contains managing ins → Contains management ins
-is_management ins managed = by_managing (Contains management) (3, omega arith, refl) (4, omega arith, refl) (0, omega arith, refl) ins managed
+is_management ins managed = among management ins (each_byte (λ n. list_any (λ one. one == n) management) managing refl ins managed)
 
 pub managed_protected : (class : Option Class) (ins : ℕ) → IsOfClass class ins → (class ≡ Some Plain → ⊥) → Contains managing ins → protects class ins ≡ true
 managed_protected None ins known other managed = absurd known
@@ -120,8 +74,7 @@ module _ (state : State) (bytes : List ℕ) (admitted : Admitted) (done : Effect
             let clash = sym protected ∙ plain in cc)),
       )) in
       changes (subst (λ (r : Registry). IsSameButCounters r done.state.registry) at
-      (by_found (λ x. DoesAs x admitted done) (IsSameButCounters admitted.at.registry done.state.registry) (instruction_of admitted.command.ins)
-      (other_same admitted done managed_not) does))
+      (others_quiet admitted done managed_not (forms_of admitted.command.ins) (all_lawful admitted.command.ins).each does))
 
   opened : OpensInSession state bytes
   opened = by admits.1.2.0 admits.1.2.1 admits.1.2.2

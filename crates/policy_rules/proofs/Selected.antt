@@ -6,7 +6,7 @@ use Rattle.card_types.specs.Says.{domain_aid}
 use Rattle.card_types.specs.Slots.{held}
 use Rattle.card_types.specs.declared.tables.Entry.{Entry}
 use Rattle.card_types.specs.declared.tables.Tables.{Tables}
-use Rattle.policy_rules.specs.Means.{IsSelectedIn, Says}
+use Rattle.policy_rules.specs.Means.{IsSelectedIn, SaysState}
 use Rattle.policy_rules.specs.State.{State}
 use Rattle.policy_rules.specs.Volatile.{Channel, channel_at, selected_of, selected_on}
 use Rattle.policy_rules.specs.declared.live.Live.{Live}
@@ -17,7 +17,7 @@ by_slot : (entries : List (Option Entry)) (slot : ℕ) (channel : Option Channel
 by_slot entries slot None selected = absurd selected
 by_slot entries slot (Some channel) selected = (selected.0, selected.1, sym selected.2)
 
-pub selected_entry : (page : ℕ → List ℕ) (tables : Tables) (live : Live) (state : State) (number slot : ℕ) → Says page tables live state → number < CHANNELS
+pub selected_entry : (page : ℕ → List ℕ) (tables : Tables) (live : Live) (state : State) (number slot : ℕ) → SaysState page tables live state → number < CHANNELS
     → slice_index_or live.selected number None ≡ Some slot
     → (entry : Entry) × (held tables.entries.items slot ≡ Some entry) × (selected_on state.volatile number ≡ domain_aid tables.entries.items slot)
 selected_entry page tables live state number slot says low is =

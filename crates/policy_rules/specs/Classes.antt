@@ -3,7 +3,7 @@ use Rattle.std.specs.Prelude.{◌≡◌, ℕ, Bool, true, false, ◌&&◌, not, 
 use Rattle.apdu_core.specs.Apdu.{Apdu}
 use Rattle.policy_rules.specs.declared.class.Class.{Class}
 use Rattle.policy_rules.specs.declared.class.Class.TheVariants.{Interindustry, Plain, Secure}
-use Rattle.policy_rules.specs.declared.instruction.TheConstants.{SELECT, MANAGE_CHANNEL, GET_DATA, INITIALIZE_UPDATE, EXTERNAL_AUTHENTICATE, PUT_KEY, STORE_DATA, DELETE}
+use Rattle.policy_rules.specs.declared.instruction.TheConstants.{SELECT, MANAGE_CHANNEL, GET_DATA, INITIALIZE_UPDATE, EXTERNAL_AUTHENTICATE}
 
 -- the class of a class byte, whatever its channel
 abbrev pub class_of : ℕ → Option Class
@@ -17,9 +17,9 @@ class_of byte =
 abbrev pub channel_of : ℕ → ℕ
 channel_of byte = byte % 4
 
--- the instructions of card content management, as far as they are built
+-- PUT KEY, STORE DATA and DELETE: the instructions of card content management, as far as they are built
 abbrev pub managing : List ℕ
-managing = PUT_KEY ∷ STORE_DATA ∷ DELETE ∷ []
+managing = 0xD8 ∷ 0xE2 ∷ 0xE4 ∷ []
 
 -- the instructions of a class, as far as they are built
 abbrev pub instructions_of : Class → List ℕ

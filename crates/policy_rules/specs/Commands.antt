@@ -1,72 +1,105 @@
--- The commands: for each instruction the rules of its own, and what it does.
-use Rattle.std.specs.Prelude.{ℕ, List, Option, MatchOption}
+-- The commands: how one is judged by its form and by the rules of its own, and what it does.
+use Rattle.std.specs.Prelude.{◌≡◌, ◌⊎◌, ℕ, List, [], ◌∷◌, ◌++◌, Bool, true, false, Option, None, Some, ◌==◌}
+use Rattle.apdu_core.specs.Apdu.{Apdu}
 use Rattle.policy_rules.specs.Admission.{Admitted}
-use Rattle.policy_rules.specs.DeleteKey.{DeleteDoes, DeleteFails, DeleteField, DeleteParameters, delete_rules}
-use Rattle.policy_rules.specs.ExternalAuthenticate.{ExternalAuthenticateDoes, ExternalAuthenticateFails, ExternalAuthenticateField, ExternalAuthenticateParameters, external_authenticate_rules}
+use Rattle.policy_rules.specs.CommandForm.{CommandForm}
+use Rattle.policy_rules.specs.DeleteKey.{delete_key}
+use Rattle.policy_rules.specs.ExternalAuthenticate.{ExternalAuthenticateFails, external_authenticate, rules_before_form}
 use Rattle.policy_rules.specs.FirstFailing.{IsFirst}
-use Rattle.policy_rules.specs.GetData.{GetDataDoes, GetDataFails, GetDataField, get_data_rules}
-use Rattle.policy_rules.specs.InitializeUpdate.{InitializeUpdateDoes, InitializeUpdateFails, InitializeUpdateField, InitializeUpdateParameters, initialize_update_rules}
-use Rattle.policy_rules.specs.Instructions.{Delete, ExternalAuthenticate, GetData, InitializeUpdate, Instruction, ManageChannel, PutKey, Select, StoreData, instruction_of}
-use Rattle.policy_rules.specs.ManageChannel.{ManageChannelDoes, ManageChannelFails, ManageChannelField, ManageChannelParameters, manage_channel_rules}
-use Rattle.policy_rules.specs.PutKey.{PutKeyDoes, PutKeyFails, PutKeyField, PutKeyParameters, put_key_rules}
-use Rattle.policy_rules.specs.Select.{SelectDoes, SelectFails, SelectField, SelectParameters, select_rules}
+use Rattle.policy_rules.specs.GetData.{get_data}
+use Rattle.policy_rules.specs.InitializeUpdate.{initialize_update}
+use Rattle.policy_rules.specs.ManageChannel.{manage_channel}
+use Rattle.policy_rules.specs.PutKey.{put_key}
+use Rattle.policy_rules.specs.Select.{select}
 use Rattle.policy_rules.specs.State.{Effect}
-use Rattle.policy_rules.specs.StoreData.{StoreDataDoes, StoreDataFails, StoreDataField, StoreDataParameters, store_data_rules}
+use Rattle.policy_rules.specs.StoreData.{store_data}
 use Rattle.policy_rules.specs.declared.rule.Rule.{Rule}
+use Rattle.policy_rules.specs.declared.rule.Rule.TheVariants.{EA, PS}
+use Rattle.policy_rules.specs.declared.rule.RulePS.TheVariants.{P, S}
 
--- the instruction takes this P1 and P2
-abbrev pub Takes : Instruction → ℕ → ℕ → Type 0
-Takes Select p1 p2 = SelectParameters p1 p2
-Takes ManageChannel p1 p2 = ManageChannelParameters p1 p2
-Takes GetData p1 p2 = Unit {0}
-Takes InitializeUpdate p1 p2 = InitializeUpdateParameters p2
-Takes ExternalAuthenticate p1 p2 = ExternalAuthenticateParameters p1 p2
-Takes PutKey p1 p2 = PutKeyParameters p1 p2
-Takes StoreData p1 p2 = StoreDataParameters p1
-Takes Delete p1 p2 = DeleteParameters p1 p2
+-- these forms where the test holds, and others where it does not
+abbrev pub listed : Bool → List CommandForm → List CommandForm → List CommandForm
+listed true these others = these
+listed false these others = others
 
--- and with this P2 this data field
-abbrev pub TakesField : Instruction → ℕ → List ℕ → Type 0
-TakesField Select p2 body = SelectField body
-TakesField ManageChannel p2 body = ManageChannelField body
-TakesField GetData p2 body = GetDataField body
-TakesField InitializeUpdate p2 body = InitializeUpdateField body
-TakesField ExternalAuthenticate p2 body = ExternalAuthenticateField body
-TakesField PutKey p2 body = PutKeyField p2 body
-TakesField StoreData p2 body = StoreDataField body
-TakesField Delete p2 body = DeleteField body
+-- the forms of the instruction with this byte
+abbrev pub forms_of : ℕ → List CommandForm
+forms_of ins =
+    listed (ins == select.instruction) (select ∷ [])
+    (listed (ins == manage_channel.instruction) (manage_channel ∷ [])
+    (listed (ins == get_data.instruction) (get_data ∷ [])
+    (listed (ins == initialize_update.instruction) (initialize_update ∷ [])
+    (listed (ins == external_authenticate.instruction) (external_authenticate ∷ [])
+    (listed (ins == put_key.instruction) (put_key ∷ [])
+    (listed (ins == store_data.instruction) (store_data ∷ [])
+    (listed (ins == delete_key.instruction) (delete_key ∷ []) [])))))))
 
--- the first of the command's own rules that fails, or none
-abbrev pub JudgesAs : Instruction → Admitted → Option Rule → Type 0
-JudgesAs Select admitted found = IsFirst (SelectFails admitted) select_rules found
-JudgesAs ManageChannel admitted found = IsFirst (ManageChannelFails admitted) manage_channel_rules found
-JudgesAs GetData admitted found = IsFirst (GetDataFails admitted) get_data_rules found
-JudgesAs InitializeUpdate admitted found = IsFirst (InitializeUpdateFails admitted) initialize_update_rules found
-JudgesAs ExternalAuthenticate admitted found = IsFirst (ExternalAuthenticateFails admitted) external_authenticate_rules found
-JudgesAs PutKey admitted found = IsFirst (PutKeyFails admitted) put_key_rules found
-JudgesAs StoreData admitted found = IsFirst (StoreDataFails admitted) store_data_rules found
-JudgesAs Delete admitted found = IsFirst (DeleteFails admitted) delete_rules found
+-- it holds of one of these forms
+abbrev pub OneOf : (CommandForm → Type 0) → List CommandForm → Type 0
+OneOf holds [] = ⊥
+OneOf holds (form ∷ forms) = holds form ⊎ OneOf holds forms
+
+-- it holds of one of them at most
+abbrev pub AtMostOne : (CommandForm → Type 0) → List CommandForm → Type 0
+AtMostOne holds [] = Unit {0}
+AtMostOne holds (form ∷ forms) = (holds form → OneOf holds forms → ⊥) × AtMostOne holds forms
+
+-- the instruction with this byte has a form
+abbrev pub IsBuilt : ℕ → Type 0
+IsBuilt ins = OneOf (λ form. Unit {0}) (forms_of ins)
+
+-- the form takes a command with this instruction, P1, P2 and data field
+abbrev pub Takes : CommandForm → ℕ → ℕ → ℕ → List ℕ → Type 0
+Takes form ins p1 p2 body = (ins ≡ form.instruction) × form.takes p1 p2 × form.takes_field p1 p2 body
+
+-- the form takes this command
+abbrev pub TakesCommand : CommandForm → Apdu → Type 0
+TakesCommand form command = Takes form command.ins command.p1 command.p2 command.body
+
+-- some form of the instruction takes this P1 and P2
+abbrev pub HasParameters : ℕ → ℕ → ℕ → Type 0
+HasParameters ins p1 p2 = OneOf (λ form. form.takes p1 p2) (forms_of ins)
+
+-- and, with these, this data field
+abbrev pub HasDataField : ℕ → ℕ → ℕ → List ℕ → Type 0
+HasDataField ins p1 p2 body = OneOf (λ form. Takes form ins p1 p2 body) (forms_of ins)
+
+-- the rules on the form of a command, and the one that stands before them
+abbrev pub form_rules : ℕ → List Rule
+form_rules ins = rules_before_form ins ++ PS P ∷ PS S ∷ []
+
+abbrev pub FormFails : Admitted → Rule → Type 0
+FormFails admitted (EA rule) = ExternalAuthenticateFails admitted (EA rule)
+-- no form of the instruction takes P1 and P2
+FormFails admitted (PS P) = HasParameters admitted.command.ins admitted.command.p1 admitted.command.p2 → ⊥
+-- none of those that do takes the data field
+FormFails admitted (PS S) = HasDataField admitted.command.ins admitted.command.p1 admitted.command.p2 admitted.command.body → ⊥
+FormFails admitted rule = ⊥
+
+-- the first of the rules on the form that fails, or none
+abbrev pub JudgesForm : Admitted → Option Rule → Type 0
+JudgesForm admitted found = IsFirst (FormFails admitted) (form_rules admitted.command.ins) found
+
+-- a form takes the command, and this is the first of the form's own rules that fails, or none
+abbrev pub JudgesAs : CommandForm → Admitted → Option Rule → Type 0
+JudgesAs form admitted found = TakesCommand form admitted.command × IsFirst (form.fails admitted) form.rules found
+
+-- a form takes the command, and does this
+abbrev pub DoesAs : CommandForm → Admitted → Effect → Type 0
+DoesAs form admitted done = TakesCommand form admitted.command × form.does admitted done
+
+-- a rule on the form of the command fails, and it is the first
+pub record IsMisformed (admitted : Admitted) (found : Option Rule) : Type 0 where
+  pub rule : Rule
+  pub found_is : found ≡ Some rule
+  pub first : JudgesForm admitted (Some rule)
+
+-- the first of the command's own rules that fails, or none: those on its form come first
+abbrev pub Judges : Admitted → Option Rule → Type 0
+Judges admitted found =
+    IsMisformed admitted found
+    ⊎ (JudgesForm admitted None × OneOf (λ form. JudgesAs form admitted found) (forms_of admitted.command.ins))
 
 -- what it does, where none of them fails
-abbrev pub DoesAs : Instruction → Admitted → Effect → Type 0
-DoesAs Select admitted done = SelectDoes admitted done
-DoesAs ManageChannel admitted done = ManageChannelDoes admitted done
-DoesAs GetData admitted done = GetDataDoes admitted done
-DoesAs InitializeUpdate admitted done = InitializeUpdateDoes admitted done
-DoesAs ExternalAuthenticate admitted done = ExternalAuthenticateDoes admitted done
-DoesAs PutKey admitted done = PutKeyDoes admitted done
-DoesAs StoreData admitted done = StoreDataDoes admitted done
-DoesAs Delete admitted done = DeleteDoes admitted done
-
--- the same of an instruction byte
-abbrev pub HasParameters : ℕ → ℕ → ℕ → Type 0
-HasParameters ins p1 p2 = MatchOption (instruction_of ins) ⊥ (λ instruction. Takes instruction p1 p2)
-
-abbrev pub HasDataField : ℕ → ℕ → List ℕ → Type 0
-HasDataField ins p2 body = MatchOption (instruction_of ins) ⊥ (λ instruction. TakesField instruction p2 body)
-
-abbrev pub Judges : Admitted → Option Rule → Type 0
-Judges admitted found = MatchOption (instruction_of admitted.command.ins) ⊥ (λ instruction. JudgesAs instruction admitted found)
-
 abbrev pub Does : Admitted → Effect → Type 0
-Does admitted done = MatchOption (instruction_of admitted.command.ins) ⊥ (λ instruction. DoesAs instruction admitted done)
+Does admitted done = OneOf (λ form. DoesAs form admitted done) (forms_of admitted.command.ins)

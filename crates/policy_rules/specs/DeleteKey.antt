@@ -3,6 +3,7 @@ use Rattle.std.specs.Prelude.{◌≡◌, ◌≢◌, ◌⊎◌, ℕ, ◌<◌, Lis
 use Rattle.card_types.specs.AidOrder.{same_aid}
 use Rattle.card_types.specs.declared.factory.TheConstants.{ISSUER}
 use Rattle.policy_rules.specs.Admission.{Admitted}
+use Rattle.policy_rules.specs.CommandForm.{CommandForm}
 use Rattle.policy_rules.specs.KeyVersions.{counters_but, has_key_version, keys_but, with_keys}
 use Rattle.policy_rules.specs.Management.{ManagementFails, acting}
 use Rattle.policy_rules.specs.State.{Effect}
@@ -10,8 +11,7 @@ use Rattle.policy_rules.specs.declared.delete_key.RuleDK.{RuleDK}
 use Rattle.policy_rules.specs.declared.delete_key.RuleDK.TheVariants.{DK1, DK2}
 use Rattle.policy_rules.specs.declared.management.RuleM.TheVariants.{M1, M2}
 use Rattle.policy_rules.specs.declared.rule.Rule.{Rule}
-use Rattle.policy_rules.specs.declared.rule.Rule.TheVariants.{G, PS, M, SE, MC, GD, IU, EA, PK, DK, SD}
-use Rattle.policy_rules.specs.declared.rule.RulePS.TheVariants.{P, S}
+use Rattle.policy_rules.specs.declared.rule.Rule.TheVariants.{M, DK}
 
 -- P1 and P2 are 00; objects of the registry are not deleted yet
 abbrev pub DeleteParameters : ℕ → ℕ → Type 0
@@ -34,12 +34,8 @@ abbrev pub delete_key_rule_status : RuleDK → ℕ
 delete_key_rule_status DK1 = 0x6A88
 delete_key_rule_status DK2 = 0x6985
 
--- the rules behind those of the form
 abbrev pub deletion_rules : List Rule
 deletion_rules = M M1 ∷ M M2 ∷ DK DK1 ∷ DK DK2 ∷ []
-
-abbrev pub delete_rules : List Rule
-delete_rules = PS P ∷ PS S ∷ deletion_rules
 
 -- one key of a key set is not deleted without the others, and a token or receipt key has key identifier 01
 abbrev pub NamesPart : ℕ → Option ℕ → Type 0
@@ -51,8 +47,6 @@ IsLastSet admitted version =
     (acting admitted ≡ ISSUER) × (find (λ counter. same_aid counter.owner ISSUER) (counters_but ISSUER version admitted.at.registry.counters) ≡ None)
 
 abbrev pub DeleteFails : Admitted → Rule → Type 0
-DeleteFails admitted (PS P) = DeleteParameters admitted.command.p1 admitted.command.p2 → ⊥
-DeleteFails admitted (PS S) = DeleteField admitted.command.body → ⊥
 DeleteFails admitted (M rule) = ManagementFails admitted rule
 -- the domain has no such key
 DeleteFails admitted (DK DK1) =
@@ -60,14 +54,7 @@ DeleteFails admitted (DK DK1) =
     × ((has_key_version admitted.at.registry (acting admitted) version ≡ false) ⊎ NamesPart version identifier)
 DeleteFails admitted (DK DK2) =
     (version : ℕ) × (identifier : Option ℕ) × Chooses admitted.command.body version identifier × IsLastSet admitted version
-DeleteFails admitted (G rule) = ⊥
-DeleteFails admitted (SE rule) = ⊥
-DeleteFails admitted (MC rule) = ⊥
-DeleteFails admitted (GD rule) = ⊥
-DeleteFails admitted (IU rule) = ⊥
-DeleteFails admitted (EA rule) = ⊥
-DeleteFails admitted (PK rule) = ⊥
-DeleteFails admitted (SD rule) = ⊥
+DeleteFails admitted rule = ⊥
 
 -- The keys go, and the sequence counter of a key set with them. The reply is 00: no receipt.
 pub record DeleteDoes (admitted : Admitted) (done : Effect) : Type 0 where
@@ -80,3 +67,14 @@ pub record DeleteDoes (admitted : Admitted) (done : Effect) : Type 0 where
   pub volatile : done.state.volatile ≡ admitted.at.volatile
   pub body : done.body ≡ 0x00 ∷ []
   pub status : done.status ≡ 0x9000
+
+-- DELETE of a key
+abbrev pub delete_key : CommandForm
+delete_key = record {
+  instruction = 0xE4;
+  takes = DeleteParameters;
+  takes_field = λ p1 p2. DeleteField;
+  rules = deletion_rules;
+  fails = DeleteFails;
+  does = DeleteDoes;
+}

@@ -1,17 +1,17 @@
 -- EXTERNAL AUTHENTICATE (GlobalPlatform Amendment D, 7.1.2): the host answers an offer, and the session begins.
-use Rattle.std.specs.Prelude.{◌≡◌, ℕ, List, [], ◌∷◌, None, Some, length, codes}
+use Rattle.std.specs.Prelude.{◌≡◌, ℕ, List, [], ◌∷◌, None, Some, length, codes, if◌then◌else◌, ◌==◌}
 use Rattle.card_types.specs.Level.{code_of}
 use Rattle.card_types.specs.declared.level.Level.{Level}
 use Rattle.scp03_card.specs.Offer.{Offer}
 use Rattle.scp03_card.specs.Session.{HasCryptogram, HasMac, answered}
 use Rattle.policy_rules.specs.Admission.{Admitted}
+use Rattle.policy_rules.specs.CommandForm.{CommandForm}
 use Rattle.policy_rules.specs.State.{Effect}
 use Rattle.policy_rules.specs.Volatile.{Secured, offer_on, with_standing}
 use Rattle.policy_rules.specs.declared.external_authenticate.RuleEA.{RuleEA}
 use Rattle.policy_rules.specs.declared.external_authenticate.RuleEA.TheVariants.{EA1, EA2, EA3}
 use Rattle.policy_rules.specs.declared.rule.Rule.{Rule}
-use Rattle.policy_rules.specs.declared.rule.Rule.TheVariants.{G, PS, M, SE, MC, GD, IU, EA, PK, DK, SD}
-use Rattle.policy_rules.specs.declared.rule.RulePS.TheVariants.{P, S}
+use Rattle.policy_rules.specs.declared.rule.Rule.TheVariants.{EA}
 
 -- P1 is a security level
 abbrev pub ExternalAuthenticateParameters : ℕ → ℕ → Type 0
@@ -31,9 +31,12 @@ external_authenticate_rule_status EA1 = 0x6985
 external_authenticate_rule_status EA2 = 0x6300
 external_authenticate_rule_status EA3 = 0x6982
 
--- that there is an offer is judged before the form
 abbrev pub external_authenticate_rules : List Rule
-external_authenticate_rules = EA EA1 ∷ PS P ∷ PS S ∷ EA EA2 ∷ EA EA3 ∷ []
+external_authenticate_rules = EA EA2 ∷ EA EA3 ∷ []
+
+-- that there is an offer is judged before the form
+abbrev pub rules_before_form : ℕ → List Rule
+rules_before_form ins = if ins == 0x82 then EA EA1 ∷ [] else []
 
 -- the offer that the command answers, and the level that it asks for
 abbrev pub Answers : Admitted → Offer → Level → Type 0
@@ -42,23 +45,13 @@ Answers admitted offer level = (offer_on admitted.at.volatile admitted.channel �
 abbrev pub ExternalAuthenticateFails : Admitted → Rule → Type 0
 -- the channel has no offer
 ExternalAuthenticateFails admitted (EA EA1) = offer_on admitted.at.volatile admitted.channel ≡ None
-ExternalAuthenticateFails admitted (PS P) = ExternalAuthenticateParameters admitted.command.p1 admitted.command.p2 → ⊥
-ExternalAuthenticateFails admitted (PS S) = ExternalAuthenticateField admitted.command.body → ⊥
 -- the host cryptogram is another
 ExternalAuthenticateFails admitted (EA EA2) =
     (offer : Offer) × (level : Level) × Answers admitted offer level × (HasCryptogram offer admitted.command.body → ⊥)
 -- the C-MAC is another
 ExternalAuthenticateFails admitted (EA EA3) =
     (offer : Offer) × (level : Level) × Answers admitted offer level × (HasMac offer level admitted.command.body → ⊥)
-ExternalAuthenticateFails admitted (G rule) = ⊥
-ExternalAuthenticateFails admitted (M rule) = ⊥
-ExternalAuthenticateFails admitted (SE rule) = ⊥
-ExternalAuthenticateFails admitted (MC rule) = ⊥
-ExternalAuthenticateFails admitted (GD rule) = ⊥
-ExternalAuthenticateFails admitted (IU rule) = ⊥
-ExternalAuthenticateFails admitted (PK rule) = ⊥
-ExternalAuthenticateFails admitted (DK rule) = ⊥
-ExternalAuthenticateFails admitted (SD rule) = ⊥
+ExternalAuthenticateFails admitted rule = ⊥
 
 -- The offer becomes a session at that level.
 pub record ExternalAuthenticateDoes (admitted : Admitted) (done : Effect) : Type 0 where
@@ -69,3 +62,14 @@ pub record ExternalAuthenticateDoes (admitted : Admitted) (done : Effect) : Type
   pub volatile : done.state.volatile ≡ with_standing admitted.at.volatile admitted.channel (Secured (answered offer level))
   pub body : done.body ≡ []
   pub status : done.status ≡ 0x9000
+
+-- EXTERNAL AUTHENTICATE
+abbrev pub external_authenticate : CommandForm
+external_authenticate = record {
+  instruction = 0x82;
+  takes = ExternalAuthenticateParameters;
+  takes_field = λ p1 p2. ExternalAuthenticateField;
+  rules = external_authenticate_rules;
+  fails = ExternalAuthenticateFails;
+  does = ExternalAuthenticateDoes;
+}

@@ -5,12 +5,12 @@ use Rattle.bertlv.specs.Spelling.{AreElements, Element, Spelling}
 use Rattle.card_types.specs.Registry.{Key, Counter, Object, Registry, keys_of, object_named}
 use Rattle.scp03_card.specs.Offer.{counter_bytes}
 use Rattle.policy_rules.specs.Admission.{Admitted}
+use Rattle.policy_rules.specs.CommandForm.{CommandForm}
 use Rattle.policy_rules.specs.KeySets.{UsesCounter}
 use Rattle.policy_rules.specs.State.{Effect}
 use Rattle.policy_rules.specs.Volatile.{selected_on}
 use Rattle.policy_rules.specs.declared.rule.Rule.{Rule}
-use Rattle.policy_rules.specs.declared.rule.Rule.TheVariants.{G, PS, M, SE, MC, GD, IU, EA, PK, DK, SD}
-use Rattle.policy_rules.specs.declared.rule.RulePS.TheVariants.{P, S}
+use Rattle.policy_rules.specs.declared.rule.Rule.TheVariants.{GD}
 use Rattle.policy_rules.specs.declared.get_data.RuleGD.{RuleGD}
 use Rattle.policy_rules.specs.declared.get_data.RuleGD.TheVariants.{GD1}
 
@@ -57,22 +57,12 @@ abbrev pub get_data_rule_status : RuleGD → ℕ
 get_data_rule_status GD1 = 0x6A88
 
 abbrev pub get_data_rules : List Rule
-get_data_rules = PS S ∷ GD GD1 ∷ []
+get_data_rules = GD GD1 ∷ []
 
 abbrev pub GetDataFails : Admitted → Rule → Type 0
-GetDataFails admitted (PS P) = ⊥
-GetDataFails admitted (PS S) = GetDataField admitted.command.body → ⊥
 -- there is no such data
 GetDataFails admitted (GD GD1) = (value : List ℕ) → AsksFor admitted value → ⊥
-GetDataFails admitted (G rule) = ⊥
-GetDataFails admitted (M rule) = ⊥
-GetDataFails admitted (IU rule) = ⊥
-GetDataFails admitted (EA rule) = ⊥
-GetDataFails admitted (SE rule) = ⊥
-GetDataFails admitted (MC rule) = ⊥
-GetDataFails admitted (PK rule) = ⊥
-GetDataFails admitted (DK rule) = ⊥
-GetDataFails admitted (SD rule) = ⊥
+GetDataFails admitted rule = ⊥
 
 -- GET DATA answers the data as an element, and changes nothing
 pub record GetDataDoes (admitted : Admitted) (done : Effect) : Type 0 where
@@ -81,3 +71,14 @@ pub record GetDataDoes (admitted : Admitted) (done : Effect) : Type 0 where
   pub state : done.state ≡ admitted.at
   pub body : Spelling (tag_of admitted.command.p1 admitted.command.p2) value done.body
   pub status : done.status ≡ 0x9000
+
+-- GET DATA, of any P1 and P2
+abbrev pub get_data : CommandForm
+get_data = record {
+  instruction = 0xCA;
+  takes = λ p1 p2. Unit {0};
+  takes_field = λ p1 p2. GetDataField;
+  rules = get_data_rules;
+  fails = GetDataFails;
+  does = GetDataDoes;
+}

@@ -6,6 +6,7 @@ use Rattle.card_types.specs.declared.factory.TheConstants.{ISSUER}
 use Rattle.card_types.specs.declared.limits.TheConstants.{COUNTER_LIMIT}
 use Rattle.scp03_card.specs.Offer.{Offer, card_cryptogram, counter_bytes, offered}
 use Rattle.policy_rules.specs.Admission.{Admitted}
+use Rattle.policy_rules.specs.CommandForm.{CommandForm}
 use Rattle.policy_rules.specs.KeySets.{UsesSet}
 use Rattle.policy_rules.specs.Management.{ManagementFails, acting}
 use Rattle.policy_rules.specs.Select.{is_card_locked}
@@ -15,8 +16,7 @@ use Rattle.policy_rules.specs.declared.initialize_update.RuleIU.{RuleIU}
 use Rattle.policy_rules.specs.declared.initialize_update.RuleIU.TheVariants.{IU1, IU2, IU3}
 use Rattle.policy_rules.specs.declared.management.RuleM.TheVariants.{M2}
 use Rattle.policy_rules.specs.declared.rule.Rule.{Rule}
-use Rattle.policy_rules.specs.declared.rule.Rule.TheVariants.{G, PS, M, SE, MC, GD, IU, EA, PK, DK, SD}
-use Rattle.policy_rules.specs.declared.rule.RulePS.TheVariants.{P, S}
+use Rattle.policy_rules.specs.declared.rule.Rule.TheVariants.{M, IU}
 
 -- P1 is the key version number, of any value
 abbrev pub InitializeUpdateParameters : ℕ → Type 0
@@ -36,20 +36,14 @@ initialize_update_rule_status IU1 = 0x6985
 initialize_update_rule_status IU2 = 0x6A88
 initialize_update_rule_status IU3 = 0x6985
 
--- the rules behind those of the form
 abbrev pub offer_rules : List Rule
 offer_rules = M M2 ∷ IU IU1 ∷ IU IU2 ∷ IU IU3 ∷ []
-
-abbrev pub initialize_update_rules : List Rule
-initialize_update_rules = PS P ∷ PS S ∷ offer_rules
 
 -- the key set that the command asks for, by its owner and its counter
 abbrev pub AsksForSet : Admitted → List ℕ → Counter → Type 0
 AsksForSet admitted owner counter = UsesSet admitted.at.registry (acting admitted) admitted.command.p1 owner counter
 
 abbrev pub InitializeUpdateFails : Admitted → Rule → Type 0
-InitializeUpdateFails admitted (PS P) = InitializeUpdateParameters admitted.command.p2 → ⊥
-InitializeUpdateFails admitted (PS S) = InitializeUpdateField admitted.command.body → ⊥
 InitializeUpdateFails admitted (M rule) = ManagementFails admitted rule
 -- the card is locked, and another domain is selected
 InitializeUpdateFails admitted (IU IU1) = (is_card_locked admitted.at.registry.life ≡ true) × (acting admitted ≢ ISSUER)
@@ -57,14 +51,7 @@ InitializeUpdateFails admitted (IU IU1) = (is_card_locked admitted.at.registry.l
 InitializeUpdateFails admitted (IU IU2) = (owner : List ℕ) (counter : Counter) → AsksForSet admitted owner counter → ⊥
 -- its sequence counter has come to its end
 InitializeUpdateFails admitted (IU IU3) = (owner : List ℕ) × (counter : Counter) × AsksForSet admitted owner counter × (counter.number ≡ COUNTER_LIMIT)
-InitializeUpdateFails admitted (G rule) = ⊥
-InitializeUpdateFails admitted (SE rule) = ⊥
-InitializeUpdateFails admitted (MC rule) = ⊥
-InitializeUpdateFails admitted (GD rule) = ⊥
-InitializeUpdateFails admitted (EA rule) = ⊥
-InitializeUpdateFails admitted (PK rule) = ⊥
-InitializeUpdateFails admitted (DK rule) = ⊥
-InitializeUpdateFails admitted (SD rule) = ⊥
+InitializeUpdateFails admitted rule = ⊥
 
 -- the key diversification data of a domain: its data object CF, or ten 00
 abbrev pub diversification_of : Option Object → List ℕ
@@ -98,3 +85,14 @@ pub record InitializeUpdateDoes (admitted : Admitted) (done : Effect) : Type 0 w
   pub volatile : done.state.volatile ≡ with_standing admitted.at.volatile admitted.channel (Offered offer)
   pub body : done.body ≡ offer_body admitted.at.registry owner counter offer
   pub status : done.status ≡ 0x9000
+
+-- INITIALIZE UPDATE, of any P1
+abbrev pub initialize_update : CommandForm
+initialize_update = record {
+  instruction = 0x50;
+  takes = λ p1. InitializeUpdateParameters;
+  takes_field = λ p1 p2. InitializeUpdateField;
+  rules = offer_rules;
+  fails = InitializeUpdateFails;
+  does = InitializeUpdateDoes;
+}

@@ -6,14 +6,15 @@ use Rattle.card_types.specs.Well.{Well}
 use Rattle.policy_rules.specs.Admission.{Of}
 use Rattle.policy_rules.specs.Changes.{Changes, OpensInSession}
 use Rattle.policy_rules.specs.Classes.{channel_of}
+use Rattle.policy_rules.specs.Commands.{AtMostOne, Takes, forms_of}
 use Rattle.policy_rules.specs.Run.{Input, Run}
 use Rattle.policy_rules.specs.Sound.{IsSound}
 use Rattle.policy_rules.specs.State.{State, powered_on}
 use Rattle.policy_rules.specs.Step.{Outcome, Step}
 use Rattle.policy_rules.specs.Volatile.{offer_on}
 use Rattle.policy_rules.specs.declared.rule.Rule.{Rule}
-use Rattle.policy_rules.specs.declared.rule.Rule.TheVariants.{G, PS, M, SE, MC, GD, IU, EA, PK, DK, SD}
-use Rattle.policy_rules.specs.declared.rule.RuleG.TheVariants.{G1, G2, G3, G4, G5, G6, G7, G8}
+use Rattle.policy_rules.specs.declared.rule.Rule.TheVariants.{G}
+use Rattle.policy_rules.specs.declared.rule.RuleG.TheVariants.{G1, G2, G3, G4}
 
 -- a card that is powered on is sound
 abbrev pub StartsSound : Type 0
@@ -22,6 +23,10 @@ StartsSound = (registry : Registry) → Well registry → IsAscending registry �
 -- each step from a sound state leads to a sound one
 abbrev pub StepsKeepSound : Type 0
 StepsKeepSound = (state : State) (bytes : List ℕ) (outcome : Outcome) → IsSound state → Step state bytes outcome → IsSound outcome.state
+
+-- at most one form of a command takes it
+abbrev pub OneForm : Type 0
+OneForm = (ins p1 p2 : ℕ) (body : List ℕ) → AtMostOne (λ form. Takes form ins p1 p2 body) (forms_of ins)
 
 -- from one state the same bytes have at most one outcome
 abbrev pub OneOutcome : Type 0
@@ -45,20 +50,7 @@ is_later (G G1) = false
 is_later (G G2) = false
 is_later (G G3) = false
 is_later (G G4) = false
-is_later (G G5) = true
-is_later (G G6) = true
-is_later (G G7) = true
-is_later (G G8) = true
-is_later (PS rule) = true
-is_later (SE rule) = true
-is_later (MC rule) = true
-is_later (GD rule) = true
-is_later (M rule) = true
-is_later (IU rule) = true
-is_later (EA rule) = true
-is_later (PK rule) = true
-is_later (DK rule) = true
-is_later (SD rule) = true
+is_later rule = true
 
 -- a command that a later rule refuses leaves no offer on its channel
 abbrev pub RefusalsDropOffers : Type 0

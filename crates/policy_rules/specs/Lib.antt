@@ -2,6 +2,7 @@ pub mod Admission
 pub mod Arranged
 pub mod Changes
 pub mod Classes
+pub mod CommandForm
 pub mod Commands
 pub mod DeleteKey
 pub mod ExternalAuthenticate
@@ -9,7 +10,6 @@ pub mod FirstFailing
 pub mod Found
 pub mod GetData
 pub mod InitializeUpdate
-pub mod Instructions
 pub mod KeyFields
 pub mod KeyOrder
 pub mod KeySets
@@ -20,6 +20,7 @@ pub mod Management
 pub mod Means
 pub mod ObjectsFound
 pub mod PutKey
+pub mod PutRules
 pub mod Rules
 pub mod Run
 pub mod Select

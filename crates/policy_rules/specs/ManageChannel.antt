@@ -3,11 +3,11 @@
 use Rattle.std.specs.Prelude.{◌≡◌, ◌⊎◌, ℕ, ◌≤◌, List, [], ◌∷◌, Bool, true, false, Option, None, Some, MatchOption, position, codes}
 use Rattle.card_types.specs.declared.factory.TheConstants.{ISSUER}
 use Rattle.policy_rules.specs.Admission.{Admitted}
+use Rattle.policy_rules.specs.CommandForm.{CommandForm}
 use Rattle.policy_rules.specs.State.{Effect}
 use Rattle.policy_rules.specs.Volatile.{Channel, channel_at, fresh, with_channel, without_channel}
 use Rattle.policy_rules.specs.declared.rule.Rule.{Rule}
-use Rattle.policy_rules.specs.declared.rule.Rule.TheVariants.{G, PS, M, SE, MC, GD, IU, EA, PK, DK, SD}
-use Rattle.policy_rules.specs.declared.rule.RulePS.TheVariants.{P, S}
+use Rattle.policy_rules.specs.declared.rule.Rule.TheVariants.{MC}
 use Rattle.policy_rules.specs.declared.manage_channel.RuleMC.{RuleMC}
 use Rattle.policy_rules.specs.declared.manage_channel.RuleMC.TheVariants.{MC1}
 
@@ -32,22 +32,12 @@ abbrev pub manage_channel_rule_status : RuleMC → ℕ
 manage_channel_rule_status MC1 = 0x6A81
 
 abbrev pub manage_channel_rules : List Rule
-manage_channel_rules = PS P ∷ PS S ∷ MC MC1 ∷ []
+manage_channel_rules = MC MC1 ∷ []
 
 abbrev pub ManageChannelFails : Admitted → Rule → Type 0
-ManageChannelFails admitted (PS P) = ManageChannelParameters admitted.command.p1 admitted.command.p2 → ⊥
-ManageChannelFails admitted (PS S) = ManageChannelField admitted.command.body → ⊥
 -- a channel is to be opened, and none is closed
 ManageChannelFails admitted (MC MC1) = (admitted.command.p1 ≡ 0x00) × (lowest_closed admitted.at.volatile.channels ≡ None)
-ManageChannelFails admitted (G rule) = ⊥
-ManageChannelFails admitted (M rule) = ⊥
-ManageChannelFails admitted (IU rule) = ⊥
-ManageChannelFails admitted (EA rule) = ⊥
-ManageChannelFails admitted (SE rule) = ⊥
-ManageChannelFails admitted (GD rule) = ⊥
-ManageChannelFails admitted (PK rule) = ⊥
-ManageChannelFails admitted (DK rule) = ⊥
-ManageChannelFails admitted (SD rule) = ⊥
+ManageChannelFails admitted rule = ⊥
 
 -- The channel is opened, and its number answered.
 abbrev pub IsOpened : Admitted → Effect → ℕ → Type 0
@@ -75,3 +65,14 @@ ManageChannelDoes admitted done =
     ((admitted.command.p1 ≡ 0x00) × MatchOption (lowest_closed admitted.at.volatile.channels) ⊥ (IsOpened admitted done))
     ⊎ ((admitted.command.p1 ≡ 0x80)
     × MatchOption (channel_at admitted.at.volatile admitted.command.p2) (IsClosedAlready admitted done) (λ channel. IsClosed admitted done))
+
+-- MANAGE CHANNEL
+abbrev pub manage_channel : CommandForm
+manage_channel = record {
+  instruction = 0x70;
+  takes = ManageChannelParameters;
+  takes_field = λ p1 p2. ManageChannelField;
+  rules = manage_channel_rules;
+  fails = ManageChannelFails;
+  does = ManageChannelDoes;
+}

@@ -2,20 +2,25 @@
 use Rattle.std.specs.Prelude.{◌≡◌, ◌⊎◌, ℕ, ◌<◌, ◌≤◌, List, [], ◌∷◌, Option, None, Some, Result, Ok, Err, slice_index_or}
 use Rattle.apdu_core.specs.Apdu.{Apdu}
 use Rattle.card_types.specs.Level.{code_of}
-use Rattle.card_types.specs.Says.{Says as SaysRegistry, domain_aid}
+use Rattle.card_types.specs.Says.{Says, domain_aid}
 use Rattle.card_types.specs.Slots.{held}
 use Rattle.card_types.specs.Well.{Well}
 use Rattle.card_types.specs.declared.tables.Entry.{Entry}
 use Rattle.card_types.specs.declared.tables.Tables.{Tables}
 use Rattle.policy_rules.specs.Admission.{Admitted}
-use Rattle.policy_rules.specs.Commands.{HasParameters, HasDataField}
-use Rattle.policy_rules.specs.DeleteKey.{Chooses}
-use Rattle.policy_rules.specs.GetData.{tag_of}
+use Rattle.policy_rules.specs.CommandForm.{CommandForm}
+use Rattle.policy_rules.specs.Commands.{HasDataField, HasParameters, TakesCommand, Takes}
+use Rattle.policy_rules.specs.DeleteKey.{Chooses, delete_key}
+use Rattle.policy_rules.specs.ExternalAuthenticate.{external_authenticate}
+use Rattle.policy_rules.specs.GetData.{get_data, tag_of}
+use Rattle.policy_rules.specs.InitializeUpdate.{initialize_update}
+use Rattle.policy_rules.specs.ManageChannel.{manage_channel}
 use Rattle.policy_rules.specs.Management.{acting}
-use Rattle.policy_rules.specs.PutKey.{HasKeyFields, SentKey}
+use Rattle.policy_rules.specs.PutKey.{HasKeyFields, SentKey, put_key}
+use Rattle.policy_rules.specs.Select.{select}
 use Rattle.policy_rules.specs.State.{State}
+use Rattle.policy_rules.specs.StoreData.{store_data}
 use Rattle.policy_rules.specs.Volatile.{Channel, channel_at}
-use Rattle.policy_rules.specs.declared.instruction.TheConstants.{SELECT, MANAGE_CHANNEL, GET_DATA, INITIALIZE_UPDATE, EXTERNAL_AUTHENTICATE, PUT_KEY, STORE_DATA, DELETE}
 use Rattle.policy_rules.specs.declared.live.Live.{Live}
 use Rattle.policy_rules.specs.declared.live.TheConstants.{CHANNELS}
 use Rattle.policy_rules.specs.declared.put_key.PutKeys.{PutKeys}
@@ -40,42 +45,53 @@ abbrev pub AreOfAes128 : PutKeys → Type 0
 AreOfAes128 (One key) = key.len ≡ 16
 AreOfAes128 (Three enc mac dek) = (enc.len ≡ 16) × (mac.len ≡ 16) × (dek.len ≡ 16)
 
--- the request is that of a command with this instruction, P1, P2 and data field
-abbrev pub Means : Request → ℕ → ℕ → ℕ → List ℕ → Type 0
-Means (Select partial) ins p1 p2 body = (ins ≡ SELECT) × (partial.now ≡ body)
-Means MoreChannel ins p1 p2 body = (ins ≡ MANAGE_CHANNEL) × (p1 ≡ 0x00)
-Means (LessChannel number) ins p1 p2 body = (ins ≡ MANAGE_CHANNEL) × (p1 ≡ 0x80) × (p2 ≡ number) × (1 ≤ number) × (number ≤ 3)
-Means (Get tag) ins p1 p2 body = (ins ≡ GET_DATA) × (tag ≡ tag_of p1 p2)
-Means (Initialize version challenge) ins p1 p2 body = (ins ≡ INITIALIZE_UPDATE) × (version ≡ p1) × (challenge.now ≡ body)
-Means (Authenticate level proof) ins p1 p2 body = (ins ≡ EXTERNAL_AUTHENTICATE) × (code_of level ≡ p1) × (proof.now ≡ body)
-Means (PutKey replaced version keys) ins p1 p2 body = (ins ≡ PUT_KEY) × (replaced ≡ p1) × HasKeyFields p2 body version (sent_keys keys) × AreOfAes128 keys
-Means (Store objects) ins p1 p2 body = (ins ≡ STORE_DATA) × (objects.now ≡ body)
-Means (DeleteKey version identifier) ins p1 p2 body = (ins ≡ DELETE) × Chooses body version identifier
+-- the form of the commands with this request
+abbrev pub form_in : Request → CommandForm
+form_in (Select partial) = select
+form_in MoreChannel = manage_channel
+form_in (LessChannel number) = manage_channel
+form_in (Get tag) = get_data
+form_in (Initialize version challenge) = initialize_update
+form_in (Authenticate level proof) = external_authenticate
+form_in (PutKey replaced version keys) = put_key
+form_in (Store objects) = store_data
+form_in (DeleteKey version identifier) = delete_key
+
+-- the request is that of a command of its form with this P1, P2 and data field
+abbrev pub Means : Request → ℕ → ℕ → List ℕ → Type 0
+Means (Select partial) p1 p2 body = partial.now ≡ body
+Means MoreChannel p1 p2 body = p1 ≡ 0x00
+Means (LessChannel number) p1 p2 body = (p1 ≡ 0x80) × (p2 ≡ number) × (1 ≤ number) × (number ≤ 3)
+Means (Get tag) p1 p2 body = tag ≡ tag_of p1 p2
+Means (Initialize version challenge) p1 p2 body = (version ≡ p1) × (challenge.now ≡ body)
+Means (Authenticate level proof) p1 p2 body = (code_of level ≡ p1) × (proof.now ≡ body)
+Means (PutKey replaced version keys) p1 p2 body = (replaced ≡ p1) × HasKeyFields p2 body version (sent_keys keys) × AreOfAes128 keys
+Means (Store objects) p1 p2 body = objects.now ≡ body
+Means (DeleteKey version identifier) p1 p2 body = Chooses body version identifier
 
 -- the rule on its form that a command breaks: P1 and P2 are judged before the data field
 abbrev pub IsMalformed : ℕ → ℕ → ℕ → List ℕ → Rule → Type 0
 IsMalformed ins p1 p2 body found =
     ((found ≡ PS P) × (HasParameters ins p1 p2 → ⊥))
-    ⊎ ((found ≡ PS S) × HasParameters ins p1 p2 × (HasDataField ins p2 body → ⊥))
+    ⊎ ((found ≡ PS S) × HasParameters ins p1 p2 × (HasDataField ins p1 p2 body → ⊥))
 
 -- the request of a well-formed command, or the rule that a malformed one breaks
 abbrev pub Parses : ℕ → ℕ → ℕ → List ℕ → Result Request Rule → Type 0
-Parses ins p1 p2 body (Ok request) = HasParameters ins p1 p2 × HasDataField ins p2 body × Means request ins p1 p2 body
+Parses ins p1 p2 body (Ok request) = Takes (form_in request) ins p1 p2 body × Means request p1 p2 body
 Parses ins p1 p2 body (Err found) = IsMalformed ins p1 p2 body found
 
--- the request is that of this command, which is well-formed
+-- the request is that of this command, which its form takes
 pub record IsRequestOf (request : Request) (command : Apdu) : Type 0 where
-  pub parameters : HasParameters command.ins command.p1 command.p2
-  pub data_field : HasDataField command.ins command.p2 command.body
-  pub means : Means request command.ins command.p1 command.p2 command.body
+  pub form : TakesCommand (form_in request) command
+  pub means : Means request command.p1 command.p2 command.body
 
--- the request is that of some well-formed command
+-- the request is that of some command
 abbrev pub IsWellFormed : Request → Type 0
 IsWellFormed request = (command : Apdu) × IsRequestOf request command
 
--- the request is that of some command
+-- the request is that of some P1, P2 and data field
 abbrev pub IsMeant : Request → Type 0
-IsMeant request = (ins p1 p2 : ℕ) × (body : List ℕ) × Means request ins p1 p2 body
+IsMeant request = (p1 p2 : ℕ) × (body : List ℕ) × Means request p1 p2 body
 
 -- the slot is that of the entry that the channel has selected; where the channel is closed there is none
 abbrev pub IsSelectedIn : List (Option Entry) → Option ℕ → Option Channel → Type 0
@@ -86,7 +102,7 @@ IsSelectedIn entries (Some slot) (Some channel) = (entry : Entry) × (held entri
 
 -- The tables say the registry that a command is judged by, and the slot is that of the domain that it acts for.
 pub record ActsIn (page : ℕ → List ℕ) (tables : Tables) (domain : ℕ) (admitted : Admitted) : Type 0 where
-  pub says : SaysRegistry page tables admitted.at.registry
+  pub says : Says page tables admitted.at.registry
   pub well : Well admitted.at.registry
   pub entry : Entry
   pub at : held tables.entries.items domain ≡ Some entry
@@ -94,7 +110,7 @@ pub record ActsIn (page : ℕ → List ℕ) (tables : Tables) (domain : ℕ) (ad
 
 -- What the code keeps says this state, as far as the rules look: the tables say the registry over these load pages, and for
 -- each channel its slot is that of the AID selected. What else a channel holds is said elsewhere.
-pub record Says (page : ℕ → List ℕ) (tables : Tables) (live : Live) (state : State) : Type 0 where
-  pub registry : SaysRegistry page tables state.registry
+pub record SaysState (page : ℕ → List ℕ) (tables : Tables) (live : Live) (state : State) : Type 0 where
+  pub registry : Says page tables state.registry
   pub selected : (number : ℕ) → number < CHANNELS
       → IsSelectedIn tables.entries.items (slice_index_or live.selected number None) (channel_at state.volatile number)

@@ -12,6 +12,7 @@ use Rattle.cmac_kdf.specs.Blocks.{IsBytes, zero_block}
 use Rattle.cmac_kdf.specs.Cbc.{cbc}
 use Rattle.policy_rules.specs.Admission.{Admitted}
 use Rattle.policy_rules.specs.Arranged.{IsArranged}
+use Rattle.policy_rules.specs.CommandForm.{CommandForm}
 use Rattle.policy_rules.specs.KeyVersions.{counters_but, has_key_version, keys_but, with_keys}
 use Rattle.policy_rules.specs.Management.{ManagementFails, acting}
 use Rattle.policy_rules.specs.State.{Effect}
@@ -20,8 +21,7 @@ use Rattle.policy_rules.specs.declared.management.RuleM.TheVariants.{M1, M2}
 use Rattle.policy_rules.specs.declared.put_key.RulePK.{RulePK}
 use Rattle.policy_rules.specs.declared.put_key.RulePK.TheVariants.{PK1, PK2, PK3, PK4}
 use Rattle.policy_rules.specs.declared.rule.Rule.{Rule}
-use Rattle.policy_rules.specs.declared.rule.Rule.TheVariants.{G, PS, M, SE, MC, GD, IU, EA, PK, DK, SD}
-use Rattle.policy_rules.specs.declared.rule.RulePS.TheVariants.{P, S}
+use Rattle.policy_rules.specs.declared.rule.Rule.TheVariants.{M, PK}
 
 -- P1 is the key version number that is replaced, or 00 for none; P2 is the first key identifier, 01, with the high bit where
 -- several keys come
@@ -98,12 +98,8 @@ put_key_rule_status PK2 = 0x6A80
 put_key_rule_status PK3 = 0x6A80
 put_key_rule_status PK4 = 0x6A84
 
--- the rules behind those of the form
 abbrev pub put_rules : List Rule
 put_rules = M M1 ∷ M M2 ∷ PK PK1 ∷ PK PK2 ∷ PK PK3 ∷ PK PK4 ∷ []
-
-abbrev pub put_key_rules : List Rule
-put_key_rules = PS P ∷ PS S ∷ put_rules
 
 -- the first byte of the data field
 abbrev pub new_version : Admitted → ℕ
@@ -117,8 +113,6 @@ abbrev pub own_keys_left : Admitted → List Key
 own_keys_left admitted = filter (λ key. same_aid key.owner (acting admitted)) (keys_left admitted)
 
 abbrev pub PutKeyFails : Admitted → Rule → Type 0
-PutKeyFails admitted (PS P) = PutKeyParameters admitted.command.p1 admitted.command.p2 → ⊥
-PutKeyFails admitted (PS S) = PutKeyField admitted.command.p2 admitted.command.body → ⊥
 PutKeyFails admitted (M rule) = ManagementFails admitted rule
 -- the key version number that is to be replaced is not there
 PutKeyFails admitted (PK PK1) =
@@ -133,14 +127,7 @@ PutKeyFails admitted (PK PK3) =
 PutKeyFails admitted (PK PK4) =
     (KEYS < length (keys_left admitted) + key_count admitted.command.p2)
     ⊎ (DOMAIN_KEYS < length (own_keys_left admitted) + key_count admitted.command.p2)
-PutKeyFails admitted (G rule) = ⊥
-PutKeyFails admitted (SE rule) = ⊥
-PutKeyFails admitted (MC rule) = ⊥
-PutKeyFails admitted (GD rule) = ⊥
-PutKeyFails admitted (IU rule) = ⊥
-PutKeyFails admitted (EA rule) = ⊥
-PutKeyFails admitted (DK rule) = ⊥
-PutKeyFails admitted (SD rule) = ⊥
+PutKeyFails admitted rule = ⊥
 
 -- whether the check values fit, as a flag says it
 abbrev pub SaysChecks : Bool → Admitted → Type 0
@@ -172,3 +159,14 @@ pub record PutKeyDoes (admitted : Admitted) (done : Effect) : Type 0 where
   pub volatile : done.state.volatile ≡ admitted.at.volatile
   pub body : done.body ≡ version ∷ concat (map (λ one. one.check) sent)
   pub status : done.status ≡ 0x9000
+
+-- PUT KEY
+abbrev pub put_key : CommandForm
+put_key = record {
+  instruction = 0xD8;
+  takes = PutKeyParameters;
+  takes_field = λ p1. PutKeyField;
+  rules = put_rules;
+  fails = PutKeyFails;
+  does = PutKeyDoes;
+}

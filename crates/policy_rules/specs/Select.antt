@@ -11,11 +11,11 @@ use Rattle.card_types.specs.declared.life.Life.{Life}
 use Rattle.card_types.specs.declared.life.Life.TheVariants as life
 use Rattle.card_types.specs.declared.life.LifeMark.{LifeMark}
 use Rattle.policy_rules.specs.Admission.{Admitted}
+use Rattle.policy_rules.specs.CommandForm.{CommandForm}
 use Rattle.policy_rules.specs.State.{Effect}
 use Rattle.policy_rules.specs.Volatile.{with_selected}
 use Rattle.policy_rules.specs.declared.rule.Rule.{Rule}
-use Rattle.policy_rules.specs.declared.rule.Rule.TheVariants.{G, PS, M, SE, MC, GD, IU, EA, PK, DK, SD}
-use Rattle.policy_rules.specs.declared.rule.RulePS.TheVariants.{P, S}
+use Rattle.policy_rules.specs.declared.rule.Rule.TheVariants.{SE}
 use Rattle.policy_rules.specs.declared.select.RuleSE.{RuleSE}
 use Rattle.policy_rules.specs.declared.select.RuleSE.TheVariants.{SE1}
 
@@ -62,22 +62,12 @@ abbrev pub select_rule_status : RuleSE → ℕ
 select_rule_status SE1 = 0x6A82
 
 abbrev pub select_rules : List Rule
-select_rules = PS P ∷ PS S ∷ SE SE1 ∷ []
+select_rules = SE SE1 ∷ []
 
 abbrev pub SelectFails : Admitted → Rule → Type 0
-SelectFails admitted (PS P) = SelectParameters admitted.command.p1 admitted.command.p2 → ⊥
-SelectFails admitted (PS S) = SelectField admitted.command.body → ⊥
 -- no entry fits
 SelectFails admitted (SE SE1) = least_fitting admitted.at.registry admitted.command.body ≡ None
-SelectFails admitted (G rule) = ⊥
-SelectFails admitted (M rule) = ⊥
-SelectFails admitted (IU rule) = ⊥
-SelectFails admitted (EA rule) = ⊥
-SelectFails admitted (MC rule) = ⊥
-SelectFails admitted (GD rule) = ⊥
-SelectFails admitted (PK rule) = ⊥
-SelectFails admitted (DK rule) = ⊥
-SelectFails admitted (SD rule) = ⊥
+SelectFails admitted rule = ⊥
 
 -- the parts of the file control information: the AID, and the proprietary data
 abbrev pub control_parts : (aid proprietary : List ℕ) → List Element
@@ -105,3 +95,14 @@ pub record IsSelected (admitted : Admitted) (done : Effect) (entry : Entry) : Ty
 -- SELECT selects the least fitting entry
 abbrev pub SelectDoes : Admitted → Effect → Type 0
 SelectDoes admitted done = MatchOption (least_fitting admitted.at.registry admitted.command.body) ⊥ (IsSelected admitted done)
+
+-- SELECT
+abbrev pub select : CommandForm
+select = record {
+  instruction = 0xA4;
+  takes = SelectParameters;
+  takes_field = λ p1 p2. SelectField;
+  rules = select_rules;
+  fails = SelectFails;
+  does = SelectDoes;
+}

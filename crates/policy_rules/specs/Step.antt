@@ -1,18 +1,18 @@
 -- One step of the policy machine.
-use Rattle.std.specs.Prelude.{◌≡◌, ◌⊎◌, ℕ, List, [], ◌++◌, Option, None, Some, if◌then◌else◌, ◌==◌, false}
+use Rattle.std.specs.Prelude.{◌≡◌, ◌⊎◌, ℕ, List, [], ◌++◌, Bool, true, false, Option, None, Some, if◌then◌else◌}
 use Rattle.apdu_core.specs.Reply.{status_bytes}
 use Rattle.scp03_card.specs.Protected.{protected}
 use Rattle.scp03_card.specs.Session.{Session}
-use Rattle.policy_rules.specs.Admission.{Admits, Admitted, Bars, Leaves, general_rules, placeless}
+use Rattle.policy_rules.specs.Admission.{Admits, Admitted, BarredLeaves, Bars, general_rules, placeless}
 use Rattle.policy_rules.specs.Commands.{Does, Judges}
 use Rattle.policy_rules.specs.FirstFailing.{IsFirst}
 use Rattle.policy_rules.specs.Rules.{status_of}
 use Rattle.policy_rules.specs.State.{Effect, State}
-use Rattle.policy_rules.specs.Volatile.{Volatile}
-use Rattle.policy_rules.specs.declared.instruction.TheConstants.{EXTERNAL_AUTHENTICATE}
+use Rattle.policy_rules.specs.Volatile.{Volatile, without_load}
 use Rattle.policy_rules.specs.declared.rule.Rule.{Rule}
-use Rattle.policy_rules.specs.declared.rule.Rule.TheVariants.{G}
+use Rattle.policy_rules.specs.declared.rule.Rule.TheVariants.{G, PS}
 use Rattle.policy_rules.specs.declared.rule.RuleG.{RuleG}
+use Rattle.policy_rules.specs.declared.rule.RulePS.TheVariants.{P}
 
 -- what a step gives: the card after it, the reply, and the first rule that failed, if one did
 pub record Outcome : Type 0 where
@@ -33,10 +33,17 @@ refused state left session found = record {
   rule = Some found;
 }
 
--- what a refusal by a rule of the command's own leaves: EXTERNAL AUTHENTICATE loses the offer that it answers
-abbrev pub refusal_leaves : Admitted → Volatile
-refusal_leaves admitted =
-    if admitted.command.ins == EXTERNAL_AUTHENTICATE then placeless admitted.at.volatile admitted.channel false else admitted.at.volatile
+-- a rule that leaves the channel's load session: after it the host may go on with LOAD
+abbrev pub keeps_load : Rule → Bool
+keeps_load (PS P) = true
+keeps_load rule = false
+
+-- what a refusal by a rule of the command's own leaves: no offer, so EXTERNAL AUTHENTICATE loses the one that it answers, and no load
+-- session of the channel, unless the rule keeps it
+abbrev pub refusal_leaves : Admitted → Rule → Volatile
+refusal_leaves admitted rule =
+    let left = placeless admitted.at.volatile admitted.channel false in
+    if keeps_load rule then left else without_load left admitted.channel
 
 abbrev pub accepted : Admitted → Effect → Outcome
 accepted admitted done = record { state = done.state; reply = sent admitted.session done.body done.status; rule = None }
@@ -46,7 +53,7 @@ pub record IsBarred (state : State) (bytes : List ℕ) (outcome : Outcome) : Typ
   pub rule : RuleG
   pub left : Volatile
   pub first : IsFirst (Bars state bytes) general_rules (Some rule)
-  pub leaves : Leaves state bytes rule left
+  pub leaves : BarredLeaves state bytes rule left
   pub outcome_is : outcome ≡ refused state left None (G rule)
 
 -- the bytes are a command that passes, and a rule of its own refuses it
@@ -55,7 +62,7 @@ pub record IsRefused (state : State) (bytes : List ℕ) (outcome : Outcome) : Ty
   pub rule : Rule
   pub admits : Admits state bytes admitted
   pub judges : Judges admitted (Some rule)
-  pub outcome_is : outcome ≡ refused state (refusal_leaves admitted) admitted.session rule
+  pub outcome_is : outcome ≡ refused state (refusal_leaves admitted rule) admitted.session rule
 
 -- no rule refuses it: it does what it does
 pub record IsAccepted (state : State) (bytes : List ℕ) (outcome : Outcome) : Type 0 where

@@ -10,12 +10,12 @@ use Rattle.card_types.specs.Well.{IsObject}
 use Rattle.card_types.specs.declared.limits.TheConstants.{OBJECTS}
 use Rattle.policy_rules.specs.Admission.{Admitted}
 use Rattle.policy_rules.specs.Arranged.{IsArranged}
+use Rattle.policy_rules.specs.CommandForm.{CommandForm}
 use Rattle.policy_rules.specs.Management.{ManagementFails, acting}
 use Rattle.policy_rules.specs.State.{Effect}
 use Rattle.policy_rules.specs.declared.management.RuleM.TheVariants.{M1, M2}
 use Rattle.policy_rules.specs.declared.rule.Rule.{Rule}
-use Rattle.policy_rules.specs.declared.rule.Rule.TheVariants.{G, PS, M, SE, MC, GD, IU, EA, PK, DK, SD}
-use Rattle.policy_rules.specs.declared.rule.RulePS.TheVariants.{P, S}
+use Rattle.policy_rules.specs.declared.rule.Rule.TheVariants.{M, SD}
 use Rattle.policy_rules.specs.declared.store_data.RuleSD.{RuleSD}
 use Rattle.policy_rules.specs.declared.store_data.RuleSD.TheVariants.{SD1}
 
@@ -50,31 +50,18 @@ store_data_rule_name SD1 = codes "SD1"
 abbrev pub store_data_rule_status : RuleSD → ℕ
 store_data_rule_status SD1 = 0x6A84
 
--- the rules behind those of the form
 abbrev pub store_rules : List Rule
 store_rules = M M1 ∷ M M2 ∷ SD SD1 ∷ []
-
-abbrev pub store_data_rules : List Rule
-store_data_rules = PS P ∷ PS S ∷ store_rules
 
 -- the objects that the card has with those of the data field
 abbrev pub objects_stored : Admitted → List Element → List Object
 objects_stored admitted elements = with_objects (acting admitted) admitted.at.registry.objects elements
 
 abbrev pub StoreDataFails : Admitted → Rule → Type 0
-StoreDataFails admitted (PS P) = StoreDataParameters admitted.command.p1 → ⊥
-StoreDataFails admitted (PS S) = StoreDataField admitted.command.body → ⊥
 StoreDataFails admitted (M rule) = ManagementFails admitted rule
 -- the card would have too many data objects
 StoreDataFails admitted (SD SD1) = (elements : List Element) × HasObjects admitted.command.body elements × (OBJECTS < length (objects_stored admitted elements))
-StoreDataFails admitted (G rule) = ⊥
-StoreDataFails admitted (SE rule) = ⊥
-StoreDataFails admitted (MC rule) = ⊥
-StoreDataFails admitted (GD rule) = ⊥
-StoreDataFails admitted (IU rule) = ⊥
-StoreDataFails admitted (EA rule) = ⊥
-StoreDataFails admitted (PK rule) = ⊥
-StoreDataFails admitted (DK rule) = ⊥
+StoreDataFails admitted rule = ⊥
 
 -- the registry with other data objects
 abbrev pub with_data : Registry → List Object → Registry
@@ -97,3 +84,14 @@ pub record StoreDataDoes (admitted : Admitted) (done : Effect) : Type 0 where
   pub volatile : done.state.volatile ≡ admitted.at.volatile
   pub body : done.body ≡ []
   pub status : done.status ≡ 0x9000
+
+-- STORE DATA, of any P2
+abbrev pub store_data : CommandForm
+store_data = record {
+  instruction = 0xE2;
+  takes = λ p1 p2. StoreDataParameters p1;
+  takes_field = λ p1 p2. StoreDataField;
+  rules = store_rules;
+  fails = StoreDataFails;
+  does = StoreDataDoes;
+}

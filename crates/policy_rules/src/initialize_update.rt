@@ -4,6 +4,7 @@ ghost use Rattle.std.specs.Prelude.{◌≡◌, ◌≤◌, ◌&&◌, not, ℕ, Li
 ghost use Rattle.card_types.specs.AidOrder.{same_aid};
 ghost use Rattle.card_types.specs.Counters.{HasNextCounter};
 ghost use Rattle.card_types.specs.InOrder.{IsInOrder};
+ghost use Rattle.card_types.specs.NamedKeys.{AreKeysOf, HaveKeyLength};
 ghost use Rattle.card_types.specs.Registry.{Registry};
 ghost use Rattle.card_types.specs.Says.{Says, counter_of, domain_aid};
 ghost use Rattle.card_types.specs.Slots.{held};
@@ -25,7 +26,7 @@ use crate::rule::{Rule, RulePS};
 use crate::select::is_issuer;
 use crate::session_sets::session_set;
 use apdu_core::Status;
-use card_types::{Aid, COUNTER_LIMIT, CardLife, InSlot, KeyRec, Tables, in_slot};
+use card_types::{Aid, COUNTER_LIMIT, CardLife, KeySet, Tables, in_slot, set_with};
 
 /// The rules of INITIALIZE UPDATE.
 #[derive(Clone, Copy, Debug, PartialEq, Eq)]
@@ -85,20 +86,37 @@ fn is_shut_out(card_life: CardLife, aid: &Aid) -> bool
     card_life == CardLife::Locked && !is_issuer(aid)
 }
 
-/// The key set that INITIALIZE UPDATE offers a session with, for the domain in a slot: the key that keeps its counter.
+/// What INITIALIZE UPDATE offers a session with.
+#[derive(Drop)]
+pub struct OfferedSet<'a> {
+    /// The AID of the selected domain.
+    pub aid: &'a Aid,
+
+    /// The key set. Key-ENC keeps its sequence counter.
+    pub keys: KeySet<'a>,
+
+    /// The slot of Key-ENC.
+    pub slot: u8,
+}
+
+/// The key set that INITIALIZE UPDATE offers a session with, for the domain in a slot.
 pub fn judge_initialize_update(
     tables: &Tables,
     domain: u8,
     version: u8,
-) -> Result<InSlot<'_, KeyRec>, Rule>
+) -> Result<OfferedSet<'_>, Rule>
     requires in_order { IsInOrder tables.now }
-    ensures at { IfOk result (λ found. held tables.now.keys.items found.slot ≡ Some found.thing.now) }
+    ensures selected { IfOk result (λ found. found.aid.now ≡ domain_aid tables.now.entries.items domain) }
+    ensures at { IfOk result (λ found. held tables.now.keys.items found.slot ≡ Some found.keys.enc.now) }
     ensures next { IfOk result (λ found. HasNextCounter tables.now.keys.items found.slot) }
-    ensures version { IfOk result (λ found. 1 ≤ found.thing.now.version) }
+    ensures version { IfOk result (λ found. 1 ≤ found.keys.enc.now.version) }
+    ensures lengths { IfOk result (λ found. HaveKeyLength found.keys) }
+    ensures keys { (page : ℕ → List ℕ) (said : Registry) → Says page tables.now said
+        → IfOk result (λ found. AreKeysOf tables.now.entries.items said (domain_aid tables.now.entries.items found.keys.enc.now.owner) found.keys.enc.now.version found.keys) }
     ensures found { (page : ℕ → List ℕ) (said : Registry) (entry : Entry) → Says page tables.now said → Well said
         → held tables.now.entries.items domain ≡ Some entry
         → IfOk result (λ found. UsesSet said (domain_aid tables.now.entries.items domain) version
-        (domain_aid tables.now.entries.items found.thing.now.owner) (counter_of tables.now.entries.items found.thing.now)) }
+        (domain_aid tables.now.entries.items found.keys.enc.now.owner) (counter_of tables.now.entries.items found.keys.enc.now)) }
     ensures passed { (page : ℕ → List ℕ) (admitted : Admitted) (entry : Entry) → Says page tables.now admitted.at.registry → Well admitted.at.registry
         → held tables.now.entries.items domain ≡ Some entry
         → acting admitted ≡ domain_aid tables.now.entries.items domain → version ≡ admitted.command.p1
@@ -123,5 +141,9 @@ pub fn judge_initialize_update(
     if found.thing.counter == COUNTER_LIMIT {
         return Err(Rule::IU(RuleIU::IU3));
     }
-    Ok(found)
+    Ok(OfferedSet {
+        aid: &entry.aid,
+        keys: set_with(tables, found.thing),
+        slot: found.slot,
+    })
 }

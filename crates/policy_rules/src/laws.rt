@@ -1,11 +1,16 @@
 //! The laws of the policy machine, as functions that do nothing when they run.
 
-ghost use Rattle.policy_rules.specs.Laws.{ChangesAreOpened, OneOutcome, OneRun, RefusalsDropOffers, StartsSound, StepsKeepSound};
+ghost use Rattle.policy_rules.specs.Laws.{ChangesAreOpened, OneForm, OneOutcome, OneRun, RefusalsDropOffers, StartsSound, StepsKeepSound};
 
 /// A card that is powered on is sound, and each step keeps it so.
 pub fn steps_keep_sound()
     ensures start { StartsSound }
     ensures step { StepsKeepSound }
+{}
+
+/// At most one form of a command takes it.
+pub fn one_form()
+    ensures { OneForm }
 {}
 
 /// From one state the same bytes have at most one outcome, and the same inputs at most one run.

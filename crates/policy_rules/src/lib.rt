@@ -25,19 +25,19 @@ pub use class::{Class, channel_of, is_plain_management, is_protected};
 pub use delete_key::{RuleDK, judge_delete_key};
 pub use external_authenticate::RuleEA;
 pub use get_data::{Datum, RuleGD, judge_get_data};
-pub use initialize_update::{RuleIU, judge_initialize_update};
+pub use initialize_update::{OfferedSet, RuleIU, judge_initialize_update};
 pub use instruction::{
     DELETE, EXTERNAL_AUTHENTICATE, GET_DATA, GET_STATUS, INITIALIZE_UPDATE, INSTALL, LOAD,
     MANAGE_CHANNEL, PUT_KEY, SELECT, SET_STATUS, STORE_DATA,
 };
 pub use key_order::{KeyName, lowest_set, next_key, numbered_set};
-pub use laws::{changes_are_opened, one_outcome, refusals_drop_offers, steps_keep_sound};
+pub use laws::{changes_are_opened, one_form, one_outcome, refusals_drop_offers, steps_keep_sound};
 pub use live::{CHANNELS, Live};
 pub use manage_channel::{RuleMC, judge_more_channel};
 pub use management::RuleM;
 pub use own_rules::judge;
 pub use pinned::{classes, constants, status_words};
-pub use put_key::{PutKeys, RulePK, SealedKey, judge_put_key};
+pub use put_key::{PutKeys, RulePK, SealedKey, judge_put_key, judge_put_keys, judge_put_versions};
 pub use request::{Request, parse};
 pub use rule::{Rule, RuleG, RulePS};
 pub use select::{RuleSE, judge_select};

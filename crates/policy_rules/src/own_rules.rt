@@ -5,7 +5,7 @@ ghost use Rattle.apdu_core.specs.Apdu.{Apdu};
 ghost use Rattle.card_types.specs.InOrder.{IsInOrder};
 ghost use Rattle.policy_rules.specs.Admission.{Admitted};
 ghost use Rattle.policy_rules.specs.Commands.{Judges};
-ghost use Rattle.policy_rules.specs.Means.{IsMeant, IsRequestOf, Says};
+ghost use Rattle.policy_rules.specs.Means.{IsMeant, IsRequestOf, SaysState};
 ghost use Rattle.policy_rules.specs.PutKey.{SaysChecks};
 ghost use Rattle.policy_rules.specs.Sound.{IsSound};
 ghost use Rattle.policy_rules.specs.declared.instruction.TheConstants.{EXTERNAL_AUTHENTICATE, PUT_KEY};
@@ -36,7 +36,7 @@ pub fn judge(
     requires channel { channel < CHANNELS }
     requires opened { IsSome (slice_index_or live.now.selected channel None) }
     requires meant { IsMeant request.now }
-    ensures judged { (page : ℕ → List ℕ) (admitted : Admitted) → Says page tables.now live.now admitted.at → IsSound admitted.at → channel ≡ admitted.channel
+    ensures judged { (page : ℕ → List ℕ) (admitted : Admitted) → SaysState page tables.now live.now admitted.at → IsSound admitted.at → channel ≡ admitted.channel
         → IsRequestOf request.now admitted.command → admitted.command.ins ≢ EXTERNAL_AUTHENTICATE
         → (admitted.command.ins ≡ PUT_KEY → SaysChecks checks_fit admitted) → Judges admitted result }
     ensures elsewhere { (command : Apdu) → IsRequestOf request.now command → command.ins ≡ EXTERNAL_AUTHENTICATE → result ≡ None }

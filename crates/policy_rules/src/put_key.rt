@@ -3,12 +3,15 @@
 ghost use Rattle.std.specs.Prelude.{◌≡◌, ◌≤◌, ◌↔◌, ℕ, List, None, Some, IfErr, IfNone, IfSome, IsTrue, OnOk, length};
 ghost use Rattle.card_types.specs.InOrder.{IsInOrder};
 ghost use Rattle.key_sets.specs.PutFails.{NoneHolds, PutFails};
+ghost use Rattle.key_sets.specs.declared.refusal.PutRefusal.TheVariants.{Unknown, Taken, Full};
 ghost use Rattle.policy_rules.specs.Admission.{Admitted};
 ghost use Rattle.policy_rules.specs.FirstFailing.{IsFirst};
 ghost use Rattle.policy_rules.specs.KeyFields.{AreFields, BeginsWithKey, NoFields};
 ghost use Rattle.policy_rules.specs.Means.{ActsIn, AreOfAes128, IsRequestOf, Parses, sent_key, sent_keys};
 ghost use Rattle.policy_rules.specs.PutKey.{HasKeyFields, IsNewVersion, PutKeyFails, PutKeyField, PutKeyParameters, SaysChecks, SentKey, key_count, put_key_rule_name, put_key_rule_status, put_rules};
+ghost use Rattle.policy_rules.specs.PutRules.{key_rules, version_rules};
 ghost use Rattle.policy_rules.specs.declared.instruction.TheConstants.{PUT_KEY};
+ghost use Rattle.policy_rules.specs.declared.put_key.PutKeys.{PutKeys as Keys};
 ghost use Rattle.policy_rules.specs.declared.request.Request.TheVariants.{PutKey};
 
 use crate::management::judge_management;
@@ -16,7 +19,7 @@ use crate::request::Request;
 use crate::rule::{Rule, RulePS};
 use apdu_core::Status;
 use card_types::Tables;
-use key_sets::{PutRefusal, judge_put};
+use key_sets::{is_full, is_taken, lacks_replaced};
 
 /// The rules of PUT KEY.
 #[derive(Clone, Copy, Debug, PartialEq, Eq)]
@@ -196,6 +199,57 @@ pub(crate) fn parse_put_key(p1: u8, p2: u8, body: &[u8]) -> Result<Request<'_>, 
     }
 }
 
+/// Judges what a PUT KEY asks for, for the domain in a slot: the rules that need none of its keys, which come first.
+pub fn judge_put_versions(
+    tables: &Tables,
+    domain: u8,
+    replaced: u8,
+    version: u8,
+) -> Result<(), Rule>
+    ensures passed { (page : ℕ → List ℕ) (admitted : Admitted) (keys : Keys) → ActsIn page tables.now domain admitted
+        → IsRequestOf (PutKey replaced version keys) admitted.command → OnOk result (IsFirst (PutKeyFails admitted) version_rules None) }
+    ensures refused { (page : ℕ → List ℕ) (admitted : Admitted) (keys : Keys) → ActsIn page tables.now domain admitted
+        → IsRequestOf (PutKey replaced version keys) admitted.command → IfErr result (λ rule. IsFirst (PutKeyFails admitted) version_rules (Some rule)) }
+    ensures known { (added : ℕ) → OnOk result (PutFails domain replaced version added tables.now.keys.items Unknown → ⊥) }
+    ensures free { (added : ℕ) → OnOk result (PutFails domain replaced version added tables.now.keys.items Taken → ⊥) }
+{
+    judge_management(tables, domain)?;
+    if lacks_replaced(&tables.keys, domain, replaced) {
+        return Err(Rule::PK(RulePK::PK1));
+    }
+    if is_taken(&tables.keys, domain, replaced, version) {
+        return Err(Rule::PK(RulePK::PK2));
+    }
+    Ok(())
+}
+
+/// Judges the keys of a PUT KEY, for the domain in a slot: the rules behind those of `judge_put_versions`. Whether the check
+/// values fit is told by the caller, who has the Key-DEK.
+pub fn judge_put_keys(
+    tables: &Tables,
+    domain: u8,
+    replaced: u8,
+    keys: &PutKeys<'_>,
+    checks_fit: bool,
+) -> Result<(), Rule>
+    requires in_order { IsInOrder tables.now }
+    ensures passed { (page : ℕ → List ℕ) (admitted : Admitted) (version : ℕ) → ActsIn page tables.now domain admitted
+        → IsRequestOf (PutKey replaced version keys.now) admitted.command → SaysChecks checks_fit admitted
+        → OnOk result (IsFirst (PutKeyFails admitted) key_rules None) }
+    ensures refused { (page : ℕ → List ℕ) (admitted : Admitted) (version : ℕ) → ActsIn page tables.now domain admitted
+        → IsRequestOf (PutKey replaced version keys.now) admitted.command → SaysChecks checks_fit admitted
+        → IfErr result (λ rule. IsFirst (PutKeyFails admitted) key_rules (Some rule)) }
+    ensures roomy { (version : ℕ) → OnOk result (PutFails domain replaced version (length (sent_keys keys.now)) tables.now.keys.items Full → ⊥) }
+{
+    if !checks_fit {
+        return Err(Rule::PK(RulePK::PK3));
+    }
+    if is_full(&tables.keys, domain, replaced, keys.count()) {
+        return Err(Rule::PK(RulePK::PK4));
+    }
+    Ok(())
+}
+
 /// Judges a PUT KEY for the domain in a slot. Whether the check values fit is told by the caller, who has the Key-DEK.
 pub fn judge_put_key(
     tables: &Tables,
@@ -214,12 +268,6 @@ pub fn judge_put_key(
         → IfErr result (λ rule. IsFirst (PutKeyFails admitted) put_rules (Some rule)) }
     ensures roomy { OnOk result (NoneHolds (PutFails domain replaced version (length (sent_keys keys.now)) tables.now.keys.items)) }
 {
-    judge_management(tables, domain)?;
-    match judge_put(&tables.keys, domain, replaced, version, keys.count()) {
-        Err(PutRefusal::Unknown) => Err(Rule::PK(RulePK::PK1)),
-        Err(PutRefusal::Taken) => Err(Rule::PK(RulePK::PK2)),
-        Err(PutRefusal::Full) if checks_fit => Err(Rule::PK(RulePK::PK4)),
-        Ok(()) if checks_fit => Ok(()),
-        _ => Err(Rule::PK(RulePK::PK3)),
-    }
+    judge_put_versions(tables, domain, replaced, version)?;
+    judge_put_keys(tables, domain, replaced, keys, checks_fit)
 }

@@ -1,9 +1,8 @@
 //! What a command asks for.
 
-ghost use Rattle.std.specs.Prelude.{IsSome, IfOk, IfErr};
-ghost use Rattle.policy_rules.specs.Instructions.{instruction_of};
-ghost use Rattle.policy_rules.specs.Commands.{HasParameters, HasDataField};
-ghost use Rattle.policy_rules.specs.Means.{IsMalformed, Means};
+ghost use Rattle.std.specs.Prelude.{IfOk, IfErr};
+ghost use Rattle.policy_rules.specs.Commands.{IsBuilt, Takes};
+ghost use Rattle.policy_rules.specs.Means.{IsMalformed, Means, form_in};
 
 use crate::delete_key::parse_delete;
 use crate::external_authenticate::parse_external_authenticate;
@@ -65,10 +64,9 @@ pub enum Request<'a> {
 
 /// The request of a command, or the first of the rules on its form that fails.
 pub fn parse(ins: u8, p1: u8, p2: u8, body: &[u8]) -> Result<Request<'_>, Rule>
-    requires { IsSome (instruction_of ins) }
-    ensures parameters { IfOk result (λ request. HasParameters ins p1 p2) }
-    ensures data_field { IfOk result (λ request. HasDataField ins p2 body.now) }
-    ensures means { IfOk result (λ request. Means request ins p1 p2 body.now) }
+    requires { IsBuilt ins }
+    ensures form { IfOk result (λ request. Takes (form_in request) ins p1 p2 body.now) }
+    ensures means { IfOk result (λ request. Means request p1 p2 body.now) }
     ensures refused { IfErr result (IsMalformed ins p1 p2 body.now) }
 {
     match ins {

@@ -1,31 +1,32 @@
-use Rattle.std.proofs.Common.{ℕ, refl, sym, ap, subst, ◌∙◌}
-use Rattle.std.specs.Prelude.{◌==◌}
+use Rattle.std.proofs.Common.{ℕ, ◌<◌, inl, refl, sym, ap, subst, ◌∙◌}
 use Rattle.bertlv.specs.Spelling.{Spelling}
+use Rattle.policy_rules.specs.declared.rule.Rule.TheVariants.{GD}
 use Rattle.policy_rules.proofs.DataAsked.{asked_for, asks}
-use Rattle.policy_rules.proofs.Judging.{get_passes, get_refused, only_get}
+use Rattle.policy_rules.proofs.GetDataLaws.{get_passes, get_refused}
+use Rattle.policy_rules.proofs.Judging.{does_so}
 use Rattle.policy_rules.proofs.Selected.{selected_entry}
 use Rattle.policy_rules.specs.Volatile.{selected_on}
-use Rattle.policy_rules.specs.Instructions.{GetData, instruction_of}
-use Rattle.policy_rules.specs.declared.instruction.TheConstants.{EXTERNAL_AUTHENTICATE}
-use Rattle.card_core.proofs.Carrying.{does_as, refusal_shows}
+use Rattle.policy_rules.specs.GetData.{get_data}
+use Rattle.policy_rules.specs.declared.live.TheConstants.{CHANNELS}
+use Rattle.card_core.proofs.Carrying.{refusal_shows}
 use Rattle.card_core.proofs.get_data.get_data.Goals as goal
 
 pub returns-in-Ok-clause-done : goal.returns-in-Ok-clause-done
-returns-in-Ok-clause-done c page all admitted stands here request =
+returns-in-Ok-clause-done c page all admitted stands four here request =
     let says = stands.shows.says in
     let means = request.means in
     let on = selected_entry page c.args.tables.now c.args.live.now admitted.at c.args.channel c.args.domain says c.requires.channel c.requires.selected in
     let found = c.in-Ok.ensures.found page admitted.at.registry on.0 says.registry stands.sound.well on.1 in
     let written = c.write_datum.ensures.written c.args.domain page admitted.at.registry on.0 says.registry stands.sound.well on.1 found in
-    let asked = asks admitted _ c.args.tag written.0 (ap (selected_on admitted.at.volatile) (sym here) ∙ on.2) means.1 written.1 in (
+    let asked = asks admitted _ c.args.tag written.0 (ap (selected_on admitted.at.volatile) (sym here) ∙ on.2) means written.1 in (
       record { state = admitted.at; body = c.write_datum.new.reply.items; status = 0x9000 },
       stands.shows,
-      get_passes admitted means.0 request.data_field written.0 asked,
-      does_as admitted _ GetData (ap instruction_of means.0) (record {
+      get_passes admitted request.form written.0 asked,
+      does_so get_data (λ holds here. inl here) admitted request.form _ (record {
         value = written.0;
         asked = asked;
         state = refl;
-        body = subst (λ (tag : ℕ). Spelling tag written.0 c.write_datum.new.reply.items) means.1 written.2;
+        body = subst (λ (tag : ℕ). Spelling tag written.0 c.write_datum.new.reply.items) means written.2;
         status = refl;
       }),
       refl,
@@ -33,13 +34,14 @@ returns-in-Ok-clause-done c page all admitted stands here request =
     )
 
 pub returns-in-Err-clause-done : goal.returns-in-Err-clause-done
-returns-in-Err-clause-done c page all admitted stands here request =
+returns-in-Err-clause-done c page all admitted stands four here request =
     let says = stands.shows.says in
     let means = request.means in
     let on = selected_entry page c.args.tables.now c.args.live.now admitted.at c.args.channel c.args.domain says c.requires.channel c.requires.selected in
     let none = c.in-Err.ensures.none page admitted.at.registry on.0 says.registry stands.sound.well on.1 in (
-      refusal_shows page (record { tables = c.args.tables.now; live = c.args.live.now; held = all }) admitted (ap (λ (ins : ℕ). ins == EXTERNAL_AUTHENTICATE) means.0) stands.shows,
-      only_get admitted c.in-Err.rule (get_refused admitted means.0 request.data_field
-          (λ value asked. none value (asked_for admitted _ c.args.tag value (ap (selected_on admitted.at.volatile) (sym here) ∙ on.2) means.1 asked))),
+      refusal_shows page (record { tables = c.args.tables.now; live = c.args.live.now; held = all }) admitted
+          (record { held = four; channels = stands.sound.fits.channels }) (subst (λ (n : ℕ). n < CHANNELS) here c.requires.channel) stands.shows (GD c.in-Err.rule),
+      get_refused admitted request.form c.in-Err.rule
+          (λ value asked. none value (asked_for admitted _ c.args.tag value (ap (selected_on admitted.at.volatile) (sym here) ∙ on.2) means asked)),
       c.requires.empty,
     )

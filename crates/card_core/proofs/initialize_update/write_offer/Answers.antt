@@ -1,11 +1,11 @@
 use Rattle.card_core.proofs.OfferMade.{body_is}
-use Rattle.card_types.specs.Says.{domain_aid}
+use Rattle.card_types.specs.Says.{counter_of}
 use Rattle.scp03_card.proofs.OfferLemmas.{last_three}
 use Rattle.card_core.proofs.initialize_update.write_offer.Goals as goal
 
 pub returns-clause-written : goal.returns-clause-written
 returns-clause-written c page said entry made says well at stands =
-    body_is said _ (record { owner = domain_aid c.args.tables.now.entries.items c.args.owner; version = c.args.version; number = c.args.counter }) made _ _ _ _ _ _ _ _ _
+    body_is said _ (counter_of c.args.tables.now.entries.items c.args.enc.now) made _ _ _ _ _ _ _ _ _
     (c.write_diversification.ensures.written page said entry says well at)
     c.push.ensures.items
     (rw c.unwrap.ensures at c.try_extend_from_slice.ensures.ok)
@@ -13,4 +13,4 @@ returns-clause-written c page said entry made says well at stands =
     (rw c.unwrap-3.ensures at c.try_extend_from_slice-3.ensures.ok)
     (rw c.unwrap-4.ensures at c.try_extend_from_slice-4.ensures.ok)
     (c.challenge.ensures made stands) (c.cryptogram.ensures made stands)
-    (last_three c.args.counter c.to_be_bytes.result c.requires.counter c.to_be_bytes.ensures)
+    (last_three c.args.enc.now.counter c.to_be_bytes.result c.requires.counter c.to_be_bytes.ensures)

@@ -1,11 +1,11 @@
-use Rattle.std.proofs.Common.{rules, ◌≡◌, [], true, false, None, length, refl, inr, ap}
+use Rattle.std.proofs.Common.{rules, ◌≡◌, [], true, false, None, length, refl, inl, inr, ap}
 use Rattle.std.specs.Prelude.{is_none, slice_index_or}
-use Rattle.policy_rules.proofs.Judging.{close_passes}
-use Rattle.policy_rules.specs.Instructions.{ManageChannel, instruction_of}
+use Rattle.policy_rules.proofs.Judging.{does_so}
+use Rattle.policy_rules.proofs.ManageChannelLaws.{close_passes}
+use Rattle.policy_rules.specs.ManageChannel.{manage_channel}
 use Rattle.policy_rules.specs.Volatile.{load_of_others, without_channel}
 use Rattle.policy_rules.specs.declared.live.TheConstants.{CHANNELS}
 use Rattle.card_core.specs.declared.held.Held.TheVariants as holding
-use Rattle.card_core.proofs.Carrying.{does_as}
 use Rattle.card_core.proofs.Standing.{channel_shows, none_selected, some_selected}
 use Rattle.card_core.proofs.manage_channel.close_channel.Goals as goal
 
@@ -17,8 +17,8 @@ returns-then-is_none c = record {
       let none = none_selected tables.entries.items _ _ (stands.shows.says.selected c.args.number c.requires.high) test in (
         record { state = admitted.at; body = []; status = 0x6200 },
         stands.shows,
-        close_passes admitted means.0 request.parameters request.data_field means.1,
-        does_as admitted _ ManageChannel (ap instruction_of means.0) (inr (means.1, rw (means.2, none) refl)),
+        close_passes admitted request.form means.0,
+        does_so manage_channel (λ holds here. inl here) admitted request.form _ (inr (means.0, rw (means.1, none) refl)),
         refl,
         refl,
       ));
@@ -41,8 +41,8 @@ returns c = record {
             (record { held = held_four; channels = stands.sound.fits.channels })
             c.args.number c.requires.high four None holding.Nothing None (without_channel admitted.at.volatile c.args.number) tt tt tt refl
             (ap (load_of_others c.args.number) stands.shows.holds.load)),
-        close_passes admitted means.0 request.parameters request.data_field means.1,
-        does_as admitted _ ManageChannel (ap instruction_of means.0) (inr (means.1, rw (means.2, some.1) refl)),
+        close_passes admitted request.form means.0,
+        does_so manage_channel (λ holds here. inl here) admitted request.form _ (inr (means.0, rw (means.1, some.1) refl)),
         refl,
         refl,
       ));

@@ -1,49 +1,64 @@
 use Rattle.std.proofs.Common.{[], ◌∷◌, None, Some, inl, inr, refl, sym, subst}
 use Rattle.card_types.specs.InOrder.{IsInOrder}
-use Rattle.policy_rules.proofs.Judging.{put_judged}
-use Rattle.policy_rules.proofs.PutKeeps.{keys_sent}
+use Rattle.policy_rules.proofs.FirstJoined.{first_behind, first_within}
+use Rattle.policy_rules.proofs.PutKeyLaws.{put_judged}
+use Rattle.policy_rules.proofs.PutKeyKeeps.{keys_sent}
 use Rattle.policy_rules.specs.Means.{ActsIn, IsRequestOf, IsWellFormed, sent_key, sent_keys}
+use Rattle.policy_rules.specs.PutKey.{PutKeyFails}
+use Rattle.policy_rules.specs.PutRules.{key_rules, version_rules}
 use Rattle.policy_rules.specs.declared.put_key.PutKeys.TheVariants.{One, Three}
 use Rattle.policy_rules.specs.declared.request.Request.TheVariants.{PutKey}
 use Rattle.card_core.proofs.Cards.{in_order}
-use Rattle.card_core.proofs.KeysBrought.{brought, checks_said, formed_one, formed_set}
-use Rattle.card_core.proofs.PutDone.{body_one, body_three, fits_one, fits_three, none_refused, put_managed, roomy_by}
+use Rattle.card_core.proofs.PutKeyBrought.{brought, checks_said, formed_one, formed_set}
+use Rattle.card_core.proofs.PutKeyDone.{body_one, body_three, fits_one, fits_three, judged_by, put_managed}
 use Rattle.card_core.proofs.Managing.{refusal_managed}
-use Rattle.card_core.proofs.PutTables.{put_cards}
+use Rattle.card_core.proofs.PutKeyTables.{put_cards}
 use Rattle.card_core.specs.Holds.{HoldsAs}
 use Rattle.card_core.specs.Offers.{standing_for}
 use Rattle.card_core.proofs.put_key.put_key.Goals as goal
+
+pub returns-in_err-judge_put_versions-clause-done : goal.returns-in_err-judge_put_versions-clause-done
+returns-in_err-judge_put_versions-clause-done g c page admitted acts ascending request holds =
+    let rule = c.in_err-judge_put_versions.field-0.0 in
+    let refused = c.in_err-judge_put_versions.ensures.refused page admitted c.args.keys.now (subst (λ t. ActsIn page t c.args.domain admitted) (sym c.tables.ensures.tables) acts) request in
+    let first = first_within (PutKeyFails admitted) key_rules version_rules rule refused in
+    refusal_managed admitted page c.args.records.now.tables c.args.reply.now.items c.from_residual.result rule c.from_residual.ensures.1
+    (put_judged admitted (Some rule) request.form first) c.requires.empty
 
 pub open_key-key-requires : goal.open_key-key-requires
 open_key-key-requires g c =
     let form = formed_one c.args.replaced c.args.version c.in-One.sent (subst (λ k. IsWellFormed (PutKey c.args.replaced c.args.version k)) c.in-One.is c.requires.formed) in
     record { size = form.lengths.0 }
 
-pub judge_put_key-requires : goal.judge_put_key-requires
-judge_put_key-requires g c = record { in_order = subst IsInOrder (sym c.tables.ensures.tables) (in_order c.args.records.now.tables c.requires.cards) }
+pub judge_put_keys-requires : goal.judge_put_keys-requires
+judge_put_keys-requires g c = record { in_order = subst IsInOrder (sym c.tables-in-One.ensures.tables) (in_order c.args.records.now.tables c.requires.cards) }
 
-pub returns-in_err-judge_put_key-in-One-clause-done : goal.returns-in_err-judge_put_key-in-One-clause-done
-returns-in_err-judge_put_key-in-One-clause-done g c page admitted acts ascending request holds =
+pub returns-in_err-judge_put_keys-in-One-clause-done : goal.returns-in_err-judge_put_keys-in-One-clause-done
+returns-in_err-judge_put_keys-in-One-clause-done g c page admitted acts ascending request holds =
     let sent = c.in-One.sent in
     let key = c.open_key-key.result.bytes in
     let asked = subst (λ k. IsRequestOf (PutKey c.args.replaced c.args.version k) admitted.command) c.in-One.is request in
     let secured = subst (λ h. HoldsAs h (standing_for admitted)) c.in-Secured.is holds in
     let checks = checks_said admitted c.args.replaced c.args.version (One sent) asked c.in-Secured.session secured _ c.dek-dek.ensures (key ∷ []) (c.open_key-key.ensures.key, tt)
     c.open_key-key.result.fits (fits_one c.open_key-key.result.fits (sent_key sent) key c.open_key-key.ensures.fits) in
-    let first = c.in_err-judge_put_key-in-One.ensures.refused page admitted (subst (λ t. ActsIn page t c.args.domain admitted) (sym c.tables.ensures.tables) acts) request checks in
-    refusal_managed admitted page c.args.records.now.tables c.args.reply.now.items c.from_residual.result c.in_err-judge_put_key-in-One.field-0.0 c.from_residual.ensures.1
-    (put_judged admitted (Some c.in_err-judge_put_key-in-One.field-0.0) request.means.0 (record { parameters = request.parameters; field = request.data_field }) first) c.requires.empty
+    let before = c.in_ok-judge_put_versions.ensures.passed page admitted c.args.keys.now (subst (λ t. ActsIn page t c.args.domain admitted) (sym c.tables.ensures.tables) acts) request in
+    let refused = c.in_err-judge_put_keys-in-One.ensures.refused page admitted c.args.version
+    (subst (λ t. ActsIn page t c.args.domain admitted) (sym c.tables-in-One.ensures.tables) acts) request checks in
+    let first = first_behind (PutKeyFails admitted) key_rules version_rules (Some c.in_err-judge_put_keys-in-One.field-0.0) before refused in
+    refusal_managed admitted page c.args.records.now.tables c.args.reply.now.items c.from_residual-in_err-judge_put_keys-in-One.result c.in_err-judge_put_keys-in-One.field-0.0
+    c.from_residual-in_err-judge_put_keys-in-One.ensures.1
+    (put_judged admitted (Some c.in_err-judge_put_keys-in-One.field-0.0) request.form first) c.requires.empty
 
 -- the rest of the token or receipt key
 pub write_check-requires-clause-size : goal.write_check-requires-clause-size
 write_check-requires-clause-size g c =
     (formed_one c.args.replaced c.args.version c.in-One.sent (subst (λ k. IsWellFormed (PutKey c.args.replaced c.args.version k)) c.in-One.is c.requires.formed)).lengths.1
 
-pub unwrap-requires : goal.unwrap-requires
-unwrap-requires g c =
-    none_refused _ c.put_one.result c.put_one.ensures.exactly
-    (roomy_by c.args.domain c.args.replaced c.args.version c.tables.result.now c.args.records.now.tables c.args.keys.now (One c.in-One.sent) c.tables.ensures.tables c.in-One.is
-    c.in_ok-judge_put_key-in-One.ensures.roomy)
+pub place_one-requires-clause-judged : goal.place_one-requires-clause-judged
+place_one-requires-clause-judged g c =
+    judged_by c.args.domain c.args.replaced c.args.version c.tables.result.now c.tables-in-One.result.now c.args.records.now.tables c.args.keys.now (One c.in-One.sent)
+    c.tables.ensures.tables c.tables-in-One.ensures.tables c.in-One.is c.in_ok-judge_put_versions.ensures.known c.in_ok-judge_put_versions.ensures.free
+    (c.in_ok-judge_put_keys-in-One.ensures.roomy c.args.version)
 
 pub open_key-enc-requires : goal.open_key-enc-requires
 open_key-enc-requires g c =
@@ -63,8 +78,8 @@ open_key-kek-requires g c =
     (subst (λ k. IsWellFormed (PutKey c.args.replaced c.args.version k)) c.in-Three.is c.requires.formed) in
     record { size = form.dek_lengths.0 }
 
-pub judge_put_key-requires-in-Three : goal.judge_put_key-requires-in-Three
-judge_put_key-requires-in-Three g c = record { in_order = subst IsInOrder (sym c.tables-in-Three.ensures.tables) (in_order c.args.records.now.tables c.requires.cards) }
+pub judge_put_keys-requires-in-Three : goal.judge_put_keys-requires-in-Three
+judge_put_keys-requires-in-Three g c = record { in_order = subst IsInOrder (sym c.tables-in-Three.ensures.tables) (in_order c.args.records.now.tables c.requires.cards) }
 
 pub write_check-requires-in-Three-clause-size : goal.write_check-requires-in-Three-clause-size
 write_check-requires-in-Three-clause-size g c =
@@ -81,14 +96,14 @@ write_check-requires-in-Three-3-clause-size g c =
     (formed_set c.args.replaced c.args.version c.in-Three.first c.in-Three.second c.in-Three.third
     (subst (λ k. IsWellFormed (PutKey c.args.replaced c.args.version k)) c.in-Three.is c.requires.formed)).dek_lengths.1
 
-pub unwrap-requires-in-Three : goal.unwrap-requires-in-Three
-unwrap-requires-in-Three g c =
-    none_refused _ c.put_set.result c.put_set.ensures.exactly
-    (roomy_by c.args.domain c.args.replaced c.args.version c.tables-in-Three.result.now c.args.records.now.tables c.args.keys.now (Three c.in-Three.first c.in-Three.second c.in-Three.third)
-    c.tables-in-Three.ensures.tables c.in-Three.is c.in_ok-judge_put_key-in-Three.ensures.roomy)
+pub place_set-requires-clause-judged : goal.place_set-requires-clause-judged
+place_set-requires-clause-judged g c =
+    judged_by c.args.domain c.args.replaced c.args.version c.tables.result.now c.tables-in-Three.result.now c.args.records.now.tables c.args.keys.now
+    (Three c.in-Three.first c.in-Three.second c.in-Three.third) c.tables.ensures.tables c.tables-in-Three.ensures.tables c.in-Three.is
+    c.in_ok-judge_put_versions.ensures.known c.in_ok-judge_put_versions.ensures.free (c.in_ok-judge_put_keys-in-Three.ensures.roomy c.args.version)
 
-pub returns-in_err-judge_put_key-in-Three-clause-done : goal.returns-in_err-judge_put_key-in-Three-clause-done
-returns-in_err-judge_put_key-in-Three-clause-done g c page admitted acts ascending request holds =
+pub returns-in_err-judge_put_keys-in-Three-clause-done : goal.returns-in_err-judge_put_keys-in-Three-clause-done
+returns-in_err-judge_put_keys-in-Three-clause-done g c page admitted acts ascending request holds =
     let keys = Three c.in-Three.first c.in-Three.second c.in-Three.third in
     let asked = subst (λ k. IsRequestOf (PutKey c.args.replaced c.args.version k) admitted.command) c.in-Three.is request in
     let secured = subst (λ h. HoldsAs h (standing_for admitted)) c.in-Secured.is holds in
@@ -98,13 +113,16 @@ returns-in_err-judge_put_key-in-Three-clause-done g c page admitted acts ascendi
     (fits_three c.open_key-enc.result.fits c.open_key-mac.result.fits c.open_key-kek.result.fits c.all_fit-fit.result
     (sent_key c.in-Three.first) (sent_key c.in-Three.second) (sent_key c.in-Three.third) c.open_key-enc.result.bytes c.open_key-mac.result.bytes c.open_key-kek.result.bytes
     c.all_fit-fit.ensures c.open_key-enc.ensures.fits c.open_key-mac.ensures.fits c.open_key-kek.ensures.fits) in
-    let first = c.in_err-judge_put_key-in-Three.ensures.refused page admitted (subst (λ t. ActsIn page t c.args.domain admitted) (sym c.tables-in-Three.ensures.tables) acts) request checks in
-    refusal_managed admitted page c.args.records.now.tables c.args.reply.now.items c.from_residual-in_err-judge_put_key-in-Three.result c.in_err-judge_put_key-in-Three.field-0.0
-    c.from_residual-in_err-judge_put_key-in-Three.ensures.1
-    (put_judged admitted (Some c.in_err-judge_put_key-in-Three.field-0.0) request.means.0 (record { parameters = request.parameters; field = request.data_field }) first) c.requires.empty
+    let before = c.in_ok-judge_put_versions.ensures.passed page admitted c.args.keys.now (subst (λ t. ActsIn page t c.args.domain admitted) (sym c.tables.ensures.tables) acts) request in
+    let refused = c.in_err-judge_put_keys-in-Three.ensures.refused page admitted c.args.version
+    (subst (λ t. ActsIn page t c.args.domain admitted) (sym c.tables-in-Three.ensures.tables) acts) request checks in
+    let first = first_behind (PutKeyFails admitted) key_rules version_rules (Some c.in_err-judge_put_keys-in-Three.field-0.0) before refused in
+    refusal_managed admitted page c.args.records.now.tables c.args.reply.now.items c.from_residual-in_err-judge_put_keys-in-Three.result c.in_err-judge_put_keys-in-Three.field-0.0
+    c.from_residual-in_err-judge_put_keys-in-Three.ensures.1
+    (put_judged admitted (Some c.in_err-judge_put_keys-in-Three.field-0.0) request.form first) c.requires.empty
 
-pub returns-in_ok-judge_put_key-in-One-clause-done : goal.returns-in_ok-judge_put_key-in-One-clause-done
-returns-in_ok-judge_put_key-in-One-clause-done g c page admitted acts ascending request holds =
+pub returns-in_ok-judge_put_keys-in-One-clause-done : goal.returns-in_ok-judge_put_keys-in-One-clause-done
+returns-in_ok-judge_put_keys-in-One-clause-done g c page admitted acts ascending request holds =
     let sent = c.in-One.sent in
     let key = c.open_key-key.result.bytes in
     let form = formed_one c.args.replaced c.args.version sent (subst (λ k. IsWellFormed (PutKey c.args.replaced c.args.version k)) c.in-One.is c.requires.formed) in
@@ -113,28 +131,34 @@ returns-in_ok-judge_put_key-in-One-clause-done g c page admitted acts ascending 
     let brings = brought admitted c.args.replaced c.args.version (One sent) asked c.in-Secured.session secured _ c.dek-dek.ensures (key ∷ []) (c.open_key-key.ensures.key, tt) in
     let checks = checks_said admitted c.args.replaced c.args.version (One sent) asked c.in-Secured.session secured _ c.dek-dek.ensures (key ∷ []) (c.open_key-key.ensures.key, tt)
     c.open_key-key.result.fits (fits_one c.open_key-key.result.fits (sent_key sent) key c.open_key-key.ensures.fits) in
-    let first = c.in_ok-judge_put_key-in-One.ensures.passed page admitted (subst (λ t. ActsIn page t c.args.domain admitted) (sym c.tables.ensures.tables) acts) request checks in
-    let same = c.put_one.ensures.same_else in
-    put_managed c.args.records.now.tables c.put_one.new.keeper.tables same.life same.entries same.files same.objects c.args.domain c.args.replaced c.args.version (key ∷ [])
-    (rw c.unwrap.ensures at c.put_one.ensures.put) (keys_sent _ (sent_key sent ∷ []) (key ∷ []) (c.open_key-key.ensures.key, tt)).0 (inr (form.new, refl))
-    (roomy_by c.args.domain c.args.replaced c.args.version c.tables.result.now c.args.records.now.tables c.args.keys.now (One sent) c.tables.ensures.tables c.in-One.is
-    c.in_ok-judge_put_key-in-One.ensures.roomy) c.requires.domain page admitted acts (One sent) asked brings c.write_check.new.reply.items _
-    (put_judged admitted None request.means.0 (record { parameters = request.parameters; field = request.data_field }) first)
+    let before = c.in_ok-judge_put_versions.ensures.passed page admitted c.args.keys.now (subst (λ t. ActsIn page t c.args.domain admitted) (sym c.tables.ensures.tables) acts) request in
+    let passed = c.in_ok-judge_put_keys-in-One.ensures.passed page admitted c.args.version
+    (subst (λ t. ActsIn page t c.args.domain admitted) (sym c.tables-in-One.ensures.tables) acts) request checks in
+    let first = first_behind (PutKeyFails admitted) key_rules version_rules None before passed in
+    let judged = judged_by c.args.domain c.args.replaced c.args.version c.tables.result.now c.tables-in-One.result.now c.args.records.now.tables c.args.keys.now (One c.in-One.sent)
+    c.tables.ensures.tables c.tables-in-One.ensures.tables c.in-One.is c.in_ok-judge_put_versions.ensures.known c.in_ok-judge_put_versions.ensures.free
+    (c.in_ok-judge_put_keys-in-One.ensures.roomy c.args.version) in
+    let same = c.place_one.ensures.same_else in
+    put_managed c.args.records.now.tables c.place_one.new.keeper.tables same.life same.entries same.files same.objects c.args.domain c.args.replaced c.args.version (key ∷ [])
+    c.place_one.ensures.put (keys_sent _ (sent_key sent ∷ []) (key ∷ []) (c.open_key-key.ensures.key, tt)).0 (inr (form.new, refl)) judged c.requires.domain
+    page admitted acts (One sent) asked brings c.write_check.new.reply.items _
+    (put_judged admitted None request.form first)
     (body_one c.args.version (sent_key sent) c.args.reply.now.items c.push.new.self.items c.write_check.new.reply.items c.requires.empty c.push.ensures.items c.write_check.ensures.written) refl
 
-pub returns-in_ok-judge_put_key-in-One-clause-cards : goal.returns-in_ok-judge_put_key-in-One-clause-cards
-returns-in_ok-judge_put_key-in-One-clause-cards g c =
+pub returns-in_ok-judge_put_keys-in-One-clause-cards : goal.returns-in_ok-judge_put_keys-in-One-clause-cards
+returns-in_ok-judge_put_keys-in-One-clause-cards g c =
     let sent = c.in-One.sent in
     let key = c.open_key-key.result.bytes in
     let form = formed_one c.args.replaced c.args.version sent (subst (λ k. IsWellFormed (PutKey c.args.replaced c.args.version k)) c.in-One.is c.requires.formed) in
-    let same = c.put_one.ensures.same_else in
-    put_cards c.args.records.now.tables c.put_one.new.keeper.tables same.life same.entries same.files same.objects c.args.domain c.args.replaced c.args.version (key ∷ [])
-    (rw c.unwrap.ensures at c.put_one.ensures.put) (keys_sent _ (sent_key sent ∷ []) (key ∷ []) (c.open_key-key.ensures.key, tt)).0 (inr (form.new, refl))
-    (roomy_by c.args.domain c.args.replaced c.args.version c.tables.result.now c.args.records.now.tables c.args.keys.now (One sent) c.tables.ensures.tables c.in-One.is
-    c.in_ok-judge_put_key-in-One.ensures.roomy) c.requires.domain c.requires.cards
+    let judged = judged_by c.args.domain c.args.replaced c.args.version c.tables.result.now c.tables-in-One.result.now c.args.records.now.tables c.args.keys.now (One c.in-One.sent)
+    c.tables.ensures.tables c.tables-in-One.ensures.tables c.in-One.is c.in_ok-judge_put_versions.ensures.known c.in_ok-judge_put_versions.ensures.free
+    (c.in_ok-judge_put_keys-in-One.ensures.roomy c.args.version) in
+    let same = c.place_one.ensures.same_else in
+    put_cards c.args.records.now.tables c.place_one.new.keeper.tables same.life same.entries same.files same.objects c.args.domain c.args.replaced c.args.version (key ∷ [])
+    c.place_one.ensures.put (keys_sent _ (sent_key sent ∷ []) (key ∷ []) (c.open_key-key.ensures.key, tt)).0 (inr (form.new, refl)) judged c.requires.domain c.requires.cards
 
-pub returns-in_ok-judge_put_key-in-Three-clause-done : goal.returns-in_ok-judge_put_key-in-Three-clause-done
-returns-in_ok-judge_put_key-in-Three-clause-done g c page admitted acts ascending request holds =
+pub returns-in_ok-judge_put_keys-in-Three-clause-done : goal.returns-in_ok-judge_put_keys-in-Three-clause-done
+returns-in_ok-judge_put_keys-in-Three-clause-done g c page admitted acts ascending request holds =
     let keys = Three c.in-Three.first c.in-Three.second c.in-Three.third in
     let bytes = c.open_key-enc.result.bytes ∷ c.open_key-mac.result.bytes ∷ c.open_key-kek.result.bytes ∷ [] in
     let form = formed_set c.args.replaced c.args.version c.in-Three.first c.in-Three.second c.in-Three.third
@@ -148,27 +172,33 @@ returns-in_ok-judge_put_key-in-Three-clause-done g c page admitted acts ascendin
     (fits_three c.open_key-enc.result.fits c.open_key-mac.result.fits c.open_key-kek.result.fits c.all_fit-fit.result
     (sent_key c.in-Three.first) (sent_key c.in-Three.second) (sent_key c.in-Three.third) c.open_key-enc.result.bytes c.open_key-mac.result.bytes c.open_key-kek.result.bytes
     c.all_fit-fit.ensures c.open_key-enc.ensures.fits c.open_key-mac.ensures.fits c.open_key-kek.ensures.fits) in
-    let first = c.in_ok-judge_put_key-in-Three.ensures.passed page admitted (subst (λ t. ActsIn page t c.args.domain admitted) (sym c.tables-in-Three.ensures.tables) acts) request checks in
-    let same = c.put_set.ensures.same_else in
-    put_managed c.args.records.now.tables c.put_set.new.keeper.tables same.life same.entries same.files same.objects c.args.domain c.args.replaced c.args.version bytes
-    (rw c.unwrap-in-Three.ensures at c.put_set.ensures.put)
-    (keys_sent _ (sent_keys keys) bytes (c.open_key-enc.ensures.key, (c.open_key-mac.ensures.key, (c.open_key-kek.ensures.key, tt)))).0 (inl (form.new.0, form.new.1, refl))
-    (roomy_by c.args.domain c.args.replaced c.args.version c.tables-in-Three.result.now c.args.records.now.tables c.args.keys.now keys c.tables-in-Three.ensures.tables c.in-Three.is
-    c.in_ok-judge_put_key-in-Three.ensures.roomy) c.requires.domain page admitted acts keys asked brings c.write_check-in-Three-3.new.reply.items _
-    (put_judged admitted None request.means.0 (record { parameters = request.parameters; field = request.data_field }) first)
+    let before = c.in_ok-judge_put_versions.ensures.passed page admitted c.args.keys.now (subst (λ t. ActsIn page t c.args.domain admitted) (sym c.tables.ensures.tables) acts) request in
+    let passed = c.in_ok-judge_put_keys-in-Three.ensures.passed page admitted c.args.version
+    (subst (λ t. ActsIn page t c.args.domain admitted) (sym c.tables-in-Three.ensures.tables) acts) request checks in
+    let first = first_behind (PutKeyFails admitted) key_rules version_rules None before passed in
+    let judged = judged_by c.args.domain c.args.replaced c.args.version c.tables.result.now c.tables-in-Three.result.now c.args.records.now.tables c.args.keys.now
+    (Three c.in-Three.first c.in-Three.second c.in-Three.third) c.tables.ensures.tables c.tables-in-Three.ensures.tables c.in-Three.is
+    c.in_ok-judge_put_versions.ensures.known c.in_ok-judge_put_versions.ensures.free (c.in_ok-judge_put_keys-in-Three.ensures.roomy c.args.version) in
+    let same = c.place_set.ensures.same_else in
+    put_managed c.args.records.now.tables c.place_set.new.keeper.tables same.life same.entries same.files same.objects c.args.domain c.args.replaced c.args.version bytes
+    c.place_set.ensures.put
+    (keys_sent _ (sent_keys keys) bytes (c.open_key-enc.ensures.key, (c.open_key-mac.ensures.key, (c.open_key-kek.ensures.key, tt)))).0 (inl (form.new.0, form.new.1, refl)) judged c.requires.domain
+    page admitted acts keys asked brings c.write_check-in-Three-3.new.reply.items _
+    (put_judged admitted None request.form first)
     (body_three c.args.version (sent_key c.in-Three.first) (sent_key c.in-Three.second) (sent_key c.in-Three.third) c.args.reply.now.items c.push-in-Three.new.self.items
     c.write_check-in-Three.new.reply.items c.write_check-in-Three-2.new.reply.items c.write_check-in-Three-3.new.reply.items c.requires.empty c.push-in-Three.ensures.items
     c.write_check-in-Three.ensures.written c.write_check-in-Three-2.ensures.written c.write_check-in-Three-3.ensures.written) refl
 
-pub returns-in_ok-judge_put_key-in-Three-clause-cards : goal.returns-in_ok-judge_put_key-in-Three-clause-cards
-returns-in_ok-judge_put_key-in-Three-clause-cards g c =
+pub returns-in_ok-judge_put_keys-in-Three-clause-cards : goal.returns-in_ok-judge_put_keys-in-Three-clause-cards
+returns-in_ok-judge_put_keys-in-Three-clause-cards g c =
     let keys = Three c.in-Three.first c.in-Three.second c.in-Three.third in
     let bytes = c.open_key-enc.result.bytes ∷ c.open_key-mac.result.bytes ∷ c.open_key-kek.result.bytes ∷ [] in
     let form = formed_set c.args.replaced c.args.version c.in-Three.first c.in-Three.second c.in-Three.third
     (subst (λ k. IsWellFormed (PutKey c.args.replaced c.args.version k)) c.in-Three.is c.requires.formed) in
-    let same = c.put_set.ensures.same_else in
-    put_cards c.args.records.now.tables c.put_set.new.keeper.tables same.life same.entries same.files same.objects c.args.domain c.args.replaced c.args.version bytes
-    (rw c.unwrap-in-Three.ensures at c.put_set.ensures.put)
-    (keys_sent _ (sent_keys keys) bytes (c.open_key-enc.ensures.key, (c.open_key-mac.ensures.key, (c.open_key-kek.ensures.key, tt)))).0 (inl (form.new.0, form.new.1, refl))
-    (roomy_by c.args.domain c.args.replaced c.args.version c.tables-in-Three.result.now c.args.records.now.tables c.args.keys.now keys c.tables-in-Three.ensures.tables c.in-Three.is
-    c.in_ok-judge_put_key-in-Three.ensures.roomy) c.requires.domain c.requires.cards
+    let judged = judged_by c.args.domain c.args.replaced c.args.version c.tables.result.now c.tables-in-Three.result.now c.args.records.now.tables c.args.keys.now
+    (Three c.in-Three.first c.in-Three.second c.in-Three.third) c.tables.ensures.tables c.tables-in-Three.ensures.tables c.in-Three.is
+    c.in_ok-judge_put_versions.ensures.known c.in_ok-judge_put_versions.ensures.free (c.in_ok-judge_put_keys-in-Three.ensures.roomy c.args.version) in
+    let same = c.place_set.ensures.same_else in
+    put_cards c.args.records.now.tables c.place_set.new.keeper.tables same.life same.entries same.files same.objects c.args.domain c.args.replaced c.args.version bytes
+    c.place_set.ensures.put
+    (keys_sent _ (sent_keys keys) bytes (c.open_key-enc.ensures.key, (c.open_key-mac.ensures.key, (c.open_key-kek.ensures.key, tt)))).0 (inl (form.new.0, form.new.1, refl)) judged c.requires.domain c.requires.cards

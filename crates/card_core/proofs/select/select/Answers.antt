@@ -1,13 +1,14 @@
-use Rattle.std.proofs.Common.{rules, ◌≡◌, ◌<◌, ℕ, List, length, Some, refl, ap, subst, ◌∙◌}
-use Rattle.std.specs.Prelude.{◌==◌}
-use Rattle.policy_rules.proofs.Judging.{only_select, select_passes, select_refused}
-use Rattle.policy_rules.specs.Instructions.{Select, instruction_of}
-use Rattle.policy_rules.specs.Select.{IsControlInformation, selected_status}
+use Rattle.std.proofs.Common.{rules, ◌≡◌, ◌<◌, ℕ, List, length, Some, refl, ap, inl, subst, ◌∙◌}
+use Rattle.std.specs.Prelude.{slice_set}
+use Rattle.std.proofs.lemmas.List.{length-set}
+use Rattle.policy_rules.specs.declared.rule.Rule.TheVariants.{SE}
+use Rattle.policy_rules.proofs.Judging.{does_so}
+use Rattle.policy_rules.proofs.SelectLaws.{select_passes, select_refused}
+use Rattle.policy_rules.specs.Select.{IsControlInformation, select, selected_status}
 use Rattle.policy_rules.specs.Volatile.{fresh, load_of_others, with_selected}
-use Rattle.policy_rules.specs.declared.instruction.TheConstants.{EXTERNAL_AUTHENTICATE}
 use Rattle.policy_rules.specs.declared.live.TheConstants.{CHANNELS}
 use Rattle.card_core.specs.declared.held.Held.TheVariants as held
-use Rattle.card_core.proofs.Carrying.{does_as, refusal_shows}
+use Rattle.card_core.proofs.Carrying.{refusal_shows}
 use Rattle.card_core.proofs.Standing.{channel_shows, held_same}
 use Rattle.card_core.proofs.select.select.Goals as goal
 
@@ -16,7 +17,7 @@ returns-in-Ok-clause-done c page all admitted stands four here same request =
     let means = request.means in
     let says = stands.shows.says in
     let found = c.in-Ok.ensures.found page admitted.at.registry says.registry in
-    let passes = select_passes admitted c.args.partial.now means.0 means.1 request.parameters request.data_field _ found in
+    let passes = select_passes admitted c.args.partial.now request.form means _ found in
     let live_four : length c.args.live.now.selected ≡ CHANNELS = search rules in
     let entry = c.in-Ok.found.thing.now in (
       record {
@@ -30,7 +31,7 @@ returns-in-Ok-clause-done c page all admitted stands four here same request =
           (with_selected admitted.at.volatile admitted.channel entry.aid) (entry, c.in-Ok.ensures.at, refl) tt refl refl
           (ap (load_of_others admitted.channel) stands.shows.holds.load)),
       passes.0,
-      does_as admitted _ Select (ap instruction_of means.0) (rw passes.1 (record {
+      does_so select (λ holds here. inl here) admitted request.form _ (rw passes.1 (record {
         registry = refl;
         volatile = refl;
         body = subst (λ (aid : List ℕ). IsControlInformation aid c.write_control_information.new.reply.items) c.as_bytes.ensures.bytes c.write_control_information.ensures.written;
@@ -45,8 +46,10 @@ returns-in-Err-clause-done c page all admitted stands four here same request =
     let means = request.means in
     let says = stands.shows.says in
     let none = c.in-Err.ensures.none page admitted.at.registry says.registry in (
-      held_same page (record { tables = c.args.tables.now; live = c.args.live.now; held = all }) _ c.args.channel c.args.held.now same
-          (refusal_shows page (record { tables = c.args.tables.now; live = c.args.live.now; held = all }) admitted (ap (λ (ins : ℕ). ins == EXTERNAL_AUTHENTICATE) means.0) stands.shows),
-      only_select admitted c.in-Err.rule (select_refused admitted c.args.partial.now means.0 means.1 request.parameters request.data_field none),
+      refusal_shows page (record { tables = c.args.tables.now; live = c.args.live.now; held = slice_set all c.args.channel c.args.held.now }) admitted
+          (record { held = length-set all c.args.channel c.args.held.now ∙ four; channels = stands.sound.fits.channels })
+          (subst (λ (n : ℕ). n < CHANNELS) here c.requires.channel)
+          (held_same page (record { tables = c.args.tables.now; live = c.args.live.now; held = all }) _ c.args.channel c.args.held.now same stands.shows) (SE c.in-Err.rule),
+      select_refused admitted c.args.partial.now request.form means c.in-Err.rule none,
       c.requires.empty,
     )

@@ -10,7 +10,7 @@ use Rattle.policy_rules.specs.Admission.{Admitted, admitted_as, class_passed}
 use Rattle.policy_rules.proofs.Passing.{channel_is_low}
 use Rattle.policy_rules.specs.Classes.{channel_of, class_of}
 use Rattle.policy_rules.specs.Volatile.{Secured, Standing, channel_at, standing_of}
-use Rattle.policy_rules.specs.Means.{Says}
+use Rattle.policy_rules.specs.Means.{SaysState}
 use Rattle.policy_rules.specs.declared.live.TheConstants.{CHANNELS}
 use Rattle.card_core.proofs.Passed.{goes_on, holds_passed, managed_served, opened_so, opened_stands, over_served, passed_as, passed_held, passed_there, placed, plain_stands, protects_so, read_at, refused_served, session_of, written_at}
 use Rattle.card_core.proofs.Serving.{admits_opened, admits_plain, barred, carried_out, is_managed, not_managed, protected_one, unprotected_unmanaged}
@@ -26,88 +26,88 @@ pub returns-in-Err-clause-served : goal.returns-in-Err-clause-served
 returns-in-Err-clause-served g c = λ page state stands.
     rw c.close_plain.ensures.rule (
     barred page (record { tables = c.args.records.now.tables; live = c.args.live.now; held = c.args.held.now }) state c.args.bytes.now c.close_plain.new.reply.items c.in-Err.rule
-    state.volatile stands.sound (c.in-Err.ensures.refused page state (subst (λ t. Says page t c.args.live.now state) (sym c.tables.ensures.tables) stands.shows.says)) (c.in-Err.ensures.leaves state) stands.shows
+    state.volatile stands.sound (c.in-Err.ensures.refused page state (subst (λ t. SaysState page t c.args.live.now state) (sym c.tables.ensures.tables) stands.shows.says)) (c.in-Err.ensures.leaves state) stands.shows
     (c.close_plain.ensures.closed ∙ rw c.requires.empty refl))
 
 -- the card is terminated
 pub returns-in-Err-pass_class-clause-served : goal.returns-in-Err-pass_class-clause-served
 returns-in-Err-pass_class-clause-served g c = λ page state stands.
     let over = c.in-Err-pass_class.ensures.over in
-    let lost : c.pass_class.new.held ≡ without_offer_held (slice_index_or c.args.held.now (channel_of c.in-Ok.admitted.command.class) held.Nothing) = c.in-Err-pass_class.ensures.lost ∙ ap without_offer_held
-    (read_at c.args.held.now c.from-channel.result (channel_of c.in-Ok.admitted.command.class) c.index-held-channel.result c.told-held (channel_is_low c.in-Ok.admitted.command.class)
+    let lost : c.pass_class.new.held ≡ without_offer_held (slice_index_or c.args.held.now (channel_of c.in-Ok.received.command.class) held.Nothing) = c.in-Err-pass_class.ensures.lost ∙ ap without_offer_held
+    (read_at c.args.held.now c.from-channel.result (channel_of c.in-Ok.received.command.class) c.index-held-channel.result c.told-held (channel_is_low c.in-Ok.received.command.class)
     (c.from-channel.ensures ∙ c.in-Ok.ensures.channel)) in
-    let served = over_served page c.args.records.now.tables c.args.live.now c.args.held.now state stands c.told-held (apdu_of c.in-Ok.admitted.command) c.args.bytes.now c.close_plain-in-Err-pass_class.new.reply.items
-    c.in-Ok.ensures.spelled c.in-Ok.admitted.class c.in-Ok.ensures.class c.in-Ok.ensures.known (c.in-Ok.ensures.passed page state (subst (λ t. Says page t c.args.live.now state) (sym c.tables.ensures.tables) stands.shows.says))
-    (subst (λ (life : CardLife). IsOver life c.in-Ok.admitted.class c.in-Ok.admitted.command.ins) (ap (λ t. t.life) c.tables-2.ensures.tables ∙ stands.shows.says.registry.life) over.1)
+    let served = over_served page c.args.records.now.tables c.args.live.now c.args.held.now state stands c.told-held (apdu_of c.in-Ok.received.command) c.args.bytes.now c.close_plain-in-Err-pass_class.new.reply.items
+    c.in-Ok.ensures.spelled c.in-Ok.received.class c.in-Ok.ensures.class c.in-Ok.ensures.known (c.in-Ok.ensures.passed page state (subst (λ t. SaysState page t c.args.live.now state) (sym c.tables.ensures.tables) stands.shows.says))
+    (subst (λ (life : CardLife). IsOver life c.in-Ok.received.class c.in-Ok.received.command.ins) (ap (λ t. t.life) c.tables-2.ensures.tables ∙ stands.shows.says.registry.life) over.1)
     (c.close_plain-in-Err-pass_class.ensures.closed ∙ rw (c.requires.empty, over.0) refl) in
     rw (c.close_plain-in-Err-pass_class.ensures.rule, over.0, lost, c.from-channel.ensures, c.in-Ok.ensures.channel) served
 
 -- card content management in plain
 pub returns-then-is_plain_management-clause-served : goal.returns-then-is_plain_management-clause-served
 returns-then-is_plain_management-clause-served g c = λ page state stands.
-    let command : Apdu = apdu_of c.in-Ok.admitted.command in
+    let command : Apdu = apdu_of c.in-Ok.received.command in
     let here = c.from-channel.ensures ∙ c.in-Ok.ensures.channel in
     let passed = passed_as c.args.held.now c.told-held command c.from-channel.result c.index-held-channel.result c.pass_class.new.held here c.in_default.ensures.kept in
-    let front = c.in-Ok.ensures.passed page state (subst (λ t. Says page t c.args.live.now state) (sym c.tables.ensures.tables) stands.shows.says) in
-    let not_over = goes_on page c.args.records.now.tables c.args.live.now c.args.held.now state stands c.told-held command c.in-Ok.admitted.class (subst (λ t. IsOver t.life c.in-Ok.admitted.class c.in-Ok.admitted.command.ins → ⊥) c.tables-2.ensures.tables c.in_default.ensures.ok) in
-    let managed = is_managed command c.in-Ok.admitted.class c.is_plain_management.result c.in-Ok.ensures.class c.is_plain_management.ensures c.if-is_plain_management.true in
-    let opened = opened_so c.args.live.now command c.in-Ok.admitted.channel c.in-Ok.admitted.selected c.in-Ok.ensures.channel c.in-Ok.ensures.selected in
-    let served = managed_served page c.args.records.now.tables c.args.live.now c.args.held.now state stands c.told-held command c.in-Ok.admitted.selected opened
-    c.args.bytes.now c.close_plain-then-is_plain_management.new.reply.items c.in-Ok.ensures.spelled c.in-Ok.ensures.known c.in-Ok.admitted.class c.in-Ok.ensures.class
+    let front = c.in-Ok.ensures.passed page state (subst (λ t. SaysState page t c.args.live.now state) (sym c.tables.ensures.tables) stands.shows.says) in
+    let not_over = goes_on page c.args.records.now.tables c.args.live.now c.args.held.now state stands c.told-held command c.in-Ok.received.class (subst (λ t. IsOver t.life c.in-Ok.received.class c.in-Ok.received.command.ins → ⊥) c.tables-2.ensures.tables c.in_default.ensures.ok) in
+    let managed = is_managed command c.in-Ok.received.class c.is_plain_management.result c.in-Ok.ensures.class c.is_plain_management.ensures c.if-is_plain_management.true in
+    let opened = opened_so c.args.live.now command c.in-Ok.received.channel c.in-Ok.received.selected c.in-Ok.ensures.channel c.in-Ok.ensures.selected in
+    let served = managed_served page c.args.records.now.tables c.args.live.now c.args.held.now state stands c.told-held command c.in-Ok.received.selected opened
+    c.args.bytes.now c.close_plain-then-is_plain_management.new.reply.items c.in-Ok.ensures.spelled c.in-Ok.ensures.known c.in-Ok.received.class c.in-Ok.ensures.class
     front not_over managed c.end.new.self c.end.ensures (c.close_plain-then-is_plain_management.ensures.closed ∙ rw c.requires.empty refl) in
     rw (c.close_plain-then-is_plain_management.ensures.rule, passed, here) served
 
 -- any other command in plain
 pub act-served-requires-clause-secured : goal.act-served-requires-clause-secured
 act-served-requires-clause-secured g c = λ managed.
-    let command : Apdu = apdu_of c.in-Ok.admitted.command in
-    let plain = protects_so command c.in-Ok.admitted.class c.is_protected.result false c.in-Ok.ensures.class c.is_protected.ensures c.if-not-is_protected.true in
-    let unmanaged = not_managed command c.in-Ok.admitted.class c.is_plain_management.result c.in-Ok.ensures.class c.is_plain_management.ensures c.if-is_plain_management.false in
+    let command : Apdu = apdu_of c.in-Ok.received.command in
+    let plain = protects_so command c.in-Ok.received.class c.is_protected.result false c.in-Ok.ensures.class c.is_protected.ensures c.if-not-is_protected.true in
+    let unmanaged = not_managed command c.in-Ok.received.class c.is_plain_management.result c.in-Ok.ensures.class c.is_plain_management.ensures c.if-is_plain_management.false in
     absurd (unprotected_unmanaged command c.in-Ok.ensures.known unmanaged plain managed)
 
 pub act-served-requires-clause-short : goal.act-served-requires-clause-short
-act-served-requires-clause-short g c = length-body (apdu_of c.in-Ok.admitted.command) c.args.bytes.now c.in-Ok.ensures.spelled
+act-served-requires-clause-short g c = length-body (apdu_of c.in-Ok.received.command) c.args.bytes.now c.in-Ok.ensures.spelled
 
 pub returns-then-not-is_protected-clause-served : goal.returns-then-not-is_protected-clause-served
 returns-then-not-is_protected-clause-served g c = λ page state stands.
-    let command : Apdu = apdu_of c.in-Ok.admitted.command in
+    let command : Apdu = apdu_of c.in-Ok.received.command in
     let here = c.from-channel.ensures ∙ c.in-Ok.ensures.channel in
     let passed = passed_as c.args.held.now c.told-held command c.from-channel.result c.index-held-channel.result c.pass_class.new.held here c.in_default.ensures.kept in
-    let front = c.in-Ok.ensures.passed page state (subst (λ t. Says page t c.args.live.now state) (sym c.tables.ensures.tables) stands.shows.says) in
-    let not_over = goes_on page c.args.records.now.tables c.args.live.now c.args.held.now state stands c.told-held command c.in-Ok.admitted.class (subst (λ t. IsOver t.life c.in-Ok.admitted.class c.in-Ok.admitted.command.ins → ⊥) c.tables-2.ensures.tables c.in_default.ensures.ok) in
-    let plain = protects_so command c.in-Ok.admitted.class c.is_protected.result false c.in-Ok.ensures.class c.is_protected.ensures c.if-not-is_protected.true in
-    let unmanaged = not_managed command c.in-Ok.admitted.class c.is_plain_management.result c.in-Ok.ensures.class c.is_plain_management.ensures c.if-is_plain_management.false in
+    let front = c.in-Ok.ensures.passed page state (subst (λ t. SaysState page t c.args.live.now state) (sym c.tables.ensures.tables) stands.shows.says) in
+    let not_over = goes_on page c.args.records.now.tables c.args.live.now c.args.held.now state stands c.told-held command c.in-Ok.received.class (subst (λ t. IsOver t.life c.in-Ok.received.class c.in-Ok.received.command.ins → ⊥) c.tables-2.ensures.tables c.in_default.ensures.ok) in
+    let plain = protects_so command c.in-Ok.received.class c.is_protected.result false c.in-Ok.ensures.class c.is_protected.ensures c.if-not-is_protected.true in
+    let unmanaged = not_managed command c.in-Ok.received.class c.is_plain_management.result c.in-Ok.ensures.class c.is_plain_management.ensures c.if-is_plain_management.false in
     let at = plain_stands page c.args.records.now.tables c.args.live.now c.args.held.now state stands c.told-held command plain in
     let done = c.act-served.ensures.done page (admitted_as state command None command.body) (rw (passed, here) at) c.in-Ok.ensures.channel refl in
     rw c.close_plain-then-not-is_protected.ensures.rule (
     carried_out page state c.args.bytes.now command None command.body
     (record { tables = c.act-served.new.records.tables; live = c.act-served.new.live; held = c.act-served.new.held }) c.act-served.new.reply.items
     c.close_plain-then-not-is_protected.new.reply.items c.act-served.result stands.sound
-    (admits_plain state c.args.bytes.now command c.in-Ok.ensures.spelled c.in-Ok.ensures.known c.in-Ok.admitted.class c.in-Ok.ensures.class front not_over unmanaged plain)
+    (admits_plain state c.args.bytes.now command c.in-Ok.ensures.spelled c.in-Ok.ensures.known c.in-Ok.received.class c.in-Ok.ensures.class front not_over unmanaged plain)
     done c.close_plain-then-not-is_protected.ensures.closed)
 
 -- a protected command
 pub open_command-requires : goal.open_command-requires
-open_command-requires g c = length-body (apdu_of c.in-Ok.admitted.command) c.args.bytes.now c.in-Ok.ensures.spelled
+open_command-requires g c = length-body (apdu_of c.in-Ok.received.command) c.args.bytes.now c.in-Ok.ensures.spelled
 
 -- that opens
 pub act-served-requires-in-Ok-open_command-clause-secured : goal.act-served-requires-in-Ok-open_command-clause-secured
 act-served-requires-in-Ok-open_command-clause-secured g c = λ managed.
     let all : List Held = slice_set c.args.held.now c.from-channel.result c.pass_class.new.held in
-    let low = subst (λ (n : ℕ). n < CHANNELS) (sym c.in-Ok.ensures.channel) (channel_is_low c.in-Ok.admitted.command.class) in
-    let there = written_at all c.in-Ok.admitted.channel c.in-Ok.admitted.channel c.open_command.new.held held.Nothing
+    let low = subst (λ (n : ℕ). n < CHANNELS) (sym c.in-Ok.ensures.channel) (channel_is_low c.in-Ok.received.command.class) in
+    let there = written_at all c.in-Ok.received.channel c.in-Ok.received.channel c.open_command.new.held held.Nothing
     (length-set c.args.held.now c.from-channel.result c.pass_class.new.held ∙ c.told-held) low refl in
     rw c.from-channel.ensures (rw c.from-channel.ensures at (subst IsInSession (sym there) c.in-Ok-open_command.ensures.secured))
 
 pub returns-in-Ok-open_command-clause-served : goal.returns-in-Ok-open_command-clause-served
 returns-in-Ok-open_command-clause-served g c = λ page state stands.
-    let command : Apdu = apdu_of c.in-Ok.admitted.command in
+    let command : Apdu = apdu_of c.in-Ok.received.command in
     let here = c.from-channel.ensures ∙ c.in-Ok.ensures.channel in
     let passed = passed_as c.args.held.now c.told-held command c.from-channel.result c.index-held-channel.result c.pass_class.new.held here c.in_default.ensures.kept in
-    let front = c.in-Ok.ensures.passed page state (subst (λ t. Says page t c.args.live.now state) (sym c.tables.ensures.tables) stands.shows.says) in
-    let not_over = goes_on page c.args.records.now.tables c.args.live.now c.args.held.now state stands c.told-held command c.in-Ok.admitted.class (subst (λ t. IsOver t.life c.in-Ok.admitted.class c.in-Ok.admitted.command.ins → ⊥) c.tables-2.ensures.tables c.in_default.ensures.ok) in
-    let protected = protects_so command c.in-Ok.admitted.class c.is_protected.result true c.in-Ok.ensures.class c.is_protected.ensures c.if-not-is_protected.false in
-    let opened = opened_so c.args.live.now command c.in-Ok.admitted.channel c.in-Ok.admitted.selected c.in-Ok.ensures.channel c.in-Ok.ensures.selected in
+    let front = c.in-Ok.ensures.passed page state (subst (λ t. SaysState page t c.args.live.now state) (sym c.tables.ensures.tables) stands.shows.says) in
+    let not_over = goes_on page c.args.records.now.tables c.args.live.now c.args.held.now state stands c.told-held command c.in-Ok.received.class (subst (λ t. IsOver t.life c.in-Ok.received.class c.in-Ok.received.command.ins → ⊥) c.tables-2.ensures.tables c.in_default.ensures.ok) in
+    let protected = protects_so command c.in-Ok.received.class c.is_protected.result true c.in-Ok.ensures.class c.is_protected.ensures c.if-not-is_protected.false in
+    let opened = opened_so c.args.live.now command c.in-Ok.received.channel c.in-Ok.received.selected c.in-Ok.ensures.channel c.in-Ok.ensures.selected in
     let old = passed_there c.args.held.now c.told-held command c.from-channel.result c.pass_class.new.held c.index-held-channel-2.result here passed in
     let standing : Standing = standing_of (channel_at (class_passed state.volatile command) (channel_of command.class)) in
     let holds = subst (λ (h : Held). HoldsAs h standing) (sym old)
@@ -118,12 +118,17 @@ returns-in-Ok-open_command-clause-served g c = λ page state stands.
     (c.in-Ok-open_command.ensures.opens standing holds) in
     let session : Session = found.0 in
     let admitted : Admitted = admitted_as state command (Some (accepting session command)) plain in
-    let at = opened_stands page c.args.records.now.tables c.args.live.now c.args.held.now state stands c.told-held command c.in-Ok.admitted.selected
+    let at = opened_stands page c.args.records.now.tables c.args.live.now c.args.held.now state stands c.told-held command c.in-Ok.received.selected
     opened protected session found.1 c.open_command.new.held plain found.2.0 found.2.1 in
     let done = c.act-served-in-Ok-open_command.ensures.done page admitted
     (placed page c.args.records.now.tables c.args.live.now c.args.held.now admitted.at c.from-channel.result (channel_of command.class) c.pass_class.new.held
     (passed_held c.args.held.now c.told-held command) c.open_command.new.held here passed at) c.in-Ok.ensures.channel refl in
-    let same = c.act-served-in-Ok-open_command.ensures.kept (protected_one (class_of command.class) command.ins c.in-Ok.ensures.known protected) in
+    let low = subst (λ (n : ℕ). n < CHANNELS) (sym c.in-Ok.ensures.channel) (channel_is_low c.in-Ok.received.command.class) in
+    let opened_here = written_at (slice_set c.args.held.now c.from-channel.result c.pass_class.new.held) c.in-Ok.received.channel c.in-Ok.received.channel c.open_command.new.held held.Nothing
+    (length-set c.args.held.now c.from-channel.result c.pass_class.new.held ∙ c.told-held) low refl in
+    let in_session : IsInSession (slice_index_or (slice_set (slice_set c.args.held.now c.from-channel.result c.pass_class.new.held) c.from-channel.result c.open_command.new.held)
+    c.in-Ok.received.channel held.Nothing) = rw c.from-channel.ensures (rw c.from-channel.ensures at (subst IsInSession (sym opened_here) c.in-Ok-open_command.ensures.secured)) in
+    let same = c.act-served-in-Ok-open_command.ensures.kept in_session (protected_one (class_of command.class) command.ins c.in-Ok.ensures.known protected) in
     let there = ap (λ (all : List Held). slice_index_or all c.from-channel.result c.index-held-channel-in-Ok-open_command.result) same
     ∙ written_at (slice_set c.args.held.now c.from-channel.result c.pass_class.new.held) c.from-channel.result (channel_of command.class) c.open_command.new.held
     c.index-held-channel-in-Ok-open_command.result (length-set c.args.held.now c.from-channel.result c.pass_class.new.held ∙ c.told-held)
@@ -137,26 +142,26 @@ returns-in-Ok-open_command-clause-served g c = λ page state stands.
     (rw c.close_protected.ensures.rule (
     carried_out page state c.args.bytes.now command (Some (accepting session command)) plain
     (record { tables = c.act-served-in-Ok-open_command.new.records.tables; live = c.act-served-in-Ok-open_command.new.live; held = c.act-served-in-Ok-open_command.new.held }) c.act-served-in-Ok-open_command.new.reply.items c.close_protected.new.reply.items c.act-served-in-Ok-open_command.result stands.sound
-    (admits_opened state c.args.bytes.now command c.in-Ok.ensures.spelled c.in-Ok.ensures.known c.in-Ok.admitted.class c.in-Ok.ensures.class front not_over
+    (admits_opened state c.args.bytes.now command c.in-Ok.ensures.spelled c.in-Ok.ensures.known c.in-Ok.received.class c.in-Ok.ensures.class front not_over
     protected session found.1 plain found.2.0) done closed))
 
 -- that a rule on secure messaging refuses
 pub returns-in-Err-open_command-clause-served : goal.returns-in-Err-open_command-clause-served
 returns-in-Err-open_command-clause-served g c = λ page state stands.
-    let command : Apdu = apdu_of c.in-Ok.admitted.command in
+    let command : Apdu = apdu_of c.in-Ok.received.command in
     let here = c.from-channel.ensures ∙ c.in-Ok.ensures.channel in
     let passed = passed_as c.args.held.now c.told-held command c.from-channel.result c.index-held-channel.result c.pass_class.new.held here c.in_default.ensures.kept in
-    let front = c.in-Ok.ensures.passed page state (subst (λ t. Says page t c.args.live.now state) (sym c.tables.ensures.tables) stands.shows.says) in
-    let not_over = goes_on page c.args.records.now.tables c.args.live.now c.args.held.now state stands c.told-held command c.in-Ok.admitted.class (subst (λ t. IsOver t.life c.in-Ok.admitted.class c.in-Ok.admitted.command.ins → ⊥) c.tables-2.ensures.tables c.in_default.ensures.ok) in
-    let protected = protects_so command c.in-Ok.admitted.class c.is_protected.result true c.in-Ok.ensures.class c.is_protected.ensures c.if-not-is_protected.false in
-    let opened = opened_so c.args.live.now command c.in-Ok.admitted.channel c.in-Ok.admitted.selected c.in-Ok.ensures.channel c.in-Ok.ensures.selected in
+    let front = c.in-Ok.ensures.passed page state (subst (λ t. SaysState page t c.args.live.now state) (sym c.tables.ensures.tables) stands.shows.says) in
+    let not_over = goes_on page c.args.records.now.tables c.args.live.now c.args.held.now state stands c.told-held command c.in-Ok.received.class (subst (λ t. IsOver t.life c.in-Ok.received.class c.in-Ok.received.command.ins → ⊥) c.tables-2.ensures.tables c.in_default.ensures.ok) in
+    let protected = protects_so command c.in-Ok.received.class c.is_protected.result true c.in-Ok.ensures.class c.is_protected.ensures c.if-not-is_protected.false in
+    let opened = opened_so c.args.live.now command c.in-Ok.received.channel c.in-Ok.received.selected c.in-Ok.ensures.channel c.in-Ok.ensures.selected in
     let old = passed_there c.args.held.now c.told-held command c.from-channel.result c.pass_class.new.held c.index-held-channel-2.result here passed in
     let standing : Standing = standing_of (channel_at (class_passed state.volatile command) (channel_of command.class)) in
     let holds = subst (λ (h : Held). HoldsAs h standing) (sym old)
     (holds_passed page c.args.records.now.tables c.args.live.now c.args.held.now state stands c.told-held command) in
     let opens = c.in-Err-open_command.ensures.opens standing holds in
-    let served = refused_served page c.args.records.now.tables c.args.live.now c.args.held.now state stands c.told-held command c.in-Ok.admitted.selected
-    opened protected c.args.bytes.now c.in-Ok.ensures.spelled c.in-Ok.ensures.known c.in-Ok.admitted.class c.in-Ok.ensures.class
+    let served = refused_served page c.args.records.now.tables c.args.live.now c.args.held.now state stands c.told-held command c.in-Ok.received.selected
+    opened protected c.args.bytes.now c.in-Ok.ensures.spelled c.in-Ok.ensures.known c.in-Ok.received.class c.in-Ok.ensures.class
     front not_over c.open_command.new.held c.open_command.new.plain c.close_plain-in-Err-open_command.new.reply.items c.in-Err-open_command.rule
     (subst (λ (h : Held). OpensAs command standing h c.open_command.new.held c.open_command.new.plain (Err c.in-Err-open_command.rule)) old opens)
     (c.close_plain-in-Err-open_command.ensures.closed ∙ rw c.requires.empty refl) in
@@ -165,10 +170,10 @@ returns-in-Err-open_command-clause-served g c = λ page state stands.
 -- a command that commits nothing
 pub returns-then-not-is_protected-clause-idle : goal.returns-then-not-is_protected-clause-idle
 returns-then-not-is_protected-clause-idle g c = λ none.
-    let command : Apdu = apdu_of c.in-Ok.admitted.command in
+    let command : Apdu = apdu_of c.in-Ok.received.command in
     c.act-served.ensures.idle (λ offer. none (command, c.in-Ok.ensures.spelled, inl offer)) (λ managed. none (command, c.in-Ok.ensures.spelled, inr managed))
 
 pub returns-in-Ok-open_command-clause-idle : goal.returns-in-Ok-open_command-clause-idle
 returns-in-Ok-open_command-clause-idle g c = λ none.
-    let command : Apdu = apdu_of c.in-Ok.admitted.command in
+    let command : Apdu = apdu_of c.in-Ok.received.command in
     c.act-served-in-Ok-open_command.ensures.idle (λ offer. none (command, c.in-Ok.ensures.spelled, inl offer)) (λ managed. none (command, c.in-Ok.ensures.spelled, inr managed))

@@ -6,15 +6,15 @@ use Rattle.card_types.specs.InOrder.{IsInOrder}
 use Rattle.card_types.specs.Says.{used}
 use Rattle.card_types.specs.Well.{IsObject}
 use Rattle.card_types.specs.declared.limits.TheConstants.{OBJECTS}
-use Rattle.policy_rules.proofs.ElementsRead.{elements_behind, none_left}
-use Rattle.policy_rules.proofs.Judging.{store_judged}
+use Rattle.policy_rules.proofs.StoreDataElements.{elements_behind, none_left}
+use Rattle.policy_rules.proofs.StoreDataLaws.{store_judged}
 use Rattle.policy_rules.specs.Means.{ActsIn}
 use Rattle.policy_rules.specs.ObjectsFound.{has_object_in, new_tags}
 use Rattle.card_core.proofs.Cards.{in_order}
 use Rattle.card_core.proofs.Managing.{refusal_managed}
-use Rattle.card_core.proofs.ObjectSlots.{room_first}
-use Rattle.card_core.proofs.ObjectsPut.{ArePut, all_same, are_cards_after, at_most, none_put, put_after, same_after}
-use Rattle.card_core.proofs.ObjectsStored.{all_managed, objects_of}
+use Rattle.card_core.proofs.StoreDataSlots.{room_first}
+use Rattle.card_core.proofs.StoreDataPut.{ArePut, all_same, are_cards_after, at_most, none_put, put_after, same_after}
+use Rattle.card_core.proofs.StoreDataDone.{all_managed, objects_of}
 use Rattle.card_core.specs.ObjectsPut.{object_with}
 use Rattle.card_core.proofs.store_data.store_data.Goals as goal
 
@@ -26,7 +26,7 @@ returns-in_err-judge_store_data-clause-done g c page admitted acts ascending req
     let found = c.in_err-judge_store_data.field-0.0 in
     let first = c.in_err-judge_store_data.ensures.refused page admitted (subst (λ t. ActsIn page t c.args.domain admitted) (sym c.tables.ensures.tables) acts) request in
     refusal_managed admitted page c.args.records.now.tables [] c.from_residual.result found c.from_residual.ensures.1
-    (store_judged admitted (Some found) request.means.0 (record { parameters = request.parameters; field = request.data_field }) first) refl
+    (store_judged admitted (Some found) request.form first) refl
 
 pub loop-element-init : goal.loop-element-init
 loop-element-init g c = record {
@@ -45,7 +45,7 @@ pub put_object-requires-clause-size : goal.put_object-requires-clause-size
 put_object-requires-clause-size g c =
     let element = c.in-Ok.element in
     let formed = c.requires.formed in
-    let elements = objects_of c.args.objects.now formed.0 formed.1.means formed.1.data_field in
+    let elements = objects_of c.args.objects.now formed.0 formed.1.means formed.1.form.2 in
     let behind = c.loop-element.invariant.put elements.0 elements.1 elements.2.each in
     let next = elements_behind behind.0 element.tag element.value.now c.in-Ok.after.now c.loop-element.rest.now behind.1 c.in-Ok.ensures.found in
     let P = λ (e : Element). IsObject e.tag (length e.value) in
@@ -55,7 +55,7 @@ pub put_object-requires-clause-room : goal.put_object-requires-clause-room
 put_object-requires-clause-room g c =
     let element = c.in-Ok.element in
     let formed = c.requires.formed in
-    let elements = objects_of c.args.objects.now formed.0 formed.1.means formed.1.data_field in
+    let elements = objects_of c.args.objects.now formed.0 formed.1.means formed.1.form.2 in
     let behind = c.loop-element.invariant.put elements.0 elements.1 elements.2.each in
     let next = elements_behind behind.0 element.tag element.value.now c.in-Ok.after.now c.loop-element.rest.now behind.1 c.in-Ok.ensures.found in
     let slots = c.loop-element.records.tables.objects.items in
@@ -89,12 +89,12 @@ pub returns-clause-done : goal.returns-clause-done
 returns-clause-done g c page admitted acts ascending request =
     let before = c.args.records.now.tables in
     let now = c.loop-element.records.tables in
-    let elements = objects_of c.args.objects.now admitted.command request.means request.data_field in
+    let elements = objects_of c.args.objects.now admitted.command request.means request.form.2 in
     let behind = c.loop-element.invariant.put elements.0 elements.1 elements.2.each in
     let none = none_left behind.0 c.loop-element.rest.now behind.1 c.in_default.ensures.only in
     let first = c.in_ok-judge_store_data.ensures.passed page admitted (subst (λ t. ActsIn page t c.args.domain admitted) (sym c.tables.ensures.tables) acts) request in
-    all_managed page before now c.args.domain admitted acts request.means.0
-    (store_judged admitted None request.means.0 (record { parameters = request.parameters; field = request.data_field }) first)
+    all_managed page before now c.args.domain admitted acts request.form
+    (store_judged admitted None request.form first)
     elements.0 elements.2 (subst (ArePut before now c.args.domain elements.0) none behind.2) _ refl
 
 pub returns-clause-cards : goal.returns-clause-cards
@@ -102,7 +102,7 @@ returns-clause-cards g c =
     let before = c.args.records.now.tables in
     let now = c.loop-element.records.tables in
     let formed = c.requires.formed in
-    let elements = objects_of c.args.objects.now formed.0 formed.1.means formed.1.data_field in
+    let elements = objects_of c.args.objects.now formed.0 formed.1.means formed.1.form.2 in
     let behind = c.loop-element.invariant.put elements.0 elements.1 elements.2.each in
     let none = none_left behind.0 c.loop-element.rest.now behind.1 c.in_default.ensures.only in
     are_cards_after before now c.args.domain elements.0 c.loop-element.invariant.same (subst (ArePut before now c.args.domain elements.0) none behind.2) c.requires.cards

@@ -3,7 +3,7 @@ use Rattle.std.proofs.lemmas.Bool.{iff_false}
 use Rattle.policy_rules.specs.DeleteKey.{DeleteFails}
 use Rattle.policy_rules.specs.declared.delete_key.RuleDK.TheVariants.{DK1, DK2}
 use Rattle.policy_rules.specs.declared.rule.Rule.TheVariants.{DK}
-use Rattle.policy_rules.proofs.DeleteJudging.{acting_has_version, known_passes, last_fails, left_passes, part_fails, unknown_fails}
+use Rattle.policy_rules.proofs.DeleteKeyJudging.{acting_has_version, known_passes, last_fails, left_passes, part_fails, unknown_fails}
 use Rattle.policy_rules.proofs.ManagementFirst.{behind_management, management_handed}
 use Rattle.policy_rules.proofs.delete_key.judge_delete_key.Goals as goal
 use Rattle.policy_rules.proofs.delete_key.judge_delete_key.Goals.{then-not-has_version-via-then-not-has_version, then-not-has_version-via-else-not-has_version+then-names_part}

@@ -1,6 +1,9 @@
-use Rattle.std.proofs.Common.{sym, ◌∙◌}
+use Rattle.std.proofs.Common.{subst, sym, ◌∙◌}
+use Rattle.card_types.specs.NamedKeys.{AreKeysOf}
+use Rattle.card_types.specs.Says.{domain_aid}
+use Rattle.card_types.specs.declared.tables.KeyRec.{KeyRec}
 use Rattle.policy_rules.proofs.KeysByName.{least_in_slot}
-use Rattle.policy_rules.proofs.OfferJudging.{has_next, locked_first, none_first, shut_first, spent_first, unset_first}
+use Rattle.policy_rules.proofs.InitializeUpdateJudging.{has_next, locked_first, none_first, shut_first, spent_first, unset_first}
 use Rattle.policy_rules.proofs.initialize_update.judge_initialize_update.Goals as goal
 
 pub returns-then-entry-clause-refused : goal.returns-then-entry-clause-refused
@@ -41,8 +44,18 @@ returns-clause-next c =
 pub returns-clause-version : goal.returns-clause-version
 returns-clause-version c =
     let order = c.requires.in_order in
-    least_in_slot order.page c.args.tables.now order.said order.says order.well c.in-Some-session_set.found.slot c.in-Some-session_set.found.thing.now
-    c.in-Some-session_set.ensures.held
+    rw c.set_with.ensures.enc
+    (least_in_slot order.page c.args.tables.now order.said order.says order.well c.in-Some-session_set.found.slot c.in-Some-session_set.found.thing.now
+    c.in-Some-session_set.ensures.held)
+
+pub returns-clause-keys : goal.returns-clause-keys
+returns-clause-keys c page said says =
+    let entries = c.args.tables.now.entries.items in
+    subst (λ (key : KeyRec). AreKeysOf entries said (domain_aid entries key.owner) key.version c.set_with.result) (sym c.set_with.ensures.enc)
+    (c.set_with.ensures.keys page said says)
+
+pub returns-clause-found : goal.returns-clause-found
+returns-clause-found c page said entry says well at = rw c.set_with.ensures.enc (c.in-Some-session_set.ensures.some page said entry says well at)
 
 pub returns-clause-passed : goal.returns-clause-passed
 returns-clause-passed c page admitted entry says well at on asked =

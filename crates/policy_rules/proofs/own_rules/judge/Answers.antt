@@ -7,74 +7,79 @@ use Rattle.policy_rules.specs.PutKey.{PutKeyFails, put_rules}
 use Rattle.policy_rules.specs.StoreData.{StoreDataFails, store_rules}
 use Rattle.policy_rules.specs.Volatile.{selected_on}
 use Rattle.policy_rules.proofs.DataAsked.{asked_for, asks, has_data}
-use Rattle.policy_rules.proofs.Judging.{by_err, deletion_judged, get_passes, get_refused, offer_judged, only_get, only_more, only_select, open_passes, open_refused, put_judged, select_passes, select_refused, store_judged}
+use Rattle.policy_rules.proofs.DeleteKeyLaws.{deletion_judged}
+use Rattle.policy_rules.proofs.GetDataLaws.{get_passes, get_refused}
+use Rattle.policy_rules.proofs.InitializeUpdateLaws.{offer_judged}
+use Rattle.policy_rules.proofs.Judging.{by_err}
+use Rattle.policy_rules.proofs.ManageChannelLaws.{open_passes, open_refused}
+use Rattle.policy_rules.proofs.PutKeyLaws.{put_judged}
+use Rattle.policy_rules.proofs.SelectLaws.{select_passes, select_refused}
+use Rattle.policy_rules.proofs.StoreDataLaws.{store_judged}
 use Rattle.policy_rules.proofs.Selected.{selected_entry}
 use Rattle.policy_rules.proofs.own_rules.judge.Goals as goal
 
 pub returns-in-Ok-clause-judged : goal.returns-in-Ok-clause-judged
 returns-in-Ok-clause-judged c page admitted says sound here request other checks =
-    let means = rw c.in-Select.is at request.means in
-    (select_passes admitted c.in-Select.partial.now means.0 means.1 request.parameters request.data_field _
+    let asked = rw c.in-Select.is at request in
+    (select_passes admitted c.in-Select.partial.now asked.form asked.means _
     (c.in-Ok.ensures.found page admitted.at.registry says.registry)).0
 
 pub returns-in-Err-clause-judged : goal.returns-in-Err-clause-judged
 returns-in-Err-clause-judged c page admitted says sound here request other checks =
-    let means = rw c.in-Select.is at request.means in
-    let refused = select_refused admitted c.in-Select.partial.now means.0 means.1 request.parameters request.data_field
-    (c.in-Err.ensures.none page admitted.at.registry says.registry) in
-    only_select admitted c.in-Err.rule refused
+    let asked = rw c.in-Select.is at request in
+    select_refused admitted c.in-Select.partial.now asked.form asked.means c.in-Err.rule (c.in-Err.ensures.none page admitted.at.registry says.registry)
 
 pub returns-in-Ok-judge_more_channel-clause-judged : goal.returns-in-Ok-judge_more_channel-clause-judged
 returns-in-Ok-judge_more_channel-clause-judged c page admitted says sound here request other checks =
-    let means = rw c.in-MoreChannel.is at request.means in
-    open_passes admitted means.0 request.parameters request.data_field _
+    let asked = rw c.in-MoreChannel.is at request in
+    open_passes admitted asked.form _
     (c.in-Ok-judge_more_channel.ensures.found page c.args.tables.now admitted.at says sound.fits.channels)
 
 pub returns-in-Err-judge_more_channel-clause-judged : goal.returns-in-Err-judge_more_channel-clause-judged
 returns-in-Err-judge_more_channel-clause-judged c page admitted says sound here request other checks =
-    let means = rw c.in-MoreChannel.is at request.means in
-    only_more admitted c.in-Err-judge_more_channel.rule (open_refused admitted means.0 request.parameters request.data_field means.1
-    (c.in-Err-judge_more_channel.ensures.none page c.args.tables.now admitted.at says sound.fits.channels))
+    let asked = rw c.in-MoreChannel.is at request in
+    open_refused admitted asked.form c.in-Err-judge_more_channel.rule asked.means
+    (c.in-Err-judge_more_channel.ensures.none page c.args.tables.now admitted.at says sound.fits.channels)
 
 pub returns-in-Ok-judge_get_data-clause-judged : goal.returns-in-Ok-judge_get_data-clause-judged
 returns-in-Ok-judge_get_data-clause-judged c page admitted says sound here request other checks =
-    let means = rw c.in-Get.is at request.means in
+    let asked = rw c.in-Get.is at request in
     let is : slice_index_or c.args.live.now.selected c.args.channel None ≡ Some c.unwrap-domain.result = search rules in
     let on = selected_entry page c.args.tables.now c.args.live.now admitted.at c.args.channel c.unwrap-domain.result says c.requires.channel is in
     let found = has_data page c.args.tables.now admitted.at.registry says.registry sound.well c.unwrap-domain.result on.0 on.1 c.in-Get.tag
     c.in-Ok-judge_get_data.field-0 (c.in-Ok-judge_get_data.ensures.found page admitted.at.registry on.0 says.registry sound.well on.1) in
-    get_passes admitted means.0 request.data_field found.0
-    (asks admitted _ c.in-Get.tag found.0 (ap (selected_on admitted.at.volatile) (sym here) ∙ on.2) means.1 found.1)
+    get_passes admitted asked.form found.0
+    (asks admitted _ c.in-Get.tag found.0 (ap (selected_on admitted.at.volatile) (sym here) ∙ on.2) asked.means found.1)
 
 pub returns-in-Err-judge_get_data-clause-judged : goal.returns-in-Err-judge_get_data-clause-judged
 returns-in-Err-judge_get_data-clause-judged c page admitted says sound here request other checks =
-    let means = rw c.in-Get.is at request.means in
+    let asked = rw c.in-Get.is at request in
     let is : slice_index_or c.args.live.now.selected c.args.channel None ≡ Some c.unwrap-domain.result = search rules in
     let on = selected_entry page c.args.tables.now c.args.live.now admitted.at c.args.channel c.unwrap-domain.result says c.requires.channel is in
     let none = c.in-Err-judge_get_data.ensures.none page admitted.at.registry on.0 says.registry sound.well on.1 in
-    only_get admitted c.in-Err-judge_get_data.rule (get_refused admitted means.0 request.data_field
-    (λ value asked. none value (asked_for admitted _ c.in-Get.tag value (ap (selected_on admitted.at.volatile) (sym here) ∙ on.2) means.1 asked)))
+    get_refused admitted asked.form c.in-Err-judge_get_data.rule
+    (λ value for. none value (asked_for admitted _ c.in-Get.tag value (ap (selected_on admitted.at.volatile) (sym here) ∙ on.2) asked.means for))
 
 pub returns-in-Ok-judge_initialize_update-clause-judged : goal.returns-in-Ok-judge_initialize_update-clause-judged
 returns-in-Ok-judge_initialize_update-clause-judged c page admitted says sound here request other checks =
-    let means = rw c.in-Initialize.is at request.means in
+    let asked = rw c.in-Initialize.is at request in
     let is : slice_index_or c.args.live.now.selected c.args.channel None ≡ Some c.unwrap-domain-in-Initialize.result = search rules in
     let on = selected_entry page c.args.tables.now c.args.live.now admitted.at c.args.channel c.unwrap-domain-in-Initialize.result says c.requires.channel is in
-    offer_judged admitted None means.0 request.parameters request.data_field
-    (c.in-Ok-judge_initialize_update.ensures.passed page admitted on.0 says.registry sound.well on.1 (ap (selected_on admitted.at.volatile) (sym here) ∙ on.2) means.1)
+    offer_judged admitted None asked.form
+    (c.in-Ok-judge_initialize_update.ensures.passed page admitted on.0 says.registry sound.well on.1 (ap (selected_on admitted.at.volatile) (sym here) ∙ on.2) asked.means.0)
 
 pub returns-in-Err-judge_initialize_update-clause-judged : goal.returns-in-Err-judge_initialize_update-clause-judged
 returns-in-Err-judge_initialize_update-clause-judged c page admitted says sound here request other checks =
-    let means = rw c.in-Initialize.is at request.means in
+    let asked = rw c.in-Initialize.is at request in
     let is : slice_index_or c.args.live.now.selected c.args.channel None ≡ Some c.unwrap-domain-in-Initialize.result = search rules in
     let on = selected_entry page c.args.tables.now c.args.live.now admitted.at c.args.channel c.unwrap-domain-in-Initialize.result says c.requires.channel is in
-    offer_judged admitted (Some c.in-Err-judge_initialize_update.rule) means.0 request.parameters request.data_field
-    (c.in-Err-judge_initialize_update.ensures.refused page admitted on.0 says.registry sound.well on.1 (ap (selected_on admitted.at.volatile) (sym here) ∙ on.2) means.1)
+    offer_judged admitted (Some c.in-Err-judge_initialize_update.rule) asked.form
+    (c.in-Err-judge_initialize_update.ensures.refused page admitted on.0 says.registry sound.well on.1 (ap (selected_on admitted.at.volatile) (sym here) ∙ on.2) asked.means.0)
 
 pub returns-in-Authenticate-clause-judged : goal.returns-in-Authenticate-clause-judged
 returns-in-Authenticate-clause-judged c page admitted says sound here request other checks =
-    let means = rw c.in-Authenticate.is at request.means in
-    absurd (other means.0)
+    let asked = rw c.in-Authenticate.is at request in
+    absurd (other asked.form.0)
 
 pub returns-in-PutKey-clause-judged : goal.returns-in-PutKey-clause-judged
 returns-in-PutKey-clause-judged c page admitted says sound here request other checks =
@@ -88,9 +93,9 @@ returns-in-PutKey-clause-judged c page admitted says sound here request other ch
       at = on.1;
       on = ap (selected_on admitted.at.volatile) (sym here) ∙ on.2;
     } in
-    put_judged admitted _ asked.means.0 (record { parameters = asked.parameters; field = asked.data_field })
+    put_judged admitted _ asked.form
     (rw c.err.ensures.value (by_err (λ found. IsFirst (PutKeyFails admitted) put_rules found) c.judge_put_key.result
-    (c.judge_put_key.ensures.passed page admitted acts asked (checks asked.means.0)) (c.judge_put_key.ensures.refused page admitted acts asked (checks asked.means.0))))
+    (c.judge_put_key.ensures.passed page admitted acts asked (checks asked.form.0)) (c.judge_put_key.ensures.refused page admitted acts asked (checks asked.form.0))))
 
 pub returns-in-Store-clause-judged : goal.returns-in-Store-clause-judged
 returns-in-Store-clause-judged c page admitted says sound here request other checks =
@@ -104,7 +109,7 @@ returns-in-Store-clause-judged c page admitted says sound here request other che
       at = on.1;
       on = ap (selected_on admitted.at.volatile) (sym here) ∙ on.2;
     } in
-    store_judged admitted _ asked.means.0 (record { parameters = asked.parameters; field = asked.data_field })
+    store_judged admitted _ asked.form
     (rw c.err-in-Store.ensures.value (by_err (λ found. IsFirst (StoreDataFails admitted) store_rules found) c.judge_store_data.result
     (c.judge_store_data.ensures.passed page admitted acts asked) (c.judge_store_data.ensures.refused page admitted acts asked)))
 
@@ -120,6 +125,6 @@ returns-in-DeleteKey-clause-judged c page admitted says sound here request other
       at = on.1;
       on = ap (selected_on admitted.at.volatile) (sym here) ∙ on.2;
     } in
-    deletion_judged admitted _ asked.means.0 (record { parameters = asked.parameters; field = asked.data_field })
+    deletion_judged admitted _ asked.form
     (rw c.err-in-DeleteKey.ensures.value (by_err (λ found. IsFirst (DeleteFails admitted) deletion_rules found) c.judge_delete_key.result
     (c.judge_delete_key.ensures.passed page admitted acts asked) (c.judge_delete_key.ensures.refused page admitted acts asked)))

@@ -1,7 +1,7 @@
 use Rattle.std.proofs.Common.{◌||◌, List, Bool, ap, sym, ◌∙◌}
 use Rattle.std.proofs.lemmas.Bool.{eq-eqb, ne_eqb}
 use Rattle.bertlv.specs.Spelling.{Element}
-use Rattle.policy_rules.proofs.ElementsRead.{elements_behind, none_left}
+use Rattle.policy_rules.proofs.StoreDataElements.{elements_behind, none_left}
 use Rattle.policy_rules.specs.ObjectsFound.{has_tag_in}
 use Rattle.policy_rules.proofs.store_data.has_tag.Goals as goal
 

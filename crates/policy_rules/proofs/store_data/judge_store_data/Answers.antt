@@ -1,6 +1,6 @@
 use Rattle.std.proofs.Common.{[], ◌∷◌, arith}
 use Rattle.policy_rules.proofs.ManagementFirst.{management_handed}
-use Rattle.policy_rules.proofs.StoreJudging.{asked, full_first, none_first}
+use Rattle.policy_rules.proofs.StoreDataJudging.{full_first, none_first}
 use Rattle.policy_rules.specs.StoreData.{StoreDataFails}
 use Rattle.policy_rules.specs.declared.rule.Rule.TheVariants.{SD}
 use Rattle.policy_rules.specs.declared.store_data.RuleSD.TheVariants.{SD1}
@@ -13,12 +13,12 @@ returns-in_err-judge_management-clause-refused c page admitted acts request =
 
 pub returns-then-used-count_new-gt-OBJECTS-clause-refused : goal.returns-then-used-count_new-gt-OBJECTS-clause-refused
 returns-then-used-count_new-gt-OBJECTS-clause-refused c page admitted acts request =
-    full_first page c.args.tables.now c.args.domain admitted acts c.args.objects.now request.means.1 (asked c.args.objects.now admitted.command request.means request.data_field)
+    full_first page c.args.tables.now c.args.domain admitted acts c.args.objects.now request.means request.form.2
     c.count_used-used.result c.count_new.result (rw c.deref.ensures.value at c.count_used-used.ensures.number) (rw c.deref-2.ensures.value at c.count_new.ensures.number)
     (c.in_ok-judge_management.ensures.passed page admitted acts) (omega arith)
 
 pub returns-clause-passed : goal.returns-clause-passed
 returns-clause-passed c page admitted acts request =
-    none_first page c.args.tables.now c.args.domain admitted acts c.args.objects.now request.means.1 (asked c.args.objects.now admitted.command request.means request.data_field)
+    none_first page c.args.tables.now c.args.domain admitted acts c.args.objects.now request.means request.form.2
     c.count_used-used.result c.count_new.result (rw c.deref.ensures.value at c.count_used-used.ensures.number) (rw c.deref-2.ensures.value at c.count_new.ensures.number)
     (c.in_ok-judge_management.ensures.passed page admitted acts) (omega arith)

@@ -1,0 +1,54 @@
+-- What the tables of a card say after a sequence counter rose.
+use Rattle.std.proofs.Common.{◌≡◌, ℕ, ◌<◌, ◌∙◌, List, true, Some, sym, subst}
+use Rattle.std.specs.Prelude.{slice_set}
+use Rattle.card_types.proofs.DrawnCounter.{drawn_next, drawn_says, drawn_well}
+use Rattle.card_types.specs.Counters.{HasNextCounter, raised, raised_key}
+use Rattle.card_types.specs.Registry.{Registry}
+use Rattle.card_types.specs.Says.{Says, domain_aid, keeps_counter}
+use Rattle.card_types.specs.SlotChange.{SetsKey}
+use Rattle.card_types.specs.Slots.{held}
+use Rattle.card_types.specs.Well.{Well}
+use Rattle.card_types.specs.declared.limits.TheConstants.{COUNTER_LIMIT}
+use Rattle.card_types.specs.declared.tables.KeyRec.{KeyRec}
+use Rattle.card_types.specs.declared.tables.Tables.{Tables}
+use Rattle.key_sets.specs.Draws.{Raises}
+use Rattle.rec_store.specs.Contents.{Contents}
+use Rattle.rec_store.specs.Keeper.{SameElse}
+use Rattle.card_core.proofs.Cards.{drawn_cards}
+use Rattle.card_core.specs.Kept.{AreCards}
+
+some_is : {A : Type 0} (a b : A) → Some a ≡ Some b → a ≡ b
+some_is a b same = cc
+
+module _ {F : Type 0} (old new : Contents F) (same : SameElse old new) (tables : Tables) (is : tables ≡ old.tables) (slot : ℕ) (key : KeyRec)
+    (found : held tables.keys.items slot ≡ Some key) (follows : HasNextCounter tables.keys.items slot)
+    (raises : Raises slot old.tables.keys.items new.tables.keys.items) where
+  at : held old.tables.keys.items slot ≡ Some key
+  at = subst (λ (t : Tables). held t.keys.items slot ≡ Some key) is found
+
+  next : (keeps_counter key ≡ true) × (key.counter < COUNTER_LIMIT)
+  next = drawn_next tables.keys.items slot key found follows
+
+  keys : new.tables.keys.items ≡ slice_set old.tables.keys.items slot (Some (raised_key key))
+  keys =
+      subst (λ (k : KeyRec). new.tables.keys.items ≡ slice_set old.tables.keys.items slot (Some (raised_key k)))
+      (some_is raises.key key (sym raises.at ∙ at)) raises.raised
+
+  set : SetsKey old.tables new.tables slot (Some (raised_key key))
+  set = record { life = same.life; entries = same.entries; files = same.files; keys = keys; objects = same.objects }
+
+  -- they are a card's
+  pub raised_are_cards : AreCards old.tables → AreCards new.tables
+  raised_are_cards = drawn_cards old.tables new.tables slot key at next.0 set next.1
+
+  -- and say the registry with that counter one higher
+  module _ (page : ℕ → List ℕ) (said : Registry) (says : Says page old.tables said) where
+    pub says_raised : Says page new.tables (raised said (domain_aid tables.entries.items key.owner) key.version)
+    says_raised =
+        subst (λ (t : Tables). Says page new.tables (raised said (domain_aid t.entries.items key.owner) key.version)) (sym is)
+        (drawn_says old.tables new.tables slot key at next.0 set page said says)
+
+    pub raised_well : Well said → Well (raised said (domain_aid tables.entries.items key.owner) key.version)
+    raised_well well =
+        subst (λ (t : Tables). Well (raised said (domain_aid t.entries.items key.owner) key.version)) (sym is)
+        (drawn_well old.tables new.tables slot key at next.0 set page said says next.1 well)

@@ -1,0 +1,98 @@
+-- The keys that a PUT KEY brings, and what comes of it.
+use Rattle.std.proofs.Common.{◌≡◌, ◌⊎◌, inl, inr, ℕ, ◌≤◌, Bool, true, false, List, [], ◌∷◌, refl, ap, sym, subst, ◌∙◌, arith}
+use Rattle.std.specs.Prelude.{◌↔◌, IsTrue, MatchOption}
+use Rattle.std.proofs.lemmas.List.Elements.{All-head, All-tail}
+use Rattle.policy_rules.proofs.PutKeyOnce.{brings_once}
+use Rattle.policy_rules.specs.Admission.{Admitted}
+use Rattle.policy_rules.specs.Means.{IsRequestOf, IsWellFormed, sent_key, sent_keys}
+use Rattle.policy_rules.specs.PutKey.{AreKeysSent, Brings, ChecksFit, HasFieldLengths, IsNewVersion, PutKeyParameters, SaysChecks, SentKey, key_count}
+use Rattle.policy_rules.specs.Volatile.{Nothing, Offered, Secured, Standing, session_in}
+use Rattle.policy_rules.specs.declared.put_key.PutKeys.{PutKeys}
+use Rattle.policy_rules.specs.declared.put_key.PutKeys.TheVariants.{One, Three}
+use Rattle.policy_rules.specs.declared.put_key.SealedKey.{SealedKey}
+use Rattle.policy_rules.specs.declared.request.Request.TheVariants.{PutKey}
+use Rattle.scp03_card.specs.Kept.{KeptSession, StandsFor}
+use Rattle.scp03_card.specs.Session.{Session}
+use Rattle.card_core.specs.Holds.{HoldsAs}
+use Rattle.card_core.specs.Offers.{standing_for}
+use Rattle.card_core.specs.declared.held.Held.TheVariants as held
+
+-- what is so of the fields of a token or receipt key, and of a key set
+pub record IsFormedOne (replaced version : ℕ) (sent : SealedKey) : Type 0 where
+  pub replaces : (replaced ≡ 0) ⊎ (replaced ≡ 0x70) ⊎ (replaced ≡ 0x71)
+  pub new : (version ≡ 0x70) ⊎ (version ≡ 0x71)
+  pub lengths : HasFieldLengths (sent_key sent)
+
+pub record IsFormedSet (replaced version : ℕ) (enc mac dek : SealedKey) : Type 0 where
+  pub replaces : replaced ≤ 0x6F
+  pub new : (1 ≤ version) × (version ≤ 0x6F)
+  pub enc_lengths : HasFieldLengths (sent_key enc)
+  pub mac_lengths : HasFieldLengths (sent_key mac)
+  pub dek_lengths : HasFieldLengths (sent_key dek)
+
+one_replaced : (p1 p2 : ℕ) → PutKeyParameters p1 p2 → 1 ≡ key_count p2 → (p1 ≡ 0) ⊎ (p1 ≡ 0x70) ⊎ (p1 ≡ 0x71)
+one_replaced p1 p2 (inl set) count = (let clash = count ∙ ap key_count set.1 in absurd (omega (arith, clash)))
+one_replaced p1 p2 (inr one) count = one.0
+
+set_replaced : (p1 p2 : ℕ) → PutKeyParameters p1 p2 → 3 ≡ key_count p2 → p1 ≤ 0x6F
+set_replaced p1 p2 (inl set) count = set.0
+set_replaced p1 p2 (inr one) count = (let clash = count ∙ ap key_count one.1 in absurd (omega (arith, clash)))
+
+one_new : (p2 version : ℕ) → IsNewVersion p2 version → 1 ≡ key_count p2 → (version ≡ 0x70) ⊎ (version ≡ 0x71)
+one_new p2 version (inl set) count = (let clash = count ∙ ap key_count set.0 in absurd (omega (arith, clash)))
+one_new p2 version (inr one) count = one.1
+
+set_new : (p2 version : ℕ) → IsNewVersion p2 version → 3 ≡ key_count p2 → (1 ≤ version) × (version ≤ 0x6F)
+set_new p2 version (inl set) count = (set.1, set.2)
+set_new p2 version (inr one) count = (let clash = count ∙ ap key_count one.0 in absurd (omega (arith, clash)))
+
+pub formed_one : (replaced version : ℕ) (sent : SealedKey) → IsWellFormed (PutKey replaced version (One sent)) → IsFormedOne replaced version sent
+formed_one replaced version sent formed =
+    let command = formed.0 in
+    let request = formed.1 in
+    let has = request.means.1 in
+    let p1 = request.means.0 in
+    let takes = request.form.1 in
+    record {
+      replaces = subst (λ (r : ℕ). (r ≡ 0) ⊎ (r ≡ 0x70) ⊎ (r ≡ 0x71)) (sym p1) (one_replaced command.p1 command.p2 takes has.count);
+      new = one_new command.p2 version has.new has.count;
+      lengths = All-head HasFieldLengths (sent_key sent) [] has.each;
+    }
+
+pub formed_set : (replaced version : ℕ) (enc mac dek : SealedKey) → IsWellFormed (PutKey replaced version (Three enc mac dek)) → IsFormedSet replaced version enc mac dek
+formed_set replaced version enc mac dek formed =
+    let command = formed.0 in
+    let request = formed.1 in
+    let has = request.means.1 in
+    let p1 = request.means.0 in
+    let takes = request.form.1 in
+    let first = has.each in
+    let second = All-tail HasFieldLengths (sent_key enc) (sent_key mac ∷ sent_key dek ∷ []) first in
+    let third = All-tail HasFieldLengths (sent_key mac) (sent_key dek ∷ []) second in
+    record {
+      replaces = subst (λ (r : ℕ). r ≤ 0x6F) (sym p1) (set_replaced command.p1 command.p2 takes has.count);
+      new = set_new command.p2 version has.new has.count;
+      enc_lengths = All-head HasFieldLengths (sent_key enc) (sent_key mac ∷ sent_key dek ∷ []) first;
+      mac_lengths = All-head HasFieldLengths (sent_key mac) (sent_key dek ∷ []) second;
+      dek_lengths = All-head HasFieldLengths (sent_key dek) [] third;
+    }
+
+-- the session of the channel is the one that is held
+in_session : (kept : KeptSession) (standing : Standing) → HoldsAs (held.Secured kept) standing → (dek : List ℕ) → ((session : Session) → StandsFor kept session → dek ≡ session.offer.dek)
+    → (sent : List SentKey) (bytes : List (List ℕ)) → AreKeysSent dek sent bytes → MatchOption (session_in standing) ⊥ (λ session. AreKeysSent session.offer.dek sent bytes)
+in_session kept Nothing holds dek is sent bytes are = absurd holds
+in_session kept (Offered offer) holds dek is sent bytes are = absurd holds
+in_session kept (Secured session) holds dek is sent bytes are = subst (λ (d : List ℕ). AreKeysSent d sent bytes) (is session holds) are
+
+module _ (admitted : Admitted) (replaced version : ℕ) (keys : PutKeys) (request : IsRequestOf (PutKey replaced version keys) admitted.command)
+    (kept : KeptSession) (holds : HoldsAs (held.Secured kept) (standing_for admitted)) (dek : List ℕ) (is : (session : Session) → StandsFor kept session → dek ≡ session.offer.dek)
+    (bytes : List (List ℕ)) (are : AreKeysSent dek (sent_keys keys) bytes) where
+  pub brought : Brings admitted version (sent_keys keys) bytes
+  brought = record { has = request.means.1; opened = in_session kept (standing_for admitted) holds dek is (sent_keys keys) bytes are }
+
+  -- whether the check values fit
+  pub checks_said : (fit : Bool) → IsTrue fit ↔ ChecksFit (sent_keys keys) bytes → SaysChecks fit admitted
+  checks_said true tells = λ fails.
+      (let same = brings_once admitted version fails.0 (sent_keys keys) fails.1 bytes fails.2 brought fails.3 in
+      fails.4 (subst (λ (s : List SentKey). ChecksFit s fails.2) same.1 (subst (λ (b : List (List ℕ)). ChecksFit (sent_keys keys) b) same.2 (tells.0 refl))))
+  checks_said false tells = (version, sent_keys keys, bytes, brought, λ fits. (let clash = tells.1 fits in cc))

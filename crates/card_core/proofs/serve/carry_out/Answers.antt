@@ -1,0 +1,173 @@
+use Rattle.std.proofs.Common.{rules, ◌≡◌, ◌⊎◌, inl, inr, arith, Bor, Option, ℕ, ◌<◌, List, None, Some, refl, sym, ap, subst, ◌∙◌}
+use Rattle.std.specs.Prelude.{Contains, IfErr, slice_index_or}
+use Rattle.std.proofs.lemmas.List.{get_or_default}
+use Rattle.apdu_core.specs.Apdu.{Apdu, apdu_of}
+use Rattle.card_types.specs.InOrder.{IsInOrder}
+use Rattle.policy_rules.proofs.ExternalAuthenticateLaws.{begin_passes, unoffered_judged}
+use Rattle.policy_rules.proofs.Judging.{malformed_judged}
+use Rattle.policy_rules.proofs.Selected.{selected_entry}
+use Rattle.policy_rules.specs.Classes.{managing}
+use Rattle.policy_rules.specs.Means.{IsMalformed, IsRequestOf, form_in}
+use Rattle.policy_rules.specs.Commands.{Judges}
+use Rattle.policy_rules.specs.declared.external_authenticate.RuleEA.TheVariants.{EA1}
+use Rattle.policy_rules.specs.declared.instruction.TheConstants.{EXTERNAL_AUTHENTICATE}
+use Rattle.policy_rules.specs.declared.rule.Rule.{Rule}
+use Rattle.policy_rules.specs.declared.rule.Rule.TheVariants.{EA}
+use Rattle.policy_rules.specs.declared.live.TheConstants.{CHANNELS}
+use Rattle.policy_rules.specs.declared.request.Request.{Request}
+use Rattle.policy_rules.specs.declared.request.Request.TheVariants.{Authenticate, DeleteKey, Initialize, MoreChannel, PutKey, Store}
+use Rattle.policy_rules.specs.declared.put_key.PutKeys.{PutKeys}
+use Rattle.card_core.proofs.Acting.{acts_for, answer_carried, held_there, low, managed_carried, offer_carried}
+use Rattle.card_core.proofs.Cards.{in_order}
+use Rattle.card_core.proofs.Carrying.{refusal_carried}
+use Rattle.card_core.proofs.Offered.{is_offer, no_offer}
+use Rattle.card_core.proofs.Standing.{HasFour}
+use Rattle.card_core.specs.Holds.{HoldsAs, IsInSession, IsOffered}
+use Rattle.card_core.specs.Offers.{AnswersAs, OffersAs, standing_for}
+use Rattle.card_core.specs.declared.held.Held.{Held}
+use Rattle.card_core.specs.declared.held.Held.TheVariants as held
+use Rattle.card_core.proofs.serve.carry_out.Goals as goal
+
+-- the instruction is that of the request's form
+abbrev IsOfForm : Request → ℕ → Type 0
+IsOfForm request ins = ins ≡ (form_in request).instruction
+
+-- the requests of card content management
+managed : (request : Request)
+    → ((replaced version : ℕ) × (keys : PutKeys) × (request ≡ PutKey replaced version keys))
+    ⊎ ((objects : Bor (List ℕ)) × (request ≡ Store objects))
+    ⊎ ((version : ℕ) × (identifier : Option ℕ) × (request ≡ DeleteKey version identifier)) → Contains managing (form_in request).instruction
+managed request (inl put) = subst (λ (r : Request). Contains managing (form_in r).instruction) (sym put.3) (0, omega arith, refl)
+managed request (inr (inl store)) = subst (λ (r : Request). Contains managing (form_in r).instruction) (sym store.1) (1, omega arith, refl)
+managed request (inr (inr delete)) = subst (λ (r : Request). Contains managing (form_in r).instruction) (sym delete.2) (2, omega arith, refl)
+
+pub returns-in_err-judge_offer-clause-done : goal.returns-in_err-judge_offer-clause-done
+returns-in_err-judge_offer-clause-done g c = λ page judged stands at is.
+    let tables = c.args.records.now.tables in
+    let live = c.args.live.now in
+    let all = c.args.held.now in
+    let slot = c.args.received.now.selected in
+    let refused : IfErr c.judge_offer.result (λ rule. (rule ≡ EA EA1) × (c.args.command.now.ins ≡ EXTERNAL_AUTHENTICATE) × (IsOffered (slice_index_or all c.from-place.result c.index-held-place.result) → ⊥)) = c.judge_offer.ensures.refused in
+    let found = subst (λ r. IfErr r (λ rule. (rule ≡ EA EA1) × (c.args.command.now.ins ≡ EXTERNAL_AUTHENTICATE) × (IsOffered (slice_index_or all c.from-place.result c.index-held-place.result) → ⊥))) c.in_err-judge_offer.was refused in
+    let here = held_there page tables live all judged stands c.told-held c.args.received.now.channel slot c.requires.channel at c.requires.selected
+    c.from-place.result c.index-held-place.result c.from-place.ensures in
+    let low = low page tables live all judged stands c.told-held c.args.received.now.channel slot c.requires.channel at c.requires.selected in
+    let none = no_offer (slice_index_or all judged.channel held.Nothing) judged (stands.shows.holds.channels judged.channel low)
+    (subst (λ (h : Held). IsOffered h → ⊥) here found.2) in
+    let judges = unoffered_judged judged (ap (λ (command : Apdu). command.ins) is ∙ found.1) none in
+    refusal_carried page (record { tables = tables; live = live; held = all }) judged c.args.reply.now.items c.from_residual.result c.in_err-judge_offer.field-0.0
+    c.from_residual.ensures.1 (record { held = c.told-held; channels = stands.sound.fits.channels }) low stands.shows
+    (subst (λ (rule : Rule). Judges judged (Some rule)) (sym found.0) judges) c.requires.empty
+
+-- a command of a wrong form
+pub returns-in_err-request-clause-done : goal.returns-in_err-request-clause-done
+returns-in_err-request-clause-done g c = λ page judged stands at is.
+    let tables = c.args.records.now.tables in
+    let live = c.args.live.now in
+    let all = c.args.held.now in
+    let slot = c.args.received.now.selected in
+    let here = held_there page tables live all judged stands c.told-held c.args.received.now.channel slot c.requires.channel at c.requires.selected
+    c.from-place.result c.index-held-place.result c.from-place.ensures in
+    let low = low page tables live all judged stands c.told-held c.args.received.now.channel slot c.requires.channel at c.requires.selected in
+    let offered : c.args.command.now.ins ≡ EXTERNAL_AUTHENTICATE → IsOffered (slice_index_or all c.from-place.result c.index-held-place.result) = search rules in
+    let begins = begin_passes judged (λ ins none. is_offer (slice_index_or all judged.channel held.Nothing) judged (stands.shows.holds.channels judged.channel low)
+    (subst IsOffered here (offered (sym (ap (λ (command : Apdu). command.ins) is) ∙ ins))) none) in
+    let wrong : IsMalformed c.args.command.now.ins c.args.command.now.p1 c.args.command.now.p2 c.args.command.now.body.now c.in_err-request.field-0.0 = search rules in
+    let judges = malformed_judged judged c.in_err-request.field-0.0 begins
+    (subst (λ (command : Apdu). IsMalformed command.ins command.p1 command.p2 command.body c.in_err-request.field-0.0) (sym is) wrong) in
+    refusal_carried page (record { tables = tables; live = live; held = all }) judged c.args.reply.now.items c.from_residual-in_err-request.result c.in_err-request.field-0.0
+    c.from_residual-in_err-request.ensures.1 (record { held = c.told-held; channels = stands.sound.fits.channels }) low stands.shows judges c.requires.empty
+
+pub select-requires-clause-in_order : goal.select-requires-clause-in_order
+select-requires-clause-in_order g c = subst IsInOrder (sym c.tables.ensures.tables) (in_order c.args.records.now.tables c.requires.cards)
+
+pub get_data-requires-clause-in_order : goal.get_data-requires-clause-in_order
+get_data-requires-clause-in_order g c = subst IsInOrder (sym c.tables-in-Get.ensures.tables) (in_order c.args.records.now.tables c.requires.cards)
+
+pub external_authenticate-requires-clause-formed : goal.external_authenticate-requires-clause-formed
+external_authenticate-requires-clause-formed g c = (apdu_of c.args.command.now, record { form = search rules; means = search rules })
+
+-- card content management
+pub manage-requires-clause-secured : goal.manage-requires-clause-secured
+manage-requires-clause-secured g c =
+    let form : IsOfForm c.in_ok-request.request c.args.command.now.ins = search rules in
+    let here : slice_index_or c.args.held.now c.from-place.result c.index-held-place-in-PutKey.result ≡ slice_index_or c.args.held.now c.args.received.now.channel held.Nothing =
+    ap (λ (n : ℕ). slice_index_or c.args.held.now n c.index-held-place-in-PutKey.result) c.from-place.ensures
+    ∙ get_or_default c.args.held.now c.args.received.now.channel c.index-held-place-in-PutKey.result held.Nothing
+    (subst (λ (n : ℕ). c.args.received.now.channel < n) (sym c.told-held) c.requires.channel) in
+    subst IsInSession (sym here) (c.requires.secured (subst (Contains managing) (sym form) (managed c.in_ok-request.request c.in-PutKey.is)))
+
+pub manage-requires-clause-managing : goal.manage-requires-clause-managing
+manage-requires-clause-managing g c = managed c.in_ok-request.request c.in-PutKey.is
+
+pub manage-requires-clause-formed : goal.manage-requires-clause-formed
+manage-requires-clause-formed g c = (apdu_of c.args.command.now, record { form = search rules; means = search rules })
+
+pub returns-in-MoreChannel-clause-done : goal.returns-in-MoreChannel-clause-done
+returns-in-MoreChannel-clause-done g c = λ page judged stands at is.
+    c.open_channel.ensures.done page c.args.records.now.tables c.args.held.now judged (in_order c.args.records.now.tables c.requires.cards).layout stands c.told-held
+    (subst (λ (n : ℕ). n < CHANNELS) at c.requires.channel)
+    (subst (IsRequestOf MoreChannel) (sym is) (record { form = search rules; means = search rules }))
+
+-- INITIALIZE UPDATE
+pub returns-in-Initialize-clause-done : goal.returns-in-Initialize-clause-done
+returns-in-Initialize-clause-done g c = λ page judged stands at is.
+    let low : judged.channel < CHANNELS = subst (λ (n : ℕ). n < CHANNELS) at c.requires.channel in
+    let four : HasFour (record { tables = c.args.records.now.tables; live = c.args.live.now; held = c.args.held.now }) judged.at =
+    record { held = c.told-held; channels = stands.sound.fits.channels } in
+    let opened : slice_index_or c.args.live.now.selected judged.channel None ≡ Some c.args.received.now.selected =
+    subst (λ (n : ℕ). slice_index_or c.args.live.now.selected n None ≡ Some c.args.received.now.selected) at c.requires.selected in
+    let found = selected_entry page c.args.records.now.tables c.args.live.now judged.at judged.channel c.args.received.now.selected stands.shows.says low opened in
+    let request : IsRequestOf (Initialize c.in-Initialize.version c.in-Initialize.challenge) (apdu_of c.args.command.now) =
+    record { form = search rules; means = search rules } in
+    let asked = subst (IsRequestOf (Initialize c.in-Initialize.version c.in-Initialize.challenge)) (sym is) request in
+    let here : slice_index_or c.args.held.now c.from-place.result c.index-held-place-in-Initialize.result ≡ slice_index_or c.args.held.now judged.channel held.Nothing =
+    ap (λ (n : ℕ). slice_index_or c.args.held.now n c.index-held-place-in-Initialize.result) (c.from-place.ensures ∙ at)
+    ∙ get_or_default c.args.held.now judged.channel c.index-held-place-in-Initialize.result held.Nothing (subst (λ (n : ℕ). judged.channel < n) (sym c.told-held) low) in
+    let offers = c.initialize_update.ensures.done page judged found.0 stands.shows.says.registry stands.sound.well stands.sound.ascending
+    (record { at = found.1; on = found.2 }) asked in
+    rw (c.from-place.ensures ∙ at) (offer_carried page c.args.records.now.tables c.args.live.now c.args.held.now judged stands four low c.args.received.now.selected
+    c.initialize_update.new.records.tables c.initialize_update.new.held c.initialize_update.new.reply.items c.initialize_update.result
+    asked.form opened c.initialize_update.ensures.entries
+    (subst (λ (h : Held). OffersAs judged page c.args.records.now.tables c.initialize_update.new.records.tables h c.initialize_update.new.held c.initialize_update.new.reply.items c.initialize_update.result) here offers))
+
+-- EXTERNAL AUTHENTICATE
+pub returns-in-Authenticate-clause-done : goal.returns-in-Authenticate-clause-done
+returns-in-Authenticate-clause-done g c = λ page judged stands at is.
+    let low : judged.channel < CHANNELS = subst (λ (n : ℕ). n < CHANNELS) at c.requires.channel in
+    let four : HasFour (record { tables = c.args.records.now.tables; live = c.args.live.now; held = c.args.held.now }) judged.at =
+    record { held = c.told-held; channels = stands.sound.fits.channels } in
+    let opened : slice_index_or c.args.live.now.selected judged.channel None ≡ Some c.args.received.now.selected =
+    subst (λ (n : ℕ). slice_index_or c.args.live.now.selected n None ≡ Some c.args.received.now.selected) at c.requires.selected in
+    let request : IsRequestOf (Authenticate c.in-Authenticate.level c.in-Authenticate.proof) (apdu_of c.args.command.now) =
+    record { form = search rules; means = search rules } in
+    let asked = subst (IsRequestOf (Authenticate c.in-Authenticate.level c.in-Authenticate.proof)) (sym is) request in
+    let here : slice_index_or c.args.held.now c.from-place.result c.index-held-place-in-Authenticate.result ≡ slice_index_or c.args.held.now judged.channel held.Nothing =
+    ap (λ (n : ℕ). slice_index_or c.args.held.now n c.index-held-place-in-Authenticate.result) (c.from-place.ensures ∙ at)
+    ∙ get_or_default c.args.held.now judged.channel c.index-held-place-in-Authenticate.result held.Nothing (subst (λ (n : ℕ). judged.channel < n) (sym c.told-held) low) in
+    let answers = c.external_authenticate.ensures judged asked
+    (subst (λ (h : Held). HoldsAs h (standing_for judged)) (sym here) (stands.shows.holds.channels judged.channel low)) in
+    rw (c.from-place.ensures ∙ at, c.requires.empty) (answer_carried page c.args.records.now.tables c.args.live.now c.args.held.now judged stands four low c.args.received.now.selected
+    c.external_authenticate.new.held c.external_authenticate.result asked.form opened
+    (subst (λ (h : Held). AnswersAs judged h c.external_authenticate.new.held c.external_authenticate.result) here answers))
+
+pub returns-in-PutKey-clause-done : goal.returns-in-PutKey-clause-done
+returns-in-PutKey-clause-done g c = λ page judged stands at is.
+    let tables = c.args.records.now.tables in
+    let live = c.args.live.now in
+    let all = c.args.held.now in
+    let slot = c.args.received.now.selected in
+    let request : IsRequestOf c.in_ok-request.request (apdu_of c.args.command.now) = record { form = search rules; means = search rules } in
+    let low = low page tables live all judged stands c.told-held c.args.received.now.channel slot c.requires.channel at c.requires.selected in
+    let here = held_there page tables live all judged stands c.told-held c.args.received.now.channel slot c.requires.channel at c.requires.selected
+    c.from-place.result c.index-held-place-in-PutKey.result c.from-place.ensures in
+    let acts = acts_for page tables live all judged stands c.told-held c.args.received.now.channel slot c.requires.channel at c.requires.selected in
+    let managed = c.manage.ensures.done page judged acts stands.sound.ascending (subst (IsRequestOf c.in_ok-request.request) (sym is) request)
+    (subst (λ (h : Held). HoldsAs h (standing_for judged)) (sym here) (stands.shows.holds.channels judged.channel low)) in
+    managed_carried page tables live all judged stands (record { held = c.told-held; channels = stands.sound.fits.channels }) low
+    c.manage.new.records.tables c.manage.new.reply.items c.manage.result c.manage.ensures.entries managed
+
+pub returns-in-PutKey-clause-idle : goal.returns-in-PutKey-clause-idle
+returns-in-PutKey-clause-idle g c = λ other unmanaged.
+    let form : IsOfForm c.in_ok-request.request c.args.command.now.ins = search rules in
+    absurd (unmanaged (subst (Contains managing) (sym form) (managed c.in_ok-request.request c.in-PutKey.is)))

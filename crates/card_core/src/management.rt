@@ -1,0 +1,64 @@
+//! Card content management: what the commands do that change a registry in a session.
+
+ghost use Rattle.std.specs.Prelude.{◌≡◌, ◌≤◌, ℕ, List, [], Contains, OnErr, length, true};
+ghost use Rattle.card_core.specs.Domains.{is_domain_in};
+ghost use Rattle.card_core.specs.Holds.{HoldsAs, IsInSession};
+ghost use Rattle.card_core.specs.Kept.{AreCards};
+ghost use Rattle.card_core.specs.Manages.{Manages};
+ghost use Rattle.card_core.specs.Offers.{standing_for};
+ghost use Rattle.card_types.specs.Ascending.{IsAscending};
+ghost use Rattle.policy_rules.specs.Admission.{Admitted};
+ghost use Rattle.policy_rules.specs.Classes.{managing};
+ghost use Rattle.policy_rules.specs.Means.{ActsIn, IsRequestOf, IsWellFormed, form_in};
+
+use crate::delete_key::delete_key;
+use crate::held::Held;
+use crate::put_key::put_key;
+use crate::reply::REPLY_LIMIT;
+use crate::store_data::store_data;
+use apdu_core::Status;
+use arrayvec::ArrayVec;
+use flash_core::Flash;
+use policy_rules::{Request, Rule};
+use rec_store::Records;
+
+/// Does for the domain in a slot what a request of card content management asks for. The channel holds the session that it came
+/// in. It commits nothing.
+pub fn manage<F: Flash>(
+    records: &mut Records<F>,
+    held: &Held,
+    domain: u8,
+    request: &Request<'_>,
+    reply: &mut ArrayVec<u8, REPLY_LIMIT>,
+) -> Result<Status, Rule>
+    requires up { records.old.live ≡ true }
+    requires clean { records.old.staged ≡ [] }
+    requires cards { AreCards records.old.tables }
+    requires domain { is_domain_in records.old.tables.entries.items domain ≡ true }
+    requires secured { IsInSession held.now }
+    requires managing { Contains managing (form_in request.now).instruction }
+    requires formed { IsWellFormed request.now }
+    requires empty { reply.old.items ≡ [] }
+    ensures done { (page : ℕ → List ℕ) (admitted : Admitted) → ActsIn page records.old.tables domain admitted → IsAscending admitted.at.registry
+        → IsRequestOf request.now admitted.command → HoldsAs held.now (standing_for admitted)
+        → Manages admitted page records.old.tables records.new.tables reply.new.items result }
+    ensures entries { records.new.tables.entries.items ≡ records.old.tables.entries.items }
+    ensures cards { AreCards records.new.tables }
+    ensures same { (records.new.flash ≡ records.old.flash) × (records.new.live ≡ true) }
+    ensures refused { OnErr result (records.new ≡ records.old) }
+    ensures room { length reply.new.items ≤ 239 }
+{
+    match request {
+        Request::PutKey {
+            replaced,
+            version,
+            keys,
+        } => put_key(records, held, domain, *replaced, *version, keys, reply),
+        Request::Store { objects } => store_data(records, domain, objects),
+        Request::DeleteKey {
+            version,
+            identifier,
+        } => delete_key(records, domain, *version, *identifier, reply),
+        _ => unreachable!(),
+    }
+}

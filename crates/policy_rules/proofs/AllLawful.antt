@@ -1,0 +1,51 @@
+-- All commands are lawful.
+use Rattle.std.proofs.Common.{ℕ, Bool, true, false, List, [], ◌∷◌}
+use Rattle.policy_rules.specs.CommandForm.{CommandForm}
+use Rattle.policy_rules.specs.Commands.{AtMostOne, Takes, forms_of, listed}
+use Rattle.policy_rules.specs.Laws.{OneForm}
+use Rattle.policy_rules.proofs.Lawful.{IsLawful}
+use Rattle.policy_rules.proofs.SelectLaws.{select_lawful}
+use Rattle.policy_rules.proofs.ManageChannelLaws.{manage_channel_lawful}
+use Rattle.policy_rules.proofs.GetDataLaws.{get_data_lawful}
+use Rattle.policy_rules.proofs.InitializeUpdateLaws.{initialize_update_lawful}
+use Rattle.policy_rules.proofs.ExternalAuthenticateLaws.{external_authenticate_lawful}
+use Rattle.policy_rules.proofs.PutKeyLaws.{put_key_lawful}
+use Rattle.policy_rules.proofs.StoreDataLaws.{store_data_lawful}
+use Rattle.policy_rules.proofs.DeleteKeyLaws.{delete_key_lawful}
+
+-- it holds of all of these forms
+abbrev pub AllOf : (CommandForm → Type 0) → List CommandForm → Type 0
+AllOf holds [] = Unit {0}
+AllOf holds (form ∷ forms) = holds form × AllOf holds forms
+
+-- each of these forms is lawful, and one of them at most takes a command
+pub record AreLawful (forms : List CommandForm) : Type 0 where
+  pub each : AllOf IsLawful forms
+  pub one : (ins p1 p2 : ℕ) (body : List ℕ) → AtMostOne (λ form. Takes form ins p1 p2 body) forms
+
+none : AreLawful []
+none = record { each = tt; one = λ ins p1 p2 body. tt }
+
+-- the only form of an instruction
+alone : (form : CommandForm) → IsLawful form → AreLawful (form ∷ [])
+alone form lawful = record { each = (lawful, tt); one = λ ins p1 p2 body. ((λ takes other. other), tt) }
+
+-- the instruction has these forms, or it is another
+either : (test : Bool) (these others : List CommandForm) → AreLawful these → AreLawful others → AreLawful (listed test these others)
+either true these others these_are others_are = these_are
+either false these others these_are others_are = others_are
+
+-- the one place where all commands are gone through
+pub all_lawful : (ins : ℕ) → AreLawful (forms_of ins)
+all_lawful ins =
+    either _ _ _ (alone _ select_lawful)
+    (either _ _ _ (alone _ manage_channel_lawful)
+    (either _ _ _ (alone _ get_data_lawful)
+    (either _ _ _ (alone _ initialize_update_lawful)
+    (either _ _ _ (alone _ external_authenticate_lawful)
+    (either _ _ _ (alone _ put_key_lawful)
+    (either _ _ _ (alone _ store_data_lawful)
+    (either _ _ _ (alone _ delete_key_lawful) none)))))))
+
+pub one_form : OneForm
+one_form ins p1 p2 body = (all_lawful ins).one ins p1 p2 body

@@ -1,0 +1,55 @@
+-- What is asked of a command.
+use Rattle.std.proofs.Common.{◌≡◌, ◌≢◌, ℕ, ◌<◌, ◌≤◌, false, None, Some, refl, sym, subst, arith}
+use Rattle.std.specs.Prelude.{◌==◌, Contains}
+use Rattle.card_types.specs.Ascending.{IsAscending}
+use Rattle.card_types.specs.Registry.{Registry}
+use Rattle.card_types.specs.Well.{IsDomainNamed, Well}
+use Rattle.policy_rules.specs.Admission.{Admitted}
+use Rattle.policy_rules.specs.Classes.{managing}
+use Rattle.policy_rules.specs.Commands.{JudgesAs}
+use Rattle.policy_rules.specs.Management.{acting}
+use Rattle.policy_rules.specs.Sound.{Fits, IsSound}
+use Rattle.policy_rules.specs.State.{Effect, State}
+use Rattle.policy_rules.specs.Volatile.{Volatile, load_of_others}
+use Rattle.policy_rules.specs.declared.instruction.TheConstants.{SELECT, MANAGE_CHANNEL, LOAD}
+use Rattle.policy_rules.specs.Changes.{IsSameButCounters}
+use Rattle.policy_rules.specs.CommandForm.{CommandForm}
+
+-- what a command that has passed finds
+pub record IsReady (admitted : Admitted) : Type 0 where
+  pub sound : IsSound admitted.at
+  pub low : admitted.channel < 4
+  pub loads : (admitted.command.ins == LOAD) ≡ false → load_of_others admitted.channel admitted.at.volatile.load ≡ admitted.at.volatile.load
+  pub domain : admitted.command.ins ≢ SELECT → admitted.command.ins ≢ MANAGE_CHANNEL → IsDomainNamed admitted.at.registry (acting admitted)
+
+-- It leaves a card sound, it does one thing, and without secure messaging it changes no more than the numbers of sequence counters.
+pub record IsLawful (form : CommandForm) : Type 0 where
+  pub keeps : (admitted : Admitted) (done : Effect) → IsReady admitted → JudgesAs form admitted None → form.does admitted done → IsSound done.state
+  pub one : (admitted : Admitted) (a b : Effect) → form.does admitted a → form.does admitted b → a ≡ b
+  pub quiet : (Contains managing form.instruction → ⊥) → (admitted : Admitted) (done : Effect) → form.does admitted done
+      → IsSameButCounters admitted.at.registry done.state.registry
+
+-- a sound card with other channels
+pub sound_with : (state : State) (after : State) → IsSound state → after.registry ≡ state.registry → Fits state.registry after.volatile → IsSound after
+sound_with state after sound same fits = record {
+  well = subst Well (sym same) sound.well;
+  ascending = subst IsAscending (sym same) sound.ascending;
+  fits = subst (λ (r : Registry). Fits r after.volatile) (sym same) fits;
+}
+
+pub fits_as : {registry other : Registry} {volatile another : Volatile} → registry ≡ other → volatile ≡ another → Fits registry volatile → Fits other another
+fits_as {registry} {other} {volatile} {another} same alike fits = subst (Fits other) alike (subst (λ (r : Registry). Fits r volatile) same fits)
+
+-- card content management is for a domain
+pub managed_apart : (ins byte : ℕ) → ins ≡ byte → 0xD8 ≤ byte → (ins ≢ SELECT) × (ins ≢ MANAGE_CHANNEL)
+managed_apart ins byte is high = ((λ same. absurd (omega arith)), (λ same. absurd (omega arith)))
+
+-- a registry that is left as it is
+same_all : (registry : Registry) → IsSameButCounters registry registry
+same_all registry = record { life = refl; entries = refl; files = refl; keys = refl; counters = refl; objects = refl }
+
+pub same_as : (before after : Registry) → after ≡ before → IsSameButCounters before after
+same_as before after same = subst (IsSameButCounters before) (sym same) (same_all before)
+
+pub some_same : {A : Type 0} (a b : A) → Some a ≡ Some b → a ≡ b
+some_same a b same = cc
