@@ -2,6 +2,7 @@
 
 mod answers;
 
+use crate::act::Act;
 use crate::case_error::CaseError;
 use crate::counted::Calls;
 use crate::device::{Device, Faults, failing, memory};
@@ -46,6 +47,9 @@ pub struct Bench<'a> {
 
     /// The script of sweeps.
     script: Vec<Vec<u8>>,
+
+    /// The changes that are committed together, in the place of a script.
+    changes: Vec<Vec<u8>>,
     called: Option<Called>,
 }
 
@@ -61,6 +65,7 @@ impl<'a> Bench<'a> {
             streams: Streams::ample(alloc),
             input: Vec::new(alloc),
             script: Vec::new(alloc),
+            changes: Vec::new(alloc),
             called: None,
         }
     }
@@ -116,11 +121,18 @@ impl<'a> Bench<'a> {
             Line::Gp(words) => self.gp(*words, out),
             Line::Script(line) => self.step(line, out),
             Line::Later(line) => Ok(self.script.push(Vec::from_slice(self.alloc, line)?)?),
+            Line::Change(line) => Ok(self.changes.push(Vec::from_slice(self.alloc, line)?)?),
+            Line::Commit => self.commit(out),
             Line::Sweep(kind) => self.sweep(*kind, out),
             Line::Counts => self.write_counts(out),
             Line::Sent => self.write_sent(out),
             Line::Calls => self.write_calls(out),
             Line::Count(word) => self.write_count(word, out),
+            Line::Look {
+                number,
+                place,
+                count,
+            } => self.write_bytes(*number, *place, *count, out),
             _ => Err(CaseError::NoForm),
         }
     }
@@ -159,7 +171,7 @@ impl<'a> Bench<'a> {
     fn put(&mut self, page: u32, place: u32, digits: &[u8], times: u32) -> Result<(), CaseError> {
         let bytes = decode(self.alloc, digits)?;
         let image = self.laid()?.image_mut();
-        let mut at = u64::from(page) * 256 + u64::from(place);
+        let mut at = place_of(page, place);
         for _ in 0..times {
             image.put(at as usize, &bytes)?;
             at = at.saturating_add(bytes.len() as u64);
@@ -220,9 +232,9 @@ impl<'a> Bench<'a> {
         Ok(())
     }
 
-    fn cut(&mut self, seed: u32) -> Result<(), CaseError> {
+    fn cut(&mut self, seed: u64) -> Result<(), CaseError> {
         let mut flash = self.take_flash()?;
-        flash.power_cut(u64::from(seed));
+        flash.power_cut(seed);
         self.power = Power::Off(flash);
         Ok(())
     }
@@ -268,14 +280,37 @@ impl<'a> Bench<'a> {
         }
     }
 
+    fn commit(&mut self, out: &mut Vec<u8>) -> Result<(), CaseError> {
+        let device = self.take_device()?;
+        let played = Act::Commit(&self.changes).play(self.alloc, device)?;
+        self.changes.clear();
+        self.power = Power::Off(memory(played.flash));
+        if played.is_whole {
+            Ok(())
+        } else {
+            write_line(out, &[b"failed"])
+        }
+    }
+
     fn sweep(&mut self, kind: Sweep, out: &mut Vec<u8>) -> Result<(), CaseError> {
         let flash = self.take_flash()?;
         let image = Image::of(self.alloc, &flash)?;
         self.power = Power::Off(flash);
-        let outcomes = sweep(self.alloc, kind, &image, &self.script)?;
+        let act = if self.changes.is_empty() {
+            Act::Script(&self.script)
+        } else {
+            Act::Commit(&self.changes)
+        };
+        let outcomes = sweep(self.alloc, kind, &image, &act)?;
         self.script.clear();
+        self.changes.clear();
         write_line(out, &[outcomes.text()?.as_bytes()])
     }
+}
+
+// A place of a page among all bytes.
+fn place_of(page: u32, place: u32) -> u64 {
+    u64::from(page) * 256 + u64::from(place)
 }
 
 fn decode(alloc: Global, digits: &[u8]) -> Result<Vec<u8>, CaseError> {

@@ -45,6 +45,17 @@ impl Image {
         Ok(())
     }
 
+    /// So many bytes from a place on.
+    pub fn bytes(&self, alloc: Global, place: usize, count: usize) -> Result<Vec<u8>, CaseError> {
+        let mut bytes = Vec::new(alloc);
+        for index in 0..count {
+            let at = place.saturating_add(index);
+            let page = self.pages.get(at / PAGE_SIZE).ok_or(CaseError::NoForm)?;
+            bytes.push(page.bytes[at % PAGE_SIZE])?;
+        }
+        Ok(bytes)
+    }
+
     /// A device in memory with these pages, of which none is pending.
     pub fn device(&self, alloc: Global) -> Result<MemFlash, CaseError> {
         let mut flash = MemFlash::new(alloc, ROOM)?;

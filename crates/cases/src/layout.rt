@@ -4,17 +4,16 @@
 //! apart from the card's own code. Each thing gets the next slot of its kind, and an Executable Load File the next load pages.
 
 mod slot;
-mod things;
 
 use crate::case_error::CaseError;
 use crate::image::Image;
-use crate::words::Words;
+use crate::things::{EntryWords, FileWords, KeyWords, Name, ObjectWords};
+use crate::words::{Words, byte};
 use slot::{
-    ENTRIES, FILES, KEYS, LOAD_PAGES, Name, OBJECTS, Slot, Slots, name_page, push, push_name,
+    ENTRIES, FILES, KEYS, LOAD_PAGES, OBJECTS, Slot, Slots, name_page, push, push_name,
     push_padded, slot_of,
 };
 use std::alloc::Global;
-use things::{EntryWords, FileWords, KeyWords, ObjectWords};
 
 /// The front of the superblock: the mark of a card, and its layout.
 const SUPERBLOCK: [u8; 5] = [0x47, 0x50, 0x43, 0x44, 0x02];
@@ -99,12 +98,8 @@ impl Layout {
     }
 
     fn lay_file(&mut self, words: &mut Words<'_>) -> Result<(), CaseError> {
-        let FileWords {
-            aid,
-            domain,
-            len,
-            fill,
-        } = FileWords::read(words).ok_or(CaseError::NoForm)?;
+        let FileWords { aid, domain, len } = FileWords::read(words).ok_or(CaseError::NoForm)?;
+        let fill = read_fill(words).ok_or(CaseError::NoForm)?;
         // The file of the Issuer Security Domain is laid out before it.
         let domain = if self.files.is_empty() {
             0
@@ -168,4 +163,12 @@ impl Layout {
         let place = slots.place(number).ok_or(CaseError::NoRegistry)?;
         self.image.put(place, slot)
     }
+}
+
+// fill BB
+fn read_fill(words: &mut Words<'_>) -> Option<u8> {
+    words.fixed(b"fill")?;
+    let fill = byte(words.take()?)?;
+    words.end()?;
+    Some(fill)
 }

@@ -1,6 +1,6 @@
 //! The forms of a line of the language of cases. docs/TESTS.md lists them.
 
-use crate::words::{cut, number};
+use crate::words::{cut, long_number, number};
 
 /// A line that changes how the streams of the next call of `gp` are made.
 #[derive(Clone, Copy)]
@@ -26,6 +26,9 @@ pub enum Sweep {
 
     /// So, and again while the card is powered on next.
     CutTwice,
+
+    /// So, and again and again, at a later call each time that the card is powered on.
+    CutOn,
 
     /// One call fails, and the next ones do not.
     Fail,
@@ -91,6 +94,13 @@ pub enum Line<'a> {
     /// How many lines of the registry begin with a word.
     Count(&'a [u8]),
 
+    /// So many bytes from a place in a page on.
+    Look {
+        number: u32,
+        place: u32,
+        count: u32,
+    },
+
     /// The device fails from this call on, from when it is used next.
     Fuse(u32),
 
@@ -100,10 +110,16 @@ pub enum Line<'a> {
     PowerOff,
 
     /// Power is lost, with this seed.
-    Cut(u32),
+    Cut(u64),
 
     /// A line of the script of sweeps.
     Later(&'a [u8]),
+
+    /// A change of the registry, which is to be committed.
+    Change(&'a [u8]),
+
+    /// Commits the changes.
+    Commit,
     Sweep(Sweep),
 }
 
@@ -120,6 +136,7 @@ impl<'a> Line<'a> {
                 b"|" => Some(Line::Later(rest)),
                 b"gp" => Some(Line::Gp(Some(text(rest)?))),
                 b"page" => read_page(rest),
+                b"look" => read_look(rest),
                 _ => match device_line(verb, rest) {
                     Some(line) => Some(line),
                     None => stream_line(verb, rest),
@@ -143,6 +160,7 @@ fn lone_word(word: &[u8]) -> Option<Line<'_>> {
         b"counts" => Some(Line::Counts),
         b"sent" => Some(Line::Sent),
         b"calls" => Some(Line::Calls),
+        b"commit" => Some(Line::Commit),
         _ => None,
     }
 }
@@ -169,6 +187,17 @@ fn read_page(words: &[u8]) -> Option<Line<'_>> {
     })
 }
 
+// PAGE PLACE COUNT
+fn read_look(words: &[u8]) -> Option<Line<'_>> {
+    let (page, rest) = cut(words)?;
+    let (place, count) = cut(rest)?;
+    Some(Line::Look {
+        number: number(page)?,
+        place: number(place)?,
+        count: number(count)?,
+    })
+}
+
 fn device_line<'a>(verb: &'a [u8], rest: &'a [u8]) -> Option<Line<'a>> {
     match verb {
         b"case" => Some(Line::Case(rest)),
@@ -176,13 +205,15 @@ fn device_line<'a>(verb: &'a [u8], rest: &'a [u8]) -> Option<Line<'a>> {
             kind: verb,
             words: rest,
         }),
+        b"set" => Some(Line::Change(rest)),
         b"image" => Some(Line::Image(text(rest)?)),
         b"fuse" => Some(Line::Fuse(number(rest)?)),
         b"once" => Some(Line::Once(number(rest)?)),
         b"cut" => match rest {
             b"each" => Some(Line::Sweep(Sweep::Cut)),
             b"twice" => Some(Line::Sweep(Sweep::CutTwice)),
-            _ => Some(Line::Cut(number(rest)?)),
+            b"on" => Some(Line::Sweep(Sweep::CutOn)),
+            _ => Some(Line::Cut(long_number(rest)?)),
         },
         b"fail" if rest == b"each".as_slice() => Some(Line::Sweep(Sweep::Fail)),
         b"power" => match rest {

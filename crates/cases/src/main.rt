@@ -4,15 +4,19 @@
 //! error says which line and why.
 #![tactic(auto)]
 
+mod act;
 mod bench;
 mod case_error;
+mod change;
 mod counted;
 mod device;
 mod image;
 mod layout;
 mod line;
+mod made;
 mod script;
 mod sweep;
+mod things;
 mod tool;
 mod words;
 
@@ -33,7 +37,7 @@ struct Stop {
     cause: CaseError,
 }
 
-fn act<R: Files + AllocGlobal>(
+fn act_on<R: Files + AllocGlobal>(
     rt: &R,
     bench: &mut Bench<'_>,
     line: &str,
@@ -55,7 +59,7 @@ fn main(rt: HostRuntime) -> anyhow::Result<()> {
     let mut writer = io::writer(&rt);
     let lines = BufReader::new(rt.alloc(), rt.reader())?.lines(rt.alloc());
     for (index, line) in lines.enumerate() {
-        if let Err(cause) = act(&rt, &mut bench, &line?, &mut out) {
+        if let Err(cause) = act_on(&rt, &mut bench, &line?, &mut out) {
             return Err(Stop {
                 number: index.saturating_add(1),
                 cause,

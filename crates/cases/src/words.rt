@@ -39,6 +39,11 @@ pub fn number(word: &[u8]) -> Option<u32> {
     std::str::from_utf8(word).ok()?.parse().ok()
 }
 
+/// A number of up to 64 bits.
+pub fn long_number(word: &[u8]) -> Option<u64> {
+    std::str::from_utf8(word).ok()?.parse().ok()
+}
+
 /// The words that are left of a line.
 #[derive(Drop)]
 pub struct Words<'a> {

@@ -1,7 +1,8 @@
 //! What a case answers of the device, the streams and the registry.
 
-use crate::bench::{Bench, Power, write_line};
+use crate::bench::{Bench, Power, place_of, write_line};
 use crate::case_error::CaseError;
+use crate::image::Image;
 use crate::tool::{Streams, call};
 
 impl<'a> Bench<'a> {
@@ -32,6 +33,22 @@ impl<'a> Bench<'a> {
             calls.reads, calls.writes, calls.syncs
         )?;
         write_line(out, &[text.as_bytes()])
+    }
+
+    // Bytes of the pages, as they are read.
+    pub(super) fn write_bytes(
+        &mut self,
+        page: u32,
+        place: u32,
+        count: u32,
+        out: &mut Vec<u8>,
+    ) -> Result<(), CaseError> {
+        let flash = self.take_flash()?;
+        let image = Image::of(self.alloc, &flash)?;
+        self.power = Power::Off(flash);
+        let place = place_of(page, place) as usize;
+        let digits = hex::encode(self.alloc, &image.bytes(self.alloc, place, count as usize)?)?;
+        write_line(out, &[digits.as_bytes()])
     }
 
     // How many lines of the registry begin with a word.

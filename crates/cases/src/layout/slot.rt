@@ -1,6 +1,7 @@
 //! The slots of each kind of thing, and their bytes.
 
 use crate::case_error::CaseError;
+use crate::things::Name;
 use arrayvec::ArrayVec;
 
 /// The first load page.
@@ -50,9 +51,6 @@ impl Slots {
 
 /// The bytes of a slot.
 pub type Slot = ArrayVec<u8, 256>;
-
-/// An AID.
-pub type Name = ArrayVec<u8, 16>;
 
 /// The slot of the thing with a name.
 pub fn slot_of(names: &[Name], name: &Name) -> Result<u8, CaseError> {

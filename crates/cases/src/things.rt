@@ -1,8 +1,10 @@
 //! The things of a registry, as words say them.
 
-use crate::layout::slot::Name;
-use crate::words::{Words, byte};
+use crate::words::Words;
 use arrayvec::ArrayVec;
+
+/// An AID.
+pub type Name = ArrayVec<u8, 16>;
 
 /// AID in DOMAIN from FILE module MODULE life LL priv PPPPPP receipts NNNN
 #[derive(Drop)]
@@ -44,13 +46,12 @@ impl EntryWords {
     }
 }
 
-/// AID in DOMAIN bytes N fill BB
+/// AID in DOMAIN bytes N, and what says where its bytes are
 #[derive(Drop)]
 pub struct FileWords {
     pub aid: Name,
     pub domain: Name,
     pub len: u16,
-    pub fill: u8,
 }
 
 impl FileWords {
@@ -60,15 +61,7 @@ impl FileWords {
         let domain = words.bytes()?;
         words.fixed(b"bytes")?;
         let len = u16::try_from(words.number()?).ok()?;
-        words.fixed(b"fill")?;
-        let fill = byte(words.take()?)?;
-        words.end()?;
-        Some(FileWords {
-            aid,
-            domain,
-            len,
-            fill,
-        })
+        Some(FileWords { aid, domain, len })
     }
 }
 

@@ -1,0 +1,7 @@
+use Rattle.std.proofs.Common.{◌≡◌, length}
+use Rattle.std.specs.Prelude.{All}
+use Rattle.card_check.specs.IsCard.{IsLoadPage}
+use Rattle.cases.proofs.made.load_pages.Given as goal
+
+abbrev pub invariant-loop-place : goal.invariant-loop-place
+invariant-loop-place l = (length l.pages ≡ 128) × All IsLoadPage l.pages
