@@ -67,38 +67,25 @@ fn back_and_there<K: BlockKey>(key: &K, block: &mut [u8; 16])
 
 #[test]
 fn published_vectors(rt: HostRuntime) {
-    assert_eq!(rt;
+    let found = [
         both_ways::<Aes128>(&KEY_B, &PLAIN_B, &SEALED_B),
-        (SEALED_B, PLAIN_B)
-    );
-    assert_eq!(rt;
         both_ways::<Aes128>(&KEY_C[..16], &PLAIN_C, &SEALED_C1),
-        (SEALED_C1, PLAIN_C)
-    );
-    assert_eq!(rt;
         both_ways::<Aes192>(&KEY_C[..24], &PLAIN_C, &SEALED_C2),
-        (SEALED_C2, PLAIN_C)
-    );
-    assert_eq!(rt;
         both_ways::<Aes256>(&KEY_C, &PLAIN_C, &SEALED_C3),
-        (SEALED_C3, PLAIN_C)
-    );
-}
-
-#[test]
-fn published_vectors_of_sealing_keys(rt: HostRuntime) {
-    assert_eq!(rt;
         both_ways::<SealingAes128>(&KEY_C[..16], &PLAIN_C, &SEALED_C1),
-        (SEALED_C1, PLAIN_C)
-    );
-    assert_eq!(rt;
         both_ways::<SealingAes192>(&KEY_C[..24], &PLAIN_C, &SEALED_C2),
-        (SEALED_C2, PLAIN_C)
-    );
-    assert_eq!(rt;
         both_ways::<SealingAes256>(&KEY_C, &PLAIN_C, &SEALED_C3),
-        (SEALED_C3, PLAIN_C)
-    );
+    ];
+    let wanted = [
+        (SEALED_B, PLAIN_B),
+        (SEALED_C1, PLAIN_C),
+        (SEALED_C2, PLAIN_C),
+        (SEALED_C3, PLAIN_C),
+        (SEALED_C1, PLAIN_C),
+        (SEALED_C2, PLAIN_C),
+        (SEALED_C3, PLAIN_C),
+    ];
+    assert!(rt; found == wanted);
 }
 
 #[test]
@@ -107,5 +94,5 @@ fn the_calls_undo_each_other(rt: HostRuntime) {
     let mut block = PLAIN_C;
     there_and_back(&key, &mut block);
     back_and_there(&key, &mut block);
-    assert_eq!(rt; block, PLAIN_C);
+    assert!(rt; block == PLAIN_C);
 }

@@ -155,67 +155,103 @@ fn codes<K: BlockKey>(key: &[u8]) -> [[u8; 16]; 4]
 
 #[test]
 fn published_codes(rt: HostRuntime) {
-    assert_eq!(rt; codes::<Aes128>(&KEY), CODES_128);
-    assert_eq!(rt; codes::<Aes192>(&KEY_192), CODES_192);
-    assert_eq!(rt; codes::<Aes256>(&KEY_256), CODES_256);
-    assert_eq!(rt; codes::<SealingAes128>(&KEY), CODES_128);
+    let codes = [
+        codes::<Aes128>(&KEY),
+        codes::<Aes192>(&KEY_192),
+        codes::<Aes256>(&KEY_256),
+        codes::<SealingAes128>(&KEY),
+    ];
+    assert!(rt; codes == [CODES_128, CODES_192, CODES_256, CODES_128]);
 }
 
-#[test]
-fn pieces_give_the_same_code(rt: HostRuntime) {
-    let key = Aes128::from_key(&KEY);
-    let [_, _, code_40, code_64] = CODES_128;
-    assert_eq!(rt; code_of_two(&key, &MESSAGE[..7], &MESSAGE[7..]), code_64);
-    let mut mac = Mac::new(&key);
+// The code of the first 40 bytes of the message.
+fn code_of_forty(key: &Aes128) -> [u8; 16] {
+    let mut mac = Mac::new(key);
     feed_two(&mut mac, &MESSAGE[..16], &MESSAGE[16..40]);
-    assert_eq!(rt; mac.finish(), code_40);
+    mac.finish()
+}
+
+fn code_of_owned(key: Aes128) -> [u8; 16] {
     let key = CmacKey::new(key);
     let state = key.start();
     let mut owned = Owned { key, state };
     owned.feed(&MESSAGE[..39]);
     owned.feed(&MESSAGE[39..]);
-    assert_eq!(rt; owned.key.finish(&owned.state), code_64);
+    owned.key.finish(&owned.state)
 }
 
-// OpenSSL's CMAC of eleven 00, 04, 00, 0100, the counter and 01 to 10, for the counters 01 and 02.
 #[test]
-fn derived_from_two_rounds(rt: HostRuntime) {
+fn pieces_give_the_same_code(rt: HostRuntime) {
+    let key = Aes128::from_key(&KEY);
+    let codes = [
+        code_of_two(&key, &MESSAGE[..7], &MESSAGE[7..]),
+        code_of_forty(&key),
+        code_of_owned(key),
+    ];
+    let [_, _, code_40, code_64] = CODES_128;
+    assert!(rt; codes == [code_64, code_40, code_64]);
+}
+
+// By the key, and by the key that is kept for codes.
+fn derived() -> [[u8; 32]; 2] {
     let key = Aes128::from_key(&KEY);
     let context = [1, 2, 3, 4, 5, 6, 7, 8, 9, 10, 11, 12, 13, 14, 15, 16];
     let mut out = [0; 32];
     derive(&key, 4, &context, &mut out);
     let mut kept = [0; 32];
-    CmacKey::new(Aes128::from_key(&KEY)).derive(4, &context, &mut kept);
+    CmacKey::new(key).derive(4, &context, &mut kept);
+    [out, kept]
+}
+
+// OpenSSL's CMAC of eleven 00, 04, 00, 0100, the counter and 01 to 10, for the counters 01 and 02.
+#[test]
+fn derived_from_two_rounds(rt: HostRuntime) {
     let expected = [
         0xaf, 0x75, 0x2c, 0x0c, 0x01, 0xd7, 0xb1, 0x93, 0xf2, 0x65, 0xde, 0xeb, 0x49, 0x59, 0xc5,
         0x16, 0x72, 0x84, 0x50, 0xc7, 0x8e, 0x89, 0x7b, 0x35, 0xa8, 0x26, 0x20, 0x0c, 0x68, 0x46,
         0x9d, 0x43,
     ];
-    assert_eq!(rt; out, expected);
-    assert_eq!(rt; kept, expected);
+    assert!(rt; derived() == [expected; 2]);
+}
+
+// The message sealed, and then unsealed.
+fn blocks() -> [[u8; 64]; 2] {
+    let key = Aes128::from_key(&KEY);
+    let mut buf = MESSAGE;
+    cbc_seal_blocks(&key, &ICV, &mut buf);
+    let sealed = buf;
+    cbc_unseal_blocks(&key, &ICV, &mut buf);
+    [sealed, buf]
 }
 
 #[test]
 fn published_blocks(rt: HostRuntime) {
+    assert!(rt; blocks() == [ENCRYPTED, MESSAGE]);
+}
+
+// The first 48 bytes of the message padded, and sealed then: the last block is by OpenSSL.
+fn padded_and_sealed() -> [[u8; 64]; 2] {
+    let mut padded = MESSAGE;
+    padded[48..].copy_from_slice(&[0x80, 0, 0, 0, 0, 0, 0, 0, 0, 0, 0, 0, 0, 0, 0, 0]);
+    let mut sealed = ENCRYPTED;
+    sealed[48..].copy_from_slice(&[
+        0x1d, 0x4d, 0xd8, 0x6c, 0x02, 0x0d, 0x9e, 0x16, 0xbd, 0x85, 0x22, 0x18, 0x1a, 0xbc, 0x9f,
+        0x43,
+    ]);
+    [padded, sealed]
+}
+
+// They are sealed and then unsealed, each with its length.
+fn padded_blocks() -> ([usize; 3], [[u8; 64]; 2]) {
     let key = Aes128::from_key(&KEY);
     let mut buf = MESSAGE;
-    cbc_seal_blocks(&key, &ICV, &mut buf);
-    assert_eq!(rt; buf, ENCRYPTED);
-    cbc_unseal_blocks(&key, &ICV, &mut buf);
-    assert_eq!(rt; buf, MESSAGE);
+    let count = cbc_seal(&key, &ICV, &mut buf, 48);
+    let sealed = buf;
+    let opened = cbc_unseal(&key, &ICV, &mut buf).unwrap_or(0);
+    ([padded_len(48), count, opened], [buf, sealed])
 }
 
 #[test]
 fn unsealed_as_sealed(rt: HostRuntime) {
-    let key = Aes128::from_key(&KEY);
-    let mut buf = MESSAGE;
-    let sealed = cbc_seal(&key, &ICV, &mut buf, 48);
-    assert_eq!(rt; sealed, 64);
-    assert_eq!(rt; sealed, padded_len(48));
-    let front = &buf[..48];
-    assert_eq!(rt; front, &ENCRYPTED[..48]);
-    let opened = cbc_unseal(&key, &ICV, &mut buf);
-    assert_eq!(rt; opened.ok(), Some(48));
-    let front = &buf[..48];
-    assert_eq!(rt; front, &MESSAGE[..48]);
+    assert!(rt; padded_blocks() == ([64, 64, 48], padded_and_sealed()));
 }

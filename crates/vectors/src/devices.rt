@@ -26,40 +26,15 @@ fn first_byte<F: Flash>(flash: &mut F, page: u16) -> u8
     }
 }
 
-/// A device with 1, 2, 3 on three pages, synced, and 11, 12, 13 written over them.
-fn overwritten(alloc: Global) -> Result<MemFlash, Fail> {
-    let mut flash = MemFlash::new(alloc, 8)?;
-    for page in 0..3u16 {
-        flash.write(page, &filled(page as u8 + 1))?;
-    }
-    flash.sync()?;
-    for page in 0..3u16 {
-        flash.write(page, &filled(page as u8 + 11))?;
-    }
-    Ok(flash)
-}
-
-#[test]
-fn a_power_cut_treats_each_written_page_by_the_seed(rt: HostRuntime) -> Result<(), Fail> {
-    let cases: [(u64, [u8; 4]); 5] = [
-        (0, [1, 12, 2, 0]),
-        (1, [11, 2, 3, 0]),
-        (2, [2, 2, 13, 0]),
-        (255, [1, 12, 1, 0]),
-        (u64::MAX, [1, 2, 13, 0]),
-    ];
-    for (seed, want) in cases {
-        let mut flash = overwritten(rt.alloc())?;
-        flash.power_cut(seed);
-        for page in 0..4u16 {
-            let byte = first_byte(&mut flash, page);
-            assert_eq!(rt; byte, want[page as usize], "page {page}, seed {seed}");
-            assert_eq!(rt; flash.page(page).bytes[255], byte);
-        }
-        flash.power_cut(seed ^ 1);
-        assert_eq!(rt; first_byte(&mut flash, 0), want[0]);
-    }
-    Ok(())
+/// Writes 1 to 5 to a page, and answers which calls succeeded.
+fn write_five_times<F: Flash>(flash: &mut F) -> [bool; 5] {
+    [
+        flash.write(7, &filled(1)).is_ok(),
+        flash.write(7, &filled(2)).is_ok(),
+        flash.write(7, &filled(3)).is_ok(),
+        flash.write(7, &filled(4)).is_ok(),
+        flash.write(7, &filled(5)).is_ok(),
+    ]
 }
 
 #[test]
@@ -67,15 +42,20 @@ fn each_device_fails_where_it_is_told_to(rt: HostRuntime) -> Result<(), Fail> {
     let mut fuse = FuseFlash::new(MemFlash::new(rt.alloc(), 9)?, 2);
     let mut once = OnceFlash::new(MemFlash::new(rt.alloc(), 9)?, 2);
     let mut full = MemFlash::new(rt.alloc(), 2)?;
-    for call in 0..5u8 {
-        let byte = filled(call + 1);
-        assert_eq!(rt; fuse.write(7, &byte).is_ok(), call < 2, "call {call}");
-        assert_eq!(rt; once.write(7, &byte).is_ok(), call != 2, "call {call}");
-        assert_eq!(rt; full.sync().is_ok(), call < 2, "call {call}");
-    }
-    assert_eq!(rt; first_byte(&mut fuse.into_inner(), 7), 2);
-    assert_eq!(rt; first_byte(&mut once.into_inner(), 7), 5);
-    assert_eq!(rt; first_byte(&mut full, 607), 0);
+    let taken = [
+        write_five_times(&mut fuse),
+        write_five_times(&mut once),
+        write_five_times(&mut full),
+    ];
+    let front = [true, true, false, false, false];
+    assert!(rt; taken == [front, [true, true, false, true, true], front]);
+    let bytes = [
+        first_byte(&mut fuse.into_inner(), 7),
+        first_byte(&mut once.into_inner(), 7),
+        first_byte(&mut full, 7),
+        first_byte(&mut full, 607),
+    ];
+    assert!(rt; bytes == [2, 5, 2, 0]);
     Ok(())
 }
 
@@ -90,96 +70,117 @@ fn call_six_times<F: Flash>(flash: &mut F) {
     let _ = flash.sync();
 }
 
+const CALLS: [Call; 6] = [
+    Call::Read(1),
+    Call::Write(2),
+    Call::Sync,
+    Call::Read(3),
+    Call::Write(4),
+    Call::Sync,
+];
+
+/// The calls that are passed on where all from this one on fail.
+fn passed_by_fuse(failing: u64) -> RecordedFlash {
+    let mut fuse = FuseFlash::new(RecordedFlash::new(), failing);
+    call_six_times(&mut fuse);
+    fuse.into_inner()
+}
+
+/// Those that are passed on where this one fails.
+fn passed_by_once(failing: u64) -> RecordedFlash {
+    let mut once = OnceFlash::new(RecordedFlash::new(), failing);
+    call_six_times(&mut once);
+    once.into_inner()
+}
+
+/// All calls but one.
+fn others(failing: usize) -> ArrayVec<Call, 6> {
+    let mut others = ArrayVec::new();
+    for (number, call) in CALLS.iter().enumerate() {
+        if number != failing {
+            let _fits = others.try_push(*call);
+        }
+    }
+    others
+}
+
 /// A device that fails passes on each call that it does not fail, and makes no other.
 #[test]
-fn the_calls_that_do_not_fail_are_passed_on(rt: HostRuntime) -> Result<(), Fail> {
-    let all = [
-        Call::Read(1),
-        Call::Write(2),
-        Call::Sync,
-        Call::Read(3),
-        Call::Write(4),
-        Call::Sync,
-    ];
+fn the_calls_that_do_not_fail_are_passed_on(rt: HostRuntime) {
     for failing in 0..7usize {
-        let inner = RecordedFlash::new(MemFlash::new(rt.alloc(), 9)?);
-        let mut fuse = FuseFlash::new(inner, failing as u64);
-        call_six_times(&mut fuse);
-        assert_eq!(rt; fuse.into_inner().calls(), &all[..failing.min(6)]);
-
-        let inner = RecordedFlash::new(MemFlash::new(rt.alloc(), 9)?);
-        let mut once = OnceFlash::new(inner, failing as u64);
-        call_six_times(&mut once);
-        let mut others: ArrayVec<Call, 6> = ArrayVec::new();
-        for (number, call) in all.iter().enumerate() {
-            if number != failing {
-                let _fits = others.try_push(*call);
-            }
-        }
-        assert_eq!(rt; once.into_inner().calls(), others.as_slice(), "{failing}");
+        let fuse = passed_by_fuse(failing as u64);
+        let once = passed_by_once(failing as u64);
+        assert!(rt;
+            (fuse.calls(), once.calls()) == (&CALLS[..failing.min(6)], others(failing).as_slice()),
+            "{failing}"
+        );
     }
-    Ok(())
+}
+
+/// Writes a page between two syncs, and answers the first byte that it had.
+fn write_synced<F: Flash>(flash: &mut F) -> Result<u8, FlashFailed> {
+    flash.sync()?;
+    let before = first_byte(flash, 3);
+    flash.write(3, &filled(9))?;
+    flash.sync()?;
+    Ok(before)
 }
 
 /// What a file holds of four calls: nothing before the first write, zeros behind its end.
 fn keeps_pages<R: Files<File = File>>(rt: &R, path: &str) -> Result<[u8; 3], FlashFailed> {
-    let mut flash = FileFlash::new(rt, path);
-    flash.sync()?;
-    let before = first_byte(&mut flash, 3);
-    flash.write(3, &filled(9))?;
-    flash.sync()?;
-    drop(flash);
+    let before = write_synced(&mut FileFlash::new(rt, path))?;
     let mut again = FileFlash::new(rt, path);
-    let kept = first_byte(&mut again, 3);
-    let past = first_byte(&mut again, 4);
-    Ok([before, kept, past])
+    Ok([before, first_byte(&mut again, 3), first_byte(&mut again, 4)])
 }
 
 #[test]
 fn a_file_keeps_its_pages(rt: HostRuntime) -> Result<(), Fail> {
     // An earlier run may have left one.
     let _ = fs::remove_file(&rt, "flash.img");
-    assert_eq!(rt; keeps_pages(&rt, "flash.img"), Ok([0, 9, 0]));
-    assert_eq!(rt;
-        keeps_pages(&rt, "no/such/folder/flash.img"),
-        Err(FlashFailed)
-    );
+    assert!(rt; keeps_pages(&rt, "flash.img") == Ok([0, 9, 0]));
+    assert!(rt; keeps_pages(&rt, "no/such/folder/flash.img") == Err(FlashFailed));
     Ok(())
 }
 
-#[test]
-fn a_file_is_of_one_device_at_a_time(rt: HostRuntime) -> Result<(), Fail> {
-    // An earlier run may have left one.
-    let _ = fs::remove_file(&rt, "one.img");
-    let mut first = FileFlash::new(&rt, "one.img");
-    let mut second = FileFlash::new(&rt, "one.img");
-    assert_eq!(rt; first_byte(&mut first, 3), 0);
-    second.write(3, &filled(9))?;
+/// The first bytes that three devices over one file read in turn, and which of their writes and syncs succeed.
+fn contended<R: Files<File = File>>(rt: &R, path: &str) -> ([u8; 4], [bool; 5]) {
+    let mut first = FileFlash::new(rt, path);
+    let mut second = FileFlash::new(rt, path);
+    let none = first_byte(&mut first, 3);
+    let locked = second.write(3, &filled(9)).is_ok();
 
     // The first device has found no file, and goes on without: it has no lock.
-    assert_eq!(rt; first_byte(&mut first, 3), 0);
-    assert_eq!(rt; first.write(3, &filled(8)), Err(FlashFailed));
-    let mut third = FileFlash::new(&rt, "one.img");
-    assert_eq!(rt; third.sync(), Err(FlashFailed));
-    assert_eq!(rt; first_byte(&mut third, 3), 255);
-    assert_eq!(rt; third.write(3, &filled(7)), Err(FlashFailed));
+    let zeros = first_byte(&mut first, 3);
+    let early = first.write(3, &filled(8)).is_ok();
+    let mut third = FileFlash::new(rt, path);
+    let synced = third.sync().is_ok();
+    let refused = first_byte(&mut third, 3);
+    let late = third.write(3, &filled(7)).is_ok();
 
     // The lock ends with its device. What the first has read as zeros is not so any more.
     drop(second);
-    assert_eq!(rt; first.write(3, &filled(8)), Err(FlashFailed));
-    assert_eq!(rt; first_byte(&mut third, 3), 9);
-    Ok(())
+    let again = first.write(3, &filled(8)).is_ok();
+    let free = first_byte(&mut third, 3);
+    (
+        [none, zeros, refused, free],
+        [locked, early, synced, late, again],
+    )
+}
+
+#[test]
+fn a_file_is_of_one_device_at_a_time(rt: HostRuntime) {
+    // An earlier run may have left one.
+    let _ = fs::remove_file(&rt, "one.img");
+    assert!(rt; contended(&rt, "one.img") == ([0, 0, 255, 9], [true, false, false, false, false]));
 }
 
 /// A page whose bytes all differ, and differ from those of another number.
 fn numbered(number: u8) -> Page {
-    let mut page = filled(0);
-    let mut next = number;
-    for byte in page.bytes.iter_mut() {
-        *byte = next;
-        next = next.wrapping_add(7);
+    let mut bytes = [0; 256];
+    for place in 0..256usize {
+        bytes[place] = (place as u8).wrapping_mul(7).wrapping_add(number);
     }
-    page
+    Page { bytes }
 }
 
 /// Two pages are written twice each, and their neighbours stay zeros.
@@ -204,7 +205,7 @@ fn a_file_keeps_each_byte_of_a_page(rt: HostRuntime) -> Result<(), Fail> {
     ] {
         let mut into = filled(0xEE);
         flash.read(page, &mut into)?;
-        assert_eq!(rt; into.bytes, wanted.bytes, "page {page}");
+        assert!(rt; into.bytes == wanted.bytes, "page {page}");
     }
     Ok(())
 }

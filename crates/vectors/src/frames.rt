@@ -31,14 +31,18 @@ fn stage_falling(pool: &mut FramePool, top: u16) -> usize {
     wrong
 }
 
+/// Clears the frames, and answers how many are staged and spare, and whether a page is staged.
+fn clear(pool: &mut FramePool, page: u16) -> (usize, usize, bool) {
+    pool.clear();
+    (pool.len(), pool.spare(), pool.get(page).is_some())
+}
+
 #[test]
 fn thirty_pages_are_staged_cleared_and_thirty_others_staged(rt: HostRuntime) -> Result<(), Fail> {
     let mut pool = FramePool::new(rt.alloc())?;
-    assert_eq!(rt; stage_falling(&mut pool, 44), 0);
-    pool.clear();
-    assert_eq!(rt; (pool.len(), pool.spare()), (0, 30));
-    assert!(rt; pool.get(44).is_none());
-    assert_eq!(rt; stage_falling(&mut pool, 607), 0);
-    assert!(rt; pool.get(44).is_none());
+    let first = stage_falling(&mut pool, 44);
+    let cleared = clear(&mut pool, 44);
+    let second = stage_falling(&mut pool, 607);
+    assert!(rt; (first, cleared, second, pool.get(44).is_some()) == (0, (0, 30, false), 0, false));
     Ok(())
 }

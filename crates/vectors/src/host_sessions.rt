@@ -71,9 +71,6 @@ fn the_key_for_data(rt: HostRuntime) -> Result<(), Fail> {
     let session = begun(Level::Full, 0, &mut out)?;
     let mut block = [0; 16];
     session.dek().seal(&mut block);
-    assert_eq!(rt;
-        u128::from_be_bytes(block),
-        0x1899564a9da8de833d25c71739eaadce
-    );
+    assert!(rt; u128::from_be_bytes(block) == 0x1899564a9da8de833d25c71739eaadce);
     Ok(())
 }

@@ -149,7 +149,7 @@ fn keys_are_put_drawn_and_deleted(rt: HostRuntime) -> Result<(), Fail> {
         Delete(0, 0x32, false),
         Delete(0, 0x33, true),
     ];
-    assert_eq!(rt; first_wrong(&mut keeper, &calls)?, None);
+    assert!(rt; first_wrong(&mut keeper, &calls)? == None);
     let wanted = [
         (0, 0x31, 1, 21, 0),
         (0, 0x31, 2, 22, 0),

@@ -6,14 +6,13 @@
 //! - `card_sessions`: the card side of SCP03.
 //! - `codes`: CMAC, derivation and CBC, by the published examples.
 //! - `data_objects`: BER-TLV elements, and the places of refusals.
-//! - `devices`: flash devices in memory, those that fail, and a file.
+//! - `devices`: flash devices that fail, and a file.
 //! - `domains`: which security domains are above which.
 //! - `frames`: thirty frames.
 //! - `host_sessions`: the host side of SCP03.
-//! - `journal`: committed pages, with power lost and faults at each call.
+//! - `journal`: load pages that a commit keeps.
 //! - `judging`: rules that no command of a card comes to.
 //! - `keeper`: keys in memory.
-//! - `records`: a change of a thing of each kind.
 //! - `streams`: sources, sinks and lines.
 //! - `tables`: tables that no image can spell.
 //! - `transcripts`: sessions of SCP03 with every value in between, at both ends.
@@ -46,8 +45,6 @@ mod journal;
 mod judging;
 #[cfg(test)]
 mod keeper;
-#[cfg(test)]
-mod records;
 #[cfg(test)]
 mod streams;
 #[cfg(test)]

@@ -1,5 +1,7 @@
 //! Sources, sinks and lines.
 
+ghost use Rattle.std.specs.Prelude.{◌<◌};
+
 use io_edge::{
     LineStop, Lines, MemSink, MemSource, ReadFailed, Sink, SliceSource, Source, StdSink, StdSource,
 };
@@ -40,20 +42,34 @@ fn cuts_the_same_lines_in_any_pieces(rt: HostRuntime) -> Result<(), Fail> {
         (b"one\ntwo\r", b"one|two\r|"),
     ];
     for (bytes, want) in cases {
-        for piece in [1, 2, 7, 4096] {
-            let mut source = MemSource::new(rt.alloc(), bytes, piece, &[])?;
-            let (text, stop) = cut(rt.alloc(), &mut source)?;
-            assert_eq!(rt; text.as_slice(), want, "{bytes:?} by {piece}");
-            assert_eq!(rt; stop, Some(LineStop::End), "{bytes:?} by {piece}");
-        }
-        let (text, stop) = cut(rt.alloc(), &mut SliceSource::new(bytes))?;
-        assert_eq!(rt; text.as_slice(), want, "{bytes:?}");
-        assert_eq!(rt; stop, Some(LineStop::End), "{bytes:?}");
-        let (text, stop) = cut(rt.alloc(), &mut StdSource::new(bytes))?;
-        assert_eq!(rt; text.as_slice(), want, "{bytes:?}");
-        assert_eq!(rt; stop, Some(LineStop::End), "{bytes:?}");
+        let cut = cuts(rt.alloc(), bytes, want)?;
+        assert!(rt; cut == [true; 6], "{bytes:?}");
     }
     Ok(())
+}
+
+/// Whether these lines and the end come from a source.
+fn ends<S: Source>(alloc: Global, source: &mut S, want: &[u8]) -> Result<bool, AllocError> {
+    let (text, stop) = cut(alloc, source)?;
+    Ok(text.as_slice() == want && stop == Some(LineStop::End))
+}
+
+fn ends_by(alloc: Global, bytes: &[u8], piece: usize, want: &[u8]) -> Result<bool, AllocError>
+    requires { 0 < piece }
+{
+    ends(alloc, &mut MemSource::new(alloc, bytes, piece, &[])?, want)
+}
+
+/// Whether they come from memory in pieces of 1, 2, 7 and 4,096 bytes, from a slice and from a reader of std.
+fn cuts(alloc: Global, bytes: &[u8], want: &[u8]) -> Result<[bool; 6], AllocError> {
+    Ok([
+        ends_by(alloc, bytes, 1, want)?,
+        ends_by(alloc, bytes, 2, want)?,
+        ends_by(alloc, bytes, 7, want)?,
+        ends_by(alloc, bytes, 4096, want)?,
+        ends(alloc, &mut SliceSource::new(bytes), want)?,
+        ends(alloc, &mut StdSource::new(bytes), want)?,
+    ])
 }
 
 /// The number and the length of the next line.
@@ -76,7 +92,7 @@ fn gives_a_stop_again(rt: HostRuntime) -> Result<(), Fail> {
         let mut source = MemSource::new(rt.alloc(), bytes, 600, fails)?;
         let mut lines = Lines::new();
         for _ in 0..3 {
-            assert_eq!(rt; measure(&mut lines, &mut source), Err(want));
+            assert!(rt; measure(&mut lines, &mut source) == Err(want));
         }
     }
     Ok(())
@@ -100,9 +116,8 @@ fn reads_on_only_where_a_line_may_yet_fit(rt: HostRuntime) -> Result<(), Fail> {
         bytes.extend_from_slice(end)?;
         let mut source = MemSource::new(rt.alloc(), &bytes, 4096, &[1])?;
         let mut lines = Lines::new();
-        assert_eq!(rt;
-            measure(&mut lines, &mut source),
-            Err(want),
+        assert!(rt;
+            measure(&mut lines, &mut source) == Err(want),
             "{count} {end:?}"
         );
     }
@@ -137,30 +152,56 @@ fn write_twice<K: Sink>(sink: &mut K) -> [bool; 3] {
     [first.is_err(), second.is_err(), flushed.is_err()]
 }
 
+/// A sink goes on after a call that it refused.
+#[test]
+fn keeps_what_was_written(rt: HostRuntime) -> Result<(), Fail> {
+    let cases: [(usize, &[u32], &[u8], [bool; 3]); 7] = [
+        (9, &[], b"90006d00\n", [false, false, false]),
+        (8, &[], b"9000", [false, true, false]),
+        (4, &[2], b"9000", [false, true, true]),
+        (3, &[], b"", [true, true, false]),
+        (9, &[0], b"6d00\n", [true, false, false]),
+        (9, &[1, 2], b"9000", [false, true, true]),
+        (9, &[3], b"90006d00\n", [false, false, false]),
+    ];
+    for (room, fails, want, refused) in cases {
+        let mut sink = MemSink::new(rt.alloc(), room, fails)?;
+        let handed_on: &[u8] = if refused[2] { b"" } else { want };
+        assert!(rt;
+            (
+                write_twice(&mut sink),
+                sink.written(),
+                sink.handed_on(),
+                sink.flushes()
+            ) == (refused, want, handed_on, 1),
+            "{room} {fails:?}"
+        );
+    }
+    Ok(())
+}
+
 #[test]
 fn hands_on_what_was_written_before_a_flush(rt: HostRuntime) -> Result<(), Fail> {
     let mut sink = MemSink::new(rt.alloc(), 9, &[])?;
-    assert!(rt; sink.write_all(b"9000").is_ok());
-    assert_eq!(rt; sink.handed_on(), b"".as_slice());
-    assert!(rt; sink.flush().is_ok());
-    assert!(rt; sink.write_all(b"6d00").is_ok());
-    assert_eq!(rt; sink.handed_on(), b"9000".as_slice());
-    assert!(rt; sink.flush().is_ok());
-    assert_eq!(rt; sink.handed_on(), b"90006d00".as_slice());
-    assert_eq!(rt; sink.flushes(), 2);
+    let first = sink.write_all(b"9000").is_ok();
+    let nothing = sink.handed_on().is_empty();
+    let flushed = sink.flush().is_ok();
+    let second = sink.write_all(b"6d00").is_ok();
+    let front = sink.handed_on() == b"9000".as_slice();
+    let again = sink.flush().is_ok();
+    assert!(rt; [first, nothing, flushed, second, front, again] == [true; 6]);
+    assert!(rt; (sink.handed_on(), sink.flushes()) == (b"90006d00".as_slice(), 2));
     Ok(())
 }
 
 #[test]
 fn hands_on_to_std(rt: HostRuntime) {
     let mut bytes = Vec::new(rt.alloc());
-    assert_eq!(rt; write_twice(&mut StdSink::new(&mut bytes)), [false; 3]);
-    assert_eq!(rt; bytes.as_slice(), b"90006d00\n".as_slice());
-    assert_eq!(rt; write_twice(&mut StdSink::new(Refuses)), [true; 3]);
+    let taken = write_twice(&mut StdSink::new(&mut bytes));
+    assert!(rt; (taken, bytes.as_slice()) == ([false; 3], b"90006d00\n".as_slice()));
+    let refused = write_twice(&mut StdSink::new(Refuses));
     let mut source = StdSource::new(Refuses);
-    assert_eq!(rt; source.read_some(&mut [0; 4]), Err(ReadFailed));
-    assert_eq!(rt;
-        measure(&mut Lines::new(), &mut source),
-        Err(LineStop::ReadFailed)
-    );
+    let read = source.read_some(&mut [0; 4]) == Err(ReadFailed);
+    let stop = measure(&mut Lines::new(), &mut source);
+    assert!(rt; (refused, read, stop) == ([true; 3], true, Err(LineStop::ReadFailed)));
 }

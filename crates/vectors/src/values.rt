@@ -1,5 +1,9 @@
 //! Values of the registry: identifiers, privileges and codes, and how things are found.
 
+ghost use Rattle.std.specs.Prelude.{◌≡◌, ◌≤◌, vec_len};
+ghost use Rattle.card_types.specs.InOrder.{IsInOrder};
+ghost use Rattle.card_types.specs.declared.limits.TheConstants.{ENTRIES, FILES};
+
 use bitflags::Flags;
 use card_types::{
     Aid, CardLife, Found, Kind, Level, Life, LifeMark, Privileges, Tables, find, keys_of_set,
@@ -7,35 +11,54 @@ use card_types::{
 };
 use std::test::Fail;
 
-/// The AID of the Issuer Security Domain on most GlobalPlatform cards.
-const ISSUER_DOMAIN: [u8; 8] = [0xA0, 0x00, 0x00, 0x01, 0x51, 0x00, 0x00, 0x00];
+/// The AID of the Issuer Security Domain on most GlobalPlatform cards, with zeros behind it.
+const ISSUER_DOMAIN: [u8; 20] = *b"\xa0\0\0\x01\x51\0\0\0\0\0\0\0\0\0\0\0\0\0\0\0";
 
 #[test]
 fn keeps_identifiers(rt: HostRuntime) -> Result<(), Fail> {
-    let issuer = Aid::new(&ISSUER_DOMAIN).ok_or("eight bytes")?;
-    assert_eq!(rt; issuer.as_bytes(), ISSUER_DOMAIN.as_slice());
-    assert!(rt; issuer == Aid::new(&ISSUER_DOMAIN).ok_or("eight bytes")?);
-    assert!(rt; issuer != Aid::new(&ISSUER_DOMAIN[..7]).ok_or("seven bytes")?);
-    for (count, fits) in [(4, false), (5, true), (16, true), (17, false)] {
-        let made = Aid::new(&[0; 20][..count]);
-        assert_eq!(rt; made.is_some(), fits, "{count} bytes");
+    let issuer = Aid::new(&ISSUER_DOMAIN[..8]).ok_or("eight bytes")?;
+    assert!(rt; issuer.as_bytes() == &ISSUER_DOMAIN[..8]);
+    for (count, fits, same) in [
+        (4, false, false),
+        (5, true, false),
+        (7, true, false),
+        (8, true, true),
+        (16, true, false),
+        (17, false, false),
+    ] {
+        let made = Aid::new(&ISSUER_DOMAIN[..count]);
+        assert!(rt;
+            (made.is_some(), made == Some(issuer)) == (fits, same),
+            "{count} bytes"
+        );
     }
     Ok(())
 }
 
+/// Whether these have privileges that the Issuer Security Domain has, and others.
+fn contain(privileges: Privileges) -> [bool; 4] {
+    [
+        privileges.contains(Privileges::SECURITY_DOMAIN | Privileges::AUTHORIZED_MANAGEMENT),
+        privileges.contains(Privileges::RECEIPT_GENERATION),
+        privileges.contains(Privileges::DELEGATED_MANAGEMENT),
+        privileges.contains(Privileges::GLOBAL_SERVICE),
+    ]
+}
+
 #[test]
-fn reads_privileges(rt: HostRuntime) -> Result<(), Fail> {
-    let issuer = Privileges::from_bytes(&[0x9E, 0xFE, 0x80]).ok_or("named bits")?;
-    assert_eq!(rt; issuer.to_bytes().as_slice(), [0x9E, 0xFE, 0x80].as_slice());
-    assert!(rt; issuer.contains(Privileges::SECURITY_DOMAIN | Privileges::AUTHORIZED_MANAGEMENT));
-    assert!(rt; issuer.contains(Privileges::RECEIPT_GENERATION));
-    assert!(rt; !issuer.contains(Privileges::DELEGATED_MANAGEMENT));
-    assert!(rt; !issuer.contains(Privileges::GLOBAL_SERVICE));
-    let domain = Privileges::from_bytes(&[0x80]).ok_or("a named bit")?;
-    assert!(rt; domain == Privileges::SECURITY_DOMAIN);
-    assert!(rt; Privileges::from_bytes(&[0x80, 0x00]).is_none());
-    assert!(rt; Privileges::from_bytes(&[0x80, 0x00, 0x08]).is_none());
-    Ok(())
+fn reads_privileges(rt: HostRuntime) {
+    let issuer = Privileges::from_bits_retain(0x9E_FE_80);
+    assert!(rt; issuer.to_bytes() == [0x9E, 0xFE, 0x80]);
+    assert!(rt; contain(issuer) == [true, true, false, false]);
+    let cases: [(&[u8], Option<Privileges>); 4] = [
+        (&[0x9E, 0xFE, 0x80], Some(issuer)),
+        (&[0x80], Some(Privileges::SECURITY_DOMAIN)),
+        (&[0x80, 0x00], None),
+        (&[0x80, 0x00, 0x08], None),
+    ];
+    for (bytes, wanted) in cases {
+        assert!(rt; Privileges::from_bytes(bytes) == wanted, "{bytes:?}");
+    }
 }
 
 #[test]
@@ -48,8 +71,7 @@ fn has_the_codes(rt: HostRuntime) {
         (0xFF, CardLife::Terminated),
     ];
     for (code, life) in cards {
-        assert_eq!(rt; life.code(), code);
-        assert_eq!(rt; CardLife::from_code(code), Some(life));
+        assert!(rt; (life.code(), CardLife::from_code(code)) == (code, Some(life)));
     }
     let lives = [
         (0x03, Life::Installed, false),
@@ -60,8 +82,7 @@ fn has_the_codes(rt: HostRuntime) {
     ];
     for (code, life, locked) in lives {
         let mark = LifeMark { life, locked };
-        assert_eq!(rt; mark.code(), code);
-        assert_eq!(rt; LifeMark::from_code(code), Some(mark));
+        assert!(rt; (mark.code(), LifeMark::from_code(code)) == (code, Some(mark)));
     }
     let levels = [
         (0x01, Level::Mac),
@@ -71,41 +92,56 @@ fn has_the_codes(rt: HostRuntime) {
         (0x33, Level::Full),
     ];
     for (code, level) in levels {
-        assert_eq!(rt; level.code(), code);
-        assert_eq!(rt; Level::from_code(code), Some(level));
+        assert!(rt; (level.code(), Level::from_code(code)) == (code, Some(level)));
     }
+}
+
+/// Whether the Issuer Security Domain is found by its AID, and the first of each kind and none behind it.
+fn are_found(tables: &Tables, issuer: &Aid) -> bool
+    requires entries { vec_len tables.now.entries ≡ ENTRIES }
+    requires files { vec_len tables.now.files ≡ FILES }
+{
+    find(tables, issuer) == Some(Found::Entry(0))
+        && next_after(tables, Kind::Issuer, None) == Some(Found::Entry(0))
+        && next_after(tables, Kind::Issuer, Some(issuer)) == None
+        && next_after(tables, Kind::Entries, None) == None
+        && next_after(tables, Kind::Files, None) == Some(Found::File(0))
 }
 
 #[test]
 fn makes_the_factory_card(rt: HostRuntime) -> Result<(), Fail> {
     let tables = Tables::factory(rt.alloc())?;
-    let issuer = tables.entries[0].ok_or("the Issuer Security Domain")?;
-    assert_eq!(rt; issuer.aid.as_bytes(), ISSUER_DOMAIN.as_slice());
-    assert_eq!(rt; find(&tables, &issuer.aid), Some(Found::Entry(0)));
-    let kinds = [
-        (Kind::Issuer, Some(Found::Entry(0))),
-        (Kind::Entries, None),
-        (Kind::Files, Some(Found::File(0))),
-    ];
-    for (kind, first) in kinds {
-        assert_eq!(rt; next_after(&tables, kind, None), first);
-    }
-    assert_eq!(rt; next_after(&tables, Kind::Issuer, Some(&issuer.aid)), None);
-    assert_eq!(rt; set_of(&tables.keys, 0, 0x30), Some([0, 1, 2]));
+    let issuer = Aid::new(&ISSUER_DOMAIN[..8]).ok_or("eight bytes")?;
+    let set = set_of(&tables.keys, 0, 0x30);
+    assert!(rt; are_found(&tables, &issuer) && set == Some([0, 1, 2]));
     Ok(())
+}
+
+/// The key identifiers of Key-ENC, Key-MAC and Key-DEK of a key set, and their key version numbers.
+fn numbers(tables: &Tables, owner: u8, version: u8) -> Option<[(u8, u8); 3]>
+    requires in_order { IsInOrder tables.now }
+    requires version { 1 ≤ version }
+{
+    let set = keys_of_set(tables, owner, version)?;
+    Some([
+        (set.enc.identifier, set.enc.version),
+        (set.mac.identifier, set.mac.version),
+        (set.dek.identifier, set.dek.version),
+    ])
 }
 
 #[test]
 fn finds_the_keys_of_a_set(rt: HostRuntime) -> Result<(), Fail> {
     let tables = Tables::factory(rt.alloc())?;
-    let set = keys_of_set(&tables, 0, 0x30).ok_or("the factory key set")?;
-    for (identifier, key) in [(1, set.enc), (2, set.mac), (3, set.dek)] {
-        assert_eq!(rt; key.identifier, identifier);
-        assert_eq!(rt; key.version, 0x30);
-    }
-    for (owner, version) in [(0, 0x31), (0, 0x70), (0, 0xFF), (1, 0x30)] {
+    for (owner, version, wanted) in [
+        (0, 0x30, Some([(1, 0x30), (2, 0x30), (3, 0x30)])),
+        (0, 0x31, None),
+        (0, 0x70, None),
+        (0, 0xFF, None),
+        (1, 0x30, None),
+    ] {
         assert!(rt;
-            keys_of_set(&tables, owner, version).is_none(),
+            numbers(&tables, owner, version) == wanted,
             "{owner} {version}"
         );
     }

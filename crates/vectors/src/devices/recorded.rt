@@ -1,4 +1,6 @@
-//! A device that records its calls.
+//! A device that records its calls, and holds nothing.
+
+ghost use Rattle.std.specs.Prelude.{[]};
 
 use arrayvec::ArrayVec;
 use flash_core::{Flash, FlashFailed, Page};
@@ -11,17 +13,15 @@ pub enum Call {
     Sync,
 }
 
-/// A device that passes all calls on, and records the first sixteen.
+/// A device that records its first sixteen calls, of which none fails.
 #[derive(Drop)]
-pub struct RecordedFlash<F: Flash> {
-    inner: F,
+pub struct RecordedFlash {
     calls: ArrayVec<Call, 16>,
 }
 
-impl<F: Flash> RecordedFlash<F> {
-    pub fn new(inner: F) -> RecordedFlash<F> {
+impl RecordedFlash {
+    pub fn new() -> RecordedFlash {
         RecordedFlash {
-            inner,
             calls: ArrayVec::new(),
         }
     }
@@ -31,37 +31,37 @@ impl<F: Flash> RecordedFlash<F> {
     }
 }
 
-impl<F: Flash> Flash for RecordedFlash<F> {
-    ghost tells = { F.tells };
+impl Flash for RecordedFlash {
+    ghost tells = { ⊥ };
 
-    ghost pages = { λ f. F.pages f.inner };
+    ghost pages = { λ _. [] };
 
-    ghost moment = { λ f. F.moment f.inner };
+    ghost moment = { λ _. 0 };
 
-    ghost may_leave = { λ f. F.may_leave f.inner };
+    ghost may_leave = { λ _ _. ⊥ };
 
-    ghost left_since = { λ f. F.left_since f.inner };
+    ghost left_since = { λ _ _ _. ⊥ };
 
-    ghost faults = { λ f. F.faults f.inner };
+    ghost faults = { λ _. 0 };
 
-    ghost as_read = { λ f. F.as_read f.inner };
+    ghost as_read = { λ _ told. absurd told };
 
-    ghost counts_now = { λ f. F.counts_now f.inner };
+    ghost counts_now = { λ _ _ _ told. absurd told };
 
-    ghost only_now = { λ f. F.only_now f.inner };
+    ghost only_now = { λ _ _ told. absurd told };
 
-    fn read(&mut self, page: u16, into: &mut Page) -> Result<(), FlashFailed> {
+    fn read(&mut self, page: u16, _into: &mut Page) -> Result<(), FlashFailed> {
         let _fits = self.calls.try_push(Call::Read(page));
-        self.inner.read(page, into)
+        Ok(())
     }
 
-    fn write(&mut self, page: u16, from: &Page) -> Result<(), FlashFailed> {
+    fn write(&mut self, page: u16, _from: &Page) -> Result<(), FlashFailed> {
         let _fits = self.calls.try_push(Call::Write(page));
-        self.inner.write(page, from)
+        Ok(())
     }
 
     fn sync(&mut self) -> Result<(), FlashFailed> {
         let _fits = self.calls.try_push(Call::Sync);
-        self.inner.sync()
+        Ok(())
     }
 }

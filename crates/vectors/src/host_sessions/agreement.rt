@@ -8,14 +8,13 @@ ghost use Rattle.scp03_card.specs.Session as model;
 ghost use Rattle.scp03_host.specs.Agreement.{told_field};
 ghost use Rattle.scp03_host.specs.Wrapped.{having_sent};
 
-use super::{HOST, keys};
+use super::{HOST, LEVELS, keys};
 use aes_block::{Aes128, Aes192, Aes256, BlockKey};
 use apdu_core::{Command, Status};
 use arrayvec::ArrayVec;
 use card_types::{Aid, Level};
 use scp03_card::{Offer, Session, offer};
 use scp03_host::{HostSession, begin};
-use std::test::Fail;
 
 const KEYS: [u8; 32] = *b"@ABCDEFGHIJKLMNOPQRSTUVWXYZ[\\]^_";
 
@@ -73,19 +72,15 @@ fn plain_reply(field: &[u8]) -> ArrayVec<u8, 258>
 
 // A command and its reply, at each level and for each length of keys.
 #[test]
-fn both_ends(rt: HostRuntime) -> Result<(), Fail> {
-    for level in [
-        Level::Mac,
-        Level::EncMac,
-        Level::MacR,
-        Level::EncMacR,
-        Level::Full,
-    ] {
-        assert_eq!(rt; talk::<Aes128>(level), Ok(()), "{level:?}");
-        assert_eq!(rt; talk::<Aes192>(level), Ok(()), "{level:?}");
-        assert_eq!(rt; talk::<Aes256>(level), Ok(()), "{level:?}");
+fn both_ends(rt: HostRuntime) {
+    for level in LEVELS {
+        let told = [
+            talk::<Aes128>(level),
+            talk::<Aes192>(level),
+            talk::<Aes256>(level),
+        ];
+        assert!(rt; told == [Ok(()); 3], "{level:?}");
     }
-    Ok(())
 }
 
 /// The data field that the card answers to INITIALIZE UPDATE, as far as the host reads it.
@@ -96,43 +91,76 @@ fn update_reply<K: BlockKey>(offer: &Offer<K>) -> [u8; 32] {
     reply
 }
 
-/// A session of as many commands as there are lengths of a data field, with a reply of each length.
-fn talk<K: BlockKey>(level: Level) -> Result<(), &'static str> {
-    let key = &KEYS[..K::LEN];
+fn offered<K: BlockKey>() -> Result<Offer<K>, &'static str> {
     let aid = Aid::new(b"\xa0\0\0\x01\x51\0\0\0").ok_or("an AID")?;
-    let offer = offer::<K>(keys(key), 0x01fffe, &aid, &HOST);
-    let update = update_reply(&offer);
-    let mut out = ArrayVec::new();
-    let mut host = begin(keys::<K>(key), &HOST, &update, level, 0, &mut out)
+    Ok(offer::<K>(keys(&KEYS[..K::LEN]), 0x01fffe, &aid, &HOST))
+}
+
+/// The host's end, with EXTERNAL AUTHENTICATE in `out`.
+fn begun_host<K: BlockKey>(
+    level: Level,
+    update: &[u8; 32],
+    out: &mut ArrayVec<u8, 261>,
+) -> Result<HostSession<K>, &'static str> {
+    begin(keys::<K>(&KEYS[..K::LEN]), &HOST, update, level, 0, out)
         .ok()
-        .ok_or("the card's cryptogram")?;
-    let sent = Command::read(&out).ok().ok_or("a command")?;
-    let body = sent.body.try_into().ok().ok_or("a body")?;
-    let mut card = offer
+        .ok_or("the card's cryptogram")
+}
+
+/// The card's end, after it.
+fn begun_card<K: BlockKey>(
+    level: Level,
+    offer: Offer<K>,
+    sent: &[u8],
+) -> Result<Session<K>, &'static str> {
+    let command = Command::read(sent).ok().ok_or("a command")?;
+    let body = command.body.try_into().ok().ok_or("a body")?;
+    offer
         .authenticate(level, body)
         .ok()
-        .ok_or("the host's answer")?;
-    let bytes = [0x5a; 239];
+        .ok_or("the host's answer")
+}
+
+/// A command with the first part of these bytes, and a reply with the rest.
+fn exchange<K: BlockKey>(
+    host: &mut HostSession<K>,
+    card: &mut Session<K>,
+    bytes: &[u8; 239],
+    len: u8,
+) -> Result<(), &'static str>
+    requires { len ≤ 239 }
+{
+    let sent = &bytes[..usize::from(len)];
+    let reply = &bytes[usize::from(len)..];
+    let command = Command {
+        class: 0x80,
+        ins: 0xe2,
+        p1: 0x90,
+        p2: len,
+        body: sent,
+        le: None,
+    };
+    let mut field = [0; 255];
+    let count = deliver(host, card, &command, &mut field).ok_or("opened")?;
+    if field.get(..count) != Some(sent) {
+        return Err("the plain data field");
+    }
+    let mut told = ArrayVec::new();
+    let status = answer(host, card, reply, Status(0x9000), &mut told);
+    if (status, told.as_slice()) != (Some(Status(0x9000)), reply) {
+        return Err("the plain reply");
+    }
+    Ok(())
+}
+
+/// A session of as many commands as there are lengths of a data field, with a reply of each length.
+fn talk<K: BlockKey>(level: Level) -> Result<(), &'static str> {
+    let offer = offered::<K>()?;
+    let mut out = ArrayVec::new();
+    let mut host = begun_host(level, &update_reply(&offer), &mut out)?;
+    let mut card = begun_card(level, offer, &out)?;
     for len in 0..=239 {
-        let command = Command {
-            class: 0x80,
-            ins: 0xe2,
-            p1: 0x90,
-            p2: len,
-            body: &bytes[..usize::from(len)],
-            le: None,
-        };
-        let mut field = [0; 255];
-        let count = deliver(&mut host, &mut card, &command, &mut field).ok_or("opened")?;
-        if field.get(..count) != Some(command.body) {
-            return Err("the plain data field");
-        }
-        let mut told = ArrayVec::new();
-        let reply = &bytes[usize::from(len)..];
-        let status = answer(&mut host, &mut card, reply, Status(0x9000), &mut told);
-        if (status, told.as_slice()) != (Some(Status(0x9000)), reply) {
-            return Err("the plain reply");
-        }
+        exchange(&mut host, &mut card, &[0x5a; 239], len)?;
     }
     Ok(())
 }

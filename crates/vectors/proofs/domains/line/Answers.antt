@@ -2,7 +2,7 @@ use Rattle.std.proofs.Common.{◌≡◌, ℕ, zero, suc, [], ◌∷◌, None, So
 use Rattle.card_types.specs.Slots.{held}
 use Rattle.card_types.specs.declared.tables.Entry.{Entry}
 use Rattle.domain_tree.specs.Slots.{IsFreeOfLoops}
-use Rattle.vectors.proofs.domains.walks_up_a_line_of_three.Goals as goal
+use Rattle.vectors.proofs.domains.line.Goals as goal
 
 none_held : {T : Type 0} (count slot : ℕ) (thing : T) → held (replicate count None) slot ≡ Some thing → ⊥
 none_held zero slot thing at = cc
@@ -16,8 +16,5 @@ three_free a b c of_a of_b of_c (suc zero) entry at =
 three_free a b c of_a of_b of_c (suc (suc zero)) entry at = (2 ∷ 0 ∷ [], (refl, λ same. omega arith, ap Some of_c, (refl, ap Some of_a)))
 three_free a b c of_a of_b of_c (suc (suc (suc slot))) entry at = absurd (none_held 29 slot entry at)
 
-pub loop-a-init : goal.loop-a-init
-loop-a-init g c = record {
-  free = three_free _ _ _ refl refl refl;
-  whole = refl;
-}
+pub returns : goal.returns
+returns c = three_free _ _ _ refl refl refl
