@@ -8,6 +8,8 @@ pub mod KeysSaid
 pub mod Listing
 pub mod LoadReads
 pub mod Managing
+pub mod ObjectSlots
+pub mod ObjectsPut
 pub mod OfferMade
 pub mod Offered
 pub mod Over
@@ -17,6 +19,3 @@ pub mod PutKeyDone
 pub mod PutKeyTables
 pub mod Serving
 pub mod Standing
-pub mod StoreDataDone
-pub mod StoreDataPut
-pub mod StoreDataSlots

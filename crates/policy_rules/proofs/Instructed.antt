@@ -1,5 +1,5 @@
 -- Instruction bytes and the lists that have them.
-use Rattle.std.proofs.Common.{◌≡◌, ℕ, Bool, true, false, List, [], ◌∷◌, refl, subst, inl, inr, arith}
+use Rattle.std.proofs.Common.{◌≡◌, ℕ, Bool, true, false, List, [], ◌∷◌, ◌++◌, refl, subst, inl, inr, arith}
 use Rattle.std.specs.List.{list_all, list_any}
 use Rattle.std.specs.Prelude.{Contains, ◌&&◌, ◌||◌, ◌==◌}
 use Rattle.std.proofs.lemmas.Bool.{eq-eqb, eqb-true}
@@ -38,3 +38,19 @@ each_byte test (first ∷ bytes) all byte there = by (test first) refl all (λ r
       | inr later ↦ behind rest later
     ]
     by false is rest behind = cc
+
+-- the bytes of one list are in another
+pub all_among : (these all : List ℕ) → list_all (λ n. list_any (λ one. one == n) all) these ≡ true → (byte : ℕ) → Contains these byte → Contains all byte
+all_among these all are byte there = among all byte (each_byte (λ n. list_any (λ one. one == n) all) these are byte there)
+
+-- what is not in the front is behind it
+pub any_behind : (front rest : List ℕ) (byte : ℕ) → list_any (λ one. one == byte) front ≡ false
+    → list_any (λ one. one == byte) (front ++ rest) ≡ list_any (λ one. one == byte) rest
+any_behind [] rest byte none = refl
+any_behind (first ∷ front) rest byte none = by (first == byte) none (any_behind front rest byte)
+  where
+    by : (test : Bool) → (test || list_any (λ one. one == byte) front) ≡ false
+        → (list_any (λ one. one == byte) front ≡ false → list_any (λ one. one == byte) (front ++ rest) ≡ list_any (λ one. one == byte) rest)
+        → (test || list_any (λ one. one == byte) (front ++ rest)) ≡ list_any (λ one. one == byte) rest
+    by true none behind = cc
+    by false none behind = behind none

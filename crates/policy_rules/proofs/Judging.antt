@@ -48,6 +48,12 @@ module _ (form : CommandForm) (listed : IsListed form) (admitted : Admitted) (ta
   pub does_so : (done : Effect) → form.does admitted done → Does admitted done
   does_so done does = one_here (λ f. TakesCommand f admitted.command × f.does admitted done) (takes, does)
 
+  -- a refusal by a rule of the form's own
+  pub err_judged : {T : Type 0} → rules_before_form form.instruction ≡ [] → (result : Result T Rule)
+      → IfErr result (λ rule. IsFirst (form.fails admitted) form.rules (Some rule)) → IfErr result (λ rule. Judges admitted (Some rule))
+  err_judged none (Ok x) first = first
+  err_judged none (Err rule) first = judged none (Some rule) first
+
 -- what is malformed is refused by a rule on the form
 malformed_first : (admitted : Admitted) (rule : Rule)
     → IsMalformed admitted.command.ins admitted.command.p1 admitted.command.p2 admitted.command.body rule

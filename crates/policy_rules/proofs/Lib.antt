@@ -5,6 +5,7 @@ pub mod Channels
 pub mod Chosen
 pub mod DataAsked
 pub mod DataFound
+pub mod DataWell
 pub mod DeleteKeyJudging
 pub mod DeleteKeyKeeps
 pub mod DeleteKeyLaws
@@ -30,6 +31,8 @@ pub mod LastSet
 pub mod Lawful
 pub mod ManageChannelLaws
 pub mod ManagementFirst
+pub mod NewTags
+pub mod ObjectStored
 pub mod Offers
 pub mod OneOutcome
 pub mod OneSet
@@ -49,11 +52,6 @@ pub mod Selected
 pub mod SessionSets
 pub mod SetChannel
 pub mod StandingSet
-pub mod StoreDataCount
 pub mod StoreDataElements
-pub mod StoreDataJudging
-pub mod StoreDataKeeps
 pub mod StoreDataLaws
-pub mod StoreDataObject
-pub mod StoreDataOnce
-pub mod StoreDataTags
+pub mod StoredCount

@@ -20,7 +20,7 @@ use Rattle.std.specs.List.{list_any}
 use Rattle.policy_rules.specs.CommandForm.{CommandForm}
 use Rattle.policy_rules.specs.Commands.{Does, DoesAs, OneOf, forms_of}
 use Rattle.policy_rules.proofs.AllLawful.{AllOf, all_lawful}
-use Rattle.policy_rules.proofs.Instructed.{among, each_byte, found_among}
+use Rattle.policy_rules.proofs.Instructed.{all_among, each_byte, found_among}
 use Rattle.policy_rules.proofs.Lawful.{IsLawful, same_as}
 
 -- a command that is none of card content management changes no more than the numbers of sequence counters
@@ -44,7 +44,7 @@ always_protected : (ins : ℕ) → Contains managing ins → protects (Some Secu
 always_protected ins managed = each_byte (protects (Some Secure)) managing refl ins managed
 
 pub is_management : (ins : ℕ) → Contains managing ins → Contains management ins
-is_management ins managed = among management ins (each_byte (λ n. list_any (λ one. one == n) management) managing refl ins managed)
+is_management ins managed = all_among managing management refl ins managed
 
 pub managed_protected : (class : Option Class) (ins : ℕ) → IsOfClass class ins → (class ≡ Some Plain → ⊥) → Contains managing ins → protects class ins ≡ true
 managed_protected None ins known other managed = absurd known

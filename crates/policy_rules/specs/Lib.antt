@@ -4,6 +4,7 @@ pub mod Changes
 pub mod Classes
 pub mod CommandForm
 pub mod Commands
+pub mod DataObjects
 pub mod DeleteKey
 pub mod ExternalAuthenticate
 pub mod FirstFailing

@@ -1,16 +1,15 @@
 -- STORE DATA (GlobalPlatform Card Specification 2.3.1, 11.11): data objects of the selected domain are put, each in the place of
 -- the one with its tag.
-use Rattle.std.specs.Prelude.{◌≡◌, ◌≢◌, ◌⊎◌, ℕ, ◌<◌, List, [], ◌∷◌, All, Bool, codes, filter, length, not, ◌&&◌, ◌==◌}
-use Rattle.std.specs.List.{fold}
+use Rattle.std.specs.Prelude.{◌≡◌, ◌≢◌, ◌⊎◌, ℕ, ◌<◌, List, [], ◌∷◌, All, codes, length}
 use Rattle.bertlv.specs.Spelling.{AreElements, Element}
-use Rattle.card_types.specs.AidOrder.{same_aid}
 use Rattle.card_types.specs.Ascending.{object_order}
-use Rattle.card_types.specs.Registry.{Object, Registry}
+use Rattle.card_types.specs.Registry.{Object}
 use Rattle.card_types.specs.Well.{IsObject}
 use Rattle.card_types.specs.declared.limits.TheConstants.{OBJECTS}
 use Rattle.policy_rules.specs.Admission.{Admitted}
 use Rattle.policy_rules.specs.Arranged.{IsArranged}
 use Rattle.policy_rules.specs.CommandForm.{CommandForm}
+use Rattle.policy_rules.specs.DataObjects.{with_data, with_objects}
 use Rattle.policy_rules.specs.Management.{ManagementFails, acting}
 use Rattle.policy_rules.specs.State.{Effect}
 use Rattle.policy_rules.specs.declared.management.RuleM.TheVariants.{M1, M2}
@@ -32,18 +31,6 @@ pub record HasObjects (body : List ℕ) (elements : List Element) : Type 0 where
 abbrev pub StoreDataField : List ℕ → Type 0
 StoreDataField body = (elements : List Element) × HasObjects body elements
 
-abbrev pub is_object_of : List ℕ → ℕ → Object → Bool
-is_object_of owner tag object = same_aid object.owner owner && object.tag == tag
-
--- the objects with one that is put in the place of the one with its tag; of the order nothing is said
-abbrev pub with_object : List ℕ → List Object → Element → List Object
-with_object owner objects element =
-    record { owner = owner; tag = element.tag; value = element.value } ∷ filter (λ object. not (is_object_of owner element.tag object)) objects
-
--- with several, one after the other: a tag that comes twice has its last value
-abbrev pub with_objects : List ℕ → List Object → List Element → List Object
-with_objects owner objects elements = fold (with_object owner) objects elements
-
 abbrev pub store_data_rule_name : RuleSD → List ℕ
 store_data_rule_name SD1 = codes "SD1"
 
@@ -62,17 +49,6 @@ StoreDataFails admitted (M rule) = ManagementFails admitted rule
 -- the card would have too many data objects
 StoreDataFails admitted (SD SD1) = (elements : List Element) × HasObjects admitted.command.body elements × (OBJECTS < length (objects_stored admitted elements))
 StoreDataFails admitted rule = ⊥
-
--- the registry with other data objects
-abbrev pub with_data : Registry → List Object → Registry
-with_data registry objects = record {
-  life = registry.life;
-  entries = registry.entries;
-  files = registry.files;
-  keys = registry.keys;
-  counters = registry.counters;
-  objects = objects;
-}
 
 -- The objects are put. The reply is empty.
 pub record StoreDataDoes (admitted : Admitted) (done : Effect) : Type 0 where

@@ -22,14 +22,15 @@ pub enum Class {
 
 const INTERINDUSTRY: [u8; 3] = [SELECT, MANAGE_CHANNEL, GET_DATA];
 
-const PLAIN: [u8; 5] = [GET_DATA, INITIALIZE_UPDATE, PUT_KEY, STORE_DATA, DELETE];
+const PLAIN: [u8; 2] = [GET_DATA, INITIALIZE_UPDATE];
 
-const SECURE: [u8; 5] = [EXTERNAL_AUTHENTICATE, GET_DATA, PUT_KEY, STORE_DATA, DELETE];
+const SECURE: [u8; 2] = [EXTERNAL_AUTHENTICATE, GET_DATA];
 
-/// The instructions of card content management. Some of them no class has yet.
-const MANAGEMENT: [u8; 7] = [
-    DELETE, INSTALL, LOAD, PUT_KEY, STORE_DATA, SET_STATUS, GET_STATUS,
-];
+/// The instructions of card content management that both of these classes have.
+const MANAGING: [u8; 3] = [PUT_KEY, STORE_DATA, DELETE];
+
+/// Those that no class has yet.
+const UNBUILT: [u8; 4] = [INSTALL, LOAD, SET_STATUS, GET_STATUS];
 
 impl Class {
     /// The class of a class byte.
@@ -50,8 +51,8 @@ impl Class {
     {
         match self {
             Class::Interindustry => INTERINDUSTRY.contains(&ins),
-            Class::Plain => PLAIN.contains(&ins),
-            Class::Secure => SECURE.contains(&ins),
+            Class::Plain => PLAIN.contains(&ins) || MANAGING.contains(&ins),
+            Class::Secure => SECURE.contains(&ins) || MANAGING.contains(&ins),
         }
     }
 }
@@ -60,7 +61,7 @@ impl Class {
 pub fn is_plain_management(class: Class, ins: u8) -> bool
     ensures { IsTrue result ↔ ((class ≡ ThePlain) × Contains management ins) }
 {
-    class == Class::Plain && MANAGEMENT.contains(&ins)
+    class == Class::Plain && (MANAGING.contains(&ins) || UNBUILT.contains(&ins))
 }
 
 /// Whether a command of this class and instruction is protected by the session of its channel.

@@ -4,8 +4,8 @@ ghost use Rattle.std.specs.Prelude.{◌≡◌, ◌↔◌, ℕ, List, None, Some,
 ghost use Rattle.std.specs.List.{list_any};
 ghost use Rattle.card_types.specs.InOrder.{IsInOrder};
 ghost use Rattle.policy_rules.specs.Admission.{Admitted};
-ghost use Rattle.policy_rules.specs.DeleteKey.{Chooses, DeleteFails, DeleteField, IsLastSet, NamesPart, deletion_rules, delete_key_rule_name, delete_key_rule_status};
-ghost use Rattle.policy_rules.specs.FirstFailing.{IsFirst};
+ghost use Rattle.policy_rules.specs.DeleteKey.{Chooses, DeleteField, IsLastSet, NamesPart, delete_key_rule_name, delete_key_rule_status};
+ghost use Rattle.policy_rules.specs.Commands.{Judges};
 ghost use Rattle.policy_rules.specs.KeyOrder.{holds_counter_but as holds_counter_but_by};
 ghost use Rattle.policy_rules.specs.Means.{ActsIn, IsRequestOf, Parses};
 ghost use Rattle.policy_rules.specs.declared.instruction.TheConstants.{DELETE};
@@ -123,10 +123,10 @@ pub fn judge_delete_key(
 ) -> Result<(), Rule>
     requires in_order { IsInOrder tables.now }
     ensures passed { (page : ℕ → List ℕ) (admitted : Admitted) → ActsIn page tables.now domain admitted
-        → IsRequestOf (DeleteKey version identifier) admitted.command → OnOk result (IsFirst (DeleteFails admitted) deletion_rules None) }
+        → IsRequestOf (DeleteKey version identifier) admitted.command → OnOk result (Judges admitted None) }
     ensures refused { (page : ℕ → List ℕ) (admitted : Admitted) → ActsIn page tables.now domain admitted
         → IsRequestOf (DeleteKey version identifier) admitted.command
-        → IfErr result (λ rule. IsFirst (DeleteFails admitted) deletion_rules (Some rule)) }
+        → IfErr result (λ rule. Judges admitted (Some rule)) }
 {
     judge_management(tables, domain)?;
     if !has_version(&tables.keys, domain, version) || names_part(version, identifier) {

@@ -27,8 +27,7 @@ pub use external_authenticate::RuleEA;
 pub use get_data::{Datum, RuleGD, judge_get_data};
 pub use initialize_update::{OfferedSet, RuleIU, judge_initialize_update};
 pub use instruction::{
-    DELETE, EXTERNAL_AUTHENTICATE, GET_DATA, GET_STATUS, INITIALIZE_UPDATE, INSTALL, LOAD,
-    MANAGE_CHANNEL, PUT_KEY, SELECT, SET_STATUS, STORE_DATA,
+    EXTERNAL_AUTHENTICATE, GET_DATA, INITIALIZE_UPDATE, MANAGE_CHANNEL, SELECT, instruction_bytes,
 };
 pub use key_order::{KeyName, lowest_set, next_key, numbered_set};
 pub use laws::{changes_are_opened, one_form, one_outcome, refusals_drop_offers, steps_keep_sound};

@@ -4,18 +4,12 @@ ghost use Rattle.std.specs.Prelude.{IfOk, IfErr};
 ghost use Rattle.policy_rules.specs.Commands.{IsBuilt, Takes};
 ghost use Rattle.policy_rules.specs.Means.{IsMalformed, Means, form_in};
 
-use crate::delete_key::parse_delete;
-use crate::external_authenticate::parse_external_authenticate;
-use crate::get_data::parse_get_data;
-use crate::initialize_update::parse_initialize_update;
-use crate::instruction::{
-    DELETE, GET_DATA, INITIALIZE_UPDATE, MANAGE_CHANNEL, PUT_KEY, SELECT, STORE_DATA,
-};
-use crate::manage_channel::parse_manage_channel;
-use crate::put_key::{PutKeys, parse_put_key};
+use crate::put_key::PutKeys;
 use crate::rule::Rule;
-use crate::select::parse_select;
-use crate::store_data::parse_store_data;
+use crate::{
+    delete_key, external_authenticate, get_data, initialize_update, instruction, manage_channel,
+    put_key, select, store_data,
+};
 use card_types::Level;
 
 /// The fields of a well-formed command.
@@ -70,13 +64,13 @@ pub fn parse(ins: u8, p1: u8, p2: u8, body: &[u8]) -> Result<Request<'_>, Rule>
     ensures refused { IfErr result (IsMalformed ins p1 p2 body.now) }
 {
     match ins {
-        SELECT => parse_select(p1, p2, body),
-        MANAGE_CHANNEL => parse_manage_channel(p1, p2, body),
-        GET_DATA => parse_get_data(p1, p2, body),
-        INITIALIZE_UPDATE => parse_initialize_update(p1, p2, body),
-        PUT_KEY => parse_put_key(p1, p2, body),
-        STORE_DATA => parse_store_data(p1, p2, body),
-        DELETE => parse_delete(p1, p2, body),
-        _ => parse_external_authenticate(p1, p2, body),
+        instruction::SELECT => select::parse_select(p1, p2, body),
+        instruction::MANAGE_CHANNEL => manage_channel::parse_manage_channel(p1, p2, body),
+        instruction::GET_DATA => get_data::parse_get_data(p1, p2, body),
+        instruction::INITIALIZE_UPDATE => initialize_update::parse_initialize_update(p1, p2, body),
+        instruction::PUT_KEY => put_key::parse_put_key(p1, p2, body),
+        instruction::STORE_DATA => store_data::parse_store_data(p1, p2, body),
+        instruction::DELETE => delete_key::parse_delete(p1, p2, body),
+        _ => external_authenticate::parse_external_authenticate(p1, p2, body),
     }
 }

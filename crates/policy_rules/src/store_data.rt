@@ -7,10 +7,10 @@ ghost use Rattle.card_types.specs.Says.{used};
 ghost use Rattle.card_types.specs.Well.{IsObject};
 ghost use Rattle.card_types.specs.declared.limits.TheConstants.{OBJECTS};
 ghost use Rattle.policy_rules.specs.Admission.{Admitted};
-ghost use Rattle.policy_rules.specs.FirstFailing.{IsFirst};
+ghost use Rattle.policy_rules.specs.Commands.{Judges};
 ghost use Rattle.policy_rules.specs.Means.{ActsIn, IsRequestOf, Parses};
 ghost use Rattle.policy_rules.specs.ObjectsFound.{AreObjects, has_object_in, has_tag_in, is_tagged_in, new_tags};
-ghost use Rattle.policy_rules.specs.StoreData.{StoreDataFails, StoreDataField, StoreDataParameters, store_data_rule_name, store_data_rule_status, store_rules};
+ghost use Rattle.policy_rules.specs.StoreData.{StoreDataField, StoreDataParameters, store_data_rule_name, store_data_rule_status};
 ghost use Rattle.policy_rules.specs.declared.instruction.TheConstants.{STORE_DATA};
 ghost use Rattle.policy_rules.specs.declared.request.Request.TheVariants.{Store};
 
@@ -163,9 +163,9 @@ fn count_used(objects: &[Option<Object>]) -> usize
 pub fn judge_store_data(tables: &Tables, domain: u8, objects: &[u8]) -> Result<(), Rule>
     requires in_order { IsInOrder tables.now }
     ensures passed { (page : ℕ → List ℕ) (admitted : Admitted) → ActsIn page tables.now domain admitted
-        → IsRequestOf (Store objects.entry) admitted.command → OnOk result (IsFirst (StoreDataFails admitted) store_rules None) }
+        → IsRequestOf (Store objects.entry) admitted.command → OnOk result (Judges admitted None) }
     ensures refused { (page : ℕ → List ℕ) (admitted : Admitted) → ActsIn page tables.now domain admitted
-        → IsRequestOf (Store objects.entry) admitted.command → IfErr result (λ rule. IsFirst (StoreDataFails admitted) store_rules (Some rule)) }
+        → IsRequestOf (Store objects.entry) admitted.command → IfErr result (λ rule. Judges admitted (Some rule)) }
     ensures roomy { (are : List Element) → AreElements are objects.now
         → OnOk result (length (used tables.now.objects.items) + new_tags (has_object_in tables.now.objects.items domain) are ≤ OBJECTS) }
 {

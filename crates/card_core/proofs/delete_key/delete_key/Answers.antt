@@ -6,7 +6,6 @@ use Rattle.card_types.specs.InOrder.{IsInOrder}
 use Rattle.card_types.specs.Says.{Says}
 use Rattle.card_types.specs.declared.tables.Tables.{Tables}
 use Rattle.policy_rules.proofs.DeleteKeyKeeps.{without_version}
-use Rattle.policy_rules.proofs.DeleteKeyLaws.{deletion_judged}
 use Rattle.policy_rules.proofs.Judging.{does_so}
 use Rattle.policy_rules.specs.DeleteKey.{delete_key}
 use Rattle.policy_rules.specs.Means.{ActsIn}
@@ -20,8 +19,7 @@ pub returns-in_err-judge_delete_key-clause-done : goal.returns-in_err-judge_dele
 returns-in_err-judge_delete_key-clause-done g c page admitted acts ascending request =
     let here = subst (λ (t : Tables). ActsIn page t c.args.domain admitted) (sym c.tables.ensures.tables) acts in
     refusal_managed admitted page c.args.records.now.tables c.args.reply.now.items c.from_residual.result c.in_err-judge_delete_key.field-0.0 c.from_residual.ensures.1
-    (deletion_judged admitted (Some c.in_err-judge_delete_key.field-0.0) request.form
-    (c.in_err-judge_delete_key.ensures.refused page admitted here request))
+    (c.in_err-judge_delete_key.ensures.refused page admitted here request)
     c.requires.empty
 
 pub returns-clause-done : goal.returns-clause-done
@@ -31,8 +29,7 @@ returns-clause-done g c page admitted acts ascending request =
     let says = deleted_says c.args.records.now c.delete.new.keeper c.delete.ensures.same_else c.args.domain c.args.version c.delete.ensures.deletes page
     admitted.at.registry acts.says acts.well acts.entry acts.at in
     record {
-      judges = deletion_judged admitted None request.form
-          (c.in_ok-judge_delete_key.ensures.passed page admitted here request);
+      judges = c.in_ok-judge_delete_key.ensures.passed page admitted here request;
       done = record { state = record { registry = registry; volatile = admitted.at.volatile }; body = 0x00 ∷ []; status = 0x9000 };
       does = does_so delete_key (λ holds here. inl here) admitted request.form _ (record {
         version = c.args.version;

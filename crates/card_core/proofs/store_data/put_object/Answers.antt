@@ -2,7 +2,7 @@ use Rattle.std.proofs.Common.{sym, subst}
 use Rattle.rec_store.proofs.Rooms.{room_stays}
 use Rattle.rec_store.specs.Places.{object_page}
 use Rattle.rec_store.specs.Room.{HasRoomFor}
-use Rattle.card_core.proofs.StoreDataSlots.{among_pages}
+use Rattle.card_core.proofs.ObjectSlots.{among_pages}
 use Rattle.card_core.specs.ObjectsPut.{object_pages}
 use Rattle.card_core.proofs.store_data.put_object.Goals as goal
 

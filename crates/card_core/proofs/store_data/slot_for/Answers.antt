@@ -1,7 +1,7 @@
 use Rattle.std.proofs.Common.{inr, arith, rules}
 use Rattle.card_types.specs.First.{IsFirstFree}
 use Rattle.card_types.proofs.Room.{free_found}
-use Rattle.card_core.proofs.StoreDataSlots.{none_tagged}
+use Rattle.card_core.proofs.ObjectSlots.{none_tagged}
 use Rattle.card_core.proofs.store_data.slot_for.Goals as goal
 
 pub unwrap-requires : goal.unwrap-requires

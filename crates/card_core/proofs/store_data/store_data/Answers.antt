@@ -1,22 +1,67 @@
-use Rattle.std.proofs.Common.{[], ◌+◌, ◌≤◌, List, None, Some, length, refl, sym, subst, ◌∙◌, rules}
+use Rattle.std.proofs.Common.{[], ◌+◌, ◌≤◌, List, None, Some, length, refl, sym, subst, ◌∙◌, rules, ◌≡◌, ℕ, inl, ap}
 use Rattle.std.specs.Prelude.{All}
 use Rattle.std.proofs.lemmas.List.Elements.{All-head}
-use Rattle.bertlv.specs.Spelling.{Element}
+use Rattle.bertlv.specs.Spelling.{Element, AreElements}
 use Rattle.card_types.specs.InOrder.{IsInOrder}
 use Rattle.card_types.specs.Says.{used}
 use Rattle.card_types.specs.Well.{IsObject}
 use Rattle.card_types.specs.declared.limits.TheConstants.{OBJECTS}
 use Rattle.policy_rules.proofs.StoreDataElements.{elements_behind, none_left}
-use Rattle.policy_rules.proofs.StoreDataLaws.{store_judged}
 use Rattle.policy_rules.specs.Means.{ActsIn}
 use Rattle.policy_rules.specs.ObjectsFound.{has_object_in, new_tags}
 use Rattle.card_core.proofs.Cards.{in_order}
 use Rattle.card_core.proofs.Managing.{refusal_managed}
-use Rattle.card_core.proofs.StoreDataSlots.{room_first}
-use Rattle.card_core.proofs.StoreDataPut.{ArePut, all_same, are_cards_after, at_most, none_put, put_after, same_after}
-use Rattle.card_core.proofs.StoreDataDone.{all_managed, objects_of}
+use Rattle.card_core.proofs.ObjectSlots.{room_first}
+use Rattle.card_core.proofs.ObjectsPut.{ArePut, all_same, are_cards_after, at_most, none_put, put_after, same_after}
 use Rattle.card_core.specs.ObjectsPut.{object_with}
+use Rattle.apdu_core.specs.Apdu.{Apdu}
+use Rattle.apdu_core.specs.declared.reply.Status.{Status}
+use Rattle.card_types.specs.Ascending.{object_order}
+use Rattle.card_types.specs.declared.tables.Tables.{Tables}
+use Rattle.policy_rules.proofs.Judging.{does_so}
+use Rattle.policy_rules.specs.Admission.{Admitted}
+use Rattle.policy_rules.specs.Arranged.{IsArranged}
+use Rattle.policy_rules.specs.Commands.{TakesCommand, Judges}
+use Rattle.policy_rules.specs.State.{Effect}
+use Rattle.policy_rules.specs.DataObjects.{with_data, with_objects}
+use Rattle.policy_rules.specs.StoreData.{HasObjects, StoreDataDoes, StoreDataField, store_data}
+use Rattle.card_core.specs.Manages.{IsManaged}
+use Rattle.card_types.specs.Registry as registry
 use Rattle.card_core.proofs.store_data.store_data.Goals as goal
+
+-- the data objects of a command
+objects_of : (objects : List ℕ) (command : Apdu) → objects ≡ command.body → StoreDataField command.body
+    → (elements : List Element) × AreElements elements objects × HasObjects command.body elements
+objects_of objects command same asks = (asks.0, subst (AreElements asks.0) (sym same) asks.1.spelled, asks.1)
+
+-- once all are put, the command has done what it does
+all_managed : (page : ℕ → List ℕ) (before now : Tables) (domain : ℕ) (admitted : Admitted) → ActsIn page before domain admitted → TakesCommand store_data admitted.command
+    → Judges admitted None → (elements : List Element) → HasObjects admitted.command.body elements → ArePut before now domain elements [] → (status : Status) → status.0 ≡ 0x9000
+    → IsManaged admitted page now [] status
+all_managed page before now domain admitted acts takes judges elements has put status done =
+    let said = admitted.at.registry in
+    let part = put.shows page said acts.says acts.well in
+    let things = part.rest ∙ ap (λ (owner : List ℕ). with_objects owner said.objects elements) (sym acts.on) in
+    let effect : Effect = record { state = record { registry = with_data said part.objects; volatile = admitted.at.volatile }; body = []; status = 0x9000 } in
+    let does : StoreDataDoes admitted effect = record {
+      elements = elements;
+      objects = part.objects;
+      has = has;
+      arranged = subst (λ (os : List registry.Object). IsArranged object_order os part.objects) things part.arranged;
+      registry = refl;
+      volatile = refl;
+      body = refl;
+      status = refl;
+    } in
+    record {
+      judges = judges;
+      done = effect;
+      does = does_so store_data (λ holds here. inl here) admitted takes effect does;
+      volatile = refl;
+      says = part.says;
+      body_is = refl;
+      status_is = done;
+    }
 
 pub judge_store_data-requires : goal.judge_store_data-requires
 judge_store_data-requires g c = record { in_order = subst IsInOrder (sym c.tables.ensures.tables) (in_order c.args.records.now.tables c.requires.cards) }
@@ -26,7 +71,7 @@ returns-in_err-judge_store_data-clause-done g c page admitted acts ascending req
     let found = c.in_err-judge_store_data.field-0.0 in
     let first = c.in_err-judge_store_data.ensures.refused page admitted (subst (λ t. ActsIn page t c.args.domain admitted) (sym c.tables.ensures.tables) acts) request in
     refusal_managed admitted page c.args.records.now.tables [] c.from_residual.result found c.from_residual.ensures.1
-    (store_judged admitted (Some found) request.form first) refl
+    first refl
 
 pub loop-element-init : goal.loop-element-init
 loop-element-init g c = record {
@@ -94,7 +139,7 @@ returns-clause-done g c page admitted acts ascending request =
     let none = none_left behind.0 c.loop-element.rest.now behind.1 c.in_default.ensures.only in
     let first = c.in_ok-judge_store_data.ensures.passed page admitted (subst (λ t. ActsIn page t c.args.domain admitted) (sym c.tables.ensures.tables) acts) request in
     all_managed page before now c.args.domain admitted acts request.form
-    (store_judged admitted None request.form first)
+    first
     elements.0 elements.2 (subst (ArePut before now c.args.domain elements.0) none behind.2) _ refl
 
 pub returns-clause-cards : goal.returns-clause-cards

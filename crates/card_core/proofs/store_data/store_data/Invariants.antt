@@ -3,7 +3,7 @@ use Rattle.std.specs.Prelude.{All}
 use Rattle.bertlv.specs.Spelling.{AreElements, Element}
 use Rattle.card_types.specs.Well.{IsObject}
 use Rattle.rec_store.specs.Room.{HasRoomFor}
-use Rattle.card_core.proofs.StoreDataPut.{ArePut, SameButObjects}
+use Rattle.card_core.proofs.ObjectsPut.{ArePut, SameButObjects}
 use Rattle.card_core.specs.ObjectsPut.{object_pages}
 use Rattle.card_core.proofs.store_data.store_data.Given as goal
 

@@ -1,20 +1,17 @@
 use Rattle.std.proofs.Common.{rules, ◌≡◌, None, Some, sym, ap, ◌∙◌}
 use Rattle.std.specs.Prelude.{slice_index_or}
-use Rattle.policy_rules.specs.DeleteKey.{DeleteFails, deletion_rules}
+use Rattle.policy_rules.specs.Commands.{Judges}
 use Rattle.policy_rules.specs.FirstFailing.{IsFirst}
 use Rattle.policy_rules.specs.Means.{ActsIn}
 use Rattle.policy_rules.specs.PutKey.{PutKeyFails, put_rules}
-use Rattle.policy_rules.specs.StoreData.{StoreDataFails, store_rules}
 use Rattle.policy_rules.specs.Volatile.{selected_on}
 use Rattle.policy_rules.proofs.DataAsked.{asked_for, asks, has_data}
-use Rattle.policy_rules.proofs.DeleteKeyLaws.{deletion_judged}
 use Rattle.policy_rules.proofs.GetDataLaws.{get_passes, get_refused}
 use Rattle.policy_rules.proofs.InitializeUpdateLaws.{offer_judged}
 use Rattle.policy_rules.proofs.Judging.{by_err}
 use Rattle.policy_rules.proofs.ManageChannelLaws.{open_passes, open_refused}
 use Rattle.policy_rules.proofs.PutKeyLaws.{put_judged}
 use Rattle.policy_rules.proofs.SelectLaws.{select_passes, select_refused}
-use Rattle.policy_rules.proofs.StoreDataLaws.{store_judged}
 use Rattle.policy_rules.proofs.Selected.{selected_entry}
 use Rattle.policy_rules.proofs.own_rules.judge.Goals as goal
 
@@ -109,9 +106,8 @@ returns-in-Store-clause-judged c page admitted says sound here request other che
       at = on.1;
       on = ap (selected_on admitted.at.volatile) (sym here) ∙ on.2;
     } in
-    store_judged admitted _ asked.form
-    (rw c.err-in-Store.ensures.value (by_err (λ found. IsFirst (StoreDataFails admitted) store_rules found) c.judge_store_data.result
-    (c.judge_store_data.ensures.passed page admitted acts asked) (c.judge_store_data.ensures.refused page admitted acts asked)))
+    rw c.err-in-Store.ensures.value (by_err (Judges admitted) c.judge_store_data.result
+    (c.judge_store_data.ensures.passed page admitted acts asked) (c.judge_store_data.ensures.refused page admitted acts asked))
 
 pub returns-in-DeleteKey-clause-judged : goal.returns-in-DeleteKey-clause-judged
 returns-in-DeleteKey-clause-judged c page admitted says sound here request other checks =
@@ -125,6 +121,5 @@ returns-in-DeleteKey-clause-judged c page admitted says sound here request other
       at = on.1;
       on = ap (selected_on admitted.at.volatile) (sym here) ∙ on.2;
     } in
-    deletion_judged admitted _ asked.form
-    (rw c.err-in-DeleteKey.ensures.value (by_err (λ found. IsFirst (DeleteFails admitted) deletion_rules found) c.judge_delete_key.result
-    (c.judge_delete_key.ensures.passed page admitted acts asked) (c.judge_delete_key.ensures.refused page admitted acts asked)))
+    rw c.err-in-DeleteKey.ensures.value (by_err (Judges admitted) c.judge_delete_key.result
+    (c.judge_delete_key.ensures.passed page admitted acts asked) (c.judge_delete_key.ensures.refused page admitted acts asked))

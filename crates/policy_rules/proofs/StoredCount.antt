@@ -15,11 +15,11 @@ use Rattle.card_types.specs.Slots.{held}
 use Rattle.card_types.specs.Well.{Well}
 use Rattle.card_types.specs.declared.tables.Entry.{Entry}
 use Rattle.card_types.specs.declared.tables.Tables.{Tables}
-use Rattle.policy_rules.proofs.StoreDataTags.{count_if, first_new, with_tag}
-use Rattle.policy_rules.proofs.StoreDataObject.{is_of_from, is_of_parts, none_any, object_from, one_stored, some_any}
+use Rattle.policy_rules.proofs.NewTags.{count_if, first_new, with_tag}
+use Rattle.policy_rules.proofs.ObjectStored.{is_of_from, is_of_parts, none_any, object_from, one_stored, some_any}
 use Rattle.policy_rules.specs.Arranged.{IsArranged}
 use Rattle.policy_rules.specs.ObjectsFound.{has_object_in, is_tagged_in, new_tags}
-use Rattle.policy_rules.specs.StoreData.{is_object_of, with_object, with_objects}
+use Rattle.policy_rules.specs.DataObjects.{is_object_of, with_object, with_objects}
 
 -- a test of slots that is false of a free one, and one of what they show
 any_shown : {T X : Type 0} (q : Option T → Bool) (view : T → X) (p : X → Bool) → q None ≡ false → (slots : List (Option T))

@@ -22,13 +22,13 @@ use Rattle.card_types.specs.declared.limits.TheConstants.{OBJECTS}
 use Rattle.card_types.specs.declared.tables.Entry.{Entry}
 use Rattle.card_types.specs.declared.tables.Object.{Object}
 use Rattle.card_types.specs.declared.tables.Tables.{Tables}
-use Rattle.policy_rules.proofs.StoreDataObject.{none_there, object_from, one_stored}
-use Rattle.policy_rules.proofs.StoreDataKeeps.{data_well}
-use Rattle.policy_rules.proofs.StoreDataCount.{has_alike}
+use Rattle.policy_rules.proofs.ObjectStored.{none_there, object_from, one_stored}
+use Rattle.policy_rules.proofs.DataWell.{data_well}
+use Rattle.policy_rules.proofs.StoredCount.{has_alike}
 use Rattle.policy_rules.specs.Arranged.{IsArranged}
 use Rattle.policy_rules.specs.ObjectsFound.{has_object_in, is_tagged_in, new_tags}
-use Rattle.policy_rules.specs.StoreData.{is_object_of, with_data, with_object, with_objects}
-use Rattle.card_core.proofs.StoreDataSlots.{room_after}
+use Rattle.policy_rules.specs.DataObjects.{is_object_of, with_data, with_object, with_objects}
+use Rattle.card_core.proofs.ObjectSlots.{room_after}
 use Rattle.card_core.specs.Domains.{is_domain_held, is_domain_in}
 use Rattle.card_types.specs.declared.tables.KeyRec.{KeyRec}
 use Rattle.card_core.proofs.Cards.{cards_after}

@@ -23,7 +23,7 @@ use Rattle.card_types.specs.Changed.{IsChanged}
 use Rattle.card_types.specs.Registry.{Object}
 use Rattle.policy_rules.proofs.Filtered.{filter_same}
 use Rattle.policy_rules.specs.Arranged.{IsArranged}
-use Rattle.policy_rules.specs.StoreData.{is_object_of, with_object, with_objects}
+use Rattle.policy_rules.specs.DataObjects.{is_object_of, with_object, with_objects}
 
 module _ {X : Type 0} (p : X → Bool) where
   -- where none is found, all are kept
