@@ -1,9 +1,8 @@
 -- What the commands of the secure channel do to a card.
-use Rattle.std.proofs.Common.{◌≡◌, ℕ, ◌<◌, List, [], length, Option, None, Some, Result, Ok, Err, refl, sym, ap, subst, ◌∙◌}
+use Rattle.std.proofs.Common.{◌≡◌, ℕ, ◌<◌, List, [], length, None, Some, Result, Ok, Err, refl, sym, ap, subst, ◌∙◌}
 use Rattle.std.specs.Prelude.{slice_index_or, slice_set}
 use Rattle.std.proofs.lemmas.List.{get_or_default}
 use Rattle.apdu_core.specs.declared.reply.Status.{Status}
-use Rattle.card_types.specs.declared.tables.Entry.{Entry}
 use Rattle.card_types.specs.declared.tables.Tables.{Tables}
 use Rattle.policy_rules.specs.Admission.{Admitted}
 use Rattle.policy_rules.specs.Commands.{TakesCommand}
@@ -14,8 +13,7 @@ use Rattle.policy_rules.proofs.Judging.{does_so}
 use Rattle.std.proofs.Common.{inl}
 use Rattle.std.proofs.lemmas.List.{get_or-set_same, length-set, set-set}
 use Rattle.policy_rules.proofs.Selected.{selected_entry}
-use Rattle.policy_rules.specs.Means.{ActsIn, IsSelectedIn}
-use Rattle.policy_rules.specs.Volatile.{Offered, Volatile, channel_at, with_standing}
+use Rattle.policy_rules.specs.Means.{ActsIn}
 use Rattle.policy_rules.specs.declared.live.Live.{Live}
 use Rattle.policy_rules.specs.declared.live.TheConstants.{CHANNELS}
 use Rattle.policy_rules.specs.declared.rule.Rule.{Rule}
@@ -23,18 +21,18 @@ use Rattle.card_core.specs.Holds.{Holds, HoldsAs, without_offer_held}
 use Rattle.card_core.specs.Kept.{Shows, StandsOn}
 use Rattle.card_core.specs.Manages.{Manages}
 use Rattle.card_core.specs.Offers.{AnswersAs, OffersAs, standing_for}
-use Rattle.card_core.specs.Serves.{CarriesOutBut}
+use Rattle.card_core.specs.Serves.{CarriesOutBut, live_refused}
 use Rattle.card_core.specs.declared.held.Held.{Held}
 use Rattle.card_core.specs.declared.held.Held.TheVariants as held
 use Rattle.card_core.proofs.Carrying.{refusal_shows}
-use Rattle.card_core.proofs.Standing.{HasFour, held_same, standing_shows}
+use Rattle.card_core.proofs.Standing.{HasFour, held_same, says_over, standing_shows}
 
 module _ (page : ℕ → List ℕ) (tables : Tables) (live : Live) (all : List Held) (admitted : Admitted)
     (stands : StandsOn page (record { tables = tables; live = live; held = all }) admitted.at)
     (four : HasFour (record { tables = tables; live = live; held = all }) admitted.at) (low : admitted.channel < CHANNELS) where
   -- what the channel holds stands for what it holds in the model
   pub holds_for : HoldsAs (slice_index_or all admitted.channel held.Nothing) (standing_for admitted)
-  holds_for = stands.shows.holds.channels admitted.channel low
+  holds_for = stands.shows.holds admitted.channel low
 
   -- EXTERNAL AUTHENTICATE
   pub answer_carried : (slot : ℕ) (now : Held) (result : Result Status Rule) → TakesCommand external_authenticate admitted.command
@@ -51,7 +49,7 @@ module _ (page : ℕ → List ℕ) (tables : Tables) (live : Live) (all : List H
     word,
   )
   answer_carried slot now (Err rule) takes opened (judges, kept) = (
-    subst (λ (h : List Held). Shows page (record { tables = tables; live = live; held = h })
+    subst (λ (h : List Held). Shows page (record { tables = tables; live = live_refused rule admitted.channel live; held = h })
         (record { registry = admitted.at.registry; volatile = refusal_leaves admitted rule })) (sym dropped)
         (refusal_shows page (record { tables = tables; live = live; held = all }) admitted four low stands.shows rule),
     judges,
@@ -79,11 +77,7 @@ module _ (page : ℕ → List ℕ) (tables : Tables) (live : Live) (all : List H
       let shows = standing_shows page tables live all admitted.at stands.shows four admitted.channel low slot now _ opened made.holds in (
         _,
         record {
-          says = record {
-            registry = made.says;
-            selected = subst (λ (entries : List (Option Entry)). (number : ℕ) → number < CHANNELS → IsSelectedIn entries (slice_index_or live.selected number None)
-                (channel_at (with_standing admitted.at.volatile admitted.channel (Offered made.offer)) number)) (sym entries) shows.says.selected;
-          };
+          says = says_over page tables tables' live _ _ _ entries made.says refl shows.says;
           holds = shows.holds;
         },
         judges,
@@ -116,13 +110,7 @@ module _ (page : ℕ → List ℕ) (tables : Tables) (live : Live) (all : List H
   managed_carried tables' body (Ok status) entries managed = (
     managed.done,
     record {
-      says = record {
-        registry = managed.says;
-        selected = subst (λ (v : Volatile). (number : ℕ) → number < CHANNELS
-            → IsSelectedIn tables'.entries.items (slice_index_or live.selected number None) (channel_at v number)) (sym managed.volatile)
-            (subst (λ (entries : List (Option Entry)). (number : ℕ) → number < CHANNELS
-            → IsSelectedIn entries (slice_index_or live.selected number None) (channel_at admitted.at.volatile number)) (sym entries) stands.shows.says.selected);
-      };
+      says = says_over page tables tables' live admitted.at _ _ entries managed.says managed.volatile stands.shows.says;
       holds = subst (Holds all) (sym managed.volatile) stands.shows.holds;
     },
     managed.judges,

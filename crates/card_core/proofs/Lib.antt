@@ -14,8 +14,10 @@ pub mod OfferMade
 pub mod Offered
 pub mod Over
 pub mod Passed
+pub mod PoweredOn
 pub mod PutKeyBrought
 pub mod PutKeyDone
 pub mod PutKeyTables
 pub mod Serving
+pub mod SetAt
 pub mod Standing

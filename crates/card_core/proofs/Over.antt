@@ -1,26 +1,25 @@
 -- The states that a card on a device stands for.
-use Rattle.std.proofs.Common.{◌≡◌, ◌⊎◌, ℕ, List, true, [], ◌∷◌, None, Some, refl, ap, sym, subst, ◌∙◌}
+use Rattle.std.proofs.Common.{◌≡◌, ◌⊎◌, ℕ, List, true, refl, ap, sym, subst, ◌∙◌}
 use Rattle.card_types.specs.Registry.{Registry}
 use Rattle.card_types.specs.Says.{Says}
-use Rattle.card_types.specs.declared.tables.TheConstants.{ISSUER_SLOT}
 use Rattle.card_types.specs.declared.tables.Tables.{Tables}
 use Rattle.flash_core.specs.declared.page.Page.{Page}
 use Rattle.page_journal.specs.Journal.{stored}
 use Rattle.page_journal.specs.Moments.{LeavesOnly}
+use Rattle.policy_rules.specs.LiveEnds.{first_live}
 use Rattle.policy_rules.specs.State.{State, powered_on}
 use Rattle.policy_rules.specs.declared.live.Live.{Live}
 use Rattle.rec_store.proofs.OneRegistry.{said_once}
 use Rattle.rec_store.proofs.Reopening.{has_pages}
 use Rattle.rec_store.specs.Reopens.{Keeps, Reopens, load_page}
 use Rattle.card_core.proofs.Cards.{in_order}
-use Rattle.card_core.proofs.Standing.{powered_on_stands}
+use Rattle.card_core.proofs.PoweredOn.{four_nothing, powered_on_stands}
 use Rattle.card_core.specs.Card.{CardOver, Stands}
 use Rattle.card_core.specs.Kept.{AreCards}
 use Rattle.card_core.specs.declared.held.Held.{Held}
-use Rattle.card_core.specs.declared.held.Held.TheVariants as held
 
 module _ {F : Type 0} (tells : Type 0) (pages : F → List Page) (may_leave : F → List Page → Type 0) (live : Live) (all : List Held)
-    (first : live.selected ≡ Some ISSUER_SLOT ∷ None ∷ None ∷ None ∷ []) (nothing : all ≡ held.Nothing ∷ held.Nothing ∷ held.Nothing ∷ held.Nothing ∷ []) where
+    (first : live ≡ first_live) (nothing : all ≡ four_nothing) where
   -- a card that was just powered on, over the tables that were read
   pub mounted_stands : (old new : F) (tables : Tables) → AreCards tables
       → (tells → (registry : Registry) × Reopens (pages old) registry × Says (load_page (pages new)) tables registry × Keeps (pages new) (may_leave new) registry)

@@ -1,6 +1,6 @@
 -- What a card keeps behind the check of the class, and behind secure messaging.
 use Rattle.std.proofs.Common.{◌≡◌, ℕ, ◌<◌, List, Bool, true, false, Option, None, Some, Err, refl, sym, ap, subst, ◌∙◌, inl, inr, length}
-use Rattle.std.specs.Prelude.{MatchOption, slice_index_or, slice_set, ◌==◌}
+use Rattle.std.specs.Prelude.{MatchOption, if◌then◌else◌, slice_index_or, slice_set, ◌==◌}
 use Rattle.std.proofs.lemmas.List.{get_or-set_same, get_or_default, length-set, set-get_or}
 use Rattle.apdu_core.specs.Apdu.{Apdu, Short}
 use Rattle.apdu_core.specs.Reply.{status_bytes}
@@ -9,15 +9,17 @@ use Rattle.card_types.specs.declared.tables.Tables.{Tables}
 use Rattle.scp03_card.specs.Opens.{Gives, IsAuthentic, Opens, accepting, field_of}
 use Rattle.scp03_card.specs.Session.{Session}
 use Rattle.policy_rules.proofs.Passing.{admitted_fits, channel_is_low, class_fits, passed_session}
-use Rattle.policy_rules.specs.Admission.{Bars, IsTaken, admitted_as, class_passed, command_rules, placeless, session_for, session_passed}
+use Rattle.policy_rules.proofs.StandingSet.{unloaded}
+use Rattle.policy_rules.specs.Admission.{Bars, IsTaken, admitted_as, class_passed, command_rules, placeless, session_for}
 use Rattle.policy_rules.specs.Classes.{IsKnown, IsPlainManagement, channel_of, class_of, is_protected, protects}
 use Rattle.policy_rules.specs.FirstFailing.{IsFirst}
+use Rattle.policy_rules.specs.LiveEnds.{live_without_load, live_without_place}
 use Rattle.policy_rules.specs.Rules.{status_of}
 use Rattle.policy_rules.specs.Sound.{IsSound}
 use Rattle.policy_rules.specs.State.{State}
-use Rattle.policy_rules.specs.Volatile.{Nothing, Secured, Volatile, channel_at, session_in, standing_of, with_standing, without_session}
+use Rattle.policy_rules.specs.Volatile.{LoadSession, Nothing, Secured, Volatile, channel_at, session_in, standing_of, with_standing, without_load, without_session}
 use Rattle.policy_rules.specs.declared.class.Class.{Class}
-use Rattle.policy_rules.specs.declared.instruction.TheConstants.{EXTERNAL_AUTHENTICATE}
+use Rattle.policy_rules.specs.declared.instruction.TheConstants.{EXTERNAL_AUTHENTICATE, LOAD}
 use Rattle.policy_rules.specs.declared.live.Live.{Live}
 use Rattle.policy_rules.specs.declared.live.TheConstants.{CHANNELS}
 use Rattle.policy_rules.specs.declared.rule.Rule.TheVariants.{G}
@@ -26,11 +28,11 @@ use Rattle.policy_rules.specs.declared.rule.RuleG.TheVariants.{G1, G2, G3, G4, G
 use Rattle.card_core.specs.Holds.{HoldsAs, IsInSession, held_passed, without_offer_held}
 use Rattle.card_core.specs.Kept.{Shows, StandsOn}
 use Rattle.card_core.specs.Secured.{OpensAs}
-use Rattle.card_core.specs.Serves.{IsOver, Serves}
+use Rattle.card_core.specs.Serves.{IsOver, Serves, live_passed}
 use Rattle.card_core.specs.declared.held.Held.{Held}
 use Rattle.card_core.specs.declared.held.Held.TheVariants as held
 use Rattle.card_core.proofs.Serving.{barred, managed_first, no_session_first, over_first, protected_unmanaged, wrong_mac_first, wrong_padding_first}
-use Rattle.card_core.proofs.Standing.{HasFour, held_same, load_same, passed_shows, session_same, shows_same, standing_shows}
+use Rattle.card_core.proofs.Standing.{HasFour, held_same, load_ended_shows, passed_shows, session_passed_shows, shows_same, standing_shows}
 
 within : (all : List Held) (number : ℕ) → length all ≡ CHANNELS → number < CHANNELS → number < length all
 within all number four low = subst (λ (n : ℕ). number < n) (sym four) low
@@ -69,6 +71,14 @@ placed page tables live all state place number passed other now is same stands =
 pub protects_so : (command : Apdu) (class : Class) (answer test : Bool) → class_of command.class ≡ Some class → answer ≡ protects (Some class) command.ins
     → answer ≡ test → is_protected command ≡ test
 protects_so command class answer test is_class answers is = ap (λ (c : Option Class). protects c command.ins) is_class ∙ sym answers ∙ is
+
+-- behind secure messaging what is selected is what it was
+pub selected_same : (ins number : ℕ) (live : Live) → (live_passed ins number live).selected ≡ live.selected
+selected_same ins number live = by (ins == LOAD)
+  where
+    by : (goes_on : Bool) → (if goes_on then live else live_without_load live number).selected ≡ live.selected
+    by true = refl
+    by false = refl
 
 pub opened_so : (live : Live) (command : Apdu) (channel selected : ℕ) → channel ≡ channel_of command.class → slice_index_or live.selected channel None ≡ Some selected
     → slice_index_or live.selected (channel_of command.class) None ≡ Some selected
@@ -109,10 +119,14 @@ module _ (page : ℕ → List ℕ) (tables : Tables) (live : Live) (all : List H
   abbrev passed : Volatile
   passed = class_passed state.volatile command
 
-  shows_passed : Shows page (record { tables = tables; live = live; held = all_passed }) (record { registry = state.registry; volatile = passed })
+  -- the channels then, which have no place here
+  abbrev pub passed_live : Live
+  passed_live = live_without_place live number
+
+  shows_passed : Shows page (record { tables = tables; live = passed_live; held = all_passed }) (record { registry = state.registry; volatile = passed })
   shows_passed = passed_shows page tables live all state stands.shows four number low (command.ins == EXTERNAL_AUTHENTICATE)
 
-  four_passed : HasFour (record { tables = tables; live = live; held = all_passed }) (record { registry = state.registry; volatile = passed })
+  four_passed : HasFour (record { tables = tables; live = passed_live; held = all_passed }) (record { registry = state.registry; volatile = passed })
   four_passed = record {
     held = length-set all number (passed_held all held_four command) ∙ held_four;
     channels = (class_fits state.registry state.volatile command stands.sound.fits).channels;
@@ -134,16 +148,15 @@ module _ (page : ℕ → List ℕ) (tables : Tables) (live : Live) (all : List H
 
   -- a command in plain
   pub plain_stands : is_protected command ≡ false
-      → StandsOn page (record { tables = tables; live = live; held = all_passed }) (admitted_as state command None command.body).at
+      → StandsOn page (record { tables = tables; live = live_passed command.ins number passed_live; held = all_passed }) (admitted_as state command None command.body).at
   plain_stands plain = record {
-    shows = shows_same page (record { tables = tables; live = live; held = all_passed }) state.registry passed (session_passed passed command)
-        (sym (session_same passed command shows_passed.holds.load)) shows_passed;
+    shows = session_passed_shows page (record { tables = tables; live = passed_live; held = all_passed }) state.registry passed command shows_passed;
     sound = sound_at None command.body (plain, refl);
   }
 
   -- what the channel holds then stands for what it holds in the model
   pub holds_passed : HoldsAs (slice_index_or all_passed number held.Nothing) (standing_of (channel_at passed number))
-  holds_passed = shows_passed.holds.channels number low
+  holds_passed = shows_passed.holds number low
 
   -- the session on the channel
   pub session_of : (holds : Session → Type 0) → MatchOption (session_in (standing_of (channel_at passed number))) ⊥ holds
@@ -158,42 +171,50 @@ module _ (page : ℕ → List ℕ) (tables : Tables) (live : Live) (all : List H
   module _ (slot : ℕ) (opened : slice_index_or live.selected number None ≡ Some slot) where
     -- its session has ended
     ended_shows : (now : Held) → now ≡ held.Nothing
-        → Shows page (record { tables = tables; live = live; held = slice_set all_passed number now })
+        → Shows page (record { tables = tables; live = live_without_load passed_live number; held = slice_set all_passed number now })
         (record { registry = state.registry; volatile = without_session passed number })
     ended_shows now gone =
-        let ended = with_standing passed number Nothing in
-        let shows = standing_shows page tables live all_passed (record { registry = state.registry; volatile = passed }) shows_passed four_passed number low slot now
-        Nothing opened (subst (λ (h : Held). HoldsAs h Nothing) (sym gone) tt) in
-        shows_same page (record { tables = tables; live = live; held = slice_set all_passed number now }) state.registry ended (without_session passed number)
-        (sym (load_same ended number shows.holds.load)) shows
+        load_ended_shows page (record { tables = tables; live = passed_live; held = slice_set all_passed number now }) state.registry (with_standing passed number Nothing) number
+        (standing_shows page tables passed_live all_passed (record { registry = state.registry; volatile = passed }) shows_passed four_passed number low slot now Nothing opened
+        (subst (λ (h : Held). HoldsAs h Nothing) (sym gone) tt))
 
     -- card content management in plain ends it
     pub managed_served : (bytes reply : List ℕ) → Short command bytes → IsKnown command.class command.ins → (class : Class) → class_of command.class ≡ Some class
         → IsFirst (Bars state bytes) command_rules None → (IsOver state.registry.life class command.ins → ⊥) → IsPlainManagement command
         → (now : Held) → now ≡ held.Nothing → reply ≡ status_bytes (status_of (G G6))
-        → Serves page state bytes (record { tables = tables; live = live; held = slice_set all_passed number now }) reply (Some (G G6))
+        → Serves page state bytes (record { tables = tables; live = live_without_load passed_live number; held = slice_set all_passed number now }) reply (Some (G G6))
     managed_served bytes reply short known class is_class front not_over managed now gone is =
-        barred page (record { tables = tables; live = live; held = slice_set all_passed number now }) state bytes reply G6 (without_session passed number) stands.sound
+        barred page (record { tables = tables; live = live_without_load passed_live number; held = slice_set all_passed number now }) state bytes reply G6 (without_session passed number) stands.sound
         (managed_first state bytes command short known class is_class front not_over managed) (command, short, inl (managed, refl)) (ended_shows now gone) is
 
   module _ (slot : ℕ) (opened : slice_index_or live.selected number None ≡ Some slot) (protected : is_protected command ≡ true) where
     -- a protected command that opens
     pub opened_stands : (session : Session) → session_for state command ≡ Some session → (now : Held) (plain : List ℕ) → Opens session command plain
         → HoldsAs now (Secured (accepting session command))
-        → StandsOn page (record { tables = tables; live = live; held = slice_set all_passed number now })
+        → StandsOn page (record { tables = tables; live = live_passed command.ins number passed_live; held = slice_set all_passed number now })
         (admitted_as state command (Some (accepting session command)) plain).at
     opened_stands session is now plain opens holds =
         let joined = with_standing passed number (Secured (accepting session command)) in
-        let shows = standing_shows page tables live all_passed (record { registry = state.registry; volatile = passed }) shows_passed four_passed number low slot now
+        let shows = standing_shows page tables passed_live all_passed (record { registry = state.registry; volatile = passed }) shows_passed four_passed number low slot now
         (Secured (accepting session command)) opened holds in
         record {
-          shows = shows_same page (record { tables = tables; live = live; held = slice_set all_passed number now }) state.registry joined (session_passed joined command)
-              (sym (session_same joined command shows.holds.load)) shows;
+          shows = session_passed_shows page (record { tables = tables; live = passed_live; held = slice_set all_passed number now }) state.registry joined command shows;
           sound = sound_at (Some (accepting session command)) plain (
             protected,
             subst (λ (o : Option Session). MatchOption o ⊥ (λ s. Opens s command plain × (accepting session command ≡ accepting s command))) (sym is) (opens, refl),
           );
         }
+
+    -- without a session the channel has no load session
+    unloaded_shows : (now : Held) → now ≡ slice_index_or all_passed number held.Nothing → session_for state command ≡ None
+        → Shows page (record { tables = tables; live = live_without_load passed_live number; held = slice_set all_passed number now })
+        (record { registry = state.registry; volatile = passed })
+    unloaded_shows now same none =
+        shows_same page (record { tables = tables; live = live_without_load passed_live number; held = slice_set all_passed number now }) state.registry
+        (without_load passed number) passed
+        (ap (λ (load : Option LoadSession). record { channels = passed.channels; load = load }) (unloaded state.registry state.volatile number stands.sound.fits none))
+        (load_ended_shows page (record { tables = tables; live = passed_live; held = slice_set all_passed number now }) state.registry passed number
+        (held_same page (record { tables = tables; live = passed_live; held = all_passed }) (record { registry = state.registry; volatile = passed }) number now (sym same) shows_passed))
 
     module _ (bytes : List ℕ) (short : Short command bytes) (known : IsKnown command.class command.ins)
         (class : Class) (is_class : class_of command.class ≡ Some class) (front : IsFirst (Bars state bytes) command_rules None)
@@ -202,21 +223,20 @@ module _ (page : ℕ → List ℕ) (tables : Tables) (live : Live) (all : List H
       pub refused_served : (now : Held) (plain reply : List ℕ) (rule : RuleG)
           → OpensAs command (standing_of (channel_at passed number)) (slice_index_or all_passed number held.Nothing) now plain (Err rule)
           → reply ≡ status_bytes (status_of (G rule))
-          → Serves page state bytes (record { tables = tables; live = live; held = slice_set all_passed number now }) reply (Some (G rule))
+          → Serves page state bytes (record { tables = tables; live = live_without_load passed_live number; held = slice_set all_passed number now }) reply (Some (G rule))
       refused_served now plain reply G6 (none, same) is =
-          barred page (record { tables = tables; live = live; held = slice_set all_passed number now }) state bytes reply G6 passed stands.sound
+          barred page (record { tables = tables; live = live_without_load passed_live number; held = slice_set all_passed number now }) state bytes reply G6 passed stands.sound
           (no_session_first state bytes command short known class is_class front not_over protected (sym (passed_session state command stands.sound.fits) ∙ none))
           (command, short, inr (protected_unmanaged command protected, refl))
-          (held_same page (record { tables = tables; live = live; held = all_passed }) (record { registry = state.registry; volatile = passed }) number now (sym same) shows_passed)
-          is
+          (unloaded_shows now same (sym (passed_session state command stands.sound.fits) ∙ none)) is
       refused_served now plain reply G7 (gone, wrong) is =
           let found = session_of (λ session. IsAuthentic session command → ⊥) wrong in
-          barred page (record { tables = tables; live = live; held = slice_set all_passed number now }) state bytes reply G7 (without_session passed number) stands.sound
+          barred page (record { tables = tables; live = live_without_load passed_live number; held = slice_set all_passed number now }) state bytes reply G7 (without_session passed number) stands.sound
           (wrong_mac_first state bytes command short known class is_class front not_over protected found.0 found.1 found.2)
           (command, short, refl) (ended_shows slot opened now gone) is
       refused_served now plain reply G8 (gone, wrong) is =
           let found = session_of (λ session. IsAuthentic session command × ((b : List ℕ) → Gives (accepting session command) (field_of command) b → ⊥)) wrong in
-          barred page (record { tables = tables; live = live; held = slice_set all_passed number now }) state bytes reply G8 (without_session passed number) stands.sound
+          barred page (record { tables = tables; live = live_without_load passed_live number; held = slice_set all_passed number now }) state bytes reply G8 (without_session passed number) stands.sound
           (wrong_padding_first state bytes command short known class is_class front not_over protected found.0 found.1 found.2.0 found.2.1)
           (command, short, refl) (ended_shows slot opened now gone) is
       refused_served now plain reply G1 opens is = absurd opens
@@ -229,8 +249,8 @@ module _ (page : ℕ → List ℕ) (tables : Tables) (live : Live) (all : List H
   pub over_served : (bytes reply : List ℕ) → Short command bytes → (class : Class) → class_of command.class ≡ Some class
       → IsKnown command.class command.ins → IsFirst (Bars state bytes) command_rules None → IsOver state.registry.life class command.ins
       → reply ≡ status_bytes (status_of (G G5))
-      → Serves page state bytes (record { tables = tables; live = live; held = slice_set all number (held_passed false (slice_index_or all number held.Nothing)) }) reply (Some (G G5))
+      → Serves page state bytes (record { tables = tables; live = passed_live; held = slice_set all number (held_passed false (slice_index_or all number held.Nothing)) }) reply (Some (G G5))
   over_served bytes reply short class is_class known front over is =
-      barred page (record { tables = tables; live = live; held = slice_set all number (held_passed false (slice_index_or all number held.Nothing)) }) state bytes reply G5
+      barred page (record { tables = tables; live = passed_live; held = slice_set all number (held_passed false (slice_index_or all number held.Nothing)) }) state bytes reply G5
       (placeless state.volatile number false) stands.sound (over_first state bytes command short known class is_class front over)
       (command, short, refl) (passed_shows page tables live all state stands.shows four number low false) is

@@ -1,5 +1,5 @@
 -- What the code holds on a channel, and what it stands for.
-use Rattle.std.specs.Prelude.{◌≡◌, ℕ, ◌<◌, List, Bool, true, false, None, MatchOption, slice_index_or}
+use Rattle.std.specs.Prelude.{ℕ, ◌<◌, List, Bool, true, false, slice_index_or}
 use Rattle.scp03_card.specs.Kept.{StandsFor, StandsForOffer}
 use Rattle.policy_rules.specs.Volatile.{Nothing, Offered, Secured, Standing, Volatile, channel_at, standing_of}
 use Rattle.policy_rules.specs.declared.live.TheConstants.{CHANNELS}
@@ -33,11 +33,9 @@ HoldsAs (held.Secured kept) Nothing = ⊥
 HoldsAs (held.Secured kept) (Offered offer) = ⊥
 HoldsAs (held.Secured kept) (Secured session) = StandsFor kept session
 
--- what is held on each channel stands for what the channel holds; there is no listing and no load session yet
-pub record Holds (all : List Held) (volatile : Volatile) : Type 0 where
-  pub channels : (number : ℕ) → number < CHANNELS → HoldsAs (slice_index_or all number held.Nothing) (standing_of (channel_at volatile number))
-  pub places : (number : ℕ) → MatchOption (channel_at volatile number) (Unit {0}) (λ channel. channel.place ≡ None)
-  pub load : volatile.load ≡ None
+-- what is held on each channel stands for what the channel holds
+abbrev pub Holds : List Held → Volatile → Type 0
+Holds all volatile = (number : ℕ) → number < CHANNELS → HoldsAs (slice_index_or all number held.Nothing) (standing_of (channel_at volatile number))
 
 -- what is held behind the check of the class, by whether an offer is kept
 abbrev pub held_passed : Bool → Held → Held

@@ -1,5 +1,5 @@
 -- What comes of a command.
-use Rattle.std.specs.Prelude.{◌≡◌, ℕ, List, [], false, Result, Ok, Err, Some, None, Option, slice_index_or, slice_set}
+use Rattle.std.specs.Prelude.{◌≡◌, ℕ, List, [], false, Result, Ok, Err, Some, None, Option, slice_index_or, slice_set, if◌then◌else◌, ◌==◌}
 use Rattle.apdu_core.specs.declared.reply.Status.{Status}
 use Rattle.policy_rules.specs.Admission.{Admitted}
 use Rattle.card_types.specs.declared.card_life.CardLife.{CardLife}
@@ -8,9 +8,11 @@ use Rattle.policy_rules.specs.Classes.{is_secure}
 use Rattle.policy_rules.specs.Commands.{Does, Judges}
 use Rattle.policy_rules.specs.Rules.{status_of}
 use Rattle.policy_rules.specs.State.{Effect, State}
-use Rattle.policy_rules.specs.Step.{Step, refusal_leaves}
+use Rattle.policy_rules.specs.LiveEnds.{live_without_load}
+use Rattle.policy_rules.specs.Step.{Step, keeps_load, refusal_leaves}
 use Rattle.policy_rules.specs.declared.class.Class.{Class}
-use Rattle.policy_rules.specs.declared.instruction.TheConstants.{GET_DATA}
+use Rattle.policy_rules.specs.declared.instruction.TheConstants.{GET_DATA, LOAD}
+use Rattle.policy_rules.specs.declared.live.Live.{Live}
 use Rattle.policy_rules.specs.declared.rule.Rule.{Rule}
 use Rattle.card_core.specs.Holds.{without_offer_held}
 use Rattle.card_core.specs.Kept.{Kept, Shows, StandsOn}
@@ -30,11 +32,19 @@ abbrev pub IsRefusedBy : (ℕ → List ℕ) → Admitted → Kept → List ℕ �
 IsRefusedBy page admitted card body rule =
     Shows page card (record { registry = admitted.at.registry; volatile = refusal_leaves admitted rule }) × Judges admitted (Some rule) × (body ≡ [])
 
--- a card whose channel has lost its offer, if it had one
-abbrev pub without_offer_at : Kept → ℕ → Kept
-without_offer_at card number = record {
+-- behind secure messaging the channel's load session has ended, unless the command goes on with it
+abbrev pub live_passed : (ins number : ℕ) → Live → Live
+live_passed ins number live = if ins == LOAD then live else live_without_load live number
+
+-- and behind a refusal, unless the rule keeps it
+abbrev pub live_refused : Rule → ℕ → Live → Live
+live_refused rule number live = if keeps_load rule then live else live_without_load live number
+
+-- a card whose channel has after a refusal no offer, and no load session that the rule does not keep
+abbrev pub refused_at : Kept → ℕ → Rule → Kept
+refused_at card number rule = record {
   tables = card.tables;
-  live = card.live;
+  live = live_refused rule number card.live;
   held = slice_set card.held number (without_offer_held (slice_index_or card.held number held.Nothing));
 }
 
@@ -43,10 +53,10 @@ abbrev pub CarriesOut : (ℕ → List ℕ) → Admitted → Kept → List ℕ �
 CarriesOut page admitted card body (Ok status) = IsDone page admitted card body status
 CarriesOut page admitted card body (Err rule) = IsRefusedBy page admitted card body rule
 
--- so too, but that where it was refused the offer of its channel is still to be dropped
+-- so too, but that where it was refused, what a refusal ends is still to end
 abbrev pub CarriesOutBut : (ℕ → List ℕ) → Admitted → Kept → List ℕ → Result Status Rule → Type 0
 CarriesOutBut page admitted card body (Ok status) = IsDone page admitted card body status
-CarriesOutBut page admitted card body (Err rule) = IsRefusedBy page admitted (without_offer_at card admitted.channel) body rule
+CarriesOutBut page admitted card body (Err rule) = IsRefusedBy page admitted (refused_at card admitted.channel rule) body rule
 
 -- the status word of the reply, and the rule that refused the command
 abbrev pub word_of : Result Status Rule → ℕ

@@ -52,7 +52,7 @@ pub fn close_channel(
     if live.selected[place].is_none() {
         return Ok(Status(0x6200));
     }
-    live.selected[place] = None;
+    live.set_channel(number, None);
     held[place].end();
     Ok(Status(0x9000))
 }

@@ -100,7 +100,7 @@ pub fn select(
 {
     match judge_select(tables, partial) {
         Ok(found) => {
-            live.selected[usize::from(channel)] = Some(found.slot);
+            live.set_channel(channel, Some(found.slot));
             held.end();
             write_control_information(found.thing.aid.as_bytes(), reply);
             Ok(selected_status(tables.life))

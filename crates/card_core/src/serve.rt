@@ -5,9 +5,9 @@ ghost use Rattle.apdu_core.specs.Apdu.{apdu_of};
 ghost use Rattle.apdu_core.specs.Reply.{status_bytes};
 ghost use Rattle.card_core.specs.Commits.{MayCommit};
 ghost use Rattle.card_core.specs.Domains.{is_domain_in};
-ghost use Rattle.card_core.specs.Holds.{HoldsAs, IsInSession, held_passed};
+ghost use Rattle.card_core.specs.Holds.{HoldsAs, IsInSession, held_passed, without_offer_held};
 ghost use Rattle.card_core.specs.Kept.{AreCards, StandsOn};
-ghost use Rattle.card_core.specs.Serves.{CarriesOut, CarriesOutBut, IsOver, Serves, rule_of, word_of};
+ghost use Rattle.card_core.specs.Serves.{CarriesOut, CarriesOutBut, IsOver, Serves, live_passed, live_refused, rule_of, word_of};
 ghost use Rattle.policy_rules.specs.Admission.{Admitted};
 ghost use Rattle.card_core.specs.declared.held.Held.TheVariants as holding;
 ghost use Rattle.policy_rules.specs.Classes.{managing};
@@ -33,8 +33,8 @@ use arrayvec::ArrayVec;
 use card_types::CardLife;
 use flash_core::Flash;
 use policy_rules::{
-    CHANNELS, EXTERNAL_AUTHENTICATE, Live, Request, Rule, RuleG, is_plain_management, is_protected,
-    parse,
+    CHANNELS, EXTERNAL_AUTHENTICATE, LOAD, Live, Request, Rule, RuleG, is_plain_management,
+    is_protected, parse,
 };
 use rec_store::Records;
 
@@ -51,6 +51,26 @@ fn pass_class(card_life: CardLife, received: &Received<'_>, held: &mut Held) -> 
         held.drop_offer();
     }
     if over { Err(RuleG::G5) } else { Ok(()) }
+}
+
+// Behind secure messaging the load session of the channel ends, unless the command goes on with it.
+fn pass_session(received: &Received<'_>, live: &mut Live)
+    ensures { live.new ≡ live_passed received.now.command.ins received.now.channel live.old }
+{
+    if received.command.ins != LOAD {
+        live.end_load(received.channel);
+    }
+}
+
+// What a refusal ends: an offer on the channel, and a load session that the rule does not keep.
+fn refuse(rule: Rule, channel: u8, live: &mut Live, held: &mut Held)
+    ensures live { live.new ≡ live_refused rule channel live.old }
+    ensures held { held.new ≡ without_offer_held held.old }
+{
+    held.drop_offer();
+    if !rule.keeps_load() {
+        live.end_load(channel);
+    }
 }
 
 // Does what a command asks for, and appends the reply's data. Commands with large values of their own are out of line, so that the
@@ -125,7 +145,7 @@ fn carry_out<F: Flash>(
     }
 }
 
-// So too, and a refusal leaves no offer on the channel.
+// So too, and a refusal ends what it has to.
 fn act<F: Flash>(
     records: &mut Records<F>,
     live: &mut Live,
@@ -155,8 +175,9 @@ fn act<F: Flash>(
     ensures room { length reply.new.items ≤ 239 }
 {
     let served = carry_out(records, live, held, received, command, reply);
-    if served.is_err() {
-        held[usize::from(received.channel)].drop_offer();
+    if let Err(rule) = served {
+        let place = usize::from(received.channel);
+        refuse(rule, received.channel, live, &mut held[place]);
     }
     served
 }
@@ -227,20 +248,24 @@ pub fn serve<F: Flash>(
         Err(rule) => return close_plain(Err(Rule::G(rule)), reply),
     };
     let channel = usize::from(received.channel);
+    live.forget_place(received.channel);
     if let Err(rule) = pass_class(records.tables().life, &received, &mut held[channel]) {
         return close_plain(Err(Rule::G(rule)), reply);
     }
     if is_plain_management(received.class, received.command.ins) {
         held[channel].end();
+        live.end_load(received.channel);
         return close_plain(Err(Rule::G(RuleG::G6)), reply);
     }
     if !is_protected(received.class, received.command.ins) {
+        pass_session(&received, live);
         let served = act(records, live, held, &received, &received.command, reply);
         return close_plain(served, reply);
     }
     let mut plain = [0; 255];
     match open_command(&mut held[channel], &received.command, &mut plain) {
         Ok(count) => {
+            pass_session(&received, live);
             let command = Command {
                 body: &plain[..count],
                 ..received.command
@@ -248,6 +273,10 @@ pub fn serve<F: Flash>(
             let served = act(records, live, held, &received, &command, reply);
             close_protected(served, &mut held[channel], reply)
         }
-        Err(rule) => close_plain(Err(Rule::G(rule)), reply),
+        Err(rule) => {
+            // A channel without a session has no load session.
+            live.end_load(received.channel);
+            close_plain(Err(Rule::G(rule)), reply)
+        }
     }
 }

@@ -9,7 +9,7 @@ use Rattle.policy_rules.specs.State.{Effect}
 use Rattle.policy_rules.proofs.DeleteKeyKeeps.{delete_keeps}
 use Rattle.policy_rules.proofs.SameThings.{same_fits}
 use Rattle.policy_rules.proofs.DeleteKeyOnce.{delete_one}
-use Rattle.policy_rules.proofs.Lawful.{IsLawful, IsReady, fits_as}
+use Rattle.policy_rules.proofs.Lawful.{IsLawful, IsReady, fits_as, placeless_same}
 use Rattle.policy_rules.proofs.Judging.{judged}
 use Rattle.policy_rules.specs.Commands.{TakesCommand, Judges}
 use Rattle.policy_rules.specs.FirstFailing.{IsFirst}
@@ -31,6 +31,7 @@ delete_key_lawful = record {
   keeps = λ admitted done ready judges does. deletion_keeps admitted done ready does;
   one = delete_one;
   quiet = λ unmanaged. absurd (unmanaged (2, omega arith, refl));
+  placeless = λ other admitted done none does. placeless_same admitted.at.volatile done.state.volatile admitted.channel does.volatile none;
 }
 
 pub deletion_judged : (admitted : Admitted) (found : Option Rule) → TakesCommand delete_key admitted.command → IsFirst (DeleteFails admitted) deletion_rules found → Judges admitted found

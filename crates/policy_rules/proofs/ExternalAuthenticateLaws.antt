@@ -13,7 +13,7 @@ use Rattle.card_types.specs.Level.{code_of}
 use Rattle.card_types.specs.declared.level.Level.{Level}
 use Rattle.card_types.specs.declared.level.Level.TheVariants.{Mac, EncMac, MacR, EncMacR, Full}
 use Rattle.policy_rules.proofs.SameEffect.{effect_same, state_same}
-use Rattle.policy_rules.proofs.Lawful.{IsLawful, IsReady, same_as, some_same, sound_with}
+use Rattle.policy_rules.proofs.Lawful.{IsLawful, IsReady, placeless_standing, same_as, some_same, sound_with}
 use Rattle.std.proofs.Common.{Bool, true, false, List, [], ◌∷◌, ◌++◌, Option, None, Some, inl, inr}
 use Rattle.std.specs.Prelude.{if◌then◌else◌, ◌==◌}
 use Rattle.std.proofs.lemmas.Bool.{eqb-true}
@@ -66,6 +66,7 @@ external_authenticate_lawful = record {
   keeps = λ admitted done ready judges does. external_authenticate_keeps admitted done ready does;
   one = external_authenticate_one;
   quiet = λ unmanaged admitted done does. same_as admitted.at.registry done.state.registry does.registry;
+  placeless = λ other admitted done none does. placeless_standing admitted.at.volatile done.state.volatile admitted.channel _ does.volatile none;
 }
 
 -- that there is an offer stands before the rules on the form, of this command alone

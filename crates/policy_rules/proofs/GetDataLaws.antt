@@ -9,7 +9,7 @@ use Rattle.bertlv.specs.Spelling.{Spelling}
 use Rattle.policy_rules.specs.GetData.{GetDataDoes, HasData, IsDataObject, IsSequenceCounter, key_information, tag_of, get_data}
 use Rattle.policy_rules.proofs.SameEffect.{effect_same}
 use Rattle.scp03_card.specs.Offer.{counter_bytes}
-use Rattle.policy_rules.proofs.Lawful.{IsLawful, same_as, some_same}
+use Rattle.policy_rules.proofs.Lawful.{IsLawful, placeless_same, same_as, some_same}
 use Rattle.policy_rules.proofs.OneSet.{counter_one}
 use Rattle.card_types.specs.Registry as registry
 use Rattle.policy_rules.proofs.Judging.{judged}
@@ -55,6 +55,8 @@ get_data_lawful = record {
   keeps = λ admitted done ready judges does. subst IsSound (sym does.state) ready.sound;
   one = get_data_one;
   quiet = λ unmanaged admitted done does. same_as admitted.at.registry done.state.registry (ap (λ (s : State). s.registry) does.state);
+  placeless = λ other admitted done none does.
+      placeless_same admitted.at.volatile done.state.volatile admitted.channel (ap (λ (s : State). s.volatile) does.state) none;
 }
 
 -- how it is judged, by what was found

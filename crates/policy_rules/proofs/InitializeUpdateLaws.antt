@@ -22,7 +22,7 @@ use Rattle.policy_rules.specs.KeySets.{UsesSet, set_counter}
 use Rattle.policy_rules.proofs.SameEffect.{effect_same, state_same}
 use Rattle.scp03_card.specs.Offer.{Offer, offered}
 use Rattle.policy_rules.specs.Changes.{IsSameButCounters, begun}
-use Rattle.policy_rules.proofs.Lawful.{IsLawful, IsReady, some_same}
+use Rattle.policy_rules.proofs.Lawful.{IsLawful, IsReady, placeless_standing, some_same}
 use Rattle.policy_rules.proofs.OneSet.{owner_one}
 use Rattle.card_types.specs.Registry as registry
 use Rattle.policy_rules.proofs.Judging.{judged}
@@ -104,7 +104,12 @@ counters_raised admitted done does = subst (IsSameButCounters admitted.at.regist
 })
 
 pub initialize_update_lawful : IsLawful initialize_update
-initialize_update_lawful = record { keeps = initialize_update_keeps; one = initialize_update_one; quiet = λ unmanaged. counters_raised }
+initialize_update_lawful = record {
+  keeps = initialize_update_keeps;
+  one = initialize_update_one;
+  quiet = λ unmanaged. counters_raised;
+  placeless = λ other admitted done none does. placeless_standing admitted.at.volatile done.state.volatile admitted.channel _ does.volatile none;
+}
 
 pub offer_judged : (admitted : Admitted) (found : Option Rule) → TakesCommand initialize_update admitted.command → IsFirst (InitializeUpdateFails admitted) offer_rules found → Judges admitted found
 offer_judged admitted found takes first = judged initialize_update (λ P is. inl is) admitted takes refl found first

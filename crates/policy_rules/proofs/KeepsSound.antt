@@ -4,18 +4,18 @@ use Rattle.std.specs.Prelude.{MatchOption}
 use Rattle.apdu_core.specs.Apdu.{Apdu}
 use Rattle.card_types.specs.Registry.{Registry}
 use Rattle.card_types.specs.Well.{IsDomainNamed, Well}
-use Rattle.policy_rules.specs.Admission.{Admits, Admitted, BarredLeaves, class_passed, placeless}
+use Rattle.policy_rules.specs.Admission.{Admits, Admitted, BarredLeaves, class_passed}
 use Rattle.policy_rules.specs.Classes.{channel_of}
 use Rattle.policy_rules.specs.Laws.{StartsSound, StepsKeepSound}
 use Rattle.policy_rules.specs.Sound.{Fits, IsSound, IsWellChannel}
 use Rattle.policy_rules.specs.State.{Effect, State}
 use Rattle.policy_rules.specs.Step.{Outcome, keeps_load, refusal_leaves}
-use Rattle.policy_rules.specs.Volatile.{Nothing, Volatile, channel_at, first_volatile, without_session, without_load}
+use Rattle.policy_rules.specs.Volatile.{Nothing, Volatile, channel_at, first_volatile, with_offer_dropped, without_session, without_load}
 use Rattle.policy_rules.specs.declared.rule.RuleG.{RuleG}
 use Rattle.policy_rules.specs.declared.rule.RuleG.TheVariants.{G1, G2, G3, G4, G5, G6, G7, G8}
 use Rattle.policy_rules.proofs.Passing.{admitted_fits, admitted_loads, admitted_selected, channel_is_low, class_fits, domain_selected, either, placeless_fits}
 use Rattle.policy_rules.proofs.SetChannel.{without_load_fits}
-use Rattle.policy_rules.proofs.StandingSet.{standing_fits}
+use Rattle.policy_rules.proofs.StandingSet.{dropped_fits, standing_fits}
 use Rattle.policy_rules.specs.CommandForm.{CommandForm}
 use Rattle.policy_rules.specs.Commands.{AtMostOne, DoesAs, JudgesAs, OneOf, TakesCommand, forms_of}
 use Rattle.policy_rules.proofs.AllLawful.{AllOf, all_lawful}
@@ -83,8 +83,8 @@ leaves_fits state bytes G8 left fits leaves = subst (Fits state.registry) (sym l
 
 refusal_fits : (admitted : Admitted) (rule : Rule) → IsReady admitted → Fits admitted.at.registry (refusal_leaves admitted rule)
 refusal_fits admitted rule ready =
-    let left = placeless admitted.at.volatile admitted.channel false in
-    let fits = placeless_fits admitted.at.registry admitted.at.volatile admitted.channel false ready.sound.fits ready.low in
+    let left = with_offer_dropped admitted.at.volatile admitted.channel in
+    let fits = dropped_fits admitted.at.registry admitted.at.volatile admitted.channel ready.sound.fits ready.low in
     either (Fits admitted.at.registry) (keeps_load rule) left (without_load left admitted.channel) fits
     (without_load_fits admitted.at.registry left admitted.channel fits)
 

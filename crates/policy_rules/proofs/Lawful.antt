@@ -1,5 +1,5 @@
 -- What is asked of a command.
-use Rattle.std.proofs.Common.{◌≡◌, ◌≢◌, ℕ, ◌<◌, ◌≤◌, false, None, Some, refl, sym, subst, arith}
+use Rattle.std.proofs.Common.{◌≡◌, ◌≢◌, ℕ, ◌<◌, ◌≤◌, false, Option, None, Some, refl, sym, ap, subst, ◌∙◌, inl, inr, arith}
 use Rattle.std.specs.Prelude.{◌==◌, Contains}
 use Rattle.card_types.specs.Ascending.{IsAscending}
 use Rattle.card_types.specs.Registry.{Registry}
@@ -10,10 +10,12 @@ use Rattle.policy_rules.specs.Commands.{JudgesAs}
 use Rattle.policy_rules.specs.Management.{acting}
 use Rattle.policy_rules.specs.Sound.{Fits, IsSound}
 use Rattle.policy_rules.specs.State.{Effect, State}
-use Rattle.policy_rules.specs.Volatile.{Volatile, load_of_others}
-use Rattle.policy_rules.specs.declared.instruction.TheConstants.{SELECT, MANAGE_CHANNEL, LOAD}
+use Rattle.policy_rules.specs.Volatile.{Channel, Standing, Volatile, channel_at, load_of_others, place_in, standing_so, with_channel, with_standing}
+use Rattle.policy_rules.specs.declared.instruction.TheConstants.{GET_STATUS, SELECT, MANAGE_CHANNEL, LOAD}
 use Rattle.policy_rules.specs.Changes.{IsSameButCounters}
 use Rattle.policy_rules.specs.CommandForm.{CommandForm}
+use Rattle.std.proofs.lemmas.Bool.Decides.{eqb_tells}
+use Rattle.policy_rules.proofs.SetChannel.{set_other, set_there}
 
 -- what a command that has passed finds
 pub record IsReady (admitted : Admitted) : Type 0 where
@@ -22,12 +24,19 @@ pub record IsReady (admitted : Admitted) : Type 0 where
   pub loads : (admitted.command.ins == LOAD) ≡ false → load_of_others admitted.channel admitted.at.volatile.load ≡ admitted.at.volatile.load
   pub domain : admitted.command.ins ≢ SELECT → admitted.command.ins ≢ MANAGE_CHANNEL → IsDomainNamed admitted.at.registry (acting admitted)
 
--- It leaves a card sound, it does one thing, and without secure messaging it changes no more than the numbers of sequence counters.
+-- the channel has no place in a listing
+abbrev pub HasNoPlaceOn : Volatile → ℕ → Type 0
+HasNoPlaceOn volatile number = place_in (channel_at volatile number) ≡ None
+
+-- It leaves a card sound, it does one thing, without secure messaging it changes no more than the numbers of sequence counters, and
+-- unless it is GET STATUS it sets no place in a listing on its channel.
 pub record IsLawful (form : CommandForm) : Type 0 where
   pub keeps : (admitted : Admitted) (done : Effect) → IsReady admitted → JudgesAs form admitted None → form.does admitted done → IsSound done.state
   pub one : (admitted : Admitted) (a b : Effect) → form.does admitted a → form.does admitted b → a ≡ b
   pub quiet : (Contains managing form.instruction → ⊥) → (admitted : Admitted) (done : Effect) → form.does admitted done
       → IsSameButCounters admitted.at.registry done.state.registry
+  pub placeless : form.instruction ≢ GET_STATUS → (admitted : Admitted) (done : Effect) → HasNoPlaceOn admitted.at.volatile admitted.channel → form.does admitted done
+      → HasNoPlaceOn done.state.volatile admitted.channel
 
 -- a sound card with other channels
 pub sound_with : (state : State) (after : State) → IsSound state → after.registry ≡ state.registry → Fits state.registry after.volatile → IsSound after
@@ -43,6 +52,29 @@ fits_as {registry} {other} {volatile} {another} same alike fits = subst (Fits ot
 -- card content management is for a domain
 pub managed_apart : (ins byte : ℕ) → ins ≡ byte → 0xD8 ≤ byte → (ins ≢ SELECT) × (ins ≢ MANAGE_CHANNEL)
 managed_apart ins byte is high = ((λ same. absurd (omega arith)), (λ same. absurd (omega arith)))
+
+-- it is the same volatile state, or another that stands on the channel
+pub placeless_same : (before after : Volatile) (number : ℕ) → after ≡ before → HasNoPlaceOn before number → HasNoPlaceOn after number
+placeless_same before after number same none = subst (λ (v : Volatile). HasNoPlaceOn v number) (sym same) none
+
+pub placeless_standing : (volatile after : Volatile) (number : ℕ) (standing : Standing) → after ≡ with_standing volatile number standing → HasNoPlaceOn volatile number
+    → HasNoPlaceOn after number
+placeless_standing volatile after number standing same none =
+    placeless_same (with_standing volatile number standing) after number same
+    (set_there (λ c. place_in c ≡ None) refl volatile.channels number (standing_so standing (channel_at volatile number)) (so (channel_at volatile number) none))
+  where
+    so : (channel : Option Channel) → place_in channel ≡ None → place_in (standing_so standing channel) ≡ None
+    so None none = refl
+    so (Some channel) none = none
+
+-- a channel is set to one without a place
+pub placeless_set : (volatile : Volatile) (other number : ℕ) (channel : Option Channel) → place_in channel ≡ None → HasNoPlaceOn volatile number
+    → HasNoPlaceOn (with_channel volatile other channel) number
+placeless_set volatile other number channel there none = elim (eqb_tells number other) [
+  | inl same ↦ subst (λ (n : ℕ). HasNoPlaceOn (with_channel volatile other channel) n) (sym same.1)
+      (set_there (λ c. place_in c ≡ None) refl volatile.channels other channel there)
+  | inr differs ↦ ap place_in (set_other volatile other number channel differs.1) ∙ none
+]
 
 -- a registry that is left as it is
 same_all : (registry : Registry) → IsSameButCounters registry registry

@@ -40,6 +40,7 @@ pub mod Opened
 pub mod Options
 pub mod OwnKeys
 pub mod Passing
+pub mod Places
 pub mod PutKeyJudging
 pub mod PutKeyKeeps
 pub mod PutKeyKeys

@@ -6,11 +6,11 @@ use Rattle.policy_rules.specs.Admission.{Admitted}
 use Rattle.policy_rules.specs.ManageChannel.{IsClosed, IsClosedAlready, IsOpened, ManageChannelDoes, ManageChannelParameters, lowest_closed, IsOpened as IsChannelOpened, manage_channel}
 use Rattle.policy_rules.specs.Sound.{IsSecured, IsSound}
 use Rattle.policy_rules.specs.State.{Effect}
-use Rattle.policy_rules.specs.Volatile.{Channel, fresh}
+use Rattle.policy_rules.specs.Volatile.{Channel, fresh, with_channel, without_channel}
 use Rattle.policy_rules.proofs.SetChannel.{ended_fits, lowest_is_closed, set_fits}
 use Rattle.policy_rules.proofs.StandingSet.{within}
 use Rattle.policy_rules.specs.Changes.{IsSameButCounters}
-use Rattle.policy_rules.proofs.Lawful.{IsLawful, same_as, sound_with}
+use Rattle.policy_rules.proofs.Lawful.{HasNoPlaceOn, IsLawful, placeless_same, placeless_set, same_as, sound_with}
 use Rattle.policy_rules.proofs.FreshChannel.{issuer_is_well}
 use Rattle.policy_rules.proofs.Judging.{judged}
 use Rattle.policy_rules.specs.Commands.{TakesCommand, Judges}
@@ -85,11 +85,32 @@ channel_same : (admitted : Admitted) (done : Effect) → ManageChannelDoes admit
 channel_same admitted done (inl opens) = opens_same admitted done _ opens.1
 channel_same admitted done (inr closes) = closes_same admitted done _ closes.1
 
+opens_placeless : (admitted : Admitted) (done : Effect) (found : Option ℕ) → HasNoPlaceOn admitted.at.volatile admitted.channel
+    → MatchOption found ⊥ (IsChannelOpened admitted done) → HasNoPlaceOn done.state.volatile admitted.channel
+opens_placeless admitted done None none does = absurd does
+opens_placeless admitted done (Some number) none does =
+    placeless_same (with_channel admitted.at.volatile number (Some (fresh ISSUER))) done.state.volatile admitted.channel (ap (λ (e : Effect). e.state.volatile) does)
+    (placeless_set admitted.at.volatile number admitted.channel (Some (fresh ISSUER)) refl none)
+
+closes_placeless : (admitted : Admitted) (done : Effect) (channel : Option Channel) → HasNoPlaceOn admitted.at.volatile admitted.channel
+    → MatchOption channel (IsClosedAlready admitted done) (λ c. IsClosed admitted done) → HasNoPlaceOn done.state.volatile admitted.channel
+closes_placeless admitted done None none does =
+    placeless_same admitted.at.volatile done.state.volatile admitted.channel (ap (λ (e : Effect). e.state.volatile) does) none
+closes_placeless admitted done (Some channel) none does =
+    placeless_same (without_channel admitted.at.volatile admitted.command.p2) done.state.volatile admitted.channel (ap (λ (e : Effect). e.state.volatile) does)
+    (placeless_set admitted.at.volatile admitted.command.p2 admitted.channel None refl none)
+
+channel_placeless : (admitted : Admitted) (done : Effect) → HasNoPlaceOn admitted.at.volatile admitted.channel → ManageChannelDoes admitted done
+    → HasNoPlaceOn done.state.volatile admitted.channel
+channel_placeless admitted done none (inl opens) = opens_placeless admitted done _ none opens.1
+channel_placeless admitted done none (inr closes) = closes_placeless admitted done _ none closes.1
+
 pub manage_channel_lawful : IsLawful manage_channel
 manage_channel_lawful = record {
   keeps = λ admitted done ready judges does. manage_channel_keeps admitted done ready.sound judges.0.1 does;
   one = manage_channel_one;
   quiet = λ unmanaged. channel_same;
+  placeless = λ other. channel_placeless;
 }
 
 -- how it is judged, by what was found

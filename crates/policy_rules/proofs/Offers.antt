@@ -1,6 +1,6 @@
 -- A refused command leaves no offer.
-use Rattle.std.proofs.Common.{◌≡◌, ◌⊎◌, ℕ, Bool, zero, suc, List, [], ◌∷◌, false, true, Option, None, Some, refl, sym, subst, inl, inr, ap}
-use Rattle.std.specs.Prelude.{MatchOption, slice_set, slice_index_or, not, ◌==◌}
+use Rattle.std.proofs.Common.{◌≡◌, ◌⊎◌, ℕ, Bool, List, false, true, Option, None, Some, refl, sym, subst, inl, inr, ap}
+use Rattle.std.specs.Prelude.{MatchOption, not, ◌==◌}
 use Rattle.std.proofs.lemmas.Bool.{and_parts, false≢true, not-true}
 use Rattle.apdu_core.specs.Apdu.{Apdu}
 use Rattle.policy_rules.specs.Admission.{Admitted, Bars, BarredLeaves, Of, SessionEnds, channel_passed, class_passed, general_rules, offer_passed, placeless}
@@ -8,7 +8,7 @@ use Rattle.policy_rules.specs.Classes.{IsPlainManagement, channel_of, class_of, 
 use Rattle.policy_rules.specs.Laws.{RefusalsDropOffers, is_later}
 use Rattle.policy_rules.specs.State.{State}
 use Rattle.policy_rules.specs.Step.{Outcome, keeps_load, refusal_leaves}
-use Rattle.policy_rules.specs.Volatile.{Channel, Nothing, Offered, Secured, Standing, Volatile, channel_at, offer_in, standing_of, standing_so, with_standing, without_load, without_session}
+use Rattle.policy_rules.specs.Volatile.{Channel, Nothing, Offered, Secured, Standing, Volatile, channel_at, offer_in, standing_of, standing_so, with_offer_dropped, with_standing, without_load, without_offer, without_session}
 use Rattle.policy_rules.specs.declared.class.Class.{Class}
 use Rattle.policy_rules.specs.declared.instruction.TheConstants.{EXTERNAL_AUTHENTICATE}
 use Rattle.policy_rules.specs.declared.rule.Rule.{Rule}
@@ -18,6 +18,7 @@ use Rattle.policy_rules.specs.declared.rule.RuleG.TheVariants.{G1, G2, G3, G4, G
 use Rattle.policy_rules.proofs.FirstUnique.{first_fails}
 use Rattle.policy_rules.proofs.OneOutcome.{of_one}
 use Rattle.policy_rules.proofs.Passing.{either}
+use Rattle.policy_rules.proofs.SetChannel.{set_there}
 
 abbrev HasNoOffer : Option Channel → Type 0
 HasNoOffer channel = offer_in (standing_of channel) ≡ None
@@ -31,21 +32,14 @@ channel_has_none : (channel : Option Channel) → HasNoOffer (channel_passed fal
 channel_has_none None = refl
 channel_has_none (Some channel) = not_offered channel.standing
 
-set_has_none : (channels : List (Option Channel)) (number : ℕ) (channel : Option Channel) → HasNoOffer channel
-    → HasNoOffer (slice_index_or (slice_set channels number channel) number None)
-set_has_none [] zero channel none = refl
-set_has_none [] (suc number) channel none = refl
-set_has_none (first ∷ channels) zero channel none = none
-set_has_none (first ∷ channels) (suc number) channel none = set_has_none channels number channel none
-
 placeless_has_none : (volatile : Volatile) (number : ℕ) → HasNoOffer (channel_at (placeless volatile number false) number)
 placeless_has_none volatile number =
-    set_has_none volatile.channels number (channel_passed false (channel_at volatile number)) (channel_has_none (channel_at volatile number))
+    set_there HasNoOffer refl volatile.channels number (channel_passed false (channel_at volatile number)) (channel_has_none (channel_at volatile number))
 
 with_standing_has_none : (volatile : Volatile) (number : ℕ) (standing : Standing) → offer_in standing ≡ None
     → HasNoOffer (channel_at (with_standing volatile number standing) number)
 with_standing_has_none volatile number standing none =
-    set_has_none volatile.channels number (standing_so standing (channel_at volatile number)) (stands_so (channel_at volatile number))
+    set_there HasNoOffer refl volatile.channels number (standing_so standing (channel_at volatile number)) (stands_so (channel_at volatile number))
   where
     stands_so : (channel : Option Channel) → HasNoOffer (standing_so standing channel)
     stands_so None = refl
@@ -60,8 +54,9 @@ class_has_none volatile command other =
 -- what a refusal of an admitted command leaves
 left_has_none : (admitted : Admitted) (rule : Rule) → HasNoOffer (channel_at (refusal_leaves admitted rule) admitted.channel)
 left_has_none admitted rule =
-    let left = placeless admitted.at.volatile admitted.channel false in
-    let none = placeless_has_none admitted.at.volatile admitted.channel in
+    let standing = standing_of (channel_at admitted.at.volatile admitted.channel) in
+    let left = with_offer_dropped admitted.at.volatile admitted.channel in
+    let none = with_standing_has_none admitted.at.volatile admitted.channel (without_offer standing) (not_offered standing) in
     either (λ (v : Volatile). HasNoOffer (channel_at v admitted.channel)) (keeps_load rule) left (without_load left admitted.channel) none none
 
 -- a protected command is not EXTERNAL AUTHENTICATE

@@ -17,21 +17,17 @@ use Rattle.scp03_card.specs.Opens.{Opens, accepting}
 use Rattle.scp03_card.specs.Session.{Session}
 use Rattle.policy_rules.proofs.FirstUnique.{none_fails}
 use Rattle.policy_rules.proofs.SetChannel.{set_fits, set_same, without_load_fits}
-use Rattle.policy_rules.proofs.StandingSet.{secured_fits, session_stands, within}
+use Rattle.policy_rules.proofs.StandingSet.{secured_dropped, secured_fits, session_stands, well_dropped, within}
 
 -- behind the check of the class
 secured_passed : (keeps : Bool) (standing : Standing) → IsSecured standing → IsSecured (offer_passed keeps standing)
 secured_passed true standing secured = secured
-secured_passed false Nothing secured = secured
-secured_passed false (Offered offer) secured = absurd secured
-secured_passed false (Secured session) secured = secured
+secured_passed false standing secured = secured_dropped standing secured
 
 standing_passed : (registry : Registry) (aid : List ℕ) (keeps : Bool) (standing : Standing) → StandsWell registry aid standing
     → StandsWell registry aid (offer_passed keeps standing)
 standing_passed registry aid true standing well = well
-standing_passed registry aid false Nothing well = tt
-standing_passed registry aid false (Offered offer) well = tt
-standing_passed registry aid false (Secured session) well = well
+standing_passed registry aid false standing well = well_dropped registry aid standing well
 
 well_passed : (registry : Registry) (keeps : Bool) (channel : Option Channel) → MatchOption channel (Unit {0}) (IsWellChannel registry)
     → MatchOption (channel_passed keeps channel) (Unit {0}) (IsWellChannel registry)

@@ -11,7 +11,7 @@ use Rattle.policy_rules.proofs.FirstUnique.{none_fails}
 use Rattle.policy_rules.proofs.PutKeyKeeps.{put_keeps}
 use Rattle.policy_rules.proofs.SameThings.{same_fits}
 use Rattle.policy_rules.proofs.PutKeyOnce.{put_key_one}
-use Rattle.policy_rules.proofs.Lawful.{IsLawful, IsReady, fits_as, managed_apart}
+use Rattle.policy_rules.proofs.Lawful.{IsLawful, IsReady, fits_as, managed_apart, placeless_same}
 use Rattle.policy_rules.proofs.Judging.{judged}
 use Rattle.policy_rules.specs.Commands.{TakesCommand, Judges}
 use Rattle.policy_rules.specs.FirstFailing.{IsFirst}
@@ -29,7 +29,12 @@ put_key_keeps admitted done ready (takes, first) does =
     record { well = kept.0; ascending = kept.1; fits = fits_as (sym does.registry) (sym does.volatile) fits }
 
 pub put_key_lawful : IsLawful put_key
-put_key_lawful = record { keeps = put_key_keeps; one = put_key_one; quiet = λ unmanaged. absurd (unmanaged (0, omega arith, refl)) }
+put_key_lawful = record {
+  keeps = put_key_keeps;
+  one = put_key_one;
+  quiet = λ unmanaged. absurd (unmanaged (0, omega arith, refl));
+  placeless = λ other admitted done none does. placeless_same admitted.at.volatile done.state.volatile admitted.channel does.volatile none;
+}
 
 pub put_judged : (admitted : Admitted) (found : Option Rule) → TakesCommand put_key admitted.command → IsFirst (PutKeyFails admitted) put_rules found → Judges admitted found
 put_judged admitted found takes first = judged put_key (λ P is. inl is) admitted takes refl found first

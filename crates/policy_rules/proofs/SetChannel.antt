@@ -1,6 +1,6 @@
 -- What is so of channels when one of them is set.
-use Rattle.std.proofs.Common.{◌≡◌, ◌≢◌, ℕ, suc, ◌+◌, ◌<◌, List, [], ◌∷◌, Bool, true, false, Option, None, Some, refl, sym, ap, subst, ◌∙◌, inl, inr, length, arith}
-use Rattle.std.specs.Prelude.{IsSome, MatchOption, slice_index_or, cond, nat_lt}
+use Rattle.std.proofs.Common.{◌≡◌, ◌≢◌, ℕ, zero, suc, ◌+◌, ◌<◌, List, [], ◌∷◌, Bool, true, false, Option, None, Some, refl, sym, ap, subst, ◌∙◌, inl, inr, length, arith}
+use Rattle.std.specs.Prelude.{IsSome, MatchOption, slice_index_or, slice_set, cond, nat_lt}
 use Rattle.std.specs.List.{position_or_len}
 use Rattle.std.proofs.lemmas.Bool.Decides.{eqb_tells}
 use Rattle.std.proofs.lemmas.List.{length-set, get_or-set_same, get_or-set_other}
@@ -20,6 +20,14 @@ set_same volatile number channel low = get_or-set_same volatile.channels number 
 pub set_other : (volatile : Volatile) (number other : ℕ) (channel : Option Channel) → other ≢ number
     → channel_at (with_channel volatile number channel) other ≡ channel_at volatile other
 set_other volatile number other channel differs = get_or-set_other volatile.channels number other channel None differs
+
+-- what holds of a closed channel and of the one that is set holds where it is set
+pub set_there : (holds : Option Channel → Type 0) → holds None → (channels : List (Option Channel)) (number : ℕ) (channel : Option Channel) → holds channel
+    → holds (slice_index_or (slice_set channels number channel) number None)
+set_there holds closed [] zero channel there = closed
+set_there holds closed [] (suc number) channel there = closed
+set_there holds closed (first ∷ channels) zero channel there = there
+set_there holds closed (first ∷ channels) (suc number) channel there = set_there holds closed channels number channel there
 
 -- a fact of each channel but the one that is set
 pub by_number : (holds : Option Channel → Type 0) (volatile : Volatile) (number : ℕ) (channel : Option Channel)

@@ -2,12 +2,12 @@
 use Rattle.std.proofs.Common.{inl, inr, ℕ, ◌≤◌, ◌<◌, List, [], ◌∷◌, length, sym, subst, arith, ◌≡◌, ap, ◌∙◌, ◌+◌, None, Some, refl, Option}
 use Rattle.std.specs.Prelude.{All, filter, not, map}
 use Rattle.std.proofs.lemmas.Bool.{cases_lt}
-use Rattle.std.proofs.lemmas.List.Elements.{All-cons, All-filter, All-head, All-tail, All-weaker}
+use Rattle.std.proofs.lemmas.List.Elements.{All-cons, All-filter, All-head, All-tail}
 use Rattle.std.proofs.lemmas.List.Sorted.{All-permutation, length_permutation, IsPermutation-sym, IsPermutation-trans, IsPermutation-refl}
 use Rattle.bertlv.specs.Spelling.{Element, AreElements}
 use Rattle.card_types.specs.Ascending.{IsAscending, object_order}
-use Rattle.card_types.specs.Registry.{Counter, Entry, Key, LoadFile, Object, Registry}
-use Rattle.card_types.specs.Well.{HasCounterOf, HasKeyNamed, IsDomainNamed, IsObject, IsWellCounter, IsWellEntry, IsWellFile, IsWellKey, IsWellObject, IsWholeSet, Well}
+use Rattle.card_types.specs.Registry.{Object, Registry}
+use Rattle.card_types.specs.Well.{IsDomainNamed, IsObject, IsWellObject, Well}
 use Rattle.card_types.specs.declared.limits.TheConstants.{OBJECTS}
 use Rattle.policy_rules.specs.Admission.{Admitted}
 use Rattle.policy_rules.specs.Arranged.{IsArranged}
@@ -35,7 +35,7 @@ use Rattle.policy_rules.specs.Commands.{JudgesAs, TakesCommand, Judges}
 use Rattle.policy_rules.specs.Sound.{IsSound}
 use Rattle.policy_rules.proofs.FirstUnique.{none_fails}
 use Rattle.policy_rules.proofs.SameThings.{same_fits}
-use Rattle.policy_rules.proofs.Lawful.{IsLawful, IsReady, fits_as, managed_apart}
+use Rattle.policy_rules.proofs.Lawful.{IsLawful, IsReady, fits_as, managed_apart, placeless_same}
 use Rattle.policy_rules.proofs.Judging.{judged}
 use Rattle.policy_rules.specs.declared.rule.Rule.{Rule}
 use Rattle.policy_rules.proofs.DataWell.{data_well}
@@ -151,7 +151,12 @@ store_data_keeps admitted done ready (takes, first) does =
     record { well = kept.0; ascending = kept.1; fits = fits_as (sym does.registry) (sym does.volatile) fits }
 
 pub store_data_lawful : IsLawful store_data
-store_data_lawful = record { keeps = store_data_keeps; one = store_data_one; quiet = λ unmanaged. absurd (unmanaged (1, omega arith, refl)) }
+store_data_lawful = record {
+  keeps = store_data_keeps;
+  one = store_data_one;
+  quiet = λ unmanaged. absurd (unmanaged (1, omega arith, refl));
+  placeless = λ other admitted done none does. placeless_same admitted.at.volatile done.state.volatile admitted.channel does.volatile none;
+}
 
 pub store_judged : (admitted : Admitted) (found : Option Rule) → TakesCommand store_data admitted.command → IsFirst (StoreDataFails admitted) store_rules found → Judges admitted found
 store_judged admitted found takes first = judged store_data (λ P is. inl is) admitted takes refl found first

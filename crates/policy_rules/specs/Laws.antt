@@ -1,17 +1,18 @@
 -- The laws of the policy machine.
-use Rattle.std.specs.Prelude.{◌≡◌, ℕ, List, Bool, true, false, None, MatchOption}
+use Rattle.std.specs.Prelude.{◌≡◌, ◌≢◌, ℕ, List, Bool, true, false, None, MatchOption, map}
 use Rattle.card_types.specs.Ascending.{IsAscending}
 use Rattle.card_types.specs.Registry.{Registry}
 use Rattle.card_types.specs.Well.{Well}
 use Rattle.policy_rules.specs.Admission.{Of}
-use Rattle.policy_rules.specs.Changes.{Changes, OpensInSession}
+use Rattle.policy_rules.specs.Changes.{Changes, OpensInSession, begun}
 use Rattle.policy_rules.specs.Classes.{channel_of}
 use Rattle.policy_rules.specs.Commands.{AtMostOne, Takes, forms_of}
 use Rattle.policy_rules.specs.Run.{Input, Run}
 use Rattle.policy_rules.specs.Sound.{IsSound}
 use Rattle.policy_rules.specs.State.{State, powered_on}
 use Rattle.policy_rules.specs.Step.{Outcome, Step}
-use Rattle.policy_rules.specs.Volatile.{offer_on}
+use Rattle.policy_rules.specs.Volatile.{channel_at, offer_on, place_in}
+use Rattle.policy_rules.specs.declared.instruction.TheConstants.{GET_STATUS}
 use Rattle.policy_rules.specs.declared.rule.Rule.{Rule}
 use Rattle.policy_rules.specs.declared.rule.Rule.TheVariants.{G}
 use Rattle.policy_rules.specs.declared.rule.RuleG.TheVariants.{G1, G2, G3, G4}
@@ -44,6 +45,16 @@ ChangesAreOpened =
     (state : State) (bytes : List ℕ) (outcome : Outcome) → Step state bytes outcome → Changes state.registry outcome.state.registry
     → (outcome.rule ≡ None) × OpensInSession state bytes
 
+-- another life cycle state of the card counts as a change, and so do other entries, Executable Load Files, keys and data objects, and
+-- another sequence counter in place of one
+pub record OthersAreChanges (before after : Registry) : Type 0 where
+  pub life : after.life ≢ before.life → Changes before after
+  pub entries : after.entries ≢ before.entries → Changes before after
+  pub files : after.files ≢ before.files → Changes before after
+  pub keys : after.keys ≢ before.keys → Changes before after
+  pub counters : map begun after.counters ≢ map begun before.counters → Changes before after
+  pub objects : after.objects ≢ before.objects → Changes before after
+
 -- the rules behind the checks of class, channel and instruction
 abbrev pub is_later : Rule → Bool
 is_later (G G1) = false
@@ -57,3 +68,9 @@ abbrev pub RefusalsDropOffers : Type 0
 RefusalsDropOffers =
     (state : State) (bytes : List ℕ) (outcome : Outcome) → Step state bytes outcome → MatchOption outcome.rule ⊥ (λ rule. is_later rule ≡ true)
     → Of bytes (λ command. offer_on outcome.state.volatile (channel_of command.class) ≡ None)
+
+-- a command that passes these checks leaves no place in a listing on its channel, unless it is GET STATUS
+abbrev pub PlacesAreForgotten : Type 0
+PlacesAreForgotten =
+    (state : State) (bytes : List ℕ) (outcome : Outcome) → Step state bytes outcome → MatchOption outcome.rule (Unit {0}) (λ rule. is_later rule ≡ true)
+    → Of bytes (λ command. command.ins ≢ GET_STATUS → place_in (channel_at outcome.state.volatile (channel_of command.class)) ≡ None)

@@ -17,6 +17,7 @@ pub mod KeySets
 pub mod KeyVersions
 pub mod Laws
 pub mod ManageChannel
+pub mod LiveEnds
 pub mod Management
 pub mod Means
 pub mod ObjectsFound

@@ -1,5 +1,6 @@
 -- What a request of the code stands for, and how what the code keeps says the state of the card.
 use Rattle.std.specs.Prelude.{◌≡◌, ◌⊎◌, ℕ, ◌<◌, ◌≤◌, List, [], ◌∷◌, Option, None, Some, Result, Ok, Err, slice_index_or}
+use Rattle.std.specs.Option.{option_map}
 use Rattle.apdu_core.specs.Apdu.{Apdu}
 use Rattle.card_types.specs.Level.{code_of}
 use Rattle.card_types.specs.Says.{Says, domain_aid}
@@ -20,8 +21,10 @@ use Rattle.policy_rules.specs.PutKey.{HasKeyFields, SentKey, put_key}
 use Rattle.policy_rules.specs.Select.{select}
 use Rattle.policy_rules.specs.State.{State}
 use Rattle.policy_rules.specs.StoreData.{store_data}
-use Rattle.policy_rules.specs.Volatile.{Channel, channel_at}
+use Rattle.policy_rules.specs.Volatile.{Channel, LoadSession, Place, channel_at, place_in}
 use Rattle.policy_rules.specs.declared.live.Live.{Live}
+use Rattle.policy_rules.specs.declared.live.LoadName.{LoadName}
+use Rattle.policy_rules.specs.declared.live.Place.{Place as KeptPlace}
 use Rattle.policy_rules.specs.declared.live.TheConstants.{CHANNELS}
 use Rattle.policy_rules.specs.declared.put_key.PutKeys.{PutKeys}
 use Rattle.policy_rules.specs.declared.put_key.PutKeys.TheVariants.{One, Three}
@@ -108,9 +111,25 @@ pub record ActsIn (page : ℕ → List ℕ) (tables : Tables) (domain : ℕ) (ad
   pub at : held tables.entries.items domain ≡ Some entry
   pub on : acting admitted ≡ domain_aid tables.entries.items domain
 
--- What the code keeps says this state, as far as the rules look: the tables say the registry over these load pages, and for
--- each channel its slot is that of the AID selected. What else a channel holds is said elsewhere.
+-- a place in a listing, as the code keeps it
+abbrev pub place_of : KeptPlace → Place
+place_of place = record { kind = place.kind; body = place.body.items; last = place.last }
+
+-- the load session that the code has named: its channel, its AID, its domain by the slot, and how many blocks have come
+abbrev pub IsLoadNamed : List (Option Entry) → Option LoadName → Option LoadSession → Type 0
+IsLoadNamed entries None None = Unit {0}
+IsLoadNamed entries None (Some load) = ⊥
+IsLoadNamed entries (Some name) None = ⊥
+IsLoadNamed entries (Some name) (Some load) =
+    (name.channel ≡ load.channel) × (name.aid ≡ load.aid) × (domain_aid entries name.domain ≡ load.domain) × (name.next ≡ load.blocks)
+
+-- What the code keeps says this state, as far as the rules look: the tables say the registry over these load pages, for each
+-- channel its slot is that of the AID selected and its place the one in the listing, and the load session is the one named.
+-- What else a channel and a load session have is said elsewhere.
 pub record SaysState (page : ℕ → List ℕ) (tables : Tables) (live : Live) (state : State) : Type 0 where
   pub registry : Says page tables state.registry
   pub selected : (number : ℕ) → number < CHANNELS
       → IsSelectedIn tables.entries.items (slice_index_or live.selected number None) (channel_at state.volatile number)
+  pub places : (number : ℕ) → number < CHANNELS
+      → option_map place_of (slice_index_or live.places number None) ≡ place_in (channel_at state.volatile number)
+  pub load : IsLoadNamed tables.entries.items live.load state.volatile.load

@@ -3,12 +3,12 @@ use Rattle.std.specs.Prelude.{◌≡◌, ◌⊎◌, ℕ, List, [], ◌++◌, Boo
 use Rattle.apdu_core.specs.Reply.{status_bytes}
 use Rattle.scp03_card.specs.Protected.{protected}
 use Rattle.scp03_card.specs.Session.{Session}
-use Rattle.policy_rules.specs.Admission.{Admits, Admitted, BarredLeaves, Bars, general_rules, placeless}
+use Rattle.policy_rules.specs.Admission.{Admits, Admitted, BarredLeaves, Bars, general_rules}
 use Rattle.policy_rules.specs.Commands.{Does, Judges}
 use Rattle.policy_rules.specs.FirstFailing.{IsFirst}
 use Rattle.policy_rules.specs.Rules.{status_of}
 use Rattle.policy_rules.specs.State.{Effect, State}
-use Rattle.policy_rules.specs.Volatile.{Volatile, without_load}
+use Rattle.policy_rules.specs.Volatile.{Volatile, with_offer_dropped, without_load}
 use Rattle.policy_rules.specs.declared.rule.Rule.{Rule}
 use Rattle.policy_rules.specs.declared.rule.Rule.TheVariants.{G, PS}
 use Rattle.policy_rules.specs.declared.rule.RuleG.{RuleG}
@@ -42,7 +42,7 @@ keeps_load rule = false
 -- session of the channel, unless the rule keeps it
 abbrev pub refusal_leaves : Admitted → Rule → Volatile
 refusal_leaves admitted rule =
-    let left = placeless admitted.at.volatile admitted.channel false in
+    let left = with_offer_dropped admitted.at.volatile admitted.channel in
     if keeps_load rule then left else without_load left admitted.channel
 
 abbrev pub accepted : Admitted → Effect → Outcome

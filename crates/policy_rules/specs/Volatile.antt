@@ -76,6 +76,11 @@ abbrev pub standing_of : Option Channel → Standing
 standing_of None = Nothing
 standing_of (Some channel) = channel.standing
 
+-- the place in a listing that a channel has
+abbrev pub place_in : Option Channel → Option Place
+place_in None = None
+place_in (Some channel) = channel.place
+
 abbrev pub offer_on : Volatile → ℕ → Option Offer
 offer_on volatile number = offer_in (standing_of (channel_at volatile number))
 
@@ -95,6 +100,10 @@ abbrev pub without_offer : Standing → Standing
 without_offer Nothing = Nothing
 without_offer (Offered offer) = Nothing
 without_offer (Secured session) = Secured session
+
+-- the channel's offer is dropped, if it has one
+abbrev pub with_offer_dropped : Volatile → ℕ → Volatile
+with_offer_dropped volatile number = with_standing volatile number (without_offer (standing_of (channel_at volatile number)))
 
 -- the load session without that of a channel
 abbrev pub load_of_others : ℕ → Option LoadSession → Option LoadSession

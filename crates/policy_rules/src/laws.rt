@@ -1,6 +1,7 @@
 //! The laws of the policy machine, as functions that do nothing when they run.
 
-ghost use Rattle.policy_rules.specs.Laws.{ChangesAreOpened, OneForm, OneOutcome, OneRun, RefusalsDropOffers, StartsSound, StepsKeepSound};
+ghost use Rattle.card_types.specs.Registry.{Registry};
+ghost use Rattle.policy_rules.specs.Laws.{ChangesAreOpened, OneForm, OneOutcome, OneRun, OthersAreChanges, PlacesAreForgotten, RefusalsDropOffers, StartsSound, StepsKeepSound};
 
 /// A card that is powered on is sound, and each step keeps it so.
 pub fn steps_keep_sound()
@@ -28,4 +29,15 @@ pub fn refusals_drop_offers()
 /// that no rule refuses.
 pub fn changes_are_opened()
     ensures { ChangesAreOpened }
+{}
+
+/// What counts as a change of a registry: all that is another but for the numbers of sequence counters.
+pub fn others_are_changes()
+    ensures { (before after : Registry) → OthersAreChanges before after }
+{}
+
+/// A command that passes the checks of class, channel and instruction leaves no place in a listing on its channel, unless it is GET
+/// STATUS.
+pub fn places_are_forgotten()
+    ensures { PlacesAreForgotten }
 {}

@@ -27,11 +27,15 @@ pub use external_authenticate::RuleEA;
 pub use get_data::{Datum, RuleGD, judge_get_data};
 pub use initialize_update::{OfferedSet, RuleIU, judge_initialize_update};
 pub use instruction::{
-    EXTERNAL_AUTHENTICATE, GET_DATA, INITIALIZE_UPDATE, MANAGE_CHANNEL, SELECT, instruction_bytes,
+    EXTERNAL_AUTHENTICATE, GET_DATA, INITIALIZE_UPDATE, LOAD, MANAGE_CHANNEL, SELECT,
+    instruction_bytes,
 };
 pub use key_order::{KeyName, lowest_set, next_key, numbered_set};
-pub use laws::{changes_are_opened, one_form, one_outcome, refusals_drop_offers, steps_keep_sound};
-pub use live::{CHANNELS, Live};
+pub use laws::{
+    changes_are_opened, one_form, one_outcome, others_are_changes, places_are_forgotten,
+    refusals_drop_offers, steps_keep_sound,
+};
+pub use live::{CHANNELS, Live, LoadName, Place};
 pub use manage_channel::{RuleMC, judge_more_channel};
 pub use management::RuleM;
 pub use own_rules::judge;

@@ -1,25 +1,65 @@
 //! The volatile state of a card, as the rules see it.
 
-ghost use Rattle.std.specs.Prelude.{◌≡◌, ◌<◌, [], ◌∷◌, None, Some, IfSome, position, is_none, length};
+ghost use Rattle.std.specs.Prelude.{◌≡◌, ◌<◌, IfSome, position, is_none, length};
 
-use card_types::ISSUER_SLOT;
+use arrayvec::ArrayVec;
+use card_types::{Aid, ISSUER_SLOT};
 
 /// How many logical channels a card has.
 pub const CHANNELS: usize = 4;
 
-/// The logical channels: for each open one the slot of the entry that is selected.
+/// Where a listing of the registry goes on.
+#[derive(Drop, Debug)]
+pub struct Place {
+    /// P1 of the GET STATUS that made it.
+    pub kind: u8,
+
+    /// Its data field in plain.
+    pub body: ArrayVec<u8, 255>,
+
+    /// The last AID shown.
+    pub last: Aid,
+}
+
+/// What names the load session.
 #[derive(Clone, Copy, Debug)]
+pub struct LoadName {
+    pub channel: u8,
+
+    /// The AID of the Executable Load File.
+    pub aid: Aid,
+
+    /// The slot of its security domain.
+    pub domain: u8,
+
+    /// The number of the block that comes next.
+    pub next: u16,
+}
+
+/// The volatile state: the logical channels and the load session.
+#[derive(Drop, Debug)]
 pub struct Live {
+    /// For each open channel the slot of the entry that is selected.
     pub selected: [Option<u8>; CHANNELS],
+
+    /// The load session, which is on one of the channels.
+    pub load: Option<LoadName>,
+
+    /// For each channel its place in a listing.
+    pub places: [Option<Place>; CHANNELS],
 }
 
 impl Live {
+    ghost use Rattle.policy_rules.specs.LiveEnds.{first_live, live_with_channel, live_without_load, live_without_place};
+
     /// After power on or reset: channel 0 alone is open, with the Issuer Security Domain selected.
     pub fn powered_on() -> Live
-        ensures { result.selected ≡ Some ISSUER_SLOT ∷ None ∷ None ∷ None ∷ [] }
+        ensures { result ≡ first_live }
     {
         Live {
             selected: [Some(ISSUER_SLOT), None, None, None],
+            load: None,
+            places: [None, None, None, None],
         }
     }
 
@@ -30,5 +70,35 @@ impl Live {
         ensures four { length self.now.selected ≡ CHANNELS }
     {
         self.selected.iter().position(Option::is_none)
+    }
+
+    /// The channel's place in a listing is forgotten.
+    pub fn forget_place(&mut self, channel: u8)
+        requires { channel < CHANNELS }
+        ensures { self.new ≡ live_without_place self.old channel }
+    {
+        self.places[usize::from(channel)] = None;
+    }
+
+    /// The channel's load session ends, if it has one.
+    pub fn end_load(&mut self, channel: u8)
+        ensures { self.new ≡ live_without_load self.old channel }
+    {
+        if let Some(load) = &self.load {
+            if load.channel == channel {
+                self.load = None;
+            }
+        }
+    }
+
+    /// An entry is selected on a channel, or the channel is closed, and all that it had ends.
+    pub fn set_channel(&mut self, channel: u8, selected: Option<u8>)
+        requires { channel < CHANNELS }
+        ensures set { self.new ≡ live_with_channel self.old channel selected }
+        ensures four { length self.old.selected ≡ CHANNELS }
+    {
+        self.selected[usize::from(channel)] = selected;
+        self.forget_place(channel);
+        self.end_load(channel);
     }
 }

@@ -2,6 +2,7 @@
 
 ghost use Rattle.std.specs.Prelude.{◌≡◌};
 ghost use Rattle.policy_rules.specs.Rules.{name_of, status_of};
+ghost use Rattle.policy_rules.specs.Step.{keeps_load as keeps_load_by};
 
 use crate::delete_key::RuleDK;
 use crate::external_authenticate::RuleEA;
@@ -86,6 +87,13 @@ impl Rule {
             Rule::DK(rule) => rule.status(),
             Rule::SD(rule) => rule.status(),
         }
+    }
+
+    /// Whether a command that the rule refuses leaves the load session of its channel, so that the host may go on with it.
+    pub fn keeps_load(&self) -> bool
+        ensures { result ≡ keeps_load_by self.now }
+    {
+        matches!(self, Rule::PS(RulePS::P))
     }
 
     /// The rule's name.

@@ -88,6 +88,7 @@ fn judged(card: &Card<MemFlash>, slot: u8, form: Form) -> Result<&'static str, F
     }
     let live = Live {
         selected: [Some(slot), None, None, None],
+        ..Live::powered_on()
     };
     let request = parse(ins, p1, p2, body).map_err(|rule| rule.name())?;
     Ok(name(judge(card.tables(), &live, 0, &request, true)))

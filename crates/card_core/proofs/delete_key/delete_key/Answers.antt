@@ -1,4 +1,4 @@
-use Rattle.std.proofs.Common.{ℕ, inl, List, [], ◌∷◌, ◌++◌, None, Some, refl, ap, sym, subst, ◌∙◌}
+use Rattle.std.proofs.Common.{ℕ, inl, List, [], ◌∷◌, ◌++◌, refl, ap, sym, subst, ◌∙◌}
 use Rattle.card_core.proofs.Cards.{in_order}
 use Rattle.card_core.proofs.DeleteKeyDone.{deleted_cards, deleted_says}
 use Rattle.card_core.proofs.Managing.{refusal_managed}

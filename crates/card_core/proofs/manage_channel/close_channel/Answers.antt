@@ -1,12 +1,11 @@
-use Rattle.std.proofs.Common.{rules, ◌≡◌, [], true, false, None, length, refl, inl, inr, ap}
+use Rattle.std.proofs.Common.{rules, ◌≡◌, ℕ, ◌<◌, [], true, false, None, length, refl, sym, subst, inl, inr}
 use Rattle.std.specs.Prelude.{is_none, slice_index_or}
 use Rattle.policy_rules.proofs.Judging.{does_so}
 use Rattle.policy_rules.proofs.ManageChannelLaws.{close_passes}
 use Rattle.policy_rules.specs.ManageChannel.{manage_channel}
-use Rattle.policy_rules.specs.Volatile.{load_of_others, without_channel}
+use Rattle.policy_rules.specs.Volatile.{without_channel}
 use Rattle.policy_rules.specs.declared.live.TheConstants.{CHANNELS}
-use Rattle.card_core.specs.declared.held.Held.TheVariants as holding
-use Rattle.card_core.proofs.Standing.{channel_shows, none_selected, some_selected}
+use Rattle.card_core.proofs.Standing.{begun_shows, none_selected, some_selected}
 use Rattle.card_core.proofs.manage_channel.close_channel.Goals as goal
 
 pub returns-then-is_none : goal.returns-then-is_none
@@ -37,10 +36,9 @@ returns c = record {
           body = [];
           status = 0x9000;
         },
-        rw (c.from-place.ensures, c.end.ensures) (channel_shows page tables c.args.live.now c.args.held.now admitted.at stands.shows
+        rw (c.from-place.ensures, c.set_channel.ensures.set, c.end.ensures) (begun_shows page tables c.args.live.now c.args.held.now admitted.at stands.shows
             (record { held = held_four; channels = stands.sound.fits.channels })
-            c.args.number c.requires.high four None holding.Nothing None (without_channel admitted.at.volatile c.args.number) tt tt tt refl
-            (ap (load_of_others c.args.number) stands.shows.holds.load)),
+            c.args.number c.requires.high (subst (λ (n : ℕ). c.args.number < n) (sym four) c.requires.high) None None tt refl refl),
         close_passes admitted request.form means.0,
         does_so manage_channel (λ holds here. inl here) admitted request.form _ (inr (means.0, rw (means.1, some.1) refl)),
         refl,

@@ -1,4 +1,4 @@
-use Rattle.std.proofs.Common.{rules, ◌≡◌, [], ◌∷◌, Some, length, refl, inl, ◌∙◌}
+use Rattle.std.proofs.Common.{rules, ◌≡◌, ℕ, ◌<◌, [], ◌∷◌, Some, length, refl, sym, subst, inl, ◌∙◌}
 use Rattle.policy_rules.specs.declared.rule.Rule.TheVariants.{MC}
 use Rattle.policy_rules.proofs.Judging.{does_so}
 use Rattle.policy_rules.proofs.ManageChannelLaws.{open_passes, open_refused}
@@ -21,8 +21,8 @@ returns-in-Ok-clause-done c page tables all admitted layout stands held_four low
         status = 0x9000;
       },
       rw c.from.ensures (opened_shows page tables c.args.live.now all admitted.at stands.shows
-          (record { held = held_four; channels = stands.sound.fits.channels }) four
-          c.in-Ok.number c.in-Ok.ensures.below layout found),
+          (record { held = held_four; channels = stands.sound.fits.channels })
+          c.in-Ok.number c.in-Ok.ensures.below (subst (λ (n : ℕ). c.in-Ok.number < n) (sym four) c.in-Ok.ensures.below) layout found),
       open_passes admitted request.form c.in-Ok.number found,
       does_so manage_channel (λ holds here. inl here) admitted request.form _ (inl (means, rw found refl)),
       c.push.ensures.items ∙ rw c.requires.empty refl,

@@ -1,15 +1,14 @@
-use Rattle.std.proofs.Common.{rules, ◌≡◌, ◌<◌, ℕ, List, length, Some, refl, ap, inl, subst, ◌∙◌}
+use Rattle.std.proofs.Common.{◌<◌, ℕ, List, Some, refl, sym, ap, inl, subst, ◌∙◌}
 use Rattle.std.specs.Prelude.{slice_set}
 use Rattle.std.proofs.lemmas.List.{length-set}
 use Rattle.policy_rules.specs.declared.rule.Rule.TheVariants.{SE}
 use Rattle.policy_rules.proofs.Judging.{does_so}
 use Rattle.policy_rules.proofs.SelectLaws.{select_passes, select_refused}
 use Rattle.policy_rules.specs.Select.{IsControlInformation, select, selected_status}
-use Rattle.policy_rules.specs.Volatile.{fresh, load_of_others, with_selected}
+use Rattle.policy_rules.specs.Volatile.{fresh, with_selected}
 use Rattle.policy_rules.specs.declared.live.TheConstants.{CHANNELS}
-use Rattle.card_core.specs.declared.held.Held.TheVariants as held
 use Rattle.card_core.proofs.Carrying.{refusal_shows}
-use Rattle.card_core.proofs.Standing.{channel_shows, held_same}
+use Rattle.card_core.proofs.Standing.{begun_shows, held_same}
 use Rattle.card_core.proofs.select.select.Goals as goal
 
 pub returns-in-Ok-clause-done : goal.returns-in-Ok-clause-done
@@ -18,18 +17,16 @@ returns-in-Ok-clause-done c page all admitted stands four here same request =
     let says = stands.shows.says in
     let found = c.in-Ok.ensures.found page admitted.at.registry says.registry in
     let passes = select_passes admitted c.args.partial.now request.form means _ found in
-    let live_four : length c.args.live.now.selected ≡ CHANNELS = search rules in
+    let low : admitted.channel < CHANNELS = subst (λ (n : ℕ). n < CHANNELS) here c.requires.channel in
     let entry = c.in-Ok.found.thing.now in (
       record {
         state = record { registry = admitted.at.registry; volatile = with_selected admitted.at.volatile admitted.channel entry.aid };
         body = c.write_control_information.new.reply.items;
         status = c.selected_status.result.0;
       },
-      rw (c.from.ensures, here, c.end.ensures) (channel_shows page c.args.tables.now c.args.live.now all admitted.at stands.shows
-          (record { held = four; channels = stands.sound.fits.channels })
-          admitted.channel (subst (λ (n : ℕ). n < CHANNELS) here c.requires.channel) live_four (Some c.in-Ok.found.slot) held.Nothing (Some (fresh entry.aid))
-          (with_selected admitted.at.volatile admitted.channel entry.aid) (entry, c.in-Ok.ensures.at, refl) tt refl refl
-          (ap (load_of_others admitted.channel) stands.shows.holds.load)),
+      rw (c.set_channel.ensures.set, here, c.end.ensures) (begun_shows page c.args.tables.now c.args.live.now all admitted.at stands.shows
+          (record { held = four; channels = stands.sound.fits.channels }) admitted.channel low
+          (subst (λ (n : ℕ). admitted.channel < n) (sym c.set_channel.ensures.four) low) (Some c.in-Ok.found.slot) (Some (fresh entry.aid)) (entry, c.in-Ok.ensures.at, refl) refl refl),
       passes.0,
       does_so select (λ holds here. inl here) admitted request.form _ (rw passes.1 (record {
         registry = refl;

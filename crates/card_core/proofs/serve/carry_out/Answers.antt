@@ -52,7 +52,7 @@ returns-in_err-judge_offer-clause-done g c = λ page judged stands at is.
     let here = held_there page tables live all judged stands c.told-held c.args.received.now.channel slot c.requires.channel at c.requires.selected
     c.from-place.result c.index-held-place.result c.from-place.ensures in
     let low = low page tables live all judged stands c.told-held c.args.received.now.channel slot c.requires.channel at c.requires.selected in
-    let none = no_offer (slice_index_or all judged.channel held.Nothing) judged (stands.shows.holds.channels judged.channel low)
+    let none = no_offer (slice_index_or all judged.channel held.Nothing) judged (stands.shows.holds judged.channel low)
     (subst (λ (h : Held). IsOffered h → ⊥) here found.2) in
     let judges = unoffered_judged judged (ap (λ (command : Apdu). command.ins) is ∙ found.1) none in
     refusal_carried page (record { tables = tables; live = live; held = all }) judged c.args.reply.now.items c.from_residual.result c.in_err-judge_offer.field-0.0
@@ -70,7 +70,7 @@ returns-in_err-request-clause-done g c = λ page judged stands at is.
     c.from-place.result c.index-held-place.result c.from-place.ensures in
     let low = low page tables live all judged stands c.told-held c.args.received.now.channel slot c.requires.channel at c.requires.selected in
     let offered : c.args.command.now.ins ≡ EXTERNAL_AUTHENTICATE → IsOffered (slice_index_or all c.from-place.result c.index-held-place.result) = search rules in
-    let begins = begin_passes judged (λ ins none. is_offer (slice_index_or all judged.channel held.Nothing) judged (stands.shows.holds.channels judged.channel low)
+    let begins = begin_passes judged (λ ins none. is_offer (slice_index_or all judged.channel held.Nothing) judged (stands.shows.holds judged.channel low)
     (subst IsOffered here (offered (sym (ap (λ (command : Apdu). command.ins) is) ∙ ins))) none) in
     let wrong : IsMalformed c.args.command.now.ins c.args.command.now.p1 c.args.command.now.p2 c.args.command.now.body.now c.in_err-request.field-0.0 = search rules in
     let judges = malformed_judged judged c.in_err-request.field-0.0 begins
@@ -146,7 +146,7 @@ returns-in-Authenticate-clause-done g c = λ page judged stands at is.
     ap (λ (n : ℕ). slice_index_or c.args.held.now n c.index-held-place-in-Authenticate.result) (c.from-place.ensures ∙ at)
     ∙ get_or_default c.args.held.now judged.channel c.index-held-place-in-Authenticate.result held.Nothing (subst (λ (n : ℕ). judged.channel < n) (sym c.told-held) low) in
     let answers = c.external_authenticate.ensures judged asked
-    (subst (λ (h : Held). HoldsAs h (standing_for judged)) (sym here) (stands.shows.holds.channels judged.channel low)) in
+    (subst (λ (h : Held). HoldsAs h (standing_for judged)) (sym here) (stands.shows.holds judged.channel low)) in
     rw (c.from-place.ensures ∙ at, c.requires.empty) (answer_carried page c.args.records.now.tables c.args.live.now c.args.held.now judged stands four low c.args.received.now.selected
     c.external_authenticate.new.held c.external_authenticate.result asked.form opened
     (subst (λ (h : Held). AnswersAs judged h c.external_authenticate.new.held c.external_authenticate.result) here answers))
@@ -163,7 +163,7 @@ returns-in-PutKey-clause-done g c = λ page judged stands at is.
     c.from-place.result c.index-held-place-in-PutKey.result c.from-place.ensures in
     let acts = acts_for page tables live all judged stands c.told-held c.args.received.now.channel slot c.requires.channel at c.requires.selected in
     let managed = c.manage.ensures.done page judged acts stands.sound.ascending (subst (IsRequestOf c.in_ok-request.request) (sym is) request)
-    (subst (λ (h : Held). HoldsAs h (standing_for judged)) (sym here) (stands.shows.holds.channels judged.channel low)) in
+    (subst (λ (h : Held). HoldsAs h (standing_for judged)) (sym here) (stands.shows.holds judged.channel low)) in
     managed_carried page tables live all judged stands (record { held = c.told-held; channels = stands.sound.fits.channels }) low
     c.manage.new.records.tables c.manage.new.reply.items c.manage.result c.manage.ensures.entries managed
 

@@ -1,6 +1,6 @@
 use Rattle.std.proofs.Common.{rules, ◌≡◌, ℕ, List, [], ◌∷◌, Bool, true, false, refl, sym, ◌∙◌}
 use Rattle.std.specs.List.{list_any}
-use Rattle.std.specs.Prelude.{Contains, ◌||◌, ◌==◌}
+use Rattle.std.specs.Prelude.{◌||◌, ◌==◌}
 use Rattle.policy_rules.proofs.Instructed.{all_among, among, each_byte}
 use Rattle.policy_rules.specs.Classes.{management, managing}
 use Rattle.policy_rules.specs.declared.class.Class.TheVariants.{Plain}

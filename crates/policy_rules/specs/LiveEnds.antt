@@ -1,0 +1,30 @@
+-- What the code keeps of the channels and of the load session: how it begins, and where some of it ends.
+use Rattle.std.specs.Prelude.{ℕ, [], ◌∷◌, Option, None, Some, slice_set, if◌then◌else◌, ◌==◌}
+use Rattle.card_types.specs.declared.tables.TheConstants.{ISSUER_SLOT}
+use Rattle.policy_rules.specs.declared.live.Live.{Live}
+use Rattle.policy_rules.specs.declared.live.LoadName.{LoadName}
+
+-- after power on or reset channel 0 alone is open, with the Issuer Security Domain selected
+abbrev pub first_live : Live
+first_live = record { selected = Some ISSUER_SLOT ∷ None ∷ None ∷ None ∷ []; load = None; places = None ∷ None ∷ None ∷ None ∷ [] }
+
+-- the channel has no place in a listing
+abbrev pub live_without_place : Live → ℕ → Live
+live_without_place live number = record { selected = live.selected; load = live.load; places = slice_set live.places number None }
+
+-- the load session without that of a channel
+abbrev pub kept_of_others : ℕ → Option LoadName → Option LoadName
+kept_of_others number None = None
+kept_of_others number (Some load) = if load.channel == number then None else Some load
+
+-- the channel's load session has ended
+abbrev pub live_without_load : Live → ℕ → Live
+live_without_load live number = record { selected = live.selected; load = kept_of_others number live.load; places = live.places }
+
+-- the channel has this selected, or is closed, and all that it had has ended
+abbrev pub live_with_channel : Live → ℕ → Option ℕ → Live
+live_with_channel live number slot = record {
+  selected = slice_set live.selected number slot;
+  load = kept_of_others number live.load;
+  places = slice_set live.places number None;
+}
