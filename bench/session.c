@@ -4,7 +4,8 @@
      session lines COUNT GETS    writes the lines of COUNT sessions, each of INITIALIZE UPDATE,
                                  EXTERNAL AUTHENTICATE and GETS times GET DATA, of the sequence
                                  counter and of the keys in turns
-     session answers             reads lines and answers each by one call of write
+     session answers             reads lines and answers each by one call of write; at INITIALIZE
+                                 UPDATE it commits a page to the file c.img first, as gp does
 
    It knows these commands alone, and the factory card. Each session makes the key schedules and
    the CMAC subkeys of its static keys and of its session keys once, as gp does, but no schedules
@@ -14,10 +15,7 @@
 #define OPENSSL_SUPPRESS_DEPRECATED
 #include <openssl/aes.h>
 #include <stdint.h>
-#include <stdio.h>
-#include <stdlib.h>
-#include <string.h>
-#include <unistd.h>
+#include "journal.h"
 
 enum { LEVEL = 0x33, MOST = 261, ACCEPTED = 0x9000, REFUSED = 0x6982 };
 
@@ -40,8 +38,10 @@ static const block static_key = {
     0x40, 0x41, 0x42, 0x43, 0x44, 0x45, 0x46, 0x47, 0x48, 0x49, 0x4a, 0x4b, 0x4c, 0x4d, 0x4e, 0x4f,
 };
 
-/* The sequence counter of the next session. */
+/* The sequence counter of the next session, which stands in this page of the card's. */
 static uint32_t counter;
+
+enum { COUNTER_PAGE = 25 };
 
 /* What both ends know of the session. The challenges are the host's and then the card's. */
 static block challenges;
@@ -180,6 +180,14 @@ static size_t put_status(uint8_t *reply, size_t size, uint16_t status)
     return size + 2;
 }
 
+static void commit_counter(void)
+{
+    unsigned char page[SIZE] = { 0 };
+
+    put_counter(page + 37);
+    commit(COUNTER_PAGE, 1, page);
+}
+
 static size_t initialize_update(const uint8_t *host_challenge, uint8_t *reply)
 {
     begin(host_challenge);
@@ -189,6 +197,7 @@ static size_t initialize_update(const uint8_t *host_challenge, uint8_t *reply)
     put_cryptogram(CARD_CRYPTOGRAM, reply + 21);
     put_counter(reply + 29);
     counter++;
+    commit_counter();
     return put_status(reply, 32, ACCEPTED);
 }
 
@@ -367,7 +376,9 @@ int main(int argc, char **argv)
 {
     if (argc == 4 && strcmp(argv[1], "lines") == 0)
         return lines(strtoul(argv[2], NULL, 10), strtoul(argv[3], NULL, 10));
-    if (argc == 2 && strcmp(argv[1], "answers") == 0)
+    if (argc == 2 && strcmp(argv[1], "answers") == 0) {
+        open_device("c.img");
         return answers();
+    }
     return 2;
 }

@@ -9,8 +9,9 @@
 #
 # A session is INITIALIZE UPDATE, EXTERNAL AUTHENTICATE and 100 times GET DATA. They come one after
 # the other on channel 0 of one card. What begins a session is timed by as many commands in
-# sessions without GET DATA. INITIALIZE UPDATE commits a page, which the C program does not: the
-# card stands in memory, in /dev/shm, so that no disk is measured.
+# sessions without GET DATA. INITIALIZE UPDATE commits a page, and the C program makes the same
+# writes and syncs of a file of its own: both stand in memory, in /dev/shm, so that no disk is
+# measured.
 #
 # The two take turns, and the best of TRIES times counts, 5 if unset. It wants a C compiler and
 # the headers of OpenSSL (libssl-dev).
