@@ -25,3 +25,4 @@ pub mod Counters
 pub mod Says
 pub mod Changed
 pub mod SlotChange
+pub mod RegistryChange
