@@ -137,21 +137,22 @@ module _ (page : ℕ → List ℕ) (tables : Tables) (card : IsCard page tables)
   entry_is : (slot : ℕ) (entry : Entry) → held entries slot ≡ Some entry → IsCardEntry tables slot entry
   entry_is slot entry at =
       let is = well_entry page tables said says well slot entry at in
+      let proper = is.proper in
       let file = loaded_file_is_used page tables said says well slot entry at in
       record {
-        aid = is.aid;
+        aid = proper.aid;
         alone = entry_alone slot entry at;
         domain = is_domain_slot entry.domain (domain_is_used page tables said says well slot entry at);
         leads = line_in_slots page tables said says well slot entry at;
         loaded = some_from (held files entry.file) file.0 file.1;
         kind = record {
-          module_ = is.module_;
-          kind = is.kind ∙ sym (is_factory_slot files first_file.0 first_file.1 first_file.2.0 (one_file_slot page tables said says) entry.file file.0 file.1);
-          domain_module = is.domain_module;
-          life = is.life;
+          module_ = proper.module_;
+          kind = proper.kind ∙ sym (is_factory_slot files first_file.0 first_file.1 first_file.2.0 (one_file_slot page tables said says) entry.file file.0 file.1);
+          domain_module = proper.domain_module;
+          life = proper.life;
         };
-        rights = record { named = is.named_privileges; domain_rights = is.domain_privileges; one_management = is.one_management };
-        receipts = is.receipts;
+        rights = record { named = proper.named_privileges; domain_rights = proper.domain_privileges; one_management = proper.one_management };
+        receipts = proper.receipts;
       }
 
   file_is : (slot : ℕ) (file : LoadFile) → held files slot ≡ Some file → IsCardFile tables slot file

@@ -70,19 +70,21 @@ module _ (page : ℕ → List ℕ) (whole : HasPages page) (tables : Tables) (ca
       let file = in_some (held files entry.file) is.loaded in
       let factory = factory_load_file tables card in
       record {
-        aid = is.aid;
-        module_ = is.kind.module_;
+        proper = record {
+          aid = is.aid;
+          module_ = is.kind.module_;
+          kind = is.kind.kind ∙ is_factory_slot files factory.0 factory.1 factory.2.aid (one_file tables card) entry.file file.0 file.1;
+          domain_module = is.kind.domain_module;
+          life = is.kind.life;
+          named_privileges = is.rights.named;
+          domain_privileges = is.rights.domain_rights;
+          one_management = is.rights.one_management;
+          receipts = is.receipts;
+        };
         domain = domain_named entry.domain is.domain;
         line = leads_named slot entry at;
         loaded = subst (λ (aid : List ℕ). IsSome (file_named said aid)) (sym (file_aid_is files entry.file file.0 file.1))
             (some_from (file_named said file.0.aid) (file_of page entries file.0) (file_in_slot page tables said says entry.file file.0 file.1));
-        kind = is.kind.kind ∙ is_factory_slot files factory.0 factory.1 factory.2.aid (one_file tables card) entry.file file.0 file.1;
-        domain_module = is.kind.domain_module;
-        life = is.kind.life;
-        named_privileges = is.rights.named;
-        domain_privileges = is.rights.domain_rights;
-        one_management = is.rights.one_management;
-        receipts = is.receipts;
       }
 
   -- the bytes of a file

@@ -93,13 +93,10 @@ IsObject tag size =
     ⊎ ((tag ≡ 0xCF) × (size ≡ 10))
     ⊎ (((tag ≡ 0x66) ⊎ (tag ≡ 0x5F50)) × (1 ≤ size) × (size ≤ 120))
 
--- what is so of each entry
-pub record IsWellEntry (registry : Registry) (entry : Entry) : Type 0 where
+-- what is so of each entry by itself
+pub record IsProperEntry (entry : Entry) : Type 0 where
   pub aid : IsAid entry.aid
   pub module_ : IsAid entry.module_
-  pub domain : IsDomainNamed registry entry.domain
-  pub line : LeadsToRoot registry entry.aid
-  pub loaded : IsSome (file_named registry entry.file)
   pub kind : is_domain entry ≡ same_aid entry.file FACTORY_FILE
   pub domain_module : is_domain entry ≡ true → entry.module_ ≡ FACTORY_MODULE
   pub life : has_life (is_domain entry) entry.life.life ≡ true
@@ -107,6 +104,13 @@ pub record IsWellEntry (registry : Registry) (entry : Entry) : Type 0 where
   pub domain_privileges : has_domain_privilege entry ≡ true → is_domain entry ≡ true
   pub one_management : (has authorized_management entry.privileges && has delegated_management entry.privileges) ≡ false
   pub receipts : entry.receipts ≤ RECEIPT_LIMIT
+
+-- of each entry of a registry
+pub record IsWellEntry (registry : Registry) (entry : Entry) : Type 0 where
+  pub proper : IsProperEntry entry
+  pub domain : IsDomainNamed registry entry.domain
+  pub line : LeadsToRoot registry entry.aid
+  pub loaded : IsSome (file_named registry entry.file)
 
 -- of each Executable Load File
 pub record IsWellFile (registry : Registry) (file : LoadFile) : Type 0 where
