@@ -26,3 +26,4 @@ pub mod Says
 pub mod Changed
 pub mod SlotChange
 pub mod RegistryChange
+pub mod ChangeLaws
