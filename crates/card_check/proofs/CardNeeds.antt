@@ -10,12 +10,11 @@ use Rattle.std.proofs.lemmas.List.Sorted.{sum_by-IsPermutation}
 use Rattle.std.proofs.lemmas.List.Sums.{length-filter}
 use Rattle.std.proofs.lemmas.Option.{MatchOption-at_some}
 use Rattle.card_types.specs.AidOrder.{same_aid}
-use Rattle.card_types.specs.Hierarchy.{EndsAt, IsLine}
 use Rattle.card_types.specs.KeySets.{HasKeys, IsKeyOf}
 use Rattle.card_types.specs.Privileges.{has, security_domain}
 use Rattle.card_types.specs.Registry as registry
 use Rattle.card_types.specs.Registry.{domain_of, entry_named, file_named, keys_of}
-use Rattle.card_types.specs.Says.{Says, counter_of, domain_aid, domain_slot, entry_of, file_of, key_of, object_of, used}
+use Rattle.card_types.specs.Says.{Says, counter_of, domain_aid, entry_of, file_of, key_of, object_of, used}
 use Rattle.card_types.specs.Slots.{held}
 use Rattle.card_types.specs.Well.{IsFactoryFile, IsIssuerDomain, IsWellCounter, IsWellFile, IsWellKey, IsWellObject, Well}
 use Rattle.card_types.specs.declared.factory.TheConstants.{ISSUER, FACTORY_FILE}
@@ -26,17 +25,16 @@ use Rattle.card_types.specs.declared.tables.KeyRec.{KeyRec}
 use Rattle.card_types.specs.declared.tables.LoadFile.{LoadFile}
 use Rattle.card_types.specs.declared.tables.Object.{Object}
 use Rattle.card_types.specs.declared.tables.Tables.{Tables}
-use Rattle.card_types.proofs.DomainLines.{line_in_slots, line_named}
-use Rattle.card_types.proofs.Domains.{domain_aid_is, domain_is_used, file_domain_is_used, key_owner_is_used, loaded_file_is_used, object_owner_is_used, same_domain, used_from_step, well_entry}
+use Rattle.card_types.proofs.DomainLines.{line_in_slots}
+use Rattle.card_types.proofs.Domains.{domain_aid_is, domain_is_used, file_domain_is_used, key_owner_is_used, loaded_file_is_used, object_owner_is_used, same_domain, well_entry}
 use Rattle.card_types.proofs.EntryNames.{entry_in_slot, one_entry_slot}
 use Rattle.card_types.proofs.FileNames.{file_in_slot, one_file_slot}
 use Rattle.card_types.proofs.KeyNames.{counters_shown, keys_shown, one_key_slot}
-use Rattle.card_types.proofs.Lines.{one_line}
 use Rattle.card_types.proofs.ObjectNames.{objects_shown, one_object_slot}
 use Rattle.card_types.proofs.SameAid.{same_aid_decides}
 use Rattle.card_types.proofs.SetNames.{set_of_counter}
 use Rattle.card_types.proofs.Shows.{shows_used}
-use Rattle.card_check.specs.CardSlots.{HasCardSlots, IsAlone, IsCardEntry, IsCardFile, IsCardKey, IsCardObject, IsDomainSlot, IsFactoryLoadFile, IsIssuerEntry, LeadsToIssuer, is_key_of}
+use Rattle.card_check.specs.CardSlots.{HasCardSlots, IsAlone, IsCardEntry, IsCardFile, IsCardKey, IsCardObject, IsDomainSlot, IsFactoryLoadFile, IsIssuerEntry, is_key_of}
 use Rattle.card_check.specs.IsCard.{IsCard, IsInLoadPages, IsLoadPage, pages_named}
 use Rattle.card_check.specs.LoadPages.{HaveLoadPages}
 use Rattle.card_check.proofs.CardNames.{file_aid_is, in_used, is_factory_slot, some_from, used_from}
@@ -136,44 +134,25 @@ module _ (page : ℕ → List ℕ) (tables : Tables) (card : IsCard page tables)
       let there = held_with (λ (f : LoadFile). f.aid) (held files other) file.aid named in
       ap found.File (one_file_slot page tables said says other slot there.0 file there.1 at there.2)
 
-  -- a line of slots whose AIDs end at the Issuer Security Domain ends at its slot
-  ends_back : (from : ℕ) (line : List ℕ) → IsLine (domain_slot entries) from line → EndsAt ISSUER (map (domain_aid entries) line) → EndsAt 0 line
-  ends_back from [] is ends = ends
-  ends_back from (last ∷ []) is ends =
-      let entry = used_from_step entries from from is.1 in
-      is.0 ∙ issuer_slot from entry.0 entry.1 (ap (domain_aid entries) (sym is.0) ∙ ends)
-  ends_back from (first ∷ next ∷ line) is ends = ends_back next (next ∷ line) is.3 ends
-
-  leads : (slot : ℕ) (entry : Entry) → held entries slot ≡ Some entry → LeadsToIssuer entries slot
-  leads slot entry at =
-      let line = line_in_slots page tables said says well slot entry at in
-      let named = line_named page tables said says slot line.0 line.1 in
-      let root = (well_entry page tables said says well slot entry at).line in
-      let same : root.1 ≡ map (domain_aid entries) line.0 =
-      one_line (domain_of said) (domain_aid entries slot) root.1 (map (domain_aid entries) line.0)
-      (subst (λ (aid : List ℕ). IsLine (domain_of said) aid root.1) (sym (domain_aid_is entries slot entry at)) root.3) named in
-      let issuer : root.0 ≡ ISSUER = root.2 in
-      let ends : EndsAt ISSUER (map (domain_aid entries) line.0) = subst (EndsAt ISSUER) same (subst (λ (aid : List ℕ). EndsAt aid root.1) issuer root.4) in
-      (line.0, line.1, ends_back slot line.0 line.1 ends)
-
   entry_is : (slot : ℕ) (entry : Entry) → held entries slot ≡ Some entry → IsCardEntry tables slot entry
   entry_is slot entry at =
       let is = well_entry page tables said says well slot entry at in
+      let proper = is.proper in
       let file = loaded_file_is_used page tables said says well slot entry at in
       record {
-        aid = is.aid;
+        aid = proper.aid;
         alone = entry_alone slot entry at;
         domain = is_domain_slot entry.domain (domain_is_used page tables said says well slot entry at);
-        leads = leads slot entry at;
+        leads = line_in_slots page tables said says well slot entry at;
         loaded = some_from (held files entry.file) file.0 file.1;
         kind = record {
-          module_ = is.module_;
-          kind = is.kind ∙ sym (is_factory_slot files first_file.0 first_file.1 first_file.2.0 (one_file_slot page tables said says) entry.file file.0 file.1);
-          domain_module = is.domain_module;
-          life = is.life;
+          module_ = proper.module_;
+          kind = proper.kind ∙ sym (is_factory_slot files first_file.0 first_file.1 first_file.2.0 (one_file_slot page tables said says) entry.file file.0 file.1);
+          domain_module = proper.domain_module;
+          life = proper.life;
         };
-        rights = record { named = is.named_privileges; domain_rights = is.domain_privileges; one_management = is.one_management };
-        receipts = is.receipts;
+        rights = record { named = proper.named_privileges; domain_rights = proper.domain_privileges; one_management = proper.one_management };
+        receipts = proper.receipts;
       }
 
   file_is : (slot : ℕ) (file : LoadFile) → held files slot ≡ Some file → IsCardFile tables slot file

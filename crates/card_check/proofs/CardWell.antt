@@ -9,7 +9,7 @@ use Rattle.std.proofs.lemmas.List.Elements.{All-contains}
 use Rattle.std.proofs.lemmas.List.Sorted.{length_permutation, sum_by-IsPermutation}
 use Rattle.std.proofs.lemmas.List.Sums.{length-filter, sum_by-cons}
 use Rattle.card_types.specs.AidOrder.{same_aid}
-use Rattle.card_types.specs.Hierarchy.{EndsAt, IsLine}
+use Rattle.card_types.specs.Hierarchy.{IsLine}
 use Rattle.card_types.specs.KeySets.{HasKey, HasKeys, IsKeyOf}
 use Rattle.card_types.specs.Privileges.{has, security_domain}
 use Rattle.card_types.specs.Registry as registry
@@ -57,19 +57,11 @@ module _ (page : ℕ → List ℕ) (whole : HasPages page) (tables : Tables) (ca
       (used_from (λ (e : registry.Entry). is_domain e ≡ true) (entry_named said domain.0.aid) (entry_of entries files domain.0)
       (entry_in_slot page tables said says slot domain.0 domain.1) domain.2)
 
-  ends_named : (line : List ℕ) → EndsAt 0 line → EndsAt ISSUER (map (domain_aid entries) line)
-  ends_named [] ends = absurd ends
-  ends_named (last ∷ []) ends = ap (domain_aid entries) ends ∙ issuer_aid
-  ends_named (first ∷ next ∷ line) ends = ends_named (next ∷ line) ends
-
   leads_named : (slot : ℕ) (entry : Entry) → held entries slot ≡ Some entry → LeadsToRoot said entry.aid
   leads_named slot entry at =
       let leads = (card.entries.at slot entry at).leads in (
-        ISSUER,
         map (domain_aid entries) leads.0,
-        refl,
         subst (λ (aid : List ℕ). IsLine (domain_of said) aid (map (domain_aid entries) leads.0)) (domain_aid_is entries slot entry at) (line_named page tables said says slot leads.0 leads.1),
-        ends_named leads.0 leads.2,
       )
 
   well_entry : (slot : ℕ) (entry : Entry) → held entries slot ≡ Some entry → IsWellEntry said (entry_of entries files entry)
@@ -78,19 +70,21 @@ module _ (page : ℕ → List ℕ) (whole : HasPages page) (tables : Tables) (ca
       let file = in_some (held files entry.file) is.loaded in
       let factory = factory_load_file tables card in
       record {
-        aid = is.aid;
-        module_ = is.kind.module_;
+        proper = record {
+          aid = is.aid;
+          module_ = is.kind.module_;
+          kind = is.kind.kind ∙ is_factory_slot files factory.0 factory.1 factory.2.aid (one_file tables card) entry.file file.0 file.1;
+          domain_module = is.kind.domain_module;
+          life = is.kind.life;
+          named_privileges = is.rights.named;
+          domain_privileges = is.rights.domain_rights;
+          one_management = is.rights.one_management;
+          receipts = is.receipts;
+        };
         domain = domain_named entry.domain is.domain;
         line = leads_named slot entry at;
         loaded = subst (λ (aid : List ℕ). IsSome (file_named said aid)) (sym (file_aid_is files entry.file file.0 file.1))
             (some_from (file_named said file.0.aid) (file_of page entries file.0) (file_in_slot page tables said says entry.file file.0 file.1));
-        kind = is.kind.kind ∙ is_factory_slot files factory.0 factory.1 factory.2.aid (one_file tables card) entry.file file.0 file.1;
-        domain_module = is.kind.domain_module;
-        life = is.kind.life;
-        named_privileges = is.rights.named;
-        domain_privileges = is.rights.domain_rights;
-        one_management = is.rights.one_management;
-        receipts = is.receipts;
       }
 
   -- the bytes of a file

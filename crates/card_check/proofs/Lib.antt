@@ -4,7 +4,7 @@ pub mod CardNeeds
 pub mod CardSays
 pub mod CardWell
 pub mod Counting
-pub mod IssuerLines
 pub mod LoadFilesNamed
 pub mod LoadPagesNamed
+pub mod RootLines
 pub mod Sorting

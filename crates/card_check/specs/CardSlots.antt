@@ -3,7 +3,7 @@ use Rattle.std.specs.Prelude.{◌≡◌, ℕ, ◌<◌, ◌≤◌, ◌==◌, ◌&
 use Rattle.std.specs.List.{count_by}
 use Rattle.card_types.specs.Aid.{IsAid}
 use Rattle.card_types.specs.Found.{aid_of}
-use Rattle.card_types.specs.Hierarchy.{EndsAt, IsLine}
+use Rattle.card_types.specs.Hierarchy.{IsLine}
 use Rattle.card_types.specs.KeySets.{HasKey, HasKeys}
 use Rattle.card_types.specs.Privileges.{IsNamed, authorized_management, delegated_management, has, receipt_generation, security_domain, token_verification}
 use Rattle.card_types.specs.Says.{domain_slot, keeps_counter}
@@ -38,9 +38,9 @@ IsDomainSlot entries slot = MatchOption (held entries slot) ⊥ (λ entry. has s
 abbrev pub IsAlone : Tables → Found → List ℕ → Type 0
 IsAlone tables this aid = (other : Found) → aid_of tables other ≡ Some aid → other ≡ this
 
--- steps to the domain lead from the slot to that of the Issuer Security Domain
-abbrev pub LeadsToIssuer : List (Option Entry) → ℕ → Type 0
-LeadsToIssuer entries slot = (line : List ℕ) × IsLine (domain_slot entries) slot line × EndsAt 0 line
+-- steps to the domain lead from the slot to a root, which is its own domain
+abbrev pub LeadsToRoot : List (Option Entry) → ℕ → Type 0
+LeadsToRoot entries slot = (line : List ℕ) × IsLine (domain_slot entries) slot line
 
 -- a security domain is set apart by its Executable Load File, its Module and its life cycle states
 pub record HasKind (entry : Entry) : Type 0 where
@@ -66,7 +66,7 @@ pub record IsCardEntry (tables : Tables) (slot : ℕ) (entry : Entry) : Type 0 w
   pub aid : IsAid entry.aid
   pub alone : IsAlone tables (found.Entry slot) entry.aid
   pub domain : IsDomainSlot tables.entries.items entry.domain
-  pub leads : LeadsToIssuer tables.entries.items slot
+  pub leads : LeadsToRoot tables.entries.items slot
   pub loaded : IsSome (held tables.files.items entry.file)
   pub kind : HasKind entry
   pub rights : HasRights entry.privileges

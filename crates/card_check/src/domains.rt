@@ -1,11 +1,11 @@
-//! Security domains, and the steps up to the Issuer Security Domain.
+//! Security domains, and the steps up to a root.
 
 ghost use Rattle.std.specs.Prelude.{◌≡◌, ◌↔◌, IsTrue, length};
-ghost use Rattle.card_check.specs.CardSlots.{IsDomainSlot, LeadsToIssuer};
+ghost use Rattle.card_check.specs.CardSlots.{IsDomainSlot, LeadsToRoot};
 ghost use Rattle.card_types.specs.declared.limits.TheConstants.{ENTRIES};
 
 use bitflags::Flags;
-use card_types::{ENTRIES, Entry, ISSUER_SLOT, Privileges, in_slot};
+use card_types::{ENTRIES, Entry, Privileges, in_slot};
 
 /// Whether the slot holds a security domain.
 pub fn is_domain(entries: &[Option<Entry>], slot: u8) -> bool
@@ -17,11 +17,11 @@ pub fn is_domain(entries: &[Option<Entry>], slot: u8) -> bool
     }
 }
 
-/// Whether steps to the domain lead from the slot to the Issuer Security Domain, which is its own. They are counted, since
-/// nothing is known of loops.
-pub fn leads_to_issuer(entries: &[Option<Entry>], slot: u8) -> bool
+/// Whether steps to the domain lead from the slot to a root, a domain that is its own. They are counted, since nothing is
+/// known of loops.
+pub fn leads_to_root(entries: &[Option<Entry>], slot: u8) -> bool
     requires { length entries.now ≡ ENTRIES }
-    ensures { IsTrue result ↔ LeadsToIssuer entries.now slot }
+    ensures { IsTrue result ↔ LeadsToRoot entries.now slot }
 {
     let mut at = slot;
     for _ in 0..ENTRIES {
@@ -30,7 +30,7 @@ pub fn leads_to_issuer(entries: &[Option<Entry>], slot: u8) -> bool
         };
         let domain = entry.domain;
         if domain == at {
-            return at == ISSUER_SLOT;
+            return true;
         }
         at = domain;
     }

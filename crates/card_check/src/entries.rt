@@ -5,7 +5,7 @@ ghost use Rattle.card_check.specs.CardSlots.{HasKind, HasRights, HasRoom, IsCard
 ghost use Rattle.card_check.specs.EachSlot.{EachSlot};
 ghost use Rattle.card_types.specs.Privileges.{IsNamed};
 
-use crate::domains::{is_domain, leads_to_issuer};
+use crate::domains::{is_domain, leads_to_root};
 use crate::names::is_alone;
 use crate::room::FACTORY_SLOT;
 use crate::slots::{Asks, all_admitted};
@@ -28,7 +28,7 @@ impl Asks<Entry> for Tables {
     fn admits(&self, slot: u8, entry: &Entry) -> bool {
         is_alone(self, Found::Entry(slot), entry.aid.as_bytes())
             && is_domain(&self.entries, entry.domain)
-            && leads_to_issuer(&self.entries, slot)
+            && leads_to_root(&self.entries, slot)
             && in_slot(&self.files, entry.file).is_some()
             && has_kind(entry)
             && has_rights(entry.privileges)

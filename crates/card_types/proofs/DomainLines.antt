@@ -53,5 +53,5 @@ module _ (page : ℕ → List ℕ) (tables : Tables) (said : registry.Registry) 
       → (line : List ℕ) × IsLine (domain_slot tables.entries.items) slot line
   line_in_slots well slot entry at =
       let leads = (well_entry page tables said says well slot entry at).line in
-      line_back well slot entry leads.1 at
-      (subst (λ (aid : List ℕ). IsLine (domain_of said) aid leads.1) (sym (domain_aid_is tables.entries.items slot entry at)) leads.3)
+      line_back well slot entry leads.0 at
+      (subst (λ (aid : List ℕ). IsLine (domain_of said) aid leads.0) (sym (domain_aid_is tables.entries.items slot entry at)) leads.1)

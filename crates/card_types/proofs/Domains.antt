@@ -72,7 +72,7 @@ module _ (page : ℕ → List ℕ) (tables : Tables) (said : registry.Registry) 
         by (Some entry) is named =
             (let found = found_fits (λ e. same_aid e.aid []) said.entries entry is in
             let empty : entry.aid ≡ [] = (same_aid_decides entry.aid []).0 found.1 in
-            let aid : IsAid entry.aid = (All-contains (IsWellEntry said) said.entries entry well.entries found.0).aid in
+            let aid : IsAid entry.aid = (All-contains (IsWellEntry said) said.entries entry well.entries found.0).proper.aid in
             omega (arith, aid.0, ap length empty))
 
     no_file_unnamed : IsSome (file_named said []) → ⊥

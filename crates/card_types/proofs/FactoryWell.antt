@@ -35,18 +35,20 @@ whole_set = record {
 
 well_issuer : IsWellEntry factory_registry issuer_of_factory
 well_issuer = record {
-  aid = (omega arith, omega arith);
-  module_ = (omega arith, omega arith);
+  proper = record {
+    aid = (omega arith, omega arith);
+    module_ = (omega arith, omega arith);
+    kind = refl;
+    domain_module = λ domain. refl;
+    life = refl;
+    named_privileges = refl;
+    domain_privileges = λ holds. refl;
+    one_management = refl;
+    receipts = omega arith;
+  };
   domain = refl;
-  line = (ISSUER, ISSUER ∷ [], refl, (refl, refl), refl);
+  line = (ISSUER ∷ [], (refl, refl));
   loaded = refl;
-  kind = refl;
-  domain_module = λ domain. refl;
-  life = refl;
-  named_privileges = refl;
-  domain_privileges = λ holds. refl;
-  one_management = refl;
-  receipts = omega arith;
 }
 
 well_key : (identifier : ℕ) → 1 ≤ identifier → identifier ≤ 3 → IsWellKey factory_registry (key_of_factory identifier)

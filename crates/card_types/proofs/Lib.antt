@@ -1,3 +1,4 @@
+pub mod AddedThing
 pub mod AtMostOnce
 pub mod ChangeExists
 pub mod ChangedEntries
@@ -17,15 +18,21 @@ pub mod FoundNames
 pub mod KeyNames
 pub mod LeastOfList
 pub mod LeastSoFar
+pub mod LifeChanges
 pub mod LineChanges
 pub mod Lines
+pub mod MappedEntries
 pub mod Members
+pub mod MovedThing
+pub mod NamedThings
 pub mod NamesByAid
 pub mod Next
 pub mod NotAbove
 pub mod ObjectNames
+pub mod OthersWell
 pub mod PrivilegeFacts
 pub mod RaisedCounter
+pub mod RemovedThing
 pub mod Room
 pub mod SameAid
 pub mod SetNames

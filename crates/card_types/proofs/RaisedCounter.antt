@@ -121,20 +121,7 @@ module _ (registry : Registry) (owner : List ℕ) (version : ℕ) where
   }
 
   still_well_entry : (entry : Entry) → IsWellEntry registry entry → IsWellEntry (raised registry owner version) entry
-  still_well_entry entry is = record {
-    aid = is.aid;
-    module_ = is.module_;
-    domain = is.domain;
-    line = is.line;
-    loaded = is.loaded;
-    kind = is.kind;
-    domain_module = is.domain_module;
-    life = is.life;
-    named_privileges = is.named_privileges;
-    domain_privileges = is.domain_privileges;
-    one_management = is.one_management;
-    receipts = is.receipts;
-  }
+  still_well_entry entry is = record { proper = is.proper; domain = is.domain; line = is.line; loaded = is.loaded }
 
   still_well_file : (file : LoadFile) → IsWellFile registry file → IsWellFile (raised registry owner version) file
   still_well_file file is = record { aid = is.aid; apart = is.apart; domain = is.domain; size = is.size }

@@ -12,9 +12,3 @@ abbrev pub IsLine : {A : Type 0} → (A → Option A) → A → List A → Type 
 IsLine step from [] = ⊥
 IsLine step from (first ∷ []) = (first ≡ from) × (step from ≡ Some from)
 IsLine step from (first ∷ next ∷ line) = (first ≡ from) × (next ≢ from) × (step from ≡ Some next) × IsLine step next (next ∷ line)
-
--- the line begins and ends so
-abbrev pub EndsAt : {A : Type 0} → A → List A → Type 0
-EndsAt root [] = ⊥
-EndsAt root (last ∷ []) = last ≡ root
-EndsAt root (first ∷ next ∷ line) = EndsAt root (next ∷ line)

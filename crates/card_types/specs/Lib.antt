@@ -25,3 +25,5 @@ pub mod Counters
 pub mod Says
 pub mod Changed
 pub mod SlotChange
+pub mod RegistryChange
+pub mod ChangeLaws

@@ -1,10 +1,10 @@
 -- The registries that a card may have: what of them is always so (GlobalPlatform Card Specification 2.3.1, chapters 5 to
 -- 7). The numbers of the limits are this profile's own.
-use Rattle.std.specs.Prelude.{◌≡◌, ◌⊎◌, ℕ, ◌+◌, ◌/◌, ◌<◌, ◌≤◌, List, [], Bool, true, false, None, MatchOption, IsSome, All, Contains, length, ◌||◌, ◌&&◌}
+use Rattle.std.specs.Prelude.{◌≡◌, ◌⊎◌, ℕ, ◌+◌, ◌/◌, ◌<◌, ◌≤◌, List, [], Bool, true, false, None, MatchOption, IsSome, All, Contains, length, Some, ◌||◌, ◌&&◌}
 use Rattle.std.specs.List.{sum_by}
 use Rattle.card_types.specs.Aid.{IsAid}
 use Rattle.card_types.specs.AidOrder.{same_aid}
-use Rattle.card_types.specs.Hierarchy.{EndsAt, IsLine}
+use Rattle.card_types.specs.Hierarchy.{IsLine}
 use Rattle.card_types.specs.Privileges.{IsNamed, authorized_management, delegated_management, has, receipt_generation, token_verification}
 use Rattle.card_types.specs.Registry.{Registry, Entry, LoadFile, Key, Counter, Object, domain_of, entry_named, file_named, is_domain, keys_of}
 use Rattle.card_types.specs.declared.factory.TheConstants.{ISSUER, FACTORY_FILE, FACTORY_MODULE}
@@ -16,13 +16,14 @@ use Rattle.card_types.specs.declared.limits.TheConstants.{COUNTER_LIMIT, DOMAIN_
 abbrev pub IsDomainNamed : Registry → List ℕ → Type 0
 IsDomainNamed registry aid = MatchOption (entry_named registry aid) ⊥ (λ entry. is_domain entry ≡ true)
 
--- The roots of the domains: the Issuer Security Domain alone.
-abbrev pub IsRoot : List ℕ → Type 0
-IsRoot aid = aid ≡ ISSUER
+-- A root is a security domain that is its own domain, as the Issuer Security Domain is (GlobalPlatform Card Specification
+-- 2.3.1, 7.2).
+abbrev pub IsRoot : Registry → List ℕ → Type 0
+IsRoot registry aid = domain_of registry aid ≡ Some aid
 
 -- steps to the domain lead from this AID to a root
 abbrev pub LeadsToRoot : Registry → List ℕ → Type 0
-LeadsToRoot registry aid = (root : List ℕ) × (line : List (List ℕ)) × IsRoot root × IsLine (domain_of registry) aid line × EndsAt root line
+LeadsToRoot registry aid = (line : List (List ℕ)) × IsLine (domain_of registry) aid line
 
 -- the Issuer Security Domain: its own domain, personalized, not locked, from the factory's Executable Load File
 pub record IsIssuerDomain (entry : Entry) : Type 0 where
@@ -92,13 +93,10 @@ IsObject tag size =
     ⊎ ((tag ≡ 0xCF) × (size ≡ 10))
     ⊎ (((tag ≡ 0x66) ⊎ (tag ≡ 0x5F50)) × (1 ≤ size) × (size ≤ 120))
 
--- what is so of each entry
-pub record IsWellEntry (registry : Registry) (entry : Entry) : Type 0 where
+-- what is so of each entry by itself
+pub record IsProperEntry (entry : Entry) : Type 0 where
   pub aid : IsAid entry.aid
   pub module_ : IsAid entry.module_
-  pub domain : IsDomainNamed registry entry.domain
-  pub line : LeadsToRoot registry entry.aid
-  pub loaded : IsSome (file_named registry entry.file)
   pub kind : is_domain entry ≡ same_aid entry.file FACTORY_FILE
   pub domain_module : is_domain entry ≡ true → entry.module_ ≡ FACTORY_MODULE
   pub life : has_life (is_domain entry) entry.life.life ≡ true
@@ -106,6 +104,13 @@ pub record IsWellEntry (registry : Registry) (entry : Entry) : Type 0 where
   pub domain_privileges : has_domain_privilege entry ≡ true → is_domain entry ≡ true
   pub one_management : (has authorized_management entry.privileges && has delegated_management entry.privileges) ≡ false
   pub receipts : entry.receipts ≤ RECEIPT_LIMIT
+
+-- of each entry of a registry
+pub record IsWellEntry (registry : Registry) (entry : Entry) : Type 0 where
+  pub proper : IsProperEntry entry
+  pub domain : IsDomainNamed registry entry.domain
+  pub line : LeadsToRoot registry entry.aid
+  pub loaded : IsSome (file_named registry entry.file)
 
 -- of each Executable Load File
 pub record IsWellFile (registry : Registry) (file : LoadFile) : Type 0 where

@@ -6,6 +6,7 @@ mod card_life;
 mod factory;
 mod found;
 mod key_set;
+mod laws;
 mod level;
 mod life;
 mod limits;
@@ -22,6 +23,7 @@ pub use factory::{
 };
 pub use found::{Found, Kind, find, next_after};
 pub use key_set::{KeySet, find_key, keys_of_set, set_of, set_with};
+pub use laws::{additions_keep_order, changes_keep_order, moves_keep_order, removals_keep_order};
 pub use level::Level;
 pub use life::{Life, LifeMark};
 pub use limits::{

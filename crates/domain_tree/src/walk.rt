@@ -1,6 +1,6 @@
 //! A walk from a slot up to its root.
 
-ghost use Rattle.std.specs.Prelude.{◌≡◌, ◌↔◌, ◌⊎◌, ℕ, ◌<◌, ◌==◌, Bool, IsTrue, IfSome, IfNone, length};
+ghost use Rattle.std.specs.Prelude.{◌≡◌, ◌↔◌, ℕ, ◌<◌, ◌==◌, Bool, IsTrue, IfSome, IfNone, length};
 ghost use Rattle.card_types.specs.Says.{domain_slot};
 ghost use Rattle.domain_tree.specs.Above.{Above, IsFirstAbove, NoneAbove};
 ghost use Rattle.domain_tree.specs.Slots.{IsFreeOfLoops};
@@ -60,12 +60,12 @@ pub fn above(entries: &[Option<Entry>], a: u8, b: u8) -> bool
     first_above(entries, b, &IsSlot(a)).is_some()
 }
 
-/// Whether the entry in the slot `thing` would be above itself with the domain in the slot `new`:
-/// that is this entry or below it.
+/// Whether the entry in the slot `thing` would be above itself with the domain in the slot `new`,
+/// which is then below it. With itself as its domain it is a root.
 pub fn would_loop(entries: &[Option<Entry>], thing: u8, new: u8) -> bool
     requires whole { length entries.now ≡ ENTRIES }
     requires no_loops { IsFreeOfLoops entries.now }
-    ensures { IsTrue result ↔ ((new ≡ thing) ⊎ Above (domain_slot entries.now) thing new) }
+    ensures { IsTrue result ↔ Above (domain_slot entries.now) thing new }
 {
-    new == thing || above(entries, thing, new)
+    above(entries, thing, new)
 }

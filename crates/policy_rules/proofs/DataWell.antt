@@ -10,20 +10,7 @@ use Rattle.policy_rules.specs.DataObjects.{with_data}
 module _ (registry : Registry) (objects : List Object) where
   -- what is so of other things says nothing of the data objects
   entry_stays : (entry : Entry) → IsWellEntry registry entry → IsWellEntry (with_data registry objects) entry
-  entry_stays entry well = record {
-    aid = well.aid;
-    module_ = well.module_;
-    domain = well.domain;
-    line = well.line;
-    loaded = well.loaded;
-    kind = well.kind;
-    domain_module = well.domain_module;
-    life = well.life;
-    named_privileges = well.named_privileges;
-    domain_privileges = well.domain_privileges;
-    one_management = well.one_management;
-    receipts = well.receipts;
-  }
+  entry_stays entry well = record { proper = well.proper; domain = well.domain; line = well.line; loaded = well.loaded }
 
   file_stays : (file : LoadFile) → IsWellFile registry file → IsWellFile (with_data registry objects) file
   file_stays file well = record { aid = well.aid; apart = well.apart; domain = well.domain; size = well.size }

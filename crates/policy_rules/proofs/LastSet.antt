@@ -1,20 +1,17 @@
--- Whether a key set would be left to the Issuer Security Domain, by slots and by names.
+-- Whether a key set would be left to a root, by slots and by names.
 use Rattle.std.proofs.Common.{◌≡◌, ℕ, Bool, true, false, ◌&&◌, List, None, Some, refl, ap, sym, subst, ◌∙◌}
-use Rattle.std.specs.Prelude.{MatchOption, Option, find, not, ◌==◌}
+use Rattle.std.specs.Prelude.{find, not, ◌==◌}
 use Rattle.std.specs.List.{list_any}
 use Rattle.std.proofs.lemmas.Bool.{and_from, and_parts, and_right, not-true, not_from_false}
-use Rattle.std.proofs.lemmas.Option.{MatchOption-at_some}
-use Rattle.card_types.proofs.EntryNames.{one_entry_slot}
+use Rattle.card_types.proofs.Domains.{domain_is_used, same_domain, step_from_used, step_named}
 use Rattle.card_types.proofs.KeyNames.{counters_shown}
 use Rattle.card_types.proofs.LeastOfList.{none_fits, none_found}
 use Rattle.card_types.proofs.Members.{contains_filter, filtered}
 use Rattle.card_types.specs.AidOrder.{same_aid}
-use Rattle.card_types.specs.Layout.{HasIssuer}
 use Rattle.card_types.specs.Registry.{Counter}
-use Rattle.card_types.specs.Says.{counter_of, domain_aid, keeps_counter}
+use Rattle.card_types.specs.Says.{counter_of, domain_aid, domain_slot, keeps_counter}
 use Rattle.card_types.specs.Slots.{held}
-use Rattle.card_types.specs.declared.factory.TheConstants.{ISSUER}
-use Rattle.card_types.specs.declared.tables.Entry.{Entry}
+use Rattle.card_types.specs.Well.{IsRoot}
 use Rattle.card_types.specs.declared.tables.KeyRec.{KeyRec}
 use Rattle.card_types.specs.declared.tables.Tables.{Tables}
 use Rattle.policy_rules.specs.Admission.{Admitted}
@@ -23,7 +20,6 @@ use Rattle.policy_rules.specs.KeyOrder.{holds_counter_but, keeps_counter_of}
 use Rattle.policy_rules.specs.KeyVersions.{counters_but, is_counter_numbered}
 use Rattle.policy_rules.specs.Management.{acting}
 use Rattle.policy_rules.specs.Means.{ActsIn}
-use Rattle.policy_rules.proofs.ActingDomain.{acting_aid}
 use Rattle.policy_rules.proofs.AnySlot.{passing_slot, slot_passes}
 use Rattle.policy_rules.proofs.OwnKeys.{own_is}
 
@@ -32,25 +28,23 @@ other_false : (a b : Bool) → not (a && b) ≡ true → a ≡ true → not b �
 other_false true b both first = both
 other_false false b both first = cc
 
-module _ (page : ℕ → List ℕ) (tables : Tables) (domain : ℕ) (admitted : Admitted) (acts : ActsIn page tables domain admitted)
-    (issuer : HasIssuer tables.entries.items) (version : ℕ) where
+module _ (page : ℕ → List ℕ) (tables : Tables) (domain : ℕ) (admitted : Admitted) (acts : ActsIn page tables domain admitted) (version : ℕ) where
   abbrev counters : List Counter
   counters = admitted.at.registry.counters
 
-  -- the Issuer Security Domain is in its slot
-  issuer_entry : domain ≡ 0 → acts.entry.aid ≡ ISSUER
-  issuer_entry first =
-      let at = subst (λ (n : ℕ). held tables.entries.items n ≡ Some acts.entry) first acts.at in
-      MatchOption-at_some ⊥ (λ (entry : Entry). entry.aid ≡ ISSUER) _ at issuer
+  -- a root by its slot is one by its name
+  root_named : domain_slot tables.entries.items domain ≡ Some domain → IsRoot admitted.at.registry (acting admitted)
+  root_named steps = subst (IsRoot admitted.at.registry) (sym acts.on) (step_named page tables admitted.at.registry acts.says domain domain steps)
 
-  issuer_slot : acting admitted ≡ ISSUER → domain ≡ 0
-  issuer_slot is = by (held tables.entries.items 0) refl issuer
-    where
-      by : (o : Option Entry) → held tables.entries.items 0 ≡ o → MatchOption o ⊥ (λ entry. entry.aid ≡ ISSUER) → domain ≡ 0
-      by None at named = absurd named
-      by (Some entry) at named =
-          one_entry_slot page tables admitted.at.registry acts.says domain 0 acts.entry entry acts.at at
-          (sym (acting_aid page tables domain admitted acts) ∙ is ∙ sym named)
+  -- and one by its name is one by its slot
+  pub root_slot : IsRoot admitted.at.registry (acting admitted) → domain_slot tables.entries.items domain ≡ Some domain
+  root_slot root =
+      let steps = step_from_used tables.entries.items domain acts.entry acts.at in
+      let named = step_named page tables admitted.at.registry acts.says domain acts.entry.domain steps in
+      let itself : IsRoot admitted.at.registry (domain_aid tables.entries.items domain) = subst (IsRoot admitted.at.registry) acts.on root in
+      let alike : domain_aid tables.entries.items acts.entry.domain ≡ domain_aid tables.entries.items domain = cc in
+      let above = domain_is_used page tables admitted.at.registry acts.says acts.well domain acts.entry acts.at in
+      steps ∙ ap Some (same_domain page tables admitted.at.registry acts.says acts.entry.domain domain above.0 acts.entry above.1 acts.at alike)
 
   module _ (owner : List ℕ) (named : domain_aid tables.entries.items domain ≡ owner) where
     own : (slot : ℕ) (key : KeyRec) → held tables.keys.items slot ≡ Some key
@@ -90,13 +84,9 @@ module _ (page : ℕ → List ℕ) (tables : Tables) (domain : ℕ) (admitted : 
         none_fits (λ (c : Counter). same_aid c.owner owner) (counters_but owner version counters) none counter
         (contains_filter (λ (c : Counter). not (is_counter_numbered owner version c)) counters counter among other) owned
 
-  pub last_set : domain ≡ 0 → list_any (holds_counter_but domain version) tables.keys.items ≡ false → IsLastSet admitted version
-  last_set first none =
-      let is = acting_aid page tables domain admitted acts ∙ issuer_entry first in
-      (is, none_left ISSUER (sym acts.on ∙ is) none)
+  pub last_set : domain_slot tables.entries.items domain ≡ Some domain → list_any (holds_counter_but domain version) tables.keys.items ≡ false
+      → IsLastSet admitted version
+  last_set root none = (root_named root, none_left (acting admitted) (sym acts.on) none)
 
   pub set_left : list_any (holds_counter_but domain version) tables.keys.items ≡ true → IsLastSet admitted version → ⊥
-  set_left some last = one_left ISSUER (sym acts.on ∙ last.0) some last.1
-
-  pub other_domain : (domain ≡ 0 → ⊥) → IsLastSet admitted version → ⊥
-  other_domain other last = other (issuer_slot last.0)
+  set_left some last = one_left (acting admitted) (sym acts.on) some last.1

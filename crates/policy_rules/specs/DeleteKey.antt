@@ -1,7 +1,7 @@
 -- DELETE of a key (GlobalPlatform Card Specification 2.3.1, 11.2): the keys of the selected domain with one key version number go.
 use Rattle.std.specs.Prelude.{◌≡◌, ◌≢◌, ◌⊎◌, ℕ, ◌<◌, List, [], ◌∷◌, Option, None, Some, MatchOption, codes, false, find}
 use Rattle.card_types.specs.AidOrder.{same_aid}
-use Rattle.card_types.specs.declared.factory.TheConstants.{ISSUER}
+use Rattle.card_types.specs.Well.{IsRoot}
 use Rattle.policy_rules.specs.Admission.{Admitted}
 use Rattle.policy_rules.specs.CommandForm.{CommandForm}
 use Rattle.policy_rules.specs.KeyVersions.{counters_but, has_key_version, keys_but, with_keys}
@@ -41,10 +41,11 @@ deletion_rules = M M1 ∷ M M2 ∷ DK DK1 ∷ DK DK2 ∷ []
 abbrev pub NamesPart : ℕ → Option ℕ → Type 0
 NamesPart version identifier = MatchOption identifier ⊥ (λ i. (version < 0x70) ⊎ (i ≢ 0x01))
 
--- the domain is the Issuer Security Domain, and no key set would be left to it
+-- the domain is a root, and no key set would be left to it
 abbrev pub IsLastSet : Admitted → ℕ → Type 0
 IsLastSet admitted version =
-    (acting admitted ≡ ISSUER) × (find (λ counter. same_aid counter.owner ISSUER) (counters_but ISSUER version admitted.at.registry.counters) ≡ None)
+    IsRoot admitted.at.registry (acting admitted)
+    × (find (λ counter. same_aid counter.owner (acting admitted)) (counters_but (acting admitted) version admitted.at.registry.counters) ≡ None)
 
 abbrev pub DeleteFails : Admitted → Rule → Type 0
 DeleteFails admitted (M rule) = ManagementFails admitted rule

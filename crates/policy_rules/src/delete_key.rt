@@ -3,6 +3,7 @@
 ghost use Rattle.std.specs.Prelude.{◌≡◌, ◌↔◌, ℕ, List, None, Some, IfErr, IfNone, IfSome, IsTrue, OnOk};
 ghost use Rattle.std.specs.List.{list_any};
 ghost use Rattle.card_types.specs.InOrder.{IsInOrder};
+ghost use Rattle.card_types.specs.Says.{domain_slot};
 ghost use Rattle.policy_rules.specs.Admission.{Admitted};
 ghost use Rattle.policy_rules.specs.DeleteKey.{Chooses, DeleteField, IsLastSet, NamesPart, delete_key_rule_name, delete_key_rule_status};
 ghost use Rattle.policy_rules.specs.Commands.{Judges};
@@ -16,7 +17,7 @@ use crate::management::judge_management;
 use crate::request::Request;
 use crate::rule::{Rule, RulePS};
 use apdu_core::Status;
-use card_types::{ISSUER_SLOT, KeyRec, Tables};
+use card_types::{Entry, KeyRec, Tables, in_slot};
 use key_sets::has_version;
 
 /// The rules of DELETE of a key.
@@ -24,7 +25,7 @@ use key_sets::has_version;
 pub enum RuleDK {
     /// The domain has no such key.
     DK1,
-    /// No key set would be left to the Issuer Security Domain.
+    /// The domain is a root, and no key set would be left to it.
     DK2,
 }
 
@@ -96,12 +97,21 @@ fn has_set_but(keys: &[Option<KeyRec>], owner: u8, version: u8) -> bool
         .any(|held| holds_counter_but(held, owner, version))
 }
 
-// Whether the domain in a slot is the Issuer Security Domain, and no key set would be left to it.
+// Whether the domain in a slot is a root, which is its own domain.
+fn is_root(entries: &[Option<Entry>], domain: u8) -> bool
+    ensures { IsTrue result ↔ (domain_slot entries.now domain ≡ Some domain) }
+{
+    match in_slot(entries, domain) {
+        Some(entry) => entry.domain == domain,
+        None => false,
+    }
+}
+
+// Whether the domain in a slot is a root, and no key set would be left to it.
 fn is_last_set(tables: &Tables, domain: u8, version: u8) -> bool
-    requires in_order { IsInOrder tables.now }
     ensures { (page : ℕ → List ℕ) (admitted : Admitted) → ActsIn page tables.now domain admitted → IsTrue result ↔ IsLastSet admitted version }
 {
-    domain == ISSUER_SLOT && !has_set_but(&tables.keys, domain, version)
+    is_root(&tables.entries, domain) && !has_set_but(&tables.keys, domain, version)
 }
 
 // Whether the key identifier is none that names all keys of the key version number.

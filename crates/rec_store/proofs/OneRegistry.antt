@@ -93,7 +93,7 @@ card_entry load tables card i = of (held tables.entries.items i) refl
     of (Some entry) is =
         let view = entry_of tables.entries.items tables.files.items in
         let shown = (shows_used view tables.entries.items card.said.entries card.says.entries).there i entry is refl in
-        let named = (All-contains (IsWellEntry card.said) card.said.entries (view entry) card.well.entries shown).named_privileges in
+        let named = (All-contains (IsWellEntry card.said) card.said.entries (view entry) card.well.entries shown).proper.named_privileges in
         omega (arith, named, and_le_r (bits_of entry.privileges) named_bits)
 
 module _ (store load : ℕ → List ℕ) (t u : Tables) (first : HoldsTables store t) (second : HoldsTables store u) where

@@ -1,7 +1,6 @@
-use Rattle.std.proofs.Common.{arith}
-use Rattle.std.proofs.lemmas.Bool.{eq-eqb, eqb-true}
-use Rattle.card_check.proofs.IssuerLines.{way_begins, way_ends, way_goes_on, way_is_lost, way_is_over}
-use Rattle.card_check.proofs.domains.leads_to_issuer.Goals as goal
+use Rattle.std.proofs.Common.{refl, arith}
+use Rattle.card_check.proofs.RootLines.{way_begins, way_ends, way_goes_on, way_is_lost, way_is_over}
+use Rattle.card_check.proofs.domains.leads_to_root.Goals as goal
 
 pub loop-init : goal.loop-init
 loop-init c = way_begins c.args.entries.now c.args.slot
@@ -16,8 +15,7 @@ returns-in_default c =
 
 pub returns-then-domain-at : goal.returns-then-domain-at
 returns-then-domain-at c =
-    let ends = way_ends c.args.entries.now c.args.slot c.loop.at c.loop.counter c.in-Some.entry.now c.in-Some.ensures c.if-domain-at.true c.loop.invariant in
-    (λ yes. ends.0 (eqb-true c.loop.at 0 yes), λ leads. eq-eqb c.loop.at 0 (ends.1 leads))
+    (λ yes. way_ends c.args.entries.now c.args.slot c.loop.at c.loop.counter c.in-Some.entry.now c.in-Some.ensures c.if-domain-at.true c.loop.invariant, λ leads. refl)
 
 pub returns : goal.returns
 returns c =

@@ -1,5 +1,0 @@
-use Rattle.card_check.proofs.IssuerLines.{IsOnWay}
-use Rattle.card_check.proofs.domains.leads_to_issuer.Given as goal
-
-abbrev pub invariant-loop : goal.invariant-loop
-invariant-loop l = IsOnWay l.entries l.slot l.at l.counter

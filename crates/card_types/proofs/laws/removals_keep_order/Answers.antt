@@ -1,0 +1,8 @@
+use Rattle.card_types.proofs.RemovedThing.{entry_removed_keeps, file_removed_keeps}
+use Rattle.card_types.proofs.laws.removals_keep_order.Goals as goal
+
+pub returns-clause-entry : goal.returns-clause-entry
+returns-clause-entry c = entry_removed_keeps
+
+pub returns-clause-file : goal.returns-clause-file
+returns-clause-file c = file_removed_keeps
