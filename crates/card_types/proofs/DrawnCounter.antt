@@ -26,7 +26,7 @@ pub drawn_next : (keys : List (Option KeyRec)) (slot : ℕ) (key : KeyRec) → h
 drawn_next keys slot key at has = MatchOption-at_some ⊥ (λ key. (keeps_counter key ≡ true) × (key.counter < COUNTER_LIMIT)) _ at has
 
 -- a slot that holds something is one of the slots
-held_within : {T : Type 0} (slots : List (Option T)) (slot : ℕ) (thing : T) → held slots slot ≡ Some thing → slot < length slots
+pub held_within : {T : Type 0} (slots : List (Option T)) (slot : ℕ) (thing : T) → held slots slot ≡ Some thing → slot < length slots
 held_within [] slot thing at = cc
 held_within (s ∷ slots) zero thing at = omega arith
 held_within (s ∷ slots) (suc slot) thing at = (let rest = held_within slots slot thing at in omega arith)

@@ -5,6 +5,7 @@ pub mod ChangedEntries
 pub mod ChangedFiles
 pub mod ChangedFound
 pub mod ChangedKeys
+pub mod ChangedNames
 pub mod ChangedSlot
 pub mod DomainLines
 pub mod Domains

@@ -1,0 +1,49 @@
+-- Slots of the things of one domain, of which some are freed.
+use Rattle.std.proofs.Common.{◌≡◌, inl, inr, ℕ, zero, suc, ◌+◌, ◌<◌, ◌==◌, true, false, List, [], ◌∷◌, length, Option, None, Some, refl, ap, subst, ◌∙◌, arith}
+use Rattle.std.specs.Prelude.{filter, map, not, slice_set}
+use Rattle.std.proofs.lemmas.Bool.{cases_Bool, cases_eq}
+use Rattle.std.proofs.lemmas.List.{get_or-set_other, get_or-set_same}
+use Rattle.card_types.specs.Says.{used}
+use Rattle.card_types.specs.Slots.{held}
+use Rattle.registry.specs.Removing.{freed, is_owned}
+
+module _ {T : Type 0} (owner : T → ℕ) (domain : ℕ) where
+  -- freeing one of them first leaves the same
+  pub freed_after : (slots : List (Option T)) (slot : ℕ) → is_owned owner domain (held slots slot) ≡ true
+      → map (freed owner domain) (slice_set slots slot None) ≡ map (freed owner domain) slots
+  freed_after [] slot goes = refl
+  freed_after (None ∷ slots) zero goes = refl
+  freed_after (Some thing ∷ slots) zero goes = rw goes refl
+  freed_after (first ∷ slots) (suc slot) goes = ap (λ rest. freed owner domain first ∷ rest) (freed_after slots slot goes)
+
+  -- where there is none, all stay
+  pub none_freed : (slots : List (Option T)) → ((slot : ℕ) → slot < length slots → is_owned owner domain (held slots slot) ≡ false) → map (freed owner domain) slots ≡ slots
+  none_freed [] each = refl
+  none_freed (first ∷ slots) each =
+      let stays : is_owned owner domain first ≡ false = each 0 (omega arith) in
+      rw (stays, none_freed slots (λ slot lt. each (suc slot) (omega (arith, lt)))) refl
+
+  -- the things that stay
+  pub used_freed : (slots : List (Option T)) → used (map (freed owner domain) slots) ≡ filter (λ thing. not (owner thing == domain)) (used slots)
+  used_freed [] = refl
+  used_freed (None ∷ slots) = used_freed slots
+  used_freed (Some thing ∷ slots) = elim (cases_Bool (owner thing == domain)) [
+    | inl goes ↦ rw (goes, used_freed slots) refl
+    | inr stays ↦ rw (stays, used_freed slots) refl
+  ]
+
+  -- what is so after one turn, of the slots that were looked at
+  module _ (slots : List (Option T)) (slot : ℕ) (before : (k : ℕ) → k < slot → is_owned owner domain (held slots k) ≡ false) where
+    pub gone_more : is_owned owner domain (held slots slot) ≡ false → (k : ℕ) → k < slot + 1 → is_owned owner domain (held slots k) ≡ false
+    gone_more here k lt = elim (cases_eq slot k) [
+      | inl same ↦ subst (λ n. is_owned owner domain (held slots n) ≡ false) same here
+      | inr other ↦ before k (omega (arith, lt, other))
+    ]
+
+    pub gone_set : slot < length slots → (k : ℕ) → k < slot + 1 → is_owned owner domain (held (slice_set slots slot None) k) ≡ false
+    gone_set within k lt = elim (cases_eq k slot) [
+      | inl same ↦
+          (let free : held (slice_set slots slot None) k ≡ None = ap (held (slice_set slots slot None)) same ∙ get_or-set_same slots slot None None within in
+          ap (is_owned owner domain) free)
+      | inr other ↦ ap (is_owned owner domain) (get_or-set_other slots slot k None None other) ∙ before k (omega (arith, lt, other))
+    ]

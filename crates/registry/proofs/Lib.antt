@@ -1,0 +1,5 @@
+mod Added
+mod Frames
+mod Freed
+mod Removed
+mod Replaced

@@ -1,0 +1,70 @@
+use Rattle.std.proofs.Common.{◌≡◌, ◌<◌, true, List, Option, length, ap, sym, subst, ◌∙◌, arith}
+use Rattle.std.specs.Prelude.{map}
+use Rattle.std.proofs.lemmas.List.{length-set}
+use Rattle.card_types.specs.Slots.{held}
+use Rattle.card_types.specs.declared.limits.TheConstants.{OBJECTS}
+use Rattle.card_types.specs.declared.tables.Object.{Object}
+use Rattle.card_types.specs.declared.tables.Tables.{Tables}
+use Rattle.rec_store.specs.Places.{object_page}
+use Rattle.registry.specs.Pages.{owner_pages}
+use Rattle.registry.specs.Removing.{freed, is_owned, object_owner}
+use Rattle.registry.proofs.Frames.{frame_of, object_of_owner, keeps_on, keeps_staged, still_room}
+use Rattle.registry.proofs.Freed.{freed_after, gone_more, gone_set, none_freed}
+use Rattle.registry.proofs.removal.free_objects.Goals as goal
+use Rattle.registry.proofs.removal.free_objects.Goals.{then-is_object_of, else-is_object_of}
+
+pub set_object-requires-clause-frame : goal.set_object-requires-clause-frame
+set_object-requires-clause-frame g c =
+    let slot = c.loop-slot.slot in
+    let staged = c.loop-slot.records.staged in
+    let room = still_room owner_pages c.args.records.now.staged staged c.loop-slot.invariant.room c.requires.room in
+    frame_of owner_pages staged (object_page slot) (object_of_owner slot (omega (arith, c.loop-slot-test.true))) room
+
+pub loop-slot-preserved : goal.loop-slot-preserved
+loop-slot-preserved g c =
+    let domain = c.args.domain in
+    let slot = c.loop-slot.slot in
+    let loop = c.loop-slot.records in
+    let before = c.loop-slot.invariant in
+    let slots = loop.tables.objects.items in
+    let up : loop.live ≡ true = before.same.live ∙ c.requires.live in
+    let given : c.deref.result.now ≡ slots = c.deref.ensures.value ∙ ap (λ (t : Tables). t.objects.items) c.tables.ensures.tables in
+    let here : c.is_object_of.result ≡ is_owned object_owner domain (held slots slot) =
+    subst (λ (s : List (Option Object)). c.is_object_of.result ≡ is_owned object_owner domain (held s slot)) given c.is_object_of.ensures in
+    let all : length slots ≡ OBJECTS = c.tables.ensures.roomy.slots.objects in
+    let low : slot < OBJECTS = omega (arith, c.loop-slot-test.true) in
+    let within : slot < length slots = omega (arith, all, low) in
+    elim c.if-is_object_of.branch [
+      | then-is_object_of w ↦
+          (let set = w.set_object.ensures in
+          let put = set.tables.objects in
+          rw w.records-is (record {
+            same = record {
+              flash = set.same.0 ∙ before.same.flash;
+              live = set.same.1 ∙ sym up ∙ before.same.live;
+              life = set.tables.life ∙ before.same.life;
+              entries = set.tables.entries ∙ before.same.entries;
+              files = set.tables.files ∙ before.same.files;
+              keys = set.tables.keys ∙ before.same.keys;
+            };
+            room = keeps_on owner_pages c.args.records.now.staged loop.staged w.set_object.new.self.staged before.room
+                (keeps_staged owner_pages loop.staged (object_page slot) (object_of_owner slot low) w.set_object.new.self.staged set.staged);
+            all = λ _. ap (λ (s : List (Option Object)). length s) put ∙ length-set slots slot _ ∙ all;
+            left = ap (λ (s : List (Option Object)). map (freed object_owner domain) s) put ∙ freed_after object_owner domain slots slot (sym here ∙ w.if-is_object_of.true) ∙ before.left;
+            gone = rw put (gone_set object_owner domain slots slot before.gone within);
+          }))
+      | else-is_object_of w ↦
+          rw w.records-is (record {
+            same = before.same;
+            room = before.room;
+            all = λ _. all;
+            left = before.left;
+            gone = gone_more object_owner domain slots slot before.gone (sym here ∙ w.if-is_object_of.false);
+          })
+    ]
+
+pub returns-clause-freed : goal.returns-clause-freed
+returns-clause-freed g c =
+    let slots = c.loop-slot.records.tables.objects.items in
+    let all : length slots ≡ OBJECTS = c.loop-slot.invariant.all (omega (arith, c.loop-slot-test.false)) in
+    sym (none_freed object_owner c.args.domain slots (λ slot within. c.loop-slot.invariant.gone slot (omega (arith, within, all, c.loop-slot-test.false)))) ∙ c.loop-slot.invariant.left

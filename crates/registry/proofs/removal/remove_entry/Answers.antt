@@ -1,0 +1,49 @@
+use Rattle.std.proofs.Common.{◌<◌, List, Option, ap, ◌∙◌, arith}
+use Rattle.std.specs.Prelude.{map}
+use Rattle.card_types.proofs.DrawnCounter.{held_within}
+use Rattle.card_types.specs.Slots.{held}
+use Rattle.card_types.specs.declared.limits.TheConstants.{ENTRIES}
+use Rattle.card_types.specs.declared.tables.Object.{Object}
+use Rattle.rec_store.specs.Places.{entry_page}
+use Rattle.registry.specs.Pages.{owner_pages}
+use Rattle.registry.specs.Removing.{freed, object_owner}
+use Rattle.registry.proofs.Frames.{entry_of_owner, frame_of, keeps_on, keeps_staged, still_room}
+use Rattle.registry.proofs.Removed.{entry_removed}
+use Rattle.registry.proofs.Replaced.{thing_of}
+use Rattle.registry.proofs.removal.remove_entry.Goals as goal
+
+pub free_objects-requires-clause-room : goal.free_objects-requires-clause-room
+free_objects-requires-clause-room g c = still_room owner_pages c.args.records.now.staged c.free_keys.new.records.staged c.free_keys.ensures.room c.requires.room
+
+pub set_entry-requires-clause-frame : goal.set_entry-requires-clause-frame
+set_entry-requires-clause-frame g c =
+    let slot = c.args.slot in
+    let before = c.args.records.now in
+    let first = still_room owner_pages before.staged c.free_keys.new.records.staged c.free_keys.ensures.room c.requires.room in
+    let second = still_room owner_pages c.free_keys.new.records.staged c.free_objects.new.records.staged c.free_objects.ensures.room first in
+    let entry = thing_of (held before.tables.entries.items slot) c.requires.slot in
+    let low : slot < ENTRIES = omega (arith, held_within before.tables.entries.items slot entry.0 entry.1, c.tables.ensures.roomy.slots.entries) in
+    frame_of owner_pages c.free_objects.new.records.staged (entry_page slot) (entry_of_owner slot low) second
+
+pub returns-clause-said : goal.returns-clause-said
+returns-clause-said g c page said says well =
+    let slot = c.args.slot in
+    let before = c.args.records.now.tables in
+    let between = c.free_objects.new.records.tables in
+    let first = c.free_keys.ensures in
+    let second = c.free_objects.ensures in
+    let entry = thing_of (held before.entries.items slot) c.requires.slot in
+    entry_removed page before between said says well slot entry.0 entry.1 (second.same.life ∙ first.same.life) (second.same.entries ∙ first.same.entries) (second.same.files ∙ first.same.files)
+    (second.same.keys ∙ first.freed) (second.freed ∙ ap (λ (objects : List (Option Object)). map (freed object_owner slot) objects) first.same.objects)
+    c.set_entry.new.self.tables c.requires.alone c.set_entry.ensures.tables
+
+pub returns-clause-room : goal.returns-clause-room
+returns-clause-room g c =
+    let slot = c.args.slot in
+    let before = c.args.records.now in
+    let between = c.free_objects.new.records.staged in
+    let entry = thing_of (held before.tables.entries.items slot) c.requires.slot in
+    let low : slot < ENTRIES = omega (arith, held_within before.tables.entries.items slot entry.0 entry.1, c.tables.ensures.roomy.slots.entries) in
+    keeps_on owner_pages before.staged between c.set_entry.new.self.staged
+    (keeps_on owner_pages before.staged c.free_keys.new.records.staged between c.free_keys.ensures.room c.free_objects.ensures.room)
+    (keeps_staged owner_pages between (entry_page slot) (entry_of_owner slot low) c.set_entry.new.self.staged c.set_entry.ensures.staged)

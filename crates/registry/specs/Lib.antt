@@ -1,0 +1,4 @@
+pub mod Adding
+pub mod Pages
+pub mod Removing
+pub mod Setting

@@ -1,0 +1,42 @@
+-- The store pages that one command may change, and the frames for them.
+use Rattle.std.specs.Prelude.{ℕ, List, [], ◌∷◌, ◌++◌, Contains}
+use Rattle.std.specs.List.{range_with_len}
+use Rattle.card_types.specs.declared.found.Found.{Found}
+use Rattle.card_types.specs.declared.found.Found.TheVariants.{Entry, File}
+use Rattle.rec_store.specs.Keeper.{key_pages}
+use Rattle.rec_store.specs.Places.{file_page}
+use Rattle.rec_store.specs.Room.{HasRoomFor}
+
+-- the store pages with the slots of entries, and of data objects
+abbrev pub entry_pages : List ℕ
+entry_pages = range_with_len 1 8
+
+abbrev pub object_pages : List ℕ
+object_pages = range_with_len 37 8
+
+-- the pages that change where an entry goes with its keys and data objects
+abbrev pub owner_pages : List ℕ
+owner_pages = entry_pages ++ key_pages ++ object_pages
+
+-- the pages that change where the thing in this slot is moved
+abbrev pub thing_pages : Found → List ℕ
+thing_pages (Entry slot) = entry_pages
+thing_pages (File slot) = file_page slot ∷ []
+
+-- the pages that one command may change, with that of one Executable Load File: the superblock is in page 0
+abbrev pub registry_pages : ℕ → List ℕ
+registry_pages file = 0 ∷ file_page file ∷ owner_pages
+
+-- room for any pages, these among them, is kept
+abbrev pub KeepsRoom : List ℕ → List ℕ → List ℕ → Type 0
+KeepsRoom pages old new = (all : List ℕ) → ((page : ℕ) → Contains pages page → Contains all page) → HasRoomFor all old → HasRoomFor all new
+
+-- with nothing staged there is room for what one command may change
+abbrev pub RoomForCommand : Type 0
+RoomForCommand = (file : ℕ) → HasRoomFor (registry_pages file) []
+
+-- room for all of it is room for each part
+abbrev pub RoomForParts : Type 0
+RoomForParts = (file : ℕ) (staged : List ℕ) → HasRoomFor (registry_pages file) staged
+    → HasRoomFor (0 ∷ []) staged × HasRoomFor (file_page file ∷ []) staged × HasRoomFor entry_pages staged × HasRoomFor key_pages staged
+    × HasRoomFor object_pages staged × HasRoomFor owner_pages staged

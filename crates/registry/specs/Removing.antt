@@ -1,0 +1,50 @@
+-- Things that leave the registry.
+use Rattle.std.specs.Prelude.{◌≡◌, ◌≢◌, ℕ, ◌==◌, Bool, false, Option, None, Some, map, slice_set, if◌then◌else◌}
+use Rattle.card_types.specs.Slots.{held}
+use Rattle.card_types.specs.declared.tables.Entry.{Entry}
+use Rattle.card_types.specs.declared.tables.KeyRec.{KeyRec}
+use Rattle.card_types.specs.declared.tables.LoadFile.{LoadFile}
+use Rattle.card_types.specs.declared.tables.Object.{Object}
+use Rattle.card_types.specs.declared.tables.Tables.{Tables}
+use Rattle.rec_store.specs.Contents.{Contents}
+
+-- the slot is the domain of no other entry and of no Executable Load File
+pub record IsNoDomain (tables : Tables) (slot : ℕ) : Type 0 where
+  pub entries : (other : ℕ) (entry : Entry) → other ≢ slot → held tables.entries.items other ≡ Some entry → entry.domain ≢ slot
+  pub files : (other : ℕ) (file : LoadFile) → held tables.files.items other ≡ Some file → file.domain ≢ slot
+
+-- no entry comes from the Executable Load File in the slot
+abbrev pub IsUnloaded : Tables → ℕ → Type 0
+IsUnloaded tables slot = (other : ℕ) (entry : Entry) → held tables.entries.items other ≡ Some entry → entry.file ≢ slot
+
+abbrev pub key_owner : KeyRec → ℕ
+key_owner key = key.owner
+
+abbrev pub object_owner : Object → ℕ
+object_owner object = object.owner
+
+-- the slot holds a thing of this domain
+abbrev pub is_owned : {T : Type 0} → (T → ℕ) → ℕ → Option T → Bool
+is_owned owner domain None = false
+is_owned owner domain (Some thing) = owner thing == domain
+
+-- what the slot holds where the things of this domain go
+abbrev pub freed : {T : Type 0} → (T → ℕ) → ℕ → Option T → Option T
+freed owner domain held = if is_owned owner domain held then None else held
+
+-- the entry is gone, and so are the keys and data objects that it owns
+pub record RemovesEntry (before after : Tables) (slot : ℕ) : Type 0 where
+  pub life : after.life ≡ before.life
+  pub entries : after.entries.items ≡ slice_set before.entries.items slot None
+  pub files : after.files.items ≡ before.files.items
+  pub keys : after.keys.items ≡ map (freed key_owner slot) before.keys.items
+  pub objects : after.objects.items ≡ map (freed object_owner slot) before.objects.items
+
+-- nothing but the data objects, and the pages that are staged, is another
+pub record SameButObjects {F : Type 0} (old new : Contents F) : Type 0 where
+  pub flash : new.flash ≡ old.flash
+  pub live : new.live ≡ old.live
+  pub life : new.tables.life ≡ old.tables.life
+  pub entries : new.tables.entries.items ≡ old.tables.entries.items
+  pub files : new.tables.files.items ≡ old.tables.files.items
+  pub keys : new.tables.keys.items ≡ old.tables.keys.items

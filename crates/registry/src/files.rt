@@ -1,0 +1,61 @@
+//! Executable Load Files: they are added and removed.
+
+ghost use Rattle.std.specs.Prelude.{◌≡◌, ◌↔◌, ℕ, List, [], ◌∷◌, true, None, length, Err, IfOk, OnErr, OnOk, IsSome};
+ghost use Rattle.card_check.specs.IsCard.{IsInLoadPages};
+ghost use Rattle.card_types.specs.First.{IsFirstFree};
+ghost use Rattle.card_types.specs.Registry.{Registry};
+ghost use Rattle.card_types.specs.RegistryChange.{IsFileAdded, without_file};
+ghost use Rattle.card_types.specs.Says.{Says, file_aid, file_of};
+ghost use Rattle.card_types.specs.SlotChange.{SetsFile};
+ghost use Rattle.card_types.specs.Slots.{held};
+ghost use Rattle.card_types.specs.Well.{Well};
+ghost use Rattle.card_types.specs.declared.limits.TheConstants.{FILES};
+ghost use Rattle.rec_store.specs.Places.{file_page};
+ghost use Rattle.rec_store.specs.Room.{HasRoomFor};
+ghost use Rattle.registry.specs.Adding.{AddsFile, IsTaken};
+ghost use Rattle.registry.specs.Pages.{KeepsRoom};
+ghost use Rattle.registry.specs.Removing.{IsUnloaded};
+
+use crate::place::place;
+use crate::refusal::AddRefusal;
+use card_types::LoadFile;
+use flash_core::Flash;
+use rec_store::Records;
+
+/// Adds an Executable Load File, whose bytes its load pages hold. It commits nothing.
+pub fn add_file<F: Flash>(records: &mut Records<F>, value: LoadFile) -> Result<u8, AddRefusal>
+    requires live { records.old.live ≡ true }
+    requires domain { IsSome (held records.old.tables.entries.items value.domain) }
+    requires pages { IsInLoadPages value }
+    requires room { (slot : ℕ) → IsFirstFree records.old.tables.files.items slot → HasRoomFor (file_page slot ∷ []) records.old.staged }
+    ensures said { OnOk result ((page : ℕ → List ℕ) (said : Registry) → Says page records.old.tables said → Well said → (after : Registry)
+        × IsFileAdded (file_of page records.old.tables.entries.items value) said after × Says page records.new.tables after) }
+    ensures slots { IfOk result (λ slot. AddsFile records.old.tables records.new.tables slot value) }
+    ensures taken { (page : ℕ → List ℕ) (said : Registry) → Says page records.old.tables said → (result ≡ Err AddRefusal.Taken ↔ IsTaken said value.aid) }
+    ensures full { (page : ℕ → List ℕ) (said : Registry) → Says page records.old.tables said
+        → (result ≡ Err AddRefusal.Full ↔ ((¬ IsTaken said value.aid) × (length said.files ≡ FILES))) }
+    ensures unchanged { OnErr result (records.new ≡ records.old) }
+    ensures same { (records.new.flash ≡ records.old.flash) × (records.new.live ≡ true) }
+    ensures room { IfOk result (λ slot. KeepsRoom (file_page slot ∷ []) records.old.staged records.new.staged) }
+{
+    let tables = records.tables();
+    let slot = place(tables, &tables.files, &value.aid)?;
+    records.set_file(slot, Some(value));
+    Ok(slot)
+}
+
+/// Removes the Executable Load File in a slot, which no entry names. It commits nothing.
+pub fn remove_file<F: Flash>(records: &mut Records<F>, slot: u8)
+    requires live { records.old.live ≡ true }
+    requires slot { IsSome (held records.old.tables.files.items slot) }
+    requires unloaded { IsUnloaded records.old.tables slot }
+    requires room { HasRoomFor (file_page slot ∷ []) records.old.staged }
+    ensures said { (page : ℕ → List ℕ) (said : Registry) → Says page records.old.tables said
+        → Says page records.new.tables (without_file said (file_aid records.old.tables.files.items slot)) }
+    ensures slots { SetsFile records.old.tables records.new.tables slot None }
+    ensures same { (records.new.flash ≡ records.old.flash) × (records.new.live ≡ true) }
+    ensures room { KeepsRoom (file_page slot ∷ []) records.old.staged records.new.staged }
+{
+    prove!(usize::from(slot) < records.tables().files.len());
+    records.set_file(slot, None);
+}

@@ -1,0 +1,29 @@
+//! The entries and Executable Load Files of a card's records, changed by name.
+//!
+//! Terms. An *entry* is an application or a security domain, and a *thing* is an entry or an Executable Load File. What tables
+//! *say* is a registry, which has each thing by its AID. The changes of a registry are those of `RegistryChange` in `card_types`.
+//!
+//! What holds of every card's records, each with the clause that proves it:
+//!
+//!  1. Where the tables say a registry, they say afterwards the one that the call changed, in every other respect the same
+//!     (`said` on each call). What became of the slots is told beside it (`slots`).
+//!  2. A thing is added exactly where none has its AID and there is a free slot (`taken` and `full` on `add_entry` and
+//!     `add_file`). Where it is refused, nothing has changed (`unchanged`).
+//!  3. No call makes a call on the device, and none commits (`same`).
+//!  4. There is room for what one command changes, and each call keeps it (`room`; `room_for_command` and `room_for_parts`).
+#![tactic(auto)]
+
+mod entries;
+mod files;
+mod laws;
+mod moving;
+mod place;
+mod refusal;
+mod removal;
+
+pub use entries::{add_entry, set_life, set_receipts};
+pub use files::{add_file, remove_file};
+pub use laws::{room_for_command, room_for_parts};
+pub use moving::move_to;
+pub use refusal::AddRefusal;
+pub use removal::remove_entry;

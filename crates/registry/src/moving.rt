@@ -1,0 +1,42 @@
+//! Extradition: a thing goes to another security domain.
+
+ghost use Rattle.std.specs.Prelude.{◌≡◌, ℕ, List, true, Some, IsSome};
+ghost use Rattle.card_types.specs.Found.{aid_of};
+ghost use Rattle.card_types.specs.Registry.{Registry};
+ghost use Rattle.card_types.specs.RegistryChange.{moved};
+ghost use Rattle.card_types.specs.Says.{Says, domain_aid};
+ghost use Rattle.card_types.specs.Slots.{held};
+ghost use Rattle.card_types.specs.Well.{Well};
+ghost use Rattle.rec_store.specs.Room.{HasRoomFor};
+ghost use Rattle.registry.specs.Pages.{KeepsRoom, thing_pages};
+ghost use Rattle.registry.specs.Setting.{Moves};
+
+use card_types::{Found, in_slot};
+use flash_core::Flash;
+use rec_store::Records;
+
+/// Moves an entry or an Executable Load File to the domain in the slot `domain`. It commits nothing.
+pub fn move_to<F: Flash>(records: &mut Records<F>, thing: Found, domain: u8)
+    requires live { records.old.live ≡ true }
+    requires slot { IsSome (aid_of records.old.tables thing) }
+    requires domain { IsSome (held records.old.tables.entries.items domain) }
+    requires room { HasRoomFor (thing_pages thing) records.old.staged }
+    ensures said { (page : ℕ → List ℕ) (said : Registry) (aid : List ℕ) → aid_of records.old.tables thing ≡ Some aid
+        → Says page records.old.tables said → Well said → Says page records.new.tables (moved said aid (domain_aid records.old.tables.entries.items domain)) }
+    ensures slots { Moves records.old.tables records.new.tables thing domain }
+    ensures same { (records.new.flash ≡ records.old.flash) × (records.new.live ≡ true) }
+    ensures room { KeepsRoom (thing_pages thing) records.old.staged records.new.staged }
+{
+    match thing {
+        Found::Entry(slot) => {
+            let mut entry = *in_slot(&records.tables().entries, slot).unwrap();
+            entry.domain = domain;
+            records.set_entry(slot, Some(entry));
+        }
+        Found::File(slot) => {
+            let mut file = *in_slot(&records.tables().files, slot).unwrap();
+            file.domain = domain;
+            records.set_file(slot, Some(file));
+        }
+    }
+}
