@@ -56,7 +56,7 @@ loop-preserved g c =
           let found = file_found _ card.tables state.registry says c.loop.last c.in-Some.slot file (rw (c.tables.ensures.tables ∙ was.tables) at c.in-Some.ensures.some) in
           next_written file_order_total (was.written told state stands) (file_of (load_page (F.pages card.flash)) card.tables.entries.items file) found (λ tells.
           next.written told state (was.stands state stands) tells
-          ∙ ap (λ text. g.K.Sink.written c.loop.sink ++ text) (same_file (F.pages card.flash) (F.pages now.flash) card.tables now.tables file (was.pages told) was.tables)));
+          ∙ ap (λ text. (g.K.Sink.state c.loop.sink).written ++ text) (same_file (F.pages card.flash) (F.pages now.flash) card.tables now.tables file (was.pages told) was.tables)));
       flushes = c.write_file.ensures.flushes ∙ was.flushes;
       later = omega (arith, was.later, c.write_file.ensures.later);
       faults = next.quiet ∙ was.faults;
@@ -74,7 +74,7 @@ returns-in_err-write_file-in-Some-clause-written g c told state stands =
     MatchResult-from_err c.from_residual.result _ _ c.from_residual.ensures.0 (λ _ tells.
     (let part = c.in_err-write_file-in-Some.ensures.written told state (was.stands state stands) tells in
     part_of_lines file_order_total (was.written told state stands) (file_of (load_page (F.pages card.flash)) card.tables.entries.items file) found tells
-    (part.0, part.1 ∙ ap (λ text. g.K.Sink.written c.loop.sink ++ take part.0 text) (same_file (F.pages card.flash) (F.pages now.flash) card.tables now.tables file (was.pages told) was.tables))))
+    (part.0, part.1 ∙ ap (λ text. (g.K.Sink.state c.loop.sink).written ++ take part.0 text) (same_file (F.pages card.flash) (F.pages now.flash) card.tables now.tables file (was.pages told) was.tables))))
 
 pub returns-in_err-write_file-in-Some-clause-moments : goal.returns-in_err-write_file-in-Some-clause-moments
 returns-in_err-write_file-in-Some-clause-moments g c told state stands =

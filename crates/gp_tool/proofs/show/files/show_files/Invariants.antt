@@ -22,8 +22,8 @@ invariant-loop g l =
       pages : F.tells → F.pages l.card.flash ≡ F.pages first.flash;
       written : F.tells → (state : State) → Stands F.tells F.pages F.may_leave first state
           → IsWritten file_order file_line g.K.Sink.tells state.registry.files l.counter (option_map (file_of (load_page (F.pages first.flash)) first.tables.entries.items) l.last)
-          (g.K.Sink.written l.initial.sink) (g.K.Sink.written l.sink);
-      flushes : g.K.Sink.flushes l.sink ≡ g.K.Sink.flushes l.initial.sink;
+          (g.K.Sink.state l.initial.sink).written (g.K.Sink.state l.sink).written;
+      flushes : (g.K.Sink.state l.sink).flushes ≡ (g.K.Sink.state l.initial.sink).flushes;
       later : F.faults first.flash ≤ F.faults l.card.flash;
-      faults : g.K.Sink.faults l.sink ≡ g.K.Sink.faults l.initial.sink;
+      faults : (g.K.Sink.state l.sink).faults ≡ (g.K.Sink.state l.initial.sink).faults;
     }
