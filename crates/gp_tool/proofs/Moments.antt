@@ -55,7 +55,7 @@ module _ (first : State) (some more : List Outcome) where
 
 module _ {F : Type 0} (device : Flash F) where
   abbrev Only : F → F → (List Page → Type 0) → Type 0
-  Only old new P = LeavesOnly device.moment device.left_since old new P
+  Only old new P = LeavesOnly device old new P
 
   -- a registry that is one of some is one of all
   one_of : (some all : List Registry) → Among some all → (c : List Page) → ReopensAsOne some c → ReopensAsOne all c
@@ -64,37 +64,37 @@ module _ {F : Type 0} (device : Flash F) where
   pub joins : (old mid new : F)
       → Joins (LeavesOneOf device old mid) (LeavesOneOf device mid new) (LeavesOneOf device old new)
   joins old mid new some more all first then before between told =
-      joined device.moment device.left_since old mid new (ReopensAsOne all) (ReopensAsOne all) (weaker device.moment device.left_since old mid (ReopensAsOne some) (ReopensAsOne all) (before told) (one_of some all first))
-      (weaker device.moment device.left_since mid new (ReopensAsOne more) (ReopensAsOne all) (between told) (one_of more all then)) (λ c reopens. reopens)
+      joined device old mid new (ReopensAsOne all) (ReopensAsOne all) (weaker device old mid (ReopensAsOne some) (ReopensAsOne all) (before told) (one_of some all first))
+      (weaker device mid new (ReopensAsOne more) (ReopensAsOne all) (between told) (one_of more all then)) (λ c reopens. reopens)
 
   -- where nothing was done power lost leaves the registry of the card
   pub nothing_done : ((f : F) (c : List Page) → device.tells → device.left_since f (device.moment f) c → device.may_leave f c)
-      → (card : CardOver F) (state : State) → Stands device.tells device.pages device.may_leave card state → LeavesOneOf device card.flash card.flash (state.registry ∷ [])
+      → (card : CardOver F) (state : State) → Stands device card state → LeavesOneOf device card.flash card.flash (state.registry ∷ [])
   nothing_done only card state stands told =
       let keeps = stands.keeps told in
-      unmoved device.moment device.left_since (device.may_leave card.flash) card.flash (ReopensAsOne (state.registry ∷ [])) (λ c. only card.flash c told)
+      unmoved device (device.may_leave card.flash) card.flash (ReopensAsOne (state.registry ∷ [])) (λ c. only card.flash c told)
       (λ c possible. (state.registry, contains_first state.registry [], keeps.reopens c possible))
 
   -- the registry before a command or the one after it is one of the two
   pub one_of_two : (old new : F) (before after : Registry)
       → (device.tells → Only old new (λ c. Reopens c before ⊎ Reopens c after)) → LeavesOneOf device old new (before ∷ after ∷ [])
   one_of_two old new before after leaves told =
-      weaker device.moment device.left_since old new (λ c. Reopens c before ⊎ Reopens c after) (ReopensAsOne (before ∷ after ∷ [])) (leaves told)
+      weaker device old new (λ c. Reopens c before ⊎ Reopens c after) (ReopensAsOne (before ∷ after ∷ [])) (leaves told)
       (λ c reopens. ⊎_elim (λ was. (before, contains_first before (after ∷ []), was))
       (λ is. (after, contains_later before (after ∷ []) after (contains_first after []), is)) reopens)
 
   -- a card that was not touched stands as before
   pub stays : (first : F) (card card' : CardOver F) (count count' : ℕ) → (card' ≡ card) × (count' ≡ count)
-      → (count' ≡ count) × ((state : State) → Stands device.tells device.pages device.may_leave card state → Stands device.tells device.pages device.may_leave card' state)
+      → (count' ≡ count) × ((state : State) → Stands device card state → Stands device card' state)
       × ((all : List Registry) → LeavesOneOf device first card.flash all → LeavesOneOf device first card'.flash all)
   stays first card card' count count' same = (
     same.1,
-    λ state stands. subst (λ (c : CardOver F). Stands device.tells device.pages device.may_leave c state) (sym same.0) stands,
+    λ state stands. subst (λ (c : CardOver F). Stands device c state) (sym same.0) stands,
     λ all leaves. subst (λ (c : CardOver F). LeavesOneOf device first c.flash all) (sym same.0) leaves,
   )
 
   pub has_run : (old : F) (card : CardOver F) (first : State) (count : ℕ) (outcomes : List Outcome) (last : State) → count ≡ length outcomes
-      → Stands device.tells device.pages device.may_leave card last → LeavesOneOf device old card.flash (registries first outcomes)
+      → Stands device card last → LeavesOneOf device old card.flash (registries first outcomes)
       → HasRun device old card.flash first count outcomes last
   has_run old card first count outcomes last done stands leaves = record { done = done; keeps = stands.keeps; moments = λ told before. leaves told }
 

@@ -28,14 +28,14 @@ cause_since ReadFault source sink before device new less cause = cause
 cause_since WriteFault source sink before device new less cause = cause
 cause_since InputTooLong source sink before device new less cause = cause
 
-module _ {F : Type 0} (device : Flash F) (old : F) (card : CardOver F) (first : State) (stands : Stands device.tells device.pages device.may_leave card first)
-    (powered : device.tells → (all : List Registry) → Always (device.may_leave old) (ReopensAsOne all) → LeavesOnly device.moment device.left_since old card.flash (ReopensAsOne all)) where
+module _ {F : Type 0} (device : Flash F) (old : F) (card : CardOver F) (first : State) (stands : Stands device card first)
+    (powered : device.tells → (all : List Registry) → Always (device.may_leave old) (ReopensAsOne all) → LeavesOnly device old card.flash (ReopensAsOne all)) where
   since : (new : F) (outcomes : List Outcome)
-      → (device.tells → Always (device.may_leave card.flash) (λ outcome. Reopens outcome first.registry) → LeavesOnly device.moment device.left_since card.flash new (ReopensAsOne (registries first outcomes)))
-      → device.tells → Always (device.may_leave old) (λ outcome. Reopens outcome first.registry) → LeavesOnly device.moment device.left_since old new (ReopensAsOne (registries first outcomes))
+      → (device.tells → Always (device.may_leave card.flash) (λ outcome. Reopens outcome first.registry) → LeavesOnly device card.flash new (ReopensAsOne (registries first outcomes)))
+      → device.tells → Always (device.may_leave old) (λ outcome. Reopens outcome first.registry) → LeavesOnly device old new (ReopensAsOne (registries first outcomes))
   since new outcomes moments told before =
       let keeps = stands.keeps told in
-      joined device.moment device.left_since old card.flash new (ReopensAsOne (registries first outcomes)) (ReopensAsOne (registries first outcomes))
+      joined device old card.flash new (ReopensAsOne (registries first outcomes)) (ReopensAsOne (registries first outcomes))
       (powered told (registries first outcomes) (λ c left. (first.registry, contains_first first.registry _, before c left)))
       (moments told keeps.reopens) (λ c reopens. reopens)
 
@@ -49,7 +49,7 @@ module _ {F : Type 0} (device : Flash F) (old : F) (card : CardOver F) (first : 
 
 -- where the device holds a card and doesn't fail, want of memory alone is left
 pub no_other_cause : {F : Type 0} (device : Flash F) (old new : F) (cause : PowerCause) (status : ℕ)
-    → PowerFails device.tells device.faults device.pages old cause new → status ≡ refusal_status cause → device.tells → (registry : Registry) → Reopens (device.pages old) registry
+    → PowerFails device old cause new → status ≡ refusal_status cause → device.tells → (registry : Registry) → Reopens (device.pages old) registry
     → (Rose (device.faults old) (device.faults new) → ⊥) → (status ≡ 0) ⊎ (status ≡ 7)
 no_other_cause device old new (Memory refused) status fails is told registry reopens no_flash = inr is
 no_other_cause device old new FlashFailed status fails is told registry reopens no_flash = absurd (no_flash fails)

@@ -57,9 +57,9 @@ alone registry outcome (other, there, reopens) = elim (contains_cases registry [
 -- what was shown of a card that was powered on is left by the device
 pub has_shown : {F : Type 0} (device : Flash F)
     → ((f : F) (t : ℕ) (c : List Page) → device.tells → t ≤ device.moment f → device.may_leave f c → device.left_since f t c)
-    → (old new : F) (card : CardOver F) (state : State) → Stands device.tells device.pages device.may_leave card state
-    → (device.tells → (all : List Registry) → Always (device.may_leave old) (ReopensAsOne all) → LeavesOnly device.moment device.left_since old card.flash (ReopensAsOne all))
-    → (device.tells → LeavesOnly device.moment device.left_since card.flash new (λ outcome. Reopens outcome state.registry)) → (device.tells → device.pages new ≡ device.pages card.flash)
+    → (old new : F) (card : CardOver F) (state : State) → Stands device card state
+    → (device.tells → (all : List Registry) → Always (device.may_leave old) (ReopensAsOne all) → LeavesOnly device old card.flash (ReopensAsOne all))
+    → (device.tells → LeavesOnly device card.flash new (λ outcome. Reopens outcome state.registry)) → (device.tells → device.pages new ≡ device.pages card.flash)
     → HasShown device old new state.registry
 has_shown device counts old new card state stands powered shows same =
     let registry = state.registry in
@@ -67,8 +67,8 @@ has_shown device counts old new card state stands powered shows same =
       now = λ told. subst (λ p. Reopens p registry) (sym (same told)) (stands.keeps told).now;
       left = λ told c possible. (let leaves = shows told in leaves.each c (counts new (device.moment card.flash) c told leaves.later possible));
       moments = λ told before.
-          joined device.moment device.left_since old card.flash new (λ outcome. Reopens outcome registry) (λ outcome. Reopens outcome registry)
-          (weaker device.moment device.left_since old card.flash (ReopensAsOne (registry ∷ [])) (λ outcome. Reopens outcome registry)
+          joined device old card.flash new (λ outcome. Reopens outcome registry) (λ outcome. Reopens outcome registry)
+          (weaker device old card.flash (ReopensAsOne (registry ∷ [])) (λ outcome. Reopens outcome registry)
           (powered told (registry ∷ []) (λ c possible. (registry, contains_first registry [], before c possible))) (alone registry))
           (shows told) (λ outcome reopens. reopens);
     }

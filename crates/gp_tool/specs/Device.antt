@@ -16,7 +16,7 @@ registries first outcomes = first.registry ∷ map (λ outcome. outcome.state.re
 
 -- power lost at any moment between the two leaves one of these registries
 abbrev pub LeavesOneOf : {F : Type 0} → Flash F → F → F → List Registry → Type 0
-LeavesOneOf device old new all = device.tells → LeavesOnly device.moment device.left_since old new (ReopensAsOne all)
+LeavesOneOf device old new all = device.tells → LeavesOnly device old new (ReopensAsOne all)
 
 -- the status of a program whose card is not powered on
 abbrev pub refusal_status : PowerCause → ℕ
@@ -34,18 +34,18 @@ pub record IsNotPowered {F : Type 0} (device : Flash F) (status count : ℕ) (ol
   pub none : count ≡ 0
   pub why : ((status ≡ 3) × Rose (device.faults old) (device.faults new))
       ⊎ ((status ≡ 4) × (device.tells → ((registry : Registry) → Reopens (device.pages old) registry → ⊥) × (device.pages new ≡ device.pages old)))
-  pub moments : device.tells → (all : List Registry) → Always (device.may_leave old) (ReopensAsOne all) → LeavesOnly device.moment device.left_since old new (ReopensAsOne all)
+  pub moments : device.tells → (all : List Registry) → Always (device.may_leave old) (ReopensAsOne all) → LeavesOnly device old new (ReopensAsOne all)
 
 -- The device after a run of commands: power lost now leaves the last registry, and left at no moment one that is not of the
 -- run.
 pub record HasRun {F : Type 0} (device : Flash F) (old new : F) (first : State) (count : ℕ) (outcomes : List Outcome) (last : State) : Type 0 where
   pub done : count ≡ length outcomes
-  pub keeps : device.tells → Keeps (device.pages new) (device.may_leave new) last.registry
-  pub moments : device.tells → Always (device.may_leave old) (λ outcome. Reopens outcome first.registry) → LeavesOnly device.moment device.left_since old new (ReopensAsOne (registries first outcomes))
+  pub keeps : device.tells → Keeps device new last.registry
+  pub moments : device.tells → Always (device.may_leave old) (λ outcome. Reopens outcome first.registry) → LeavesOnly device old new (ReopensAsOne (registries first outcomes))
 
 -- The device failed in the command after them: power lost now leaves the registry from before that command or the one after
 -- it.
 pub record HasFailed {F : Type 0} (device : Flash F) (old new : F) (first : State) (count : ℕ) (outcomes : List Outcome) (last : State) (next : Outcome) : Type 0 where
   pub done : count ≡ length outcomes
   pub left : device.tells → Always (device.may_leave new) (ReopensAsOne (last.registry ∷ next.state.registry ∷ []))
-  pub moments : device.tells → Always (device.may_leave old) (λ outcome. Reopens outcome first.registry) → LeavesOnly device.moment device.left_since old new (ReopensAsOne (registries first (outcomes ++ next ∷ [])))
+  pub moments : device.tells → Always (device.may_leave old) (λ outcome. Reopens outcome first.registry) → LeavesOnly device old new (ReopensAsOne (registries first (outcomes ++ next ∷ [])))

@@ -10,7 +10,7 @@ use Rattle.gp_tool.specs.declared.ending.Ending.TheVariants.{Finished, BadLine, 
 
 -- power lost leaves the card as it leaves the factory
 abbrev pub IsFactoryCard : {F : Type 0} → Flash F → F → Type 0
-IsFactoryCard device flash = device.tells → Keeps (device.pages flash) (device.may_leave flash) factory_registry
+IsFactoryCard device flash = device.tells → Keeps device flash factory_registry
 
 -- nothing is written, and the device is the factory card unless it failed
 abbrev pub FormatEnds : {F : Type 0} → Flash F → Type 0 → Ending → F → SinkState → SinkState → Type 0

@@ -29,4 +29,4 @@ ShowEnds told registry InputTooLong old new = ⊥
 pub record HasShown {F : Type 0} (device : Flash F) (old new : F) (registry : Registry) : Type 0 where
   pub now : device.tells → Reopens (device.pages new) registry
   pub left : device.tells → Always (device.may_leave new) (λ outcome. Reopens outcome registry)
-  pub moments : device.tells → Always (device.may_leave old) (λ outcome. Reopens outcome registry) → LeavesOnly device.moment device.left_since old new (λ outcome. Reopens outcome registry)
+  pub moments : device.tells → Always (device.may_leave old) (λ outcome. Reopens outcome registry) → LeavesOnly device old new (λ outcome. Reopens outcome registry)

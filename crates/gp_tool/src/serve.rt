@@ -46,7 +46,7 @@ pub fn serve_line<K: Sink, F: Flash>(
     requires up { card.old.up ≡ true }
     requires few { done.old < INPUT_LIMIT }
     ensures served { ServesLine K.tells line.now ((card.new ≡ card.old) × (done.new ≡ done.old))
-        (Stands F.tells F.pages F.may_leave card.old) (Stands F.tells F.pages F.may_leave card.new)
+        (Stands F.Flash card.old) (Stands F.Flash card.new)
         (LeavesOneOf F.Flash card.old.flash card.new.flash)
         done.old done.new (K.state sink.old).written (K.state sink.new).written result }
     ensures up { GoesAhead result (card.new.up ≡ true) }

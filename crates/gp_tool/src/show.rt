@@ -93,16 +93,16 @@ fn show_data<K: Sink>(tables: &Tables, sink: &mut K) -> Result<(), WriteFailed>
 /// Writes the registry of a card as text, a line at a time. Only the digests of Executable Load Files make calls on the device.
 pub fn show<F: Flash, K: Sink>(card: &mut Card<F>, sink: &mut K) -> Result<(), ShowFault>
     requires up { card.old.up ≡ true }
-    ensures written { (state : State) → Stands F.tells F.pages F.may_leave card.old state → F.tells → K.tells
+    ensures written { (state : State) → Stands F.Flash card.old state → F.tells → K.tells
         → OnOk result ((K.state sink.new).written ≡ (K.state sink.old).written ++ shown state.registry) }
-    ensures part { (state : State) → Stands F.tells F.pages F.may_leave card.old state → F.tells → K.tells
+    ensures part { (state : State) → Stands F.Flash card.old state → F.tells → K.tells
         → OnErr result ((n : ℕ) × ((K.state sink.new).written ≡ (K.state sink.old).written ++ take n (shown state.registry))) }
     // Power lost at any moment leaves the registry.
-    ensures moments { F.tells → (state : State) → Stands F.tells F.pages F.may_leave card.old state
-        → LeavesOnly F.moment F.left_since card.old.flash card.new.flash (λ outcome. Reopens outcome state.registry) }
-    ensures stands { (state : State) → Stands F.tells F.pages F.may_leave card.old state → OnOk result (Stands F.tells F.pages F.may_leave card.new state) }
-    ensures refused { (state : State) → Stands F.tells F.pages F.may_leave card.old state
-        → IfErr result (λ fault. fault ≡ Write → Stands F.tells F.pages F.may_leave card.new state) }
+    ensures moments { F.tells → (state : State) → Stands F.Flash card.old state
+        → LeavesOnly F.Flash card.old.flash card.new.flash (λ outcome. Reopens outcome state.registry) }
+    ensures stands { (state : State) → Stands F.Flash card.old state → OnOk result (Stands F.Flash card.new state) }
+    ensures refused { (state : State) → Stands F.Flash card.old state
+        → IfErr result (λ fault. fault ≡ Write → Stands F.Flash card.new state) }
     ensures pages { F.tells → F.pages card.new.flash ≡ F.pages card.old.flash }
     ensures flushes { (K.state sink.new).flushes ≡ (K.state sink.old).flushes }
     ensures later { F.faults card.old.flash ≤ F.faults card.new.flash }

@@ -26,10 +26,10 @@ fn show_card<K: Sink, F: Flash>(card: &mut Card<F>, sink: &mut K) -> Ending
     requires up { card.old.up ≡ true }
     ensures cause { EndCause result (faults_of unread (K.state sink.old) (F.faults card.old.flash)) (faults_of unread (K.state sink.new) (F.faults card.new.flash)) }
     ensures flushes { Flushes K.tells result (K.state sink.old) (K.state sink.new) }
-    ensures ends { (state : State) → Stands F.tells F.pages F.may_leave card.old state
+    ensures ends { (state : State) → Stands F.Flash card.old state
         → ShowEnds (F.tells × K.tells) state.registry result (K.state sink.old) (K.state sink.new) }
-    ensures moments { F.tells → (state : State) → Stands F.tells F.pages F.may_leave card.old state
-        → LeavesOnly F.moment F.left_since card.old.flash card.new.flash (λ outcome. Reopens outcome state.registry) }
+    ensures moments { F.tells → (state : State) → Stands F.Flash card.old state
+        → LeavesOnly F.Flash card.old.flash card.new.flash (λ outcome. Reopens outcome state.registry) }
     ensures pages { F.tells → F.pages card.new.flash ≡ F.pages card.old.flash }
     ensures later { F.faults card.old.flash ≤ F.faults card.new.flash }
 {

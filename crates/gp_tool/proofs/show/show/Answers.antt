@@ -7,7 +7,7 @@ use Rattle.gp_tool.proofs.show.show.Goals as goal
 pub returns-in_err-show_front-clause-part : goal.returns-in_err-show_front-clause-part
 returns-in_err-show_front-clause-part g c state stands told tells =
     let written = written_of g.K.Sink.state in
-    let says = says_seen g.F.Flash.tells g.F.Flash.pages g.F.Flash.may_leave c.args.card.now state stands in
+    let says = says_seen g.F.Flash c.args.card.now state stands in
     let front = c.in_err-show_front.ensures.written stands.page state.registry (says c.tables.result.now c.tables.ensures.tables) tells in
     MatchResult-from_err c.from_residual.result _ _ c.from_residual.ensures.0 (λ _.
     part_of_front state.registry (written c.args.sink.now) (written c.show_front.new.sink) front)
@@ -15,7 +15,7 @@ returns-in_err-show_front-clause-part g c state stands told tells =
 pub returns-in_err-show_files-clause-part : goal.returns-in_err-show_files-clause-part
 returns-in_err-show_files-clause-part g c state stands told tells =
     let written = written_of g.K.Sink.state in
-    let says = says_seen g.F.Flash.tells g.F.Flash.pages g.F.Flash.may_leave c.args.card.now state stands in
+    let says = says_seen g.F.Flash c.args.card.now state stands in
     let front = c.in_ok-show_front.ensures.written stands.page state.registry (says c.tables.result.now c.tables.ensures.tables) tells in
     MatchResult-from_err c.from_residual-in_err-show_files.result _ _ c.from_residual-in_err-show_files.ensures.0 (λ _.
     part_of_files state.registry (written c.args.sink.now) (written c.show_front.new.sink) (written c.show_files.new.sink)
@@ -24,7 +24,7 @@ returns-in_err-show_files-clause-part g c state stands told tells =
 pub returns-in_err-show_owned-clause-part : goal.returns-in_err-show_owned-clause-part
 returns-in_err-show_owned-clause-part g c state stands told tells =
     let written = written_of g.K.Sink.state in
-    let says = says_seen g.F.Flash.tells g.F.Flash.pages g.F.Flash.may_leave c.args.card.now state stands in
+    let says = says_seen g.F.Flash c.args.card.now state stands in
     let front = c.in_ok-show_front.ensures.written stands.page state.registry (says c.tables.result.now c.tables.ensures.tables) tells in
     let owned = c.in_err-show_owned.ensures.written stands.page state.registry (says c.tables-2.result.now (c.tables-2.ensures.tables ∙ c.show_files.ensures.same)) tells in
     MatchResult-from_err c.from_residual-in_err-show_owned.result _ _ c.from_residual-in_err-show_owned.ensures.0 (λ _.
@@ -35,7 +35,7 @@ returns-in_err-show_owned-clause-part g c state stands told tells =
 pub returns-clause-written : goal.returns-clause-written
 returns-clause-written g c state stands told tells =
     let written = written_of g.K.Sink.state in
-    let says = says_seen g.F.Flash.tells g.F.Flash.pages g.F.Flash.may_leave c.args.card.now state stands in
+    let says = says_seen g.F.Flash c.args.card.now state stands in
     let front = c.in_ok-show_front.ensures.written stands.page state.registry (says c.tables.result.now c.tables.ensures.tables) tells in
     let owned = c.in_ok-show_owned.ensures.written stands.page state.registry (says c.tables-2.result.now (c.tables-2.ensures.tables ∙ c.show_files.ensures.same)) tells in
     all_shown state.registry (written c.args.sink.now) (written c.show_front.new.sink) (written c.show_files.new.sink) (written c.show_owned.new.sink)

@@ -16,11 +16,11 @@ invariant-loop g l =
     let first = l.initial.card in record {
       up : l.card.up ≡ true;
       tables : l.card.tables ≡ first.tables;
-      stands : (state : State) → Stands F.tells F.pages F.may_leave first state → Stands F.tells F.pages F.may_leave l.card state;
-      moments : F.tells → (state : State) → Stands F.tells F.pages F.may_leave first state
-          → LeavesOnly F.moment F.left_since first.flash l.card.flash (λ outcome. Reopens outcome state.registry);
+      stands : (state : State) → Stands F first state → Stands F l.card state;
+      moments : F.tells → (state : State) → Stands F first state
+          → LeavesOnly F first.flash l.card.flash (λ outcome. Reopens outcome state.registry);
       pages : F.tells → F.pages l.card.flash ≡ F.pages first.flash;
-      written : F.tells → (state : State) → Stands F.tells F.pages F.may_leave first state
+      written : F.tells → (state : State) → Stands F first state
           → IsWritten file_order file_line g.K.Sink.tells state.registry.files l.counter (option_map (file_of (load_page (F.pages first.flash)) first.tables.entries.items) l.last)
           (g.K.Sink.state l.initial.sink).written (g.K.Sink.state l.sink).written;
       flushes : (g.K.Sink.state l.sink).flushes ≡ (g.K.Sink.state l.initial.sink).flushes;
