@@ -7,23 +7,24 @@ use Rattle.std.proofs.lemmas.Bool.{cases_lt}
 use Rattle.std.proofs.lemmas.List.{append-nil, length-append, length-take-le, map-append, take_all}
 use Rattle.std.proofs.lemmas.List.Folds.{concat-append}
 use Rattle.card_check.specs.IsCard.{HasPages}
+use Rattle.flash_core.specs.declared.flash.Flash.{Ghosts as Flash}
 use Rattle.flash_core.specs.declared.page.Page.{Page}
 use Rattle.rec_store.proofs.Leaving.{joined, unmoved}
 use Rattle.rec_store.specs.Contents.{Contents}
 use Rattle.rec_store.specs.Reopens.{Reopens}
 use Rattle.card_core.specs.LoadRead.{IsLoadRead}
 
-module _ {F : Type 0} (tells : Type 0) (pages : F → List Page) (moment : F → ℕ) (may_leave : F → List Page → Type 0) (left_since : F → ℕ → List Page → Type 0) (faults : F → ℕ) where
+module _ {F : Type 0} (device : Flash F) where
   abbrev Reads : Contents F → Contents F → Type 0
-  Reads old new = IsLoadRead tells pages moment may_leave left_since faults old new
+  Reads old new = IsLoadRead device old new
 
-  pub none_read : ((f : F) (outcome : List Page) → tells → left_since f (moment f) outcome → may_leave f outcome) → (records : Contents F) → Reads records records
+  pub none_read : ((f : F) (outcome : List Page) → device.tells → device.left_since f (device.moment f) outcome → device.may_leave f outcome) → (records : Contents F) → Reads records records
   none_read only records = record {
     tables = refl;
     staged = refl;
     live = refl;
     seen = λ told. refl;
-    moments = λ told registry keeps. unmoved moment left_since (may_leave records.flash) records.flash (λ outcome. Reopens outcome registry) (λ c. only records.flash c told) keeps.reopens;
+    moments = λ told registry keeps. unmoved device (device.may_leave records.flash) records.flash (λ outcome. Reopens outcome registry) (λ c. only records.flash c told) keeps.reopens;
     keeps = λ told registry keeps. keeps;
     later = omega arith;
   }
@@ -35,7 +36,7 @@ module _ {F : Type 0} (tells : Type 0) (pages : F → List Page) (moment : F →
     live = second.live ∙ first.live;
     seen = λ told. second.seen told ∙ first.seen told;
     moments = λ told registry keeps.
-        joined moment left_since old.flash mid.flash new.flash (λ outcome. Reopens outcome registry) (λ outcome. Reopens outcome registry)
+        joined device old.flash mid.flash new.flash (λ outcome. Reopens outcome registry) (λ outcome. Reopens outcome registry)
         (first.moments told registry keeps) (second.moments told registry (first.keeps told registry keeps)) (λ outcome reopens. reopens);
     keeps = λ told registry keeps. second.keeps told registry (first.keeps told registry keeps);
     later = omega (arith, first.later, second.later);

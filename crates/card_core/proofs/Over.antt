@@ -3,7 +3,7 @@ use Rattle.std.proofs.Common.{◌≡◌, ◌⊎◌, ℕ, List, true, refl, ap, s
 use Rattle.card_types.specs.Registry.{Registry}
 use Rattle.card_types.specs.Says.{Says}
 use Rattle.card_types.specs.declared.tables.Tables.{Tables}
-use Rattle.flash_core.specs.declared.page.Page.{Page}
+use Rattle.flash_core.specs.declared.flash.Flash.{Ghosts as Flash}
 use Rattle.page_journal.specs.Journal.{stored}
 use Rattle.page_journal.specs.Moments.{LeavesOnly}
 use Rattle.policy_rules.specs.LiveEnds.{first_live}
@@ -18,32 +18,31 @@ use Rattle.card_core.specs.Card.{CardOver, Stands}
 use Rattle.card_core.specs.Kept.{AreCards}
 use Rattle.card_core.specs.declared.held.Held.{Held}
 
-module _ {F : Type 0} (tells : Type 0) (pages : F → List Page) (may_leave : F → List Page → Type 0) (live : Live) (all : List Held)
-    (first : live ≡ first_live) (nothing : all ≡ four_nothing) where
+module _ {F : Type 0} (device : Flash F) (live : Live) (all : List Held) (first : live ≡ first_live) (nothing : all ≡ four_nothing) where
   -- a card that was just powered on, over the tables that were read
   pub mounted_stands : (old new : F) (tables : Tables) → AreCards tables
-      → (tells → (registry : Registry) × Reopens (pages old) registry × Says (load_page (pages new)) tables registry × Keeps (pages new) (may_leave new) registry)
-      → (registry : Registry) × (tells → Reopens (pages old) registry)
-      × Stands tells pages may_leave (record { flash = new; tables = tables; live = live; held = all; up = true }) (powered_on registry)
+      → (device.tells → (registry : Registry) × Reopens (device.pages old) registry × Says (load_page (device.pages new)) tables registry × Keeps device new registry)
+      → (registry : Registry) × (device.tells → Reopens (device.pages old) registry)
+      × Stands device (record { flash = new; tables = tables; live = live; held = all; up = true }) (powered_on registry)
   mounted_stands old new tables cards read =
-      let page : ℕ → List ℕ = load_page (pages new) in
-      let is = cards page (has_pages (stored (pages new))) in
-      let same = λ (told : tells). said_once page tables (read told).0 is.said (read told).2 is.says in (
+      let page : ℕ → List ℕ = load_page (device.pages new) in
+      let is = cards page (has_pages (stored (device.pages new))) in
+      let same = λ (told : device.tells). said_once page tables (read told).0 is.said (read told).2 is.says in (
         is.said,
-        (λ told. subst (Reopens (pages old)) (same told) (read told).1),
+        (λ told. subst (Reopens (device.pages old)) (same told) (read told).1),
         record {
           up = refl;
           page = page;
-          whole = has_pages (stored (pages new));
+          whole = has_pages (stored (device.pages new));
           on = powered_on_stands page tables live all is.said is.layout is.says is.well first nothing;
           load = λ told. refl;
-          keeps = λ told. subst (Keeps (pages new) (may_leave new)) (same told) (read told).3;
+          keeps = λ told. subst (Keeps device new) (same told) (read told).3;
         },
       )
 
   -- and one that was reset
-  pub reset_stands : (card : CardOver F) (state : State) → AreCards card.tables → Stands tells pages may_leave card state
-      → Stands tells pages may_leave (record { flash = card.flash; tables = card.tables; live = live; held = all; up = card.up }) (powered_on state.registry)
+  pub reset_stands : (card : CardOver F) (state : State) → AreCards card.tables → Stands device card state
+      → Stands device (record { flash = card.flash; tables = card.tables; live = live; held = all; up = card.up }) (powered_on state.registry)
   reset_stands card state cards stands = record {
     up = stands.up;
     page = stands.page;
@@ -54,37 +53,37 @@ module _ {F : Type 0} (tells : Type 0) (pages : F → List Page) (may_leave : F 
   }
 
 -- over a device that tells its pages a card has one registry
-pub registry_told : {F : Type 0} (tells : Type 0) (pages : F → List Page) (may_leave : F → List Page → Type 0) (card : CardOver F) (state other : State)
-    → Stands tells pages may_leave card state → Stands tells pages may_leave card other → tells → state.registry ≡ other.registry
-registry_told tells pages may_leave card state other stands also told =
-    said_once (load_page (pages card.flash)) card.tables state.registry other.registry
+pub registry_told : {F : Type 0} (device : Flash F) (card : CardOver F) (state other : State)
+    → Stands device card state → Stands device card other → device.tells → state.registry ≡ other.registry
+registry_told device card state other stands also told =
+    said_once (load_page (device.pages card.flash)) card.tables state.registry other.registry
     (subst (λ page. Says page card.tables state.registry) (sym (stands.load told)) stands.on.shows.says.registry)
     (subst (λ page. Says page card.tables other.registry) (sym (also.load told)) also.on.shows.says.registry)
 
 -- between two calls on the records of a card
-module _ {F : Type 0} (tells : Type 0) (pages : F → List Page) (may_leave : F → List Page → Type 0) (card : CardOver F) (state : State)
-    (stands : Stands tells pages may_leave card state) (served : F) (same : served ≡ card.flash) where
-  pub served_keeps : tells → Keeps (pages served) (may_leave served) state.registry
-  served_keeps told = subst (λ flash. Keeps (pages flash) (may_leave flash) state.registry) (sym same) (stands.keeps told)
+module _ {F : Type 0} (device : Flash F) (card : CardOver F) (state : State)
+    (stands : Stands device card state) (served : F) (same : served ≡ card.flash) where
+  pub served_keeps : device.tells → Keeps device served state.registry
+  served_keeps told = subst (λ flash. Keeps device flash state.registry) (sym same) (stands.keeps told)
 
-  pub served_load : tells → load_page (pages served) ≡ stands.page
-  served_load told = ap (λ flash. load_page (pages flash)) same ∙ stands.load told
+  pub served_load : device.tells → load_page (device.pages served) ≡ stands.page
+  served_load told = ap (λ flash. load_page (device.pages flash)) same ∙ stands.load told
 
-  pub served_says : (tables : Tables) (said : Registry) → Says stands.page tables said → tells → Says (load_page (pages served)) tables said
+  pub served_says : (tables : Tables) (said : Registry) → Says stands.page tables said → device.tells → Says (load_page (device.pages served)) tables said
   served_says tables said says told = subst (λ page. Says page tables said) (sym (served_load told)) says
 
   -- what power lost while the changes are committed leaves
-  pub committed : (moment : F → ℕ) (left_since : F → ℕ → List Page → Type 0) (new : F) (tables : Tables) (next : Registry) → Says stands.page tables next
-      → (tells → (before after : Registry) → Keeps (pages served) (may_leave served) before → Says (load_page (pages served)) tables after
-      → LeavesOnly moment left_since served new (λ outcome. Reopens outcome before ⊎ Reopens outcome after))
-      → tells → LeavesOnly moment left_since card.flash new (λ outcome. Reopens outcome state.registry ⊎ Reopens outcome next)
-  committed moment left_since new tables next says moments told =
-      subst (λ flash. LeavesOnly moment left_since flash new (λ outcome. Reopens outcome state.registry ⊎ Reopens outcome next)) same
+  pub committed : (new : F) (tables : Tables) (next : Registry) → Says stands.page tables next
+      → (device.tells → (before after : Registry) → Keeps device served before → Says (load_page (device.pages served)) tables after
+      → LeavesOnly device served new (λ outcome. Reopens outcome before ⊎ Reopens outcome after))
+      → device.tells → LeavesOnly device card.flash new (λ outcome. Reopens outcome state.registry ⊎ Reopens outcome next)
+  committed new tables next says moments told =
+      subst (λ flash. LeavesOnly device flash new (λ outcome. Reopens outcome state.registry ⊎ Reopens outcome next)) same
       (moments told state.registry next (served_keeps told) (served_says tables next says told))
 
   -- and while load pages are read
-  pub reading : (moment : F → ℕ) (left_since : F → ℕ → List Page → Type 0) (new : F)
-      → (tells → (registry : Registry) → Keeps (pages served) (may_leave served) registry → LeavesOnly moment left_since served new (λ outcome. Reopens outcome registry))
-      → tells → LeavesOnly moment left_since card.flash new (λ outcome. Reopens outcome state.registry)
-  reading moment left_since new moments told =
-      subst (λ flash. LeavesOnly moment left_since flash new (λ outcome. Reopens outcome state.registry)) same (moments told state.registry (served_keeps told))
+  pub reading : (new : F)
+      → (device.tells → (registry : Registry) → Keeps device served registry → LeavesOnly device served new (λ outcome. Reopens outcome registry))
+      → device.tells → LeavesOnly device card.flash new (λ outcome. Reopens outcome state.registry)
+  reading new moments told =
+      subst (λ flash. LeavesOnly device flash new (λ outcome. Reopens outcome state.registry)) same (moments told state.registry (served_keeps told))

@@ -1,11 +1,16 @@
--- What contracts see of a card on a device, and the states of the policy machine that it stands for.
-use Rattle.std.specs.Prelude.{◌≡◌, ℕ, Bool, true, List}
+-- What contracts see of a card on a device, and the states of the policy machine that it stands for. `device` is what they see of
+-- the device.
+use Rattle.std.specs.Prelude.{◌≡◌, ℕ, Bool, true, List, Option}
 use Rattle.card_check.specs.IsCard.{HasPages}
+use Rattle.card_types.specs.Registry.{Registry}
 use Rattle.card_types.specs.declared.tables.Tables.{Tables}
-use Rattle.flash_core.specs.declared.page.Page.{Page}
+use Rattle.flash_core.specs.declared.flash.Flash.{Ghosts as Flash}
+use Rattle.page_journal.specs.Moments.{LeavesOnly}
 use Rattle.policy_rules.specs.State.{State}
+use Rattle.policy_rules.specs.Step.{Outcome}
 use Rattle.policy_rules.specs.declared.live.Live.{Live}
-use Rattle.rec_store.specs.Reopens.{Keeps, load_page}
+use Rattle.policy_rules.specs.declared.rule.Rule.{Rule}
+use Rattle.rec_store.specs.Reopens.{Keeps, ReopensEither, load_page}
 use Rattle.card_core.specs.Kept.{Kept, StandsOn}
 use Rattle.card_core.specs.declared.held.Held.{Held}
 
@@ -22,10 +27,19 @@ kept card = record { tables = card.tables; live = card.live; held = card.held }
 
 -- The card stands for this state: it goes on, what it keeps shows the state, and power lost leaves its registry. Where the
 -- device tells its pages, the load pages are its own.
-pub record Stands {F : Type 0} (tells : Type 0) (pages : F → List Page) (may_leave : F → List Page → Type 0) (card : CardOver F) (state : State) : Type 0 where
+pub record Stands {F : Type 0} (device : Flash F) (card : CardOver F) (state : State) : Type 0 where
   pub up : card.up ≡ true
   pub page : ℕ → List ℕ
   pub whole : HasPages page
   pub on : StandsOn page (kept card) state
-  pub load : tells → load_page (pages card.flash) ≡ page
-  pub keeps : tells → Keeps (pages card.flash) (may_leave card.flash) state.registry
+  pub load : device.tells → load_page (device.pages card.flash) ≡ page
+  pub keeps : device.tells → Keeps device card.flash state.registry
+
+-- power lost at any moment between the two leaves one registry or the other
+abbrev pub LeavesEither : {F : Type 0} → Flash F → F → F → Registry → Registry → Type 0
+LeavesEither device old new before after =
+    device.tells → LeavesOnly device old new (ReopensEither before after)
+
+-- the card stands behind the outcome, whose reply and rule were answered
+abbrev pub Answers : {F : Type 0} → Flash F → CardOver F → Outcome → List ℕ → Option Rule → Type 0
+Answers device card outcome reply rule = Stands device card outcome.state × (reply ≡ outcome.reply) × (rule ≡ outcome.rule)

@@ -1,8 +1,8 @@
 //! A card.
 
-ghost use Rattle.std.specs.Prelude.{◌≡◌, ◌⊎◌, ◌≤◌, ◌↔◌, ℕ, List, [], ◌∷◌, false, true, None, IfOk, IfErr, IsSome, IsTrue, OnErr, OnOk};
+ghost use Rattle.std.specs.Prelude.{◌≡◌, ◌≤◌, ◌↔◌, ℕ, List, [], ◌∷◌, false, true, None, IfOk, IfErr, IsSome, IsTrue, OnErr, OnOk};
 ghost use Rattle.apdu_core.specs.Reply.{status_bytes};
-ghost use Rattle.card_core.specs.Card.{Stands};
+ghost use Rattle.card_core.specs.Card.{Answers, LeavesEither, Stands};
 ghost use Rattle.card_core.specs.Commits.{MayCommit};
 ghost use Rattle.card_core.specs.Kept.{AreCards};
 ghost use Rattle.card_core.specs.PowerOn.{PowerFails};
@@ -63,15 +63,15 @@ impl<F: Flash> Card<F> {
     /// staged pages, before any call on the device.
     pub fn power_on(alloc: Global, flash: F) -> Result<Card<F>, PowerError<F>>
         ensures stands { IfOk result (λ card. (registry : Registry) × (F.tells → Reopens (F.pages flash) registry)
-            × Stands F.tells F.pages F.may_leave card (powered_on registry)) }
+            × Stands F.Flash card (powered_on registry)) }
         // Power lost at any moment leaves no registry that it could not leave before.
         ensures moments { F.tells → (registries : List Registry) → Always (F.may_leave flash) (ReopensAsOne registries)
-            → IfOk result (λ card. LeavesOnly F.moment F.left_since flash card.flash (ReopensAsOne registries)) }
+            → IfOk result (λ card. LeavesOnly F.Flash flash card.flash (ReopensAsOne registries)) }
         ensures later { IfOk result (λ card. F.faults flash ≤ F.faults card.flash) }
         ensures err_later { IfErr result (λ e. F.faults flash ≤ F.faults e.flash) }
         ensures err_moments { F.tells → (registries : List Registry) → Always (F.may_leave flash) (ReopensAsOne registries)
-            → IfErr result (λ e. LeavesOnly F.moment F.left_since flash e.flash (ReopensAsOne registries)) }
-        ensures err { IfErr result (λ e. PowerFails F.tells F.faults F.pages flash e.cause e.flash) }
+            → IfErr result (λ e. LeavesOnly F.Flash flash e.flash (ReopensAsOne registries)) }
+        ensures err { IfErr result (λ e. PowerFails F.Flash flash e.cause e.flash) }
     {
         match Records::mount(alloc, flash) {
             Ok(records) => Ok(Card {
@@ -97,12 +97,12 @@ impl<F: Flash> Card<F> {
         requires up { self.old.up ≡ true }
         // What comes of the command is one outcome of the policy machine, also where the device fails. Power lost at any
         // moment leaves the registry from before or that of the outcome, and after an answer the latter.
-        ensures step { (state : State) → Stands F.tells F.pages F.may_leave self.old state → (outcome : Outcome) × Step state command.now outcome
-            × (F.tells → LeavesOnly F.moment F.left_since self.old.flash self.new.flash (λ pages. Reopens pages state.registry ⊎ Reopens pages outcome.state.registry))
-            × IfOk result (λ rule. Stands F.tells F.pages F.may_leave self.new outcome.state × (reply.new.items ≡ outcome.reply) × (rule ≡ outcome.rule)) }
+        ensures step { (state : State) → Stands F.Flash self.old state → (outcome : Outcome) × Step state command.now outcome
+            × LeavesEither F.Flash self.old.flash self.new.flash state.registry outcome.state.registry
+            × IfOk result (Answers F.Flash self.new outcome reply.new.items) }
         // More than a sequence counter is changed by a command alone that no rule refuses, and that opens in the session of its
         // channel: its C-MAC is the next of the chain.
-        ensures changes { (state next : State) → Stands F.tells F.pages F.may_leave self.old state → Stands F.tells F.pages F.may_leave self.new next
+        ensures changes { (state next : State) → Stands F.Flash self.old state → Stands F.Flash self.new next
             → IfOk result (λ rule. F.tells → Changes state.registry next.registry → (rule ≡ None) × OpensInSession state command.now) }
         // A command that a rule refuses makes no call on the device, and no other but INITIALIZE UPDATE and those of card
         // content management makes one.
@@ -133,7 +133,7 @@ impl<F: Flash> Card<F> {
     /// Takes the power away and gives it back: channel 0 alone is open then, with the Issuer Security Domain selected.
     pub fn reset(&mut self)
         requires up { self.old.up ≡ true }
-        ensures stands { (state : State) → Stands F.tells F.pages F.may_leave self.old state → Stands F.tells F.pages F.may_leave self.new (powered_on state.registry) }
+        ensures stands { (state : State) → Stands F.Flash self.old state → Stands F.Flash self.new (powered_on state.registry) }
         ensures same { (self.new.flash ≡ self.old.flash) × (self.new.tables ≡ self.old.tables) × (self.new.up ≡ true) }
     {
         self.live = Live::powered_on();

@@ -32,7 +32,7 @@ fn feed_page<F: Flash>(
     requires count { count ≤ 256 }
     ensures fed { F.tells → (message : List ℕ) → Holds256 hasher.old message
         → OnOk result (Holds256 hasher.new (message ++ take count (load_page (F.pages records.old.flash) page))) }
-    ensures read { IsLoadRead F.tells F.pages F.moment F.may_leave F.left_since F.faults records.old records.new }
+    ensures read { IsLoadRead F.Flash records.old records.new }
     ensures cause { HasCause (F.faults records.old.flash) (F.faults records.new.flash) result }
 {
     let mut into = Page { bytes: [0; 256] };
@@ -47,7 +47,7 @@ fn digest_of<F: Flash>(records: &mut Records<F>, file: LoadFile) -> Result<[u8; 
     requires file { IsInLoadPages file }
     ensures digest { F.tells → IfOk result (λ digest.
         digest ≡ sha256 (take file.len (concat (map (load_page (F.pages records.old.flash)) (take ((file.len + 255) / 256) file.pages))))) }
-    ensures read { IsLoadRead F.tells F.pages F.moment F.may_leave F.left_since F.faults records.old records.new }
+    ensures read { IsLoadRead F.Flash records.old records.new }
     ensures cause { HasCause (F.faults records.old.flash) (F.faults records.new.flash) result }
 {
     let len = usize::from(file.len);
@@ -69,9 +69,9 @@ impl<F: Flash> Card<F> {
         ensures same { (self.new.tables ≡ self.old.tables) × (self.new.live ≡ self.old.live) × (self.new.held ≡ self.old.held) }
         ensures pages { F.tells → F.pages self.new.flash ≡ F.pages self.old.flash }
         // Power lost at any moment leaves the registry.
-        ensures moments { F.tells → (state : State) → Stands F.tells F.pages F.may_leave self.old state
-            → LeavesOnly F.moment F.left_since self.old.flash self.new.flash (λ outcome. Reopens outcome state.registry) }
-        ensures stands { (state : State) → Stands F.tells F.pages F.may_leave self.old state → OnOk result (Stands F.tells F.pages F.may_leave self.new state) }
+        ensures moments { F.tells → (state : State) → Stands F.Flash self.old state
+            → LeavesOnly F.Flash self.old.flash self.new.flash (λ outcome. Reopens outcome state.registry) }
+        ensures stands { (state : State) → Stands F.Flash self.old state → OnOk result (Stands F.Flash self.new state) }
         ensures ok { OnOk result (self.new.up ≡ true) }
         ensures failed { OnErr result (self.new.up ≡ false) }
         ensures cause { HasCause (F.faults self.old.flash) (F.faults self.new.flash) result }

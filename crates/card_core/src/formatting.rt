@@ -12,7 +12,7 @@ use rec_store::lay_out;
 /// Makes a device the card as it leaves the factory. It takes no memory. Nothing is said of the device where power is lost
 /// before the call's end.
 pub fn format<F: Flash>(flash: &mut F) -> Result<(), FlashFailed>
-    ensures keeps { F.tells → OnOk result (Keeps (F.pages flash.new) (F.may_leave flash.new) factory_registry) }
+    ensures keeps { F.tells → OnOk result (Keeps F.Flash flash.new factory_registry) }
     ensures cause { HasCause (F.faults flash.old) (F.faults flash.new) result }
 {
     lay_out(

@@ -51,14 +51,14 @@ never_bad input given ahead reached good short (line, inr long) =
 
 module _ (reads writes : Type 0) (Rests : List Outcome → State → Type 0) (Fails : List Outcome → State → Outcome → Type 0) (first : State) (before later : Outside) (old new : Faults) where
   pub finishes : (ending : Ending) → EndCause ending old new → Ends reads writes Rests Fails first ending before later → reads
-      → AreGood (lines before.left) → length before.left < INPUT_LIMIT
+      → AreGood (lines before.source.left) → length before.source.left < INPUT_LIMIT
       → (Rose old.source new.source → ⊥) → (Rose old.sink new.sink → ⊥) → (Rose old.device new.device → ⊥) → ending ≡ Finished
   finishes Finished cause ends told good short no_read no_write no_flash = refl
   finishes BadLine cause ends told good short no_read no_write no_flash =
-      absurd (never_bad before.left ends.given ends.ahead (ends.reached told) good short (ends.bad told))
+      absurd (never_bad before.source.left ends.given ends.ahead (ends.reached told) good short (ends.bad told))
   finishes FlashFault cause ends told good short no_read no_write no_flash = absurd (no_flash cause.2)
   finishes ReadFault cause ends told good short no_read no_write no_flash = absurd (no_read cause)
   finishes WriteFault cause ends told good short no_read no_write no_flash = absurd (no_write cause.1)
   finishes InputTooLong cause ends told good short no_read no_write no_flash =
       let cut = ends.cut told in
-      absurd (never_cut before.left ends.given ends.ahead cut.0 (ends.reached told) short cut.1)
+      absurd (never_cut before.source.left ends.given ends.ahead cut.0 (ends.reached told) short cut.1)

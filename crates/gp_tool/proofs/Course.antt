@@ -32,7 +32,7 @@ going_first reads writes first Now Since before stands leaves = record {
   stands = stands;
   leaves = leaves;
   done = refl;
-  written = λ _. sym (append-nil before.written);
+  written = λ _. sym (append-nil before.sink.written);
 }
 
 -- one more line that is not too long
@@ -53,19 +53,19 @@ all_written old text more written now before after = after ∙ ap (λ w. w ++ mo
 
 module _ (reads writes : Type 0) (first : State) (Now : State → Type 0) (Since : List Registry → Type 0) (count : ℕ) (before now : Outside) (old : Reading) (going : Going reads writes first Now Since count before now old) where
   -- the room is that behind the bytes that were passed
-  room_is : reads → room old ≡ room_ahead before.left (ahead old now.left)
+  room_is : reads → room old ≡ room_ahead before.source.left (ahead old now.source.left)
   room_is told =
       let passed = going.passed told in
-      let behind : old.passed ≡ length before.left - length (ahead old now.left) = omega arith in
+      let behind : old.passed ≡ length before.source.left - length (ahead old now.source.left) = omega arith in
       ap (λ n. INPUT_LIMIT - n) behind
 
-  reached_more : (line after : List ℕ) → (reads → IsNextLine (room old) (ahead old now.left) line after) → reads → Reached before.left (going.given ++ line ∷ []) after
+  reached_more : (line after : List ℕ) → (reads → IsNextLine (room old) (ahead old now.source.left) line after) → reads → Reached before.source.left (going.given ++ line ∷ []) after
   reached_more line after next told =
-      come_more INPUT_LIMIT before.left going.given (ahead old now.left) line after (going.reached told) (rw (← room_is told) (next told))
+      come_more INPUT_LIMIT before.source.left going.given (ahead old now.source.left) line after (going.reached told) (rw (← room_is told) (next told))
 
   -- the next line is bad, by the room behind the bytes that were passed
-  bad_there : (reads → IsBad (room old) (ahead old now.left)) → reads → IsBad (room_ahead before.left (ahead old now.left)) (ahead old now.left)
-  bad_there bad told = subst (λ (n : ℕ). IsBad n (ahead old now.left)) (room_is told) (bad told)
+  bad_there : (reads → IsBad (room old) (ahead old now.source.left)) → reads → IsBad (room_ahead before.source.left (ahead old now.source.left)) (ahead old now.source.left)
+  bad_there bad told = subst (λ (n : ℕ). IsBad n (ahead old now.source.left)) (room_is told) (bad told)
 
   -- what power lost may leave behind the commands of one line more
   leaves_more : (Between Since' : List Registry → Type 0) → Joins Since Between Since' → (more : List Outcome)
@@ -92,13 +92,13 @@ module _ (reads writes : Type 0) (first : State) (Now : State → Type 0) (Since
         number = on.number ∙ ap (λ n. n + 1) going.number ∙ sym (length-append going.given (takes.line ∷ []));
         passed = λ told. on.passed told ∙ going.passed told;
         course = course_more first going.given takes.line going.outcomes played.outcomes going.state played.last going.course takes.fits played.plays;
-        reached = reached_more takes.line (ahead new later.left) takes.next;
+        reached = reached_more takes.line (ahead new later.source.left) takes.next;
         stands = played.stands;
         leaves = leaves_more Between Since' join played.outcomes played.leaves;
         done = done_more count' played.outcomes played.done;
         written = λ told.
-            all_written before.written (text_of going.outcomes) (text_of played.outcomes) now.written later.written (going.written told) (line.1 told)
-            ∙ ap (λ t. before.written ++ t) (sym (text_more going.outcomes played.outcomes));
+            all_written before.sink.written (text_of going.outcomes) (text_of played.outcomes) now.sink.written later.sink.written (going.written told) (line.1 told)
+            ∙ ap (λ t. before.sink.written ++ t) (sym (text_more going.outcomes played.outcomes));
       }
 
   module _ (Same : Type 0) (Now' : State → Type 0) (Between Since' : List Registry → Type 0) (count' : ℕ) (later : Outside) (join : Joins Since Between Since')
@@ -113,20 +113,20 @@ module _ (reads writes : Type 0) (first : State) (Now : State → Type 0) (Since
         let kept = stays same in
         rest going.outcomes going.state (kept.0 ∙ going.done) (kept.1 going.state going.stands) (kept.2 (registries first going.outcomes) going.leaves)
 
-    pub going_ends : (ending : Ending) → EndsWith reads writes Same Now Now' Between count count' old now later ending → later.flushes ≡ before.flushes
+    pub going_ends : (ending : Ending) → EndsWith reads writes Same Now Now' Between count count' old now later ending → later.sink.flushes ≡ before.sink.flushes
         → Ends reads writes Rests Fails first ending before later
     going_ends Finished ends flushes = record {
       given = going.given;
       outcomes = going.outcomes;
       state = going.state;
       course = going.course;
-      reached = λ told. subst (λ (rest : List ℕ). Reached before.left going.given rest) (ends.1 told) (going.reached told);
+      reached = λ told. subst (λ (rest : List ℕ). Reached before.source.left going.given rest) (ends.1 told) (going.reached told);
       all = λ told.
-          lines_come INPUT_LIMIT before.left going.given (ahead old now.left) (going.reached told)
+          lines_come INPUT_LIMIT before.source.left going.given (ahead old now.source.left) (going.reached told)
           ∙ ap (λ rest. going.given ++ lines rest) (ends.1 told) ∙ append-nil going.given;
       short = λ told.
           (let passed = going.passed told in
-          let none : length (ahead old now.left) ≡ 0 = ap length (ends.1 told) in
+          let none : length (ahead old now.source.left) ≡ 0 = ap length (ends.1 told) in
           let some = ends.2 told in
           omega arith);
       read = ends.3;
@@ -137,13 +137,13 @@ module _ (reads writes : Type 0) (first : State) (Now : State → Type 0) (Since
       given = going.given;
       outcomes = going.outcomes;
       state = going.state;
-      ahead = ahead old now.left;
+      ahead = ahead old now.source.left;
       course = going.course;
       reached = going.reached;
       bad = bad_there ends.1;
       written = λ told.
-          all_written before.written (text_of going.outcomes) (bad_line (length going.given + 1)) now.written later.written (going.written told)
-          (ends.2 told ∙ ap (λ n. now.written ++ bad_line (n + 1)) going.number);
+          all_written before.sink.written (text_of going.outcomes) (bad_line (length going.given + 1)) now.sink.written later.sink.written (going.written told)
+          (ends.2 told ∙ ap (λ n. now.sink.written ++ bad_line (n + 1)) going.number);
       device = rested ends.0;
     }
     going_ends FlashFault ends flushes =
@@ -153,7 +153,7 @@ module _ (reads writes : Type 0) (first : State) (Now : State → Type 0) (Since
           given = going.given;
           outcomes = going.outcomes;
           state = going.state;
-          ahead = ahead old now.left;
+          ahead = ahead old now.source.left;
           line = next.line;
           bytes = fails.bytes;
           next = fails.next;
@@ -161,7 +161,7 @@ module _ (reads writes : Type 0) (first : State) (Now : State → Type 0) (Since
           reached = going.reached;
           comes = λ told.
               (let comes = next.next told in
-              (comes.0, subst (λ (n : ℕ). IsNextLine n (ahead old now.left) next.line comes.0) (room_is told) comes.1));
+              (comes.0, subst (λ (n : ℕ). IsNextLine n (ahead old now.source.left) next.line comes.0) (room_is told) comes.1));
           fits = next.fits;
           spelled = fails.spelled;
           step = fails.step;
@@ -174,7 +174,7 @@ module _ (reads writes : Type 0) (first : State) (Now : State → Type 0) (Since
       state = going.state;
       held = ends.1;
       course = going.course;
-      reached = λ told. subst (λ (rest : List ℕ). Reached before.left going.given rest) (ends.5 told) (going.reached told);
+      reached = λ told. subst (λ (rest : List ℕ). Reached before.source.left going.given rest) (ends.5 told) (going.reached told);
       no_line = λ _. ends.2;
       short = λ _. ends.3;
       within = λ told. rw (← ends.5 told, ← room_is told) ends.4;
@@ -185,12 +185,12 @@ module _ (reads writes : Type 0) (first : State) (Now : State → Type 0) (Since
       given = going.given;
       outcomes = going.outcomes;
       state = going.state;
-      ahead = ahead old now.left;
+      ahead = ahead old now.source.left;
       course = going.course;
       reached = going.reached;
       cut = λ told.
           (let cut = ends.1 told in
-          (cut.0, subst (λ (n : ℕ). IsCut n (ahead old now.left) cut.0) (room_is told) cut.1, cut.2));
+          (cut.0, subst (λ (n : ℕ). IsCut n (ahead old now.source.left) cut.0) (room_is told) cut.1, cut.2));
       written = λ told. ends.2 told ∙ going.written told;
       device = rested ends.0;
     }
@@ -210,7 +210,7 @@ module _ (reads writes : Type 0) (first : State) (Now : State → Type 0) (Since
           is_text = inl (inr (going.outcomes, line.2, ap (λ more. going.outcomes ++ more) line.3, refl, refl));
           written = λ told.
               (let part = line.4 told in
-              (part.0, all_written before.written (text_of going.outcomes) (take part.0 (reply_line line.2)) now.written later.written (going.written told) part.1));
+              (part.0, all_written before.sink.written (text_of going.outcomes) (take part.0 (reply_line line.2)) now.sink.written later.sink.written (going.written told) part.1));
           flushes = inl flushes;
           device = rest (going.outcomes ++ played.outcomes) played.last (done_more count' played.outcomes played.done) played.stands
               (leaves_more Between Since' join played.outcomes played.leaves);
@@ -219,7 +219,7 @@ module _ (reads writes : Type 0) (first : State) (Now : State → Type 0) (Since
       given = going.given;
       outcomes = going.outcomes;
       state = going.state;
-      ahead = ahead old now.left;
+      ahead = ahead old now.source.left;
       before = text_of going.outcomes;
       line = bad_line (length going.given + 1);
       course = going.course;
@@ -228,8 +228,8 @@ module _ (reads writes : Type 0) (first : State) (Now : State → Type 0) (Since
       written = λ told.
           (let part = refused.2 told in (
             part.0,
-            all_written before.written (text_of going.outcomes) (take part.0 (bad_line (length going.given + 1))) now.written later.written (going.written told)
-                (part.1 ∙ ap (λ n. now.written ++ take part.0 (bad_line (n + 1))) going.number),
+            all_written before.sink.written (text_of going.outcomes) (take part.0 (bad_line (length going.given + 1))) now.sink.written later.sink.written (going.written told)
+                (part.1 ∙ ap (λ n. now.sink.written ++ take part.0 (bad_line (n + 1))) going.number),
           ));
       flushes = inl flushes;
       device = rested refused.0;

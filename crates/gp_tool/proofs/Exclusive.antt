@@ -88,10 +88,10 @@ halts_once room input (line ∷ given) (other ∷ others) ahead another halts ag
     (subst (λ (bytes : List ℕ). HaltsBehind (room_left room input bytes) bytes others another) (sym same.1) further) in
     (ap (λ l. l ∷ given) same.0 ∙ ap (λ ls. other ∷ ls) more.0, more.1)
 
-halts_bad : (first : State) (old new : Outside) (ends : EndsTold first BadLine old new) → HaltsBehind INPUT_LIMIT old.left ends.given ends.ahead
+halts_bad : (first : State) (old new : Outside) (ends : EndsTold first BadLine old new) → HaltsBehind INPUT_LIMIT old.source.left ends.given ends.ahead
 halts_bad first old new ends = (ends.reached tt, are_good first ends.given ends.outcomes ends.state ends.course, inl (ends.bad tt))
 
-halts_cut : (first : State) (old new : Outside) (ends : EndsTold first InputTooLong old new) → HaltsBehind INPUT_LIMIT old.left ends.given ends.ahead
+halts_cut : (first : State) (old new : Outside) (ends : EndsTold first InputTooLong old new) → HaltsBehind INPUT_LIMIT old.source.left ends.given ends.ahead
 halts_cut first old new ends = (ends.reached tt, are_good first ends.given ends.outcomes ends.state ends.course, inr (ends.cut tt))
 
 -- the same lines, the same outcomes
@@ -103,43 +103,43 @@ outcomes_once first given others some more last another course other same =
 
 no_bad_end : (first : State) (old new other : Outside) → EndsTold first Finished old new → EndsTold first BadLine old other → ⊥
 no_bad_end first old new other done bad =
-    never_bad old.left bad.given bad.ahead (bad.reached tt) (rw (done.all tt) (are_good first done.given done.outcomes done.state done.course)) (done.short tt) (bad.bad tt)
+    never_bad old.source.left bad.given bad.ahead (bad.reached tt) (rw (done.all tt) (are_good first done.given done.outcomes done.state done.course)) (done.short tt) (bad.bad tt)
 
 no_cut_end : (first : State) (old new other : Outside) → EndsTold first Finished old new → EndsTold first InputTooLong old other → ⊥
 no_cut_end first old new other done cut =
     let is_cut = cut.cut tt in
-    never_cut old.left cut.given cut.ahead is_cut.0 (cut.reached tt) (done.short tt) is_cut.1
+    never_cut old.source.left cut.given cut.ahead is_cut.0 (cut.reached tt) (done.short tt) is_cut.1
 
 no_bad_cut : (first : State) (old new other : Outside) → EndsTold first BadLine old new → EndsTold first InputTooLong old other → ⊥
 no_bad_cut first old new other bad cut =
-    let same = halts_once INPUT_LIMIT old.left bad.given cut.given bad.ahead cut.ahead (halts_bad first old new bad) (halts_cut first old other cut) in
-    bad_not_cut (room_left INPUT_LIMIT old.left cut.ahead) cut.ahead
-    (subst (λ (ahead : List ℕ). IsBad (room_left INPUT_LIMIT old.left ahead) ahead) same.1 (bad.bad tt)) (cut.cut tt)
+    let same = halts_once INPUT_LIMIT old.source.left bad.given cut.given bad.ahead cut.ahead (halts_bad first old new bad) (halts_cut first old other cut) in
+    bad_not_cut (room_left INPUT_LIMIT old.source.left cut.ahead) cut.ahead
+    (subst (λ (ahead : List ℕ). IsBad (room_left INPUT_LIMIT old.source.left ahead) ahead) same.1 (bad.bad tt)) (cut.cut tt)
 
 -- they end alike, and have written the same
 pub ends_once : (first : State) (ending another : Ending) (old new other : Outside) → IsFaultless ending → IsFaultless another
-    → EndsTold first ending old new → EndsTold first another old other → (ending ≡ another) × (new.written ≡ other.written)
+    → EndsTold first ending old new → EndsTold first another old other → (ending ≡ another) × (new.sink.written ≡ other.sink.written)
 ends_once first Finished Finished old new other clean clear done again =
     let given = sym (done.all tt) ∙ again.all tt in
     let outcomes = outcomes_once first done.given again.given done.outcomes again.outcomes done.state again.state done.course again.course given in
-    (refl, done.written tt ∙ ap (λ o. old.written ++ text_of o) outcomes ∙ sym (again.written tt))
+    (refl, done.written tt ∙ ap (λ o. old.sink.written ++ text_of o) outcomes ∙ sym (again.written tt))
 ends_once first Finished BadLine old new other clean clear done bad = absurd (no_bad_end first old new other done bad)
 ends_once first Finished InputTooLong old new other clean clear done cut = absurd (no_cut_end first old new other done cut)
 ends_once first BadLine Finished old new other clean clear bad done = absurd (no_bad_end first old other new done bad)
 ends_once first BadLine BadLine old new other clean clear bad again =
-    let same = halts_once INPUT_LIMIT old.left bad.given again.given bad.ahead again.ahead (halts_bad first old new bad) (halts_bad first old other again) in
+    let same = halts_once INPUT_LIMIT old.source.left bad.given again.given bad.ahead again.ahead (halts_bad first old new bad) (halts_bad first old other again) in
     let outcomes = outcomes_once first bad.given again.given bad.outcomes again.outcomes bad.state again.state bad.course again.course same.0 in (
       refl,
-      bad.written tt ∙ ap (λ o. old.written ++ (text_of o ++ bad_line (length bad.given + 1))) outcomes
-          ∙ ap (λ g. old.written ++ (text_of again.outcomes ++ bad_line (length g + 1))) same.0 ∙ sym (again.written tt),
+      bad.written tt ∙ ap (λ o. old.sink.written ++ (text_of o ++ bad_line (length bad.given + 1))) outcomes
+          ∙ ap (λ g. old.sink.written ++ (text_of again.outcomes ++ bad_line (length g + 1))) same.0 ∙ sym (again.written tt),
     )
 ends_once first BadLine InputTooLong old new other clean clear bad cut = absurd (no_bad_cut first old new other bad cut)
 ends_once first InputTooLong Finished old new other clean clear cut done = absurd (no_cut_end first old other new done cut)
 ends_once first InputTooLong BadLine old new other clean clear cut bad = absurd (no_bad_cut first old other new bad cut)
 ends_once first InputTooLong InputTooLong old new other clean clear cut again =
-    let same = halts_once INPUT_LIMIT old.left cut.given again.given cut.ahead again.ahead (halts_cut first old new cut) (halts_cut first old other again) in
+    let same = halts_once INPUT_LIMIT old.source.left cut.given again.given cut.ahead again.ahead (halts_cut first old new cut) (halts_cut first old other again) in
     let outcomes = outcomes_once first cut.given again.given cut.outcomes again.outcomes cut.state again.state cut.course again.course same.0 in
-    (refl, cut.written tt ∙ ap (λ o. old.written ++ text_of o) outcomes ∙ sym (again.written tt))
+    (refl, cut.written tt ∙ ap (λ o. old.sink.written ++ text_of o) outcomes ∙ sym (again.written tt))
 ends_once first FlashFault another old new other clean clear ends again = absurd clean
 ends_once first ReadFault another old new other clean clear ends again = absurd clean
 ends_once first WriteFault another old new other clean clear ends again = absurd clean

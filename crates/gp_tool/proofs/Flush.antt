@@ -2,19 +2,37 @@
 use Rattle.std.proofs.Common.{◌≡◌, ℕ, ◌+◌, List, [], ◌∷◌, ◌++◌, length, take, refl, sym, ap, ◌∙◌, inl, inr}
 use Rattle.std.proofs.lemmas.List.{append-nil}
 use Rattle.std.proofs.Math.Seq.{take-length}
+use Rattle.faults.specs.Faults.{next_count}
+use Rattle.io_edge.specs.Streams.{SinkState}
 use Rattle.policy_rules.specs.State.{State}
 use Rattle.policy_rules.specs.Step.{Outcome}
 use Rattle.gp_tool.proofs.PlaysMore.{text_more}
 use Rattle.gp_tool.specs.Ends.{Ends, Flushes, IsText, Outside}
-use Rattle.gp_tool.specs.Flush.{AfterFlush}
+use Rattle.gp_tool.specs.Flush.{AfterFlush, IsFlushed}
 use Rattle.gp_tool.specs.Plays.{bad_line, reply_line, text_of}
 use Rattle.gp_tool.specs.declared.ending.Ending.{Ending}
 use Rattle.gp_tool.specs.declared.ending.Ending.TheVariants.{Finished, BadLine, FlashFault, ReadFault, WriteFault, InputTooLong}
 
 -- what is left and written stays over a flush
 pub record IsLeft (writes : Type 0) (now later : Outside) : Type 0 where
-  pub left : later.left ≡ now.left
-  pub written : writes → later.written ≡ now.written
+  pub left : later.source.left ≡ now.source.left
+  pub written : writes → later.sink.written ≡ now.sink.written
+
+-- a sink was not flushed before
+flushed_from : (writes : Type 0) (ending : Ending) (old mid new : SinkState) (result : Ending) → mid.flushes ≡ old.flushes
+    → IsFlushed writes ending mid new result → IsFlushed writes ending old new result
+flushed_from writes ending old mid new result same (inl done) =
+    (let handed = done.1 in inl (done.0, record { once = handed.once ∙ ap next_count same; all = handed.all }))
+flushed_from writes ending old mid new result same (inr fault) = inr (fault.0, fault.1 ∙ ap next_count same)
+
+pub after_from : (writes : Type 0) (ending : Ending) (old mid new : SinkState) (result : Ending) → mid.flushes ≡ old.flushes
+    → AfterFlush writes ending mid new result → AfterFlush writes ending old new result
+after_from writes Finished old mid new result same after = flushed_from writes Finished old mid new result same after
+after_from writes BadLine old mid new result same after = flushed_from writes BadLine old mid new result same after
+after_from writes InputTooLong old mid new result same after = flushed_from writes InputTooLong old mid new result same after
+after_from writes FlashFault old mid new result same after = (after.0, after.1 ∙ ap next_count same)
+after_from writes ReadFault old mid new result same after = (after.0, after.1 ∙ ap next_count same)
+after_from writes WriteFault old mid new result same after = (after.0, after.1 ∙ same)
 
 -- a text before its last line, and that line
 record Split (outcomes : List Outcome) : Type 0 where
@@ -51,8 +69,8 @@ front : (old before line now : List ℕ) → now ≡ old ++ (before ++ line) →
 front old before line now written = (length line, written ∙ ap (λ t. old ++ (before ++ t)) (sym (take-length line)))
 
 module _ (reads writes : Type 0) (Rests : List Outcome → State → Type 0) (Fails : List Outcome → State → Outcome → Type 0) (first : State) (before now later : Outside) (left : IsLeft writes now later) where
-  pub after_flush : (ending result : Ending) → AfterFlush writes ending before.flushes later.flushes later.written later.handed_on result
-      → now.flushes ≡ before.flushes → Ends reads writes Rests Fails first ending before now → Ends reads writes Rests Fails first result before later
+  pub after_flush : (ending result : Ending) → AfterFlush writes ending before.sink later.sink result
+      → now.sink.flushes ≡ before.sink.flushes → Ends reads writes Rests Fails first ending before now → Ends reads writes Rests Fails first result before later
   after_flush Finished result (inl done) none ends =
       rw done.0 (record {
         given = ends.given;
@@ -68,8 +86,8 @@ module _ (reads writes : Type 0) (Rests : List Outcome → State → Type 0) (Fa
       })
   after_flush Finished result (inr fault) none ends =
       let text = split ends.outcomes in
-      let written : writes → later.written ≡ before.written ++ (text.before ++ text.line)
-      = λ told. left.written told ∙ ends.written told ∙ ap (λ t. before.written ++ t) text.whole in
+      let written : writes → later.sink.written ≡ before.sink.written ++ (text.before ++ text.line)
+      = λ told. left.written told ∙ ends.written told ∙ ap (λ t. before.sink.written ++ t) text.whole in
       rw fault.0 (record {
         given = ends.given;
         outcomes = ends.outcomes;
@@ -80,7 +98,7 @@ module _ (reads writes : Type 0) (Rests : List Outcome → State → Type 0) (Fa
         course = ends.course;
         reached = ends.reached;
         is_text = inl text.is_text;
-        written = λ told. front before.written text.before text.line later.written (written told);
+        written = λ told. front before.sink.written text.before text.line later.sink.written (written told);
         flushes = inr (fault.1, written);
         device = ends.device;
       })
@@ -98,7 +116,7 @@ module _ (reads writes : Type 0) (Rests : List Outcome → State → Type 0) (Fa
       })
   after_flush BadLine result (inr fault) none ends =
       let line : List ℕ = bad_line (length ends.given + 1) in
-      let written : writes → later.written ≡ before.written ++ (text_of ends.outcomes ++ line) = λ told. left.written told ∙ ends.written told in
+      let written : writes → later.sink.written ≡ before.sink.written ++ (text_of ends.outcomes ++ line) = λ told. left.written told ∙ ends.written told in
       rw fault.0 (record {
         given = ends.given;
         outcomes = ends.outcomes;
@@ -109,7 +127,7 @@ module _ (reads writes : Type 0) (Rests : List Outcome → State → Type 0) (Fa
         course = ends.course;
         reached = ends.reached;
         is_text = inr (ends.bad, refl, refl);
-        written = λ told. front before.written (text_of ends.outcomes) line later.written (written told);
+        written = λ told. front before.sink.written (text_of ends.outcomes) line later.sink.written (written told);
         flushes = inr (fault.1, written);
         device = ends.device;
       })
@@ -127,8 +145,8 @@ module _ (reads writes : Type 0) (Rests : List Outcome → State → Type 0) (Fa
       })
   after_flush InputTooLong result (inr fault) none ends =
       let text = split ends.outcomes in
-      let written : writes → later.written ≡ before.written ++ (text.before ++ text.line)
-      = λ told. left.written told ∙ ends.written told ∙ ap (λ t. before.written ++ t) text.whole in
+      let written : writes → later.sink.written ≡ before.sink.written ++ (text.before ++ text.line)
+      = λ told. left.written told ∙ ends.written told ∙ ap (λ t. before.sink.written ++ t) text.whole in
       rw fault.0 (record {
         given = ends.given;
         outcomes = ends.outcomes;
@@ -139,7 +157,7 @@ module _ (reads writes : Type 0) (Rests : List Outcome → State → Type 0) (Fa
         course = ends.course;
         reached = ends.reached;
         is_text = inl text.is_text;
-        written = λ told. front before.written text.before text.line later.written (written told);
+        written = λ told. front before.sink.written text.before text.line later.sink.written (written told);
         flushes = inr (fault.1, written);
         device = ends.device;
       })
@@ -191,8 +209,8 @@ module _ (reads writes : Type 0) (Rests : List Outcome → State → Type 0) (Fa
         device = ends.device;
       })
 
-pub flushed : (writes : Type 0) (ending result : Ending) (before later : Outside)
-    → AfterFlush writes ending before.flushes later.flushes later.written later.handed_on result → Flushes writes result before later
+pub flushed : (writes : Type 0) (ending result : Ending) (before later : SinkState)
+    → AfterFlush writes ending before later result → Flushes writes result before later
 flushed writes Finished result before later (inl done) = rw done.0 done.1
 flushed writes Finished result before later (inr fault) = rw fault.0 tt
 flushed writes BadLine result before later (inl done) = rw done.0 done.1

@@ -5,6 +5,7 @@ pub mod Exclusive
 pub mod FileLine
 pub mod FilesInOrder
 pub mod Flush
+pub mod FormatEnding
 pub mod Listed
 pub mod ListedSlots
 pub mod One

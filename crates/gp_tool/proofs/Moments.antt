@@ -6,6 +6,7 @@ use Rattle.std.proofs.lemmas.List.Elements.{Contains-append_left, Contains-appen
 use Rattle.card_core.specs.Card.{CardOver, Stands}
 use Rattle.card_types.proofs.Members.{contains_cases, contains_first, contains_later}
 use Rattle.card_types.specs.Registry.{Registry}
+use Rattle.flash_core.specs.declared.flash.Flash.{Ghosts as Flash}
 use Rattle.flash_core.specs.declared.page.Page.{Page}
 use Rattle.page_journal.specs.Moments.{LeavesOnly}
 use Rattle.policy_rules.specs.Run.{Command, Input, Reset, Run}
@@ -52,62 +53,60 @@ module _ (first : State) (some more : List Outcome) where
         (Contains-append_right (registries first some) (map (λ (o : Outcome). o.state.registry) more) registry later)
   ]
 
-module _ {F : Type 0} (moment : F → ℕ) (left_since : F → ℕ → List Page → Type 0) where
+module _ {F : Type 0} (device : Flash F) where
   abbrev Only : F → F → (List Page → Type 0) → Type 0
-  Only old new P = LeavesOnly moment left_since old new P
+  Only old new P = LeavesOnly device old new P
 
   -- a registry that is one of some is one of all
   one_of : (some all : List Registry) → Among some all → (c : List Page) → ReopensAsOne some c → ReopensAsOne all c
   one_of some all among c reopens = (reopens.0, among reopens.0 reopens.1, reopens.2)
 
-  pub joins : (tells : Type 0) (old mid new : F)
-      → Joins (LeavesOneOf tells moment left_since old mid) (LeavesOneOf tells moment left_since mid new) (LeavesOneOf tells moment left_since old new)
-  joins tells old mid new some more all first then before between told =
-      joined moment left_since old mid new (ReopensAsOne all) (ReopensAsOne all) (weaker moment left_since old mid (ReopensAsOne some) (ReopensAsOne all) (before told) (one_of some all first))
-      (weaker moment left_since mid new (ReopensAsOne more) (ReopensAsOne all) (between told) (one_of more all then)) (λ c reopens. reopens)
+  pub joins : (old mid new : F)
+      → Joins (LeavesOneOf device old mid) (LeavesOneOf device mid new) (LeavesOneOf device old new)
+  joins old mid new some more all first then before between told =
+      joined device old mid new (ReopensAsOne all) (ReopensAsOne all) (weaker device old mid (ReopensAsOne some) (ReopensAsOne all) (before told) (one_of some all first))
+      (weaker device mid new (ReopensAsOne more) (ReopensAsOne all) (between told) (one_of more all then)) (λ c reopens. reopens)
 
   -- where nothing was done power lost leaves the registry of the card
-  pub nothing_done : (tells : Type 0) (pages : F → List Page) (may_leave : F → List Page → Type 0)
-      → ((f : F) (c : List Page) → tells → left_since f (moment f) c → may_leave f c)
-      → (card : CardOver F) (state : State) → Stands tells pages may_leave card state → LeavesOneOf tells moment left_since card.flash card.flash (state.registry ∷ [])
-  nothing_done tells pages may_leave only card state stands told =
+  pub nothing_done : ((f : F) (c : List Page) → device.tells → device.left_since f (device.moment f) c → device.may_leave f c)
+      → (card : CardOver F) (state : State) → Stands device card state → LeavesOneOf device card.flash card.flash (state.registry ∷ [])
+  nothing_done only card state stands told =
       let keeps = stands.keeps told in
-      unmoved moment left_since (may_leave card.flash) card.flash (ReopensAsOne (state.registry ∷ [])) (λ c. only card.flash c told)
+      unmoved device (device.may_leave card.flash) card.flash (ReopensAsOne (state.registry ∷ [])) (λ c. only card.flash c told)
       (λ c possible. (state.registry, contains_first state.registry [], keeps.reopens c possible))
 
   -- the registry before a command or the one after it is one of the two
-  pub one_of_two : (tells : Type 0) (old new : F) (before after : Registry)
-      → (tells → Only old new (λ c. Reopens c before ⊎ Reopens c after)) → LeavesOneOf tells moment left_since old new (before ∷ after ∷ [])
-  one_of_two tells old new before after leaves told =
-      weaker moment left_since old new (λ c. Reopens c before ⊎ Reopens c after) (ReopensAsOne (before ∷ after ∷ [])) (leaves told)
+  pub one_of_two : (old new : F) (before after : Registry)
+      → (device.tells → Only old new (λ c. Reopens c before ⊎ Reopens c after)) → LeavesOneOf device old new (before ∷ after ∷ [])
+  one_of_two old new before after leaves told =
+      weaker device old new (λ c. Reopens c before ⊎ Reopens c after) (ReopensAsOne (before ∷ after ∷ [])) (leaves told)
       (λ c reopens. ⊎_elim (λ was. (before, contains_first before (after ∷ []), was))
       (λ is. (after, contains_later before (after ∷ []) after (contains_first after []), is)) reopens)
 
-module _ {F : Type 0} (tells : Type 0) (pages : F → List Page) (moment : F → ℕ) (may_leave : F → List Page → Type 0) (left_since : F → ℕ → List Page → Type 0) where
   -- a card that was not touched stands as before
   pub stays : (first : F) (card card' : CardOver F) (count count' : ℕ) → (card' ≡ card) × (count' ≡ count)
-      → (count' ≡ count) × ((state : State) → Stands tells pages may_leave card state → Stands tells pages may_leave card' state)
-      × ((all : List Registry) → LeavesOneOf tells moment left_since first card.flash all → LeavesOneOf tells moment left_since first card'.flash all)
+      → (count' ≡ count) × ((state : State) → Stands device card state → Stands device card' state)
+      × ((all : List Registry) → LeavesOneOf device first card.flash all → LeavesOneOf device first card'.flash all)
   stays first card card' count count' same = (
     same.1,
-    λ state stands. subst (λ (c : CardOver F). Stands tells pages may_leave c state) (sym same.0) stands,
-    λ all leaves. subst (λ (c : CardOver F). LeavesOneOf tells moment left_since first c.flash all) (sym same.0) leaves,
+    λ state stands. subst (λ (c : CardOver F). Stands device c state) (sym same.0) stands,
+    λ all leaves. subst (λ (c : CardOver F). LeavesOneOf device first c.flash all) (sym same.0) leaves,
   )
 
   pub has_run : (old : F) (card : CardOver F) (first : State) (count : ℕ) (outcomes : List Outcome) (last : State) → count ≡ length outcomes
-      → Stands tells pages may_leave card last → LeavesOneOf tells moment left_since old card.flash (registries first outcomes)
-      → HasRun tells pages moment may_leave left_since old card.flash first count outcomes last
+      → Stands device card last → LeavesOneOf device old card.flash (registries first outcomes)
+      → HasRun device old card.flash first count outcomes last
   has_run old card first count outcomes last done stands leaves = record { done = done; keeps = stands.keeps; moments = λ told before. leaves told }
 
-  pub has_failed : ((f : F) (t : ℕ) (c : List Page) → tells → t ≤ moment f → may_leave f c → left_since f t c)
+  pub has_failed : ((f : F) (t : ℕ) (c : List Page) → device.tells → t ≤ device.moment f → device.may_leave f c → device.left_since f t c)
       → (old mid new : F) (first : State) (count : ℕ) (outcomes : List Outcome) (last : State) (next : Outcome) → count ≡ length outcomes
-      → LeavesOneOf tells moment left_since mid new (last.registry ∷ next.state.registry ∷ [])
-      → LeavesOneOf tells moment left_since old new (registries first (outcomes ++ next ∷ []))
-      → HasFailed tells moment may_leave left_since old new first count outcomes last next
+      → LeavesOneOf device mid new (last.registry ∷ next.state.registry ∷ [])
+      → LeavesOneOf device old new (registries first (outcomes ++ next ∷ []))
+      → HasFailed device old new first count outcomes last next
   has_failed counts old mid new first count outcomes last next done between since = record {
     done = done;
     left = λ told c possible.
         (let leaves = between told in
-        leaves.each c (counts new (moment mid) c told leaves.later possible));
+        leaves.each c (counts new (device.moment mid) c told leaves.later possible));
     moments = λ told before. since told;
   }

@@ -7,7 +7,7 @@ use Rattle.card_core.specs.declared.power.PowerCause.TheVariants.{Memory, FlashF
 use Rattle.card_types.proofs.Members.{contains_first}
 use Rattle.card_types.specs.Registry.{Registry}
 use Rattle.faults.specs.Faults.{Rose}
-use Rattle.flash_core.specs.declared.page.Page.{Page}
+use Rattle.flash_core.specs.declared.flash.Flash.{Ghosts as Flash}
 use Rattle.page_journal.specs.Moments.{Always, LeavesOnly}
 use Rattle.policy_rules.specs.State.{State}
 use Rattle.policy_rules.specs.Step.{Outcome}
@@ -28,30 +28,29 @@ cause_since ReadFault source sink before device new less cause = cause
 cause_since WriteFault source sink before device new less cause = cause
 cause_since InputTooLong source sink before device new less cause = cause
 
-module _ {F : Type 0} (tells : Type 0) (pages : F → List Page) (moment : F → ℕ) (may_leave : F → List Page → Type 0) (left_since : F → ℕ → List Page → Type 0)
-    (old : F) (card : CardOver F) (first : State) (stands : Stands tells pages may_leave card first)
-    (powered : tells → (all : List Registry) → Always (may_leave old) (ReopensAsOne all) → LeavesOnly moment left_since old card.flash (ReopensAsOne all)) where
+module _ {F : Type 0} (device : Flash F) (old : F) (card : CardOver F) (first : State) (stands : Stands device card first)
+    (powered : device.tells → (all : List Registry) → Always (device.may_leave old) (ReopensAsOne all) → LeavesOnly device old card.flash (ReopensAsOne all)) where
   since : (new : F) (outcomes : List Outcome)
-      → (tells → Always (may_leave card.flash) (λ outcome. Reopens outcome first.registry) → LeavesOnly moment left_since card.flash new (ReopensAsOne (registries first outcomes)))
-      → tells → Always (may_leave old) (λ outcome. Reopens outcome first.registry) → LeavesOnly moment left_since old new (ReopensAsOne (registries first outcomes))
+      → (device.tells → Always (device.may_leave card.flash) (λ outcome. Reopens outcome first.registry) → LeavesOnly device card.flash new (ReopensAsOne (registries first outcomes)))
+      → device.tells → Always (device.may_leave old) (λ outcome. Reopens outcome first.registry) → LeavesOnly device old new (ReopensAsOne (registries first outcomes))
   since new outcomes moments told before =
       let keeps = stands.keeps told in
-      joined moment left_since old card.flash new (ReopensAsOne (registries first outcomes)) (ReopensAsOne (registries first outcomes))
+      joined device old card.flash new (ReopensAsOne (registries first outcomes)) (ReopensAsOne (registries first outcomes))
       (powered told (registries first outcomes) (λ c left. (first.registry, contains_first first.registry _, before c left)))
       (moments told keeps.reopens) (λ c reopens. reopens)
 
   pub run_since : (new : F) (count : ℕ) (outcomes : List Outcome) (last : State)
-      → HasRun tells pages moment may_leave left_since card.flash new first count outcomes last → HasRun tells pages moment may_leave left_since old new first count outcomes last
+      → HasRun device card.flash new first count outcomes last → HasRun device old new first count outcomes last
   run_since new count outcomes last run = record { done = run.done; keeps = run.keeps; moments = since new outcomes run.moments }
 
   pub failed_since : (new : F) (count : ℕ) (outcomes : List Outcome) (last : State) (next : Outcome)
-      → HasFailed tells moment may_leave left_since card.flash new first count outcomes last next → HasFailed tells moment may_leave left_since old new first count outcomes last next
+      → HasFailed device card.flash new first count outcomes last next → HasFailed device old new first count outcomes last next
   failed_since new count outcomes last next failed = record { done = failed.done; left = failed.left; moments = since new (outcomes ++ next ∷ []) failed.moments }
 
 -- where the device holds a card and doesn't fail, want of memory alone is left
-pub no_other_cause : {F : Type 0} (tells : Type 0) (faults : F → ℕ) (pages : F → List Page) (old new : F) (cause : PowerCause) (status : ℕ)
-    → PowerFails tells faults pages old cause new → status ≡ refusal_status cause → tells → (registry : Registry) → Reopens (pages old) registry
-    → (Rose (faults old) (faults new) → ⊥) → (status ≡ 0) ⊎ (status ≡ 7)
-no_other_cause tells faults pages old new (Memory refused) status fails is told registry reopens no_flash = inr is
-no_other_cause tells faults pages old new FlashFailed status fails is told registry reopens no_flash = absurd (no_flash fails)
-no_other_cause tells faults pages old new NotACard status fails is told registry reopens no_flash = (let none = fails told in absurd (none.0 registry reopens))
+pub no_other_cause : {F : Type 0} (device : Flash F) (old new : F) (cause : PowerCause) (status : ℕ)
+    → PowerFails device old cause new → status ≡ refusal_status cause → device.tells → (registry : Registry) → Reopens (device.pages old) registry
+    → (Rose (device.faults old) (device.faults new) → ⊥) → (status ≡ 0) ⊎ (status ≡ 7)
+no_other_cause device old new (Memory refused) status fails is told registry reopens no_flash = inr is
+no_other_cause device old new FlashFailed status fails is told registry reopens no_flash = absurd (no_flash fails)
+no_other_cause device old new NotACard status fails is told registry reopens no_flash = (let none = fails told in absurd (none.0 registry reopens))

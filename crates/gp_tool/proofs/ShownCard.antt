@@ -5,21 +5,23 @@ use Rattle.card_core.specs.Card.{CardOver, Stands}
 use Rattle.card_types.proofs.Members.{contains_cases, contains_first}
 use Rattle.card_types.specs.Registry.{Registry}
 use Rattle.faults.specs.Faults.{Rose}
+use Rattle.io_edge.specs.Streams.{SinkState}
+use Rattle.flash_core.specs.declared.flash.Flash.{Ghosts as Flash}
 use Rattle.flash_core.specs.declared.page.Page.{Page}
 use Rattle.page_journal.specs.Moments.{Always, LeavesOnly}
 use Rattle.policy_rules.specs.State.{State}
 use Rattle.rec_store.specs.Reopens.{Reopens, ReopensAsOne}
 use Rattle.rec_store.proofs.Leaving.{joined, weaker}
-use Rattle.gp_tool.specs.Ends.{EndCause, Faults, Outside, exit_status}
+use Rattle.gp_tool.specs.Ends.{EndCause, Faults, exit_status}
 use Rattle.gp_tool.specs.Flush.{AfterFlush}
 use Rattle.gp_tool.specs.Show.{shown}
 use Rattle.gp_tool.specs.Shown.{HasShown, ShowEnds}
 use Rattle.gp_tool.specs.declared.ending.Ending.{Ending}
 use Rattle.gp_tool.specs.declared.ending.Ending.TheVariants.{Finished, BadLine, FlashFault, ReadFault, WriteFault, InputTooLong}
 
-module _ (told writes : Type 0) (tells : told → writes) (registry : Registry) (old mid new : Outside) (same : writes → new.written ≡ mid.written) (none : mid.flushes ≡ old.flushes) where
+module _ (told writes : Type 0) (tells : told → writes) (registry : Registry) (old mid new : SinkState) (same : writes → new.written ≡ mid.written) (none : mid.flushes ≡ old.flushes) where
   abbrev Behind : Ending → Ending → Type 0
-  Behind ending result = AfterFlush writes ending mid.flushes new.flushes new.written new.handed_on result
+  Behind ending result = AfterFlush writes ending mid new result
 
   -- all of the text was written
   pub shown_whole : (result : Ending) → Behind Finished result → (told → mid.written ≡ old.written ++ shown registry) → ShowEnds told registry result old new
@@ -53,26 +55,26 @@ alone registry outcome (other, there, reopens) = elim (contains_cases registry [
 ]
 
 -- what was shown of a card that was powered on is left by the device
-pub has_shown : {F : Type 0} (tells : Type 0) (pages : F → List Page) (moment : F → ℕ) (may_leave : F → List Page → Type 0) (left_since : F → ℕ → List Page → Type 0)
-    → ((f : F) (t : ℕ) (c : List Page) → tells → t ≤ moment f → may_leave f c → left_since f t c)
-    → (old new : F) (card : CardOver F) (state : State) → Stands tells pages may_leave card state
-    → (tells → (all : List Registry) → Always (may_leave old) (ReopensAsOne all) → LeavesOnly moment left_since old card.flash (ReopensAsOne all))
-    → (tells → LeavesOnly moment left_since card.flash new (λ outcome. Reopens outcome state.registry)) → (tells → pages new ≡ pages card.flash)
-    → HasShown tells pages moment may_leave left_since old new state.registry
-has_shown tells pages moment may_leave left_since counts old new card state stands powered shows same =
+pub has_shown : {F : Type 0} (device : Flash F)
+    → ((f : F) (t : ℕ) (c : List Page) → device.tells → t ≤ device.moment f → device.may_leave f c → device.left_since f t c)
+    → (old new : F) (card : CardOver F) (state : State) → Stands device card state
+    → (device.tells → (all : List Registry) → Always (device.may_leave old) (ReopensAsOne all) → LeavesOnly device old card.flash (ReopensAsOne all))
+    → (device.tells → LeavesOnly device card.flash new (λ outcome. Reopens outcome state.registry)) → (device.tells → device.pages new ≡ device.pages card.flash)
+    → HasShown device old new state.registry
+has_shown device counts old new card state stands powered shows same =
     let registry = state.registry in
     record {
       now = λ told. subst (λ p. Reopens p registry) (sym (same told)) (stands.keeps told).now;
-      left = λ told c possible. (let leaves = shows told in leaves.each c (counts new (moment card.flash) c told leaves.later possible));
+      left = λ told c possible. (let leaves = shows told in leaves.each c (counts new (device.moment card.flash) c told leaves.later possible));
       moments = λ told before.
-          joined moment left_since old card.flash new (λ outcome. Reopens outcome registry) (λ outcome. Reopens outcome registry)
-          (weaker moment left_since old card.flash (ReopensAsOne (registry ∷ [])) (λ outcome. Reopens outcome registry)
+          joined device old card.flash new (λ outcome. Reopens outcome registry) (λ outcome. Reopens outcome registry)
+          (weaker device old card.flash (ReopensAsOne (registry ∷ [])) (λ outcome. Reopens outcome registry)
           (powered told (registry ∷ []) (λ c possible. (registry, contains_first registry [], before c possible))) (alone registry))
           (shows told) (λ outcome reopens. reopens);
     }
 
 -- where nothing fails all is shown
-pub shows_all : (told : Type 0) (registry : Registry) (old new : Outside) (before after : Faults) (ending : Ending) → ShowEnds told registry ending old new → EndCause ending before after
+pub shows_all : (told : Type 0) (registry : Registry) (old new : SinkState) (before after : Faults) (ending : Ending) → ShowEnds told registry ending old new → EndCause ending before after
     → (Rose before.sink after.sink → ⊥) → (Rose before.device after.device → ⊥) → exit_status ending ≡ 0
 shows_all told registry old new before after Finished ends cause no_sink no_device = refl
 shows_all told registry old new before after BadLine ends cause no_sink no_device = absurd ends

@@ -2,8 +2,13 @@
 use Rattle.std.proofs.Common.{◌≡◌, ℕ, List, ◌++◌, take, sym, ap, ◌∙◌, append_assoc}
 use Rattle.std.specs.List.{flat_map}
 use Rattle.card_types.specs.Registry.{Registry}
+use Rattle.io_edge.specs.Streams.{SinkState}
 use Rattle.gp_tool.proofs.Parts.{part_of_both, part_of_second, part_written}
 use Rattle.gp_tool.specs.Show.{card_line, counter_line, entry_line, file_line, key_line, object_line, shown}
+
+-- what a sink was given by its meaning
+abbrev pub written_of : {K : Type 0} → (K → SinkState) → K → List ℕ
+written_of state sink = (state sink).written
 
 regroup : (a b c d e f : List ℕ) → a ++ b ++ c ++ d ++ e ++ f ≡ (a ++ b) ++ (c ++ (d ++ (e ++ f)))
 regroup a b c d e f = simp append_assoc

@@ -15,7 +15,7 @@ use Rattle.gp_tool.specs.declared.ending.Ending.TheVariants.{Finished, BadLine, 
 
 -- a run ends with a bad line as its number was written
 pub refusal_ends : (reads writes Same : Type 0) (Before After : State → Type 0) (Leaving : List Registry → Type 0) (count count' : ℕ) (old : Reading) (before now : Outside) (ending : Ending)
-    → Same → (reads → IsBad (room old) (ahead old before.left)) → Refuses writes (old.number + 1) before.written now.written ending
+    → Same → (reads → IsBad (room old) (ahead old before.source.left)) → Refuses writes (old.number + 1) before.sink.written now.sink.written ending
     → EndsWith reads writes Same Before After Leaving count count' old before now ending
 refusal_ends reads writes Same Before After Leaving count count' old before now BadLine same bad refuses = (same, bad, refuses)
 refusal_ends reads writes Same Before After Leaving count count' old before now WriteFault same bad refuses = inr (same, bad, refuses)

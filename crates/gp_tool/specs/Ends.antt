@@ -4,6 +4,7 @@ use Rattle.std.specs.List.{AllByRecursion}
 use Rattle.std.specs.Str.Lines.{lines, strip_carriage_return}
 use Rattle.faults.specs.Faults.{Rose, next_count}
 use Rattle.io_edge.specs.Lines.{NoNewline, IsNextLine, IsCut, IsNextText}
+use Rattle.io_edge.specs.Streams.{SinkState, SourceState}
 use Rattle.io_edge.specs.declared.line.TheConstants.{INPUT_LIMIT, LINE_LIMIT}
 use Rattle.policy_rules.specs.Run.{Command}
 use Rattle.policy_rules.specs.State.{State}
@@ -14,21 +15,13 @@ use Rattle.gp_tool.specs.Plays.{Plays, bad_line, reply_line, text_of}
 use Rattle.gp_tool.specs.declared.ending.Ending.{Ending}
 use Rattle.gp_tool.specs.declared.ending.Ending.TheVariants.{Finished, BadLine, FlashFault, ReadFault, WriteFault, InputTooLong}
 
--- What is seen of a source and a sink: the bytes left, the bytes written and handed on, and how often the sink was flushed.
+-- A source and a sink.
 pub record Outside : Type 0 where
-  pub left : List ℕ
-  pub written : List ℕ
-  pub handed_on : List ℕ
-  pub flushes : ℕ
+  pub source : SourceState
+  pub sink : SinkState
 
--- what a sink shows by its meanings, beside what is left of a source
-abbrev pub beside : {K : Type 0} → (K → List ℕ) → (K → List ℕ) → (K → ℕ) → List ℕ → K → Outside
-beside written handed_on flushes left sink =
-    record { left = left; written = written sink; handed_on = handed_on sink; flushes = flushes sink }
-
--- what a source and a sink show
-abbrev pub outside : {S K : Type 0} → (S → List ℕ) → (K → List ℕ) → (K → List ℕ) → (K → ℕ) → S → K → Outside
-outside left written handed_on flushes source sink = beside written handed_on flushes (left source) sink
+abbrev pub outside : SourceState → SinkState → Outside
+outside source sink = record { source = source; sink = sink }
 
 -- no line is too long
 abbrev pub AreShort : List (List ℕ) → Type 0
@@ -74,11 +67,11 @@ pub record IsFinished (reads writes : Type 0) (Rests : List Outcome → State �
   pub outcomes : List Outcome
   pub state : State
   pub course : Course first given outcomes state
-  pub reached : reads → Reached old.left given []
-  pub all : reads → lines old.left ≡ given
-  pub short : reads → length old.left < INPUT_LIMIT
-  pub read : reads → new.left ≡ []
-  pub written : writes → new.written ≡ old.written ++ text_of outcomes
+  pub reached : reads → Reached old.source.left given []
+  pub all : reads → lines old.source.left ≡ given
+  pub short : reads → length old.source.left < INPUT_LIMIT
+  pub read : reads → new.source.left ≡ []
+  pub written : writes → new.sink.written ≡ old.sink.written ++ text_of outcomes
   pub device : Rests outcomes state
 
 -- The next line is bad: the text of the lines before it was written, and then the line's number.
@@ -88,9 +81,9 @@ pub record IsAtBadLine (reads writes : Type 0) (Rests : List Outcome → State �
   pub state : State
   pub ahead : List ℕ
   pub course : Course first given outcomes state
-  pub reached : reads → Reached old.left given ahead
-  pub bad : reads → IsBad (room_ahead old.left ahead) ahead
-  pub written : writes → new.written ≡ old.written ++ (text_of outcomes ++ bad_line (length given + 1))
+  pub reached : reads → Reached old.source.left given ahead
+  pub bad : reads → IsBad (room_ahead old.source.left ahead) ahead
+  pub written : writes → new.sink.written ≡ old.sink.written ++ (text_of outcomes ++ bad_line (length given + 1))
   pub device : Rests outcomes state
 
 -- A read was refused: the text of the whole lines of the bytes taken was written. The bytes behind them are no line that is
@@ -101,11 +94,11 @@ pub record IsAtReadFault (reads writes : Type 0) (Rests : List Outcome → State
   pub state : State
   pub held : List ℕ
   pub course : Course first given outcomes state
-  pub reached : reads → Reached old.left given (held ++ new.left)
+  pub reached : reads → Reached old.source.left given (held ++ new.source.left)
   pub no_line : reads → NoNewline held
   pub short : reads → length (strip_carriage_return held) ≤ LINE_LIMIT
-  pub within : reads → length held ≤ room_ahead old.left (held ++ new.left)
-  pub written : writes → new.written ≡ old.written ++ text_of outcomes
+  pub within : reads → length held ≤ room_ahead old.source.left (held ++ new.source.left)
+  pub written : writes → new.sink.written ≡ old.sink.written ++ text_of outcomes
   pub device : Rests outcomes state
 
 -- The limit of the input comes before the next line's end.
@@ -115,9 +108,9 @@ pub record IsAtLimit (reads writes : Type 0) (Rests : List Outcome → State →
   pub state : State
   pub ahead : List ℕ
   pub course : Course first given outcomes state
-  pub reached : reads → Reached old.left given ahead
-  pub cut : reads → (text : List ℕ) × IsCut (room_ahead old.left ahead) ahead text × (length text ≤ LINE_LIMIT)
-  pub written : writes → new.written ≡ old.written ++ text_of outcomes
+  pub reached : reads → Reached old.source.left given ahead
+  pub cut : reads → (text : List ℕ) × IsCut (room_ahead old.source.left ahead) ahead text × (length text ≤ LINE_LIMIT)
+  pub written : writes → new.sink.written ≡ old.sink.written ++ text_of outcomes
   pub device : Rests outcomes state
 
 -- The device failed in the command of the next line: the text of the lines before it was written, and nothing of its reply.
@@ -130,12 +123,12 @@ pub record IsAtFlashFault (reads writes : Type 0) (Fails : List Outcome → Stat
   pub bytes : List ℕ
   pub next : Outcome
   pub course : Course first given outcomes state
-  pub reached : reads → Reached old.left given ahead
-  pub comes : reads → (after : List ℕ) × IsNextLine (room_ahead old.left ahead) ahead line after
+  pub reached : reads → Reached old.source.left given ahead
+  pub comes : reads → (after : List ℕ) × IsNextLine (room_ahead old.source.left ahead) ahead line after
   pub fits : length line ≤ LINE_LIMIT
   pub spelled : SpellsInputs line (Command bytes ∷ [])
   pub step : Step state bytes next
-  pub written : writes → new.written ≡ old.written ++ text_of outcomes
+  pub written : writes → new.sink.written ≡ old.sink.written ++ text_of outcomes
   pub device : Fails outcomes state next
 
 -- A write or the flush was refused: of the text no more than its last line is missing or cut. That is the reply to the last
@@ -148,11 +141,11 @@ pub record IsAtWriteFault (reads writes : Type 0) (Rests : List Outcome → Stat
   pub before : List ℕ
   pub line : List ℕ
   pub course : Course first given outcomes state
-  pub reached : reads → Reached old.left given ahead
+  pub reached : reads → Reached old.source.left given ahead
   pub is_text : IsText outcomes before line
-      ⊎ ((reads → IsBad (room_ahead old.left ahead) ahead) × (before ≡ text_of outcomes) × (line ≡ bad_line (length given + 1)))
-  pub written : writes → (count : ℕ) × (new.written ≡ old.written ++ (before ++ take count line))
-  pub flushes : FlushesLast writes old.flushes new.flushes old.written (before ++ line) new.written
+      ⊎ ((reads → IsBad (room_ahead old.source.left ahead) ahead) × (before ≡ text_of outcomes) × (line ≡ bad_line (length given + 1)))
+  pub written : writes → (count : ℕ) × (new.sink.written ≡ old.sink.written ++ (before ++ take count line))
+  pub flushes : FlushesLast writes old.sink (before ++ line) new.sink
   pub device : Rests outcomes state
 
 -- what holds at each ending of a run from a first state
@@ -165,10 +158,10 @@ Ends reads writes Rests Fails first WriteFault old new = IsAtWriteFault reads wr
 Ends reads writes Rests Fails first InputTooLong old new = IsAtLimit reads writes Rests first old new
 
 -- What was done with the text at each ending. At a refused write `Ends` says it.
-abbrev pub Flushes : Type 0 → Ending → Outside → Outside → Type 0
-Flushes writes Finished old new = IsHandedOn writes old.flushes new.flushes new.written new.handed_on
-Flushes writes BadLine old new = IsHandedOn writes old.flushes new.flushes new.written new.handed_on
-Flushes writes InputTooLong old new = IsHandedOn writes old.flushes new.flushes new.written new.handed_on
+abbrev pub Flushes : Type 0 → Ending → SinkState → SinkState → Type 0
+Flushes writes Finished old new = IsHandedOn writes old new
+Flushes writes BadLine old new = IsHandedOn writes old new
+Flushes writes InputTooLong old new = IsHandedOn writes old new
 Flushes writes FlashFault old new = new.flushes ≡ next_count old.flushes
 Flushes writes ReadFault old new = new.flushes ≡ next_count old.flushes
 Flushes writes WriteFault old new = Unit {0}
@@ -179,9 +172,8 @@ pub record Faults : Type 0 where
   pub sink : ℕ
   pub device : ℕ
 
--- what they show by their meanings
-abbrev pub faults_of : {S K F : Type 0} → (S → ℕ) → (K → ℕ) → (F → ℕ) → S → K → F → Faults
-faults_of of_source of_sink of_device source sink device = record { source = of_source source; sink = of_sink sink; device = of_device device }
+abbrev pub faults_of : SourceState → SinkState → ℕ → Faults
+faults_of source sink device = record { source = source.faults; sink = sink.faults; device = device }
 
 -- the counts of source and sink are as they were
 abbrev pub NoneRose : Faults → Faults → Type 0

@@ -1,29 +1,31 @@
 -- The flush at the end of a run.
-use Rattle.std.specs.Prelude.{◌≡◌, ◌⊎◌, ℕ, List, ◌++◌}
+use Rattle.std.specs.Prelude.{◌≡◌, ◌⊎◌, List, ℕ, ◌++◌}
 use Rattle.faults.specs.Faults.{next_count}
+use Rattle.io_edge.specs.Streams.{SinkState}
 use Rattle.gp_tool.specs.declared.ending.Ending.{Ending}
 use Rattle.gp_tool.specs.declared.ending.Ending.TheVariants.{Finished, BadLine, FlashFault, ReadFault, WriteFault, InputTooLong}
 
 -- A sink was flushed once, and all that was written is handed on.
-pub record IsHandedOn (writes : Type 0) (before now : ℕ) (written handed_on : List ℕ) : Type 0 where
-  pub once : now ≡ next_count before
-  pub all : writes → handed_on ≡ written
+pub record IsHandedOn (writes : Type 0) (old new : SinkState) : Type 0 where
+  pub once : new.flushes ≡ next_count old.flushes
+  pub all : writes → new.handed_on ≡ new.written
 
 -- Where a write or the flush was refused: the sink was not flushed, or it was once, and all of the text was written before.
-abbrev pub FlushesLast : Type 0 → ℕ → ℕ → List ℕ → List ℕ → List ℕ → Type 0
-FlushesLast writes before now old text written = (now ≡ before) ⊎ ((now ≡ next_count before) × (writes → written ≡ old ++ text))
+abbrev pub FlushesLast : Type 0 → SinkState → List ℕ → SinkState → Type 0
+FlushesLast writes old text new =
+    (new.flushes ≡ old.flushes) ⊎ ((new.flushes ≡ next_count old.flushes) × (writes → new.written ≡ old.written ++ text))
 
 -- the ending stays as the flush is answered, and a refused one makes it a write fault
-abbrev pub IsFlushed : Type 0 → Ending → ℕ → ℕ → List ℕ → List ℕ → Ending → Type 0
-IsFlushed writes ending before now written handed_on result =
-    ((result ≡ ending) × IsHandedOn writes before now written handed_on) ⊎ ((result ≡ WriteFault) × (now ≡ next_count before))
+abbrev pub IsFlushed : Type 0 → Ending → SinkState → SinkState → Ending → Type 0
+IsFlushed writes ending old new result =
+    ((result ≡ ending) × IsHandedOn writes old new) ⊎ ((result ≡ WriteFault) × (new.flushes ≡ next_count old.flushes))
 
 -- How a run ends behind its last line, by how it came to it: no flush follows a refused write, and one that follows a
 -- refused read or a failed device changes no status.
-abbrev pub AfterFlush : Type 0 → Ending → ℕ → ℕ → List ℕ → List ℕ → Ending → Type 0
-AfterFlush writes Finished before now written handed_on result = IsFlushed writes Finished before now written handed_on result
-AfterFlush writes BadLine before now written handed_on result = IsFlushed writes BadLine before now written handed_on result
-AfterFlush writes InputTooLong before now written handed_on result = IsFlushed writes InputTooLong before now written handed_on result
-AfterFlush writes FlashFault before now written handed_on result = (result ≡ FlashFault) × (now ≡ next_count before)
-AfterFlush writes ReadFault before now written handed_on result = (result ≡ ReadFault) × (now ≡ next_count before)
-AfterFlush writes WriteFault before now written handed_on result = (result ≡ WriteFault) × (now ≡ before)
+abbrev pub AfterFlush : Type 0 → Ending → SinkState → SinkState → Ending → Type 0
+AfterFlush writes Finished old new result = IsFlushed writes Finished old new result
+AfterFlush writes BadLine old new result = IsFlushed writes BadLine old new result
+AfterFlush writes InputTooLong old new result = IsFlushed writes InputTooLong old new result
+AfterFlush writes FlashFault old new result = (result ≡ FlashFault) × (new.flushes ≡ next_count old.flushes)
+AfterFlush writes ReadFault old new result = (result ≡ ReadFault) × (new.flushes ≡ next_count old.flushes)
+AfterFlush writes WriteFault old new result = (result ≡ WriteFault) × (new.flushes ≡ old.flushes)

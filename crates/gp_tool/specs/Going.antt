@@ -15,10 +15,10 @@ pub record Going (reads writes : Type 0) (first : State) (Now : State → Type 0
   pub outcomes : List Outcome
   pub state : State
   pub number : reading.number ≡ length given
-  pub passed : reads → reading.passed + length (ahead reading now.left) ≡ length before.left
+  pub passed : reads → reading.passed + length (ahead reading now.source.left) ≡ length before.source.left
   pub course : Course first given outcomes state
-  pub reached : reads → Reached before.left given (ahead reading now.left)
+  pub reached : reads → Reached before.source.left given (ahead reading now.source.left)
   pub stands : Now state
   pub leaves : Leaving (registries first outcomes)
   pub done : count ≡ length outcomes
-  pub written : writes → now.written ≡ before.written ++ text_of outcomes
+  pub written : writes → now.sink.written ≡ before.sink.written ++ text_of outcomes

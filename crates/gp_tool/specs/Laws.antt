@@ -44,4 +44,4 @@ OneEnding = OfRuns (λ ending new another other. ending ≡ another)
 
 -- and have written the same
 abbrev pub OneWritten : Type 0
-OneWritten = OfRuns (λ ending new another other. new.written ≡ other.written)
+OneWritten = OfRuns (λ ending new another other. new.sink.written ≡ other.sink.written)

@@ -13,4 +13,5 @@ pub mod Serve
 pub mod Show
 pub mod Shown
 pub mod Turn
+pub mod Verbs
 pub mod Words

@@ -33,10 +33,10 @@ pub record GoesOn (reads writes : Type 0) (Before After : State → Type 0) (Lea
   pub number : new.number ≡ old.number + 1
   pub within : IsWithin new
   pub further : old.passed < new.passed
-  pub passed : reads → new.passed + length (ahead new now.left) ≡ old.passed + length (ahead old before.left)
+  pub passed : reads → new.passed + length (ahead new now.source.left) ≡ old.passed + length (ahead old before.source.left)
   pub line : (state : State) → Before state
-      → (takes : TakesLine reads After Leaving count count' state (room old) (ahead old before.left) (ahead new now.left))
-      × (writes → now.written ≡ before.written ++ text_of takes.played.outcomes)
+      → (takes : TakesLine reads After Leaving count count' state (room old) (ahead old before.source.left) (ahead new now.source.left))
+      × (writes → now.sink.written ≡ before.sink.written ++ text_of takes.played.outcomes)
 
 -- what is written of a bad line, whole or up to a fault
 abbrev pub Refuses : Type 0 → ℕ → List ℕ → List ℕ → Ending → Type 0
@@ -50,24 +50,24 @@ Refuses writes number old new InputTooLong = ⊥
 -- the next line is bad, and was refused
 abbrev pub RefusesNext : Type 0 → Type 0 → Type 0 → Reading → Outside → Outside → Ending → Type 0
 RefusesNext reads writes Same old before now ending =
-    Same × (reads → IsBad (room old) (ahead old before.left)) × Refuses writes (old.number + 1) before.written now.written ending
+    Same × (reads → IsBad (room old) (ahead old before.source.left)) × Refuses writes (old.number + 1) before.sink.written now.sink.written ending
 
 -- The run ends with what is ahead.
 abbrev pub EndsWith : Type 0 → Type 0 → Type 0 → (State → Type 0) → (State → Type 0) → (List Registry → Type 0) → ℕ → ℕ → Reading → Outside → Outside → Ending → Type 0
 EndsWith reads writes Same Before After Leaving count count' old before now Finished =
-    Same × (reads → ahead old before.left ≡ []) × (reads → 0 < room old) × (reads → now.left ≡ []) × (writes → now.written ≡ before.written)
+    Same × (reads → ahead old before.source.left ≡ []) × (reads → 0 < room old) × (reads → now.source.left ≡ []) × (writes → now.sink.written ≡ before.sink.written)
 EndsWith reads writes Same Before After Leaving count count' old before now BadLine = RefusesNext reads writes Same old before now BadLine
 EndsWith reads writes Same Before After Leaving count count' old before now FlashFault =
-    (count' ≡ count) × (writes → now.written ≡ before.written)
-    × ((state : State) → Before state → FailsNext reads Leaving state (room old) (ahead old before.left))
+    (count' ≡ count) × (writes → now.sink.written ≡ before.sink.written)
+    × ((state : State) → Before state → FailsNext reads Leaving state (room old) (ahead old before.source.left))
 EndsWith reads writes Same Before After Leaving count count' old before now ReadFault =
     Same × (held : List ℕ) × NoNewline held × (length (strip_carriage_return held) ≤ LINE_LIMIT) × (length held ≤ room old)
-    × (reads → ahead old before.left ≡ held ++ now.left) × (writes → now.written ≡ before.written)
+    × (reads → ahead old before.source.left ≡ held ++ now.source.left) × (writes → now.sink.written ≡ before.sink.written)
 EndsWith reads writes Same Before After Leaving count count' old before now InputTooLong =
-    Same × (reads → (text : List ℕ) × IsCut (room old) (ahead old before.left) text × (length text ≤ LINE_LIMIT)) × (writes → now.written ≡ before.written)
+    Same × (reads → (text : List ℕ) × IsCut (room old) (ahead old before.source.left) text × (length text ≤ LINE_LIMIT)) × (writes → now.sink.written ≡ before.sink.written)
 EndsWith reads writes Same Before After Leaving count count' old before now WriteFault =
     ((state : State) → Before state
-    → (after : List ℕ) × (takes : TakesLine reads After Leaving count count' state (room old) (ahead old before.left) after)
+    → (after : List ℕ) × (takes : TakesLine reads After Leaving count count' state (room old) (ahead old before.source.left) after)
     × (outcome : Outcome) × (takes.played.outcomes ≡ outcome ∷ [])
-    × (writes → (n : ℕ) × (now.written ≡ before.written ++ take n (reply_line outcome))))
+    × (writes → (n : ℕ) × (now.sink.written ≡ before.sink.written ++ take n (reply_line outcome))))
     ⊎ RefusesNext reads writes Same old before now WriteFault

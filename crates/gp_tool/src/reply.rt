@@ -32,10 +32,10 @@ pub fn write_reply<K: Sink>(
     sink: &mut K,
 ) -> Result<(), WriteFailed>
     requires { length reply.now ≤ REPLY_LIMIT }
-    ensures ok { K.tells → OnOk result (K.written sink.new ≡ K.written sink.old ++ (encode_lower reply.now ++ 10 ∷ [])) }
-    ensures err { K.tells → OnErr result ((n : ℕ) × (K.written sink.new ≡ K.written sink.old ++ take n (encode_lower reply.now ++ 10 ∷ []))) }
-    ensures flushes { K.flushes sink.new ≡ K.flushes sink.old }
-    ensures cause { HasCause (K.faults sink.old) (K.faults sink.new) result }
+    ensures ok { K.tells → OnOk result ((K.state sink.new).written ≡ (K.state sink.old).written ++ (encode_lower reply.now ++ 10 ∷ [])) }
+    ensures err { K.tells → OnErr result ((n : ℕ) × ((K.state sink.new).written ≡ (K.state sink.old).written ++ take n (encode_lower reply.now ++ 10 ∷ []))) }
+    ensures flushes { (K.state sink.new).flushes ≡ (K.state sink.old).flushes }
+    ensures cause { HasCause (K.state sink.old).faults (K.state sink.new).faults result }
 {
     let count = spell_reply(reply, text);
     sink.write_all(&text[..count])
@@ -43,10 +43,10 @@ pub fn write_reply<K: Sink>(
 
 /// Writes the number of a line that has no form or is too long.
 pub fn write_bad_line<K: Sink>(number: u32, sink: &mut K) -> Result<(), WriteFailed>
-    ensures ok { K.tells → OnOk result (K.written sink.new ≡ K.written sink.old ++ bad_line number) }
-    ensures err { K.tells → OnErr result ((n : ℕ) × (K.written sink.new ≡ K.written sink.old ++ take n (bad_line number))) }
-    ensures flushes { K.flushes sink.new ≡ K.flushes sink.old }
-    ensures cause { HasCause (K.faults sink.old) (K.faults sink.new) result }
+    ensures ok { K.tells → OnOk result ((K.state sink.new).written ≡ (K.state sink.old).written ++ bad_line number) }
+    ensures err { K.tells → OnErr result ((n : ℕ) × ((K.state sink.new).written ≡ (K.state sink.old).written ++ take n (bad_line number))) }
+    ensures flushes { (K.state sink.new).flushes ≡ (K.state sink.old).flushes }
+    ensures cause { HasCause (K.state sink.old).faults (K.state sink.new).faults result }
 {
     let mut digits = Buffer::new();
     let mut line = ArrayVec::<u8, 46>::new();

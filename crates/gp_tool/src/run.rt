@@ -3,10 +3,11 @@
 ghost use Rattle.std.specs.Prelude.{◌≡◌, ◌≤◌, ◌+◌, ℕ, None, true, IfNone, IfSome};
 ghost use Rattle.card_core.specs.Card.{Stands};
 ghost use Rattle.policy_rules.specs.State.{State};
-ghost use Rattle.gp_tool.specs.Device.{HasFailed, HasRun, LeavesOneOf};
-ghost use Rattle.gp_tool.specs.Ends.{Ends, EndCause, Flushes, faults_of, outside};
+ghost use Rattle.gp_tool.specs.Device.{LeavesOneOf};
+ghost use Rattle.gp_tool.specs.Ends.{EndCause, Faults, Flushes, faults_of, outside};
 ghost use Rattle.gp_tool.specs.Flush.{AfterFlush};
 ghost use Rattle.gp_tool.specs.Turn.{GoesOn, EndsWith, Refuses};
+ghost use Rattle.gp_tool.specs.Verbs.{RunCause, RunEnds, around};
 
 use crate::ending::Ending;
 use crate::form::COMMAND_LIMIT;
@@ -27,10 +28,10 @@ pub struct RunEnd {
 
 // Writes the number of a line that has no form or is too long.
 fn refuse_line<K: Sink>(number: u32, sink: &mut K) -> Ending
-    ensures refused { Refuses K.tells number (K.written sink.old) (K.written sink.new) result }
-    ensures flushes { K.flushes sink.new ≡ K.flushes sink.old }
+    ensures refused { Refuses K.tells number (K.state sink.old).written (K.state sink.new).written result }
+    ensures flushes { (K.state sink.new).flushes ≡ (K.state sink.old).flushes }
     ensures cause { (reads device device' : ℕ) → EndCause result
-        (record { source = reads; sink = K.faults sink.old; device = device }) (record { source = reads; sink = K.faults sink.new; device = device' }) }
+        (record { source = reads; sink = (K.state sink.old).faults; device = device }) (record { source = reads; sink = (K.state sink.new).faults; device = device' }) }
 {
     match write_bad_line(number, sink) {
         Ok(()) => Ending::BadLine,
@@ -51,22 +52,22 @@ fn take_turn<S: Source, K: Sink, F: Flash>(
     requires up { card.old.up ≡ true }
     requires few { done.old ≤ lines.old.passed }
     ensures goes_on { IfNone result (GoesOn S.tells K.tells
-        (Stands F.tells F.pages F.may_leave card.old) (Stands F.tells F.pages F.may_leave card.new)
-        (LeavesOneOf F.tells F.moment F.left_since card.old.flash card.new.flash)
+        (Stands F.Flash card.old) (Stands F.Flash card.new)
+        (LeavesOneOf F.Flash card.old.flash card.new.flash)
         done.old done.new lines.old lines.new
-        (outside S.left K.written K.handed_on K.flushes source.old sink.old) (outside S.left K.written K.handed_on K.flushes source.new sink.new)) }
+        (outside (S.state source.old) (K.state sink.old)) (outside (S.state source.new) (K.state sink.new))) }
     ensures ends { IfSome result (EndsWith S.tells K.tells ((card.new ≡ card.old) × (done.new ≡ done.old))
-        (Stands F.tells F.pages F.may_leave card.old) (Stands F.tells F.pages F.may_leave card.new)
-        (LeavesOneOf F.tells F.moment F.left_since card.old.flash card.new.flash)
+        (Stands F.Flash card.old) (Stands F.Flash card.new)
+        (LeavesOneOf F.Flash card.old.flash card.new.flash)
         done.old done.new lines.old
-        (outside S.left K.written K.handed_on K.flushes source.old sink.old) (outside S.left K.written K.handed_on K.flushes source.new sink.new)) }
+        (outside (S.state source.old) (K.state sink.old)) (outside (S.state source.new) (K.state sink.new))) }
     ensures up { IfNone result (card.new.up ≡ true) }
     ensures few { done.new ≤ done.old + 1 }
-    ensures flushes { K.flushes sink.new ≡ K.flushes sink.old }
-    ensures quiet { IfNone result ((S.faults source.new ≡ S.faults source.old) × (K.faults sink.new ≡ K.faults sink.old)) }
+    ensures flushes { (K.state sink.new).flushes ≡ (K.state sink.old).flushes }
+    ensures quiet { IfNone result (((S.state source.new).faults ≡ (S.state source.old).faults) × ((K.state sink.new).faults ≡ (K.state sink.old).faults)) }
     ensures later { F.faults card.old.flash ≤ F.faults card.new.flash }
     ensures cause { IfSome result (λ ending. EndCause ending
-        (faults_of S.faults K.faults F.faults source.old sink.old card.old.flash) (faults_of S.faults K.faults F.faults source.new sink.new card.new.flash)) }
+        (faults_of (S.state source.old) (K.state sink.old) (F.faults card.old.flash)) (faults_of (S.state source.new) (K.state sink.new) (F.faults card.new.flash))) }
 {
     match lines.next_line(source) {
         Ok(line) => match serve_line(line.text, card, done, space, sink) {
@@ -89,15 +90,11 @@ fn take_lines<S: Source, K: Sink, F: Flash>(
     sink: &mut K,
 ) -> RunEnd
     requires up { card.old.up ≡ true }
-    ensures flushes { K.flushes sink.new ≡ K.flushes sink.old }
-    ensures ends { (first : State) → Stands F.tells F.pages F.may_leave card.old first → Ends S.tells K.tells
-        (HasRun F.tells F.pages F.moment F.may_leave F.left_since card.old.flash card.new.flash first result.done)
-        (HasFailed F.tells F.moment F.may_leave F.left_since card.old.flash card.new.flash first result.done)
-        first result.ending
-        (outside S.left K.written K.handed_on K.flushes source.old sink.old) (outside S.left K.written K.handed_on K.flushes source.new sink.new) }
+    ensures flushes { (K.state sink.new).flushes ≡ (K.state sink.old).flushes }
+    ensures ends { (first : State) → Stands F.Flash card.old first
+        → RunEnds S.Source K.Sink F.Flash first result.ending result.done (around source.old sink.old card.old.flash) (around source.new sink.new card.new.flash) }
     ensures later { F.faults card.old.flash ≤ F.faults card.new.flash }
-    ensures cause { EndCause result.ending
-        (faults_of S.faults K.faults F.faults source.old sink.old card.old.flash) (faults_of S.faults K.faults F.faults source.new sink.new card.new.flash) }
+    ensures cause { RunCause S.Source K.Sink F.Flash result.ending (around source.old sink.old card.old.flash) (around source.new sink.new card.new.flash) }
 {
     let mut lines = Lines::new();
     let mut done = 0;
@@ -115,11 +112,10 @@ fn take_lines<S: Source, K: Sink, F: Flash>(
 
 /// Flushes the sink at the end of a run, unless a write was refused.
 pub fn flush_at_end<K: Sink>(ending: Ending, sink: &mut K) -> Ending
-    ensures same { K.tells → K.written sink.new ≡ K.written sink.old }
-    ensures ending { AfterFlush K.tells ending (K.flushes sink.old) (K.flushes sink.new) (K.written sink.new) (K.handed_on sink.new) result }
-    ensures cause { (reads reads' writes device device' : ℕ)
-        → EndCause ending (record { source = reads; sink = writes; device = device }) (record { source = reads'; sink = K.faults sink.old; device = device' })
-        → EndCause result (record { source = reads; sink = writes; device = device }) (record { source = reads'; sink = K.faults sink.new; device = device' }) }
+    ensures same { K.tells → (K.state sink.new).written ≡ (K.state sink.old).written }
+    ensures ending { AfterFlush K.tells ending (K.state sink.old) (K.state sink.new) result }
+    ensures cause { (old : Faults) (reads device : ℕ) → EndCause ending old (record { source = reads; sink = (K.state sink.old).faults; device = device })
+        → EndCause result old (record { source = reads; sink = (K.state sink.new).faults; device = device }) }
 {
     match ending {
         Ending::WriteFault => ending,
@@ -137,16 +133,11 @@ pub fn flush_at_end<K: Sink>(ending: Ending, sink: &mut K) -> Ending
 /// Gives the lines of a source to a card, and writes each reply before the next line is taken.
 pub fn run<S: Source, K: Sink, F: Flash>(card: &mut Card<F>, source: &mut S, sink: &mut K) -> RunEnd
     requires up { card.old.up ≡ true }
-    ensures flushes { Flushes K.tells result.ending
-        (outside S.left K.written K.handed_on K.flushes source.old sink.old) (outside S.left K.written K.handed_on K.flushes source.new sink.new) }
-    ensures ends { (first : State) → Stands F.tells F.pages F.may_leave card.old first → Ends S.tells K.tells
-        (HasRun F.tells F.pages F.moment F.may_leave F.left_since card.old.flash card.new.flash first result.done)
-        (HasFailed F.tells F.moment F.may_leave F.left_since card.old.flash card.new.flash first result.done)
-        first result.ending
-        (outside S.left K.written K.handed_on K.flushes source.old sink.old) (outside S.left K.written K.handed_on K.flushes source.new sink.new) }
+    ensures flushes { Flushes K.tells result.ending (K.state sink.old) (K.state sink.new) }
+    ensures ends { (first : State) → Stands F.Flash card.old first
+        → RunEnds S.Source K.Sink F.Flash first result.ending result.done (around source.old sink.old card.old.flash) (around source.new sink.new card.new.flash) }
     ensures later { F.faults card.old.flash ≤ F.faults card.new.flash }
-    ensures cause { EndCause result.ending
-        (faults_of S.faults K.faults F.faults source.old sink.old card.old.flash) (faults_of S.faults K.faults F.faults source.new sink.new card.new.flash) }
+    ensures cause { RunCause S.Source K.Sink F.Flash result.ending (around source.old sink.old card.old.flash) (around source.new sink.new card.new.flash) }
 {
     let end = take_lines(card, source, sink);
     RunEnd {

@@ -1,16 +1,8 @@
 //! The verb `run`.
 
-ghost use Rattle.std.specs.Prelude.{◌≡◌, ◌≢◌, ◌⊎◌, ◌≤◌, ◌<◌, length};
-ghost use Rattle.std.specs.Str.Lines.{lines};
-ghost use Rattle.card_types.specs.Registry.{Registry};
-ghost use Rattle.faults.specs.Faults.{Rose};
-ghost use Rattle.io_edge.specs.declared.line.TheConstants.{INPUT_LIMIT};
-ghost use Rattle.policy_rules.specs.State.{powered_on};
-ghost use Rattle.rec_store.specs.Reopens.{Reopens};
-ghost use Rattle.gp_tool.specs.Device.{HasFailed, HasRun, IsNotPowered, refusal_status};
-ghost use Rattle.gp_tool.specs.Ends.{Ends, EndCause, Flushes, exit_status, faults_of, outside};
-ghost use Rattle.gp_tool.specs.Good.{AreGood};
-ghost use Rattle.gp_tool.specs.declared.ending.Ending.{Ending};
+ghost use Rattle.std.specs.Prelude.{◌≡◌, ◌≢◌, ◌⊎◌, ◌≤◌};
+ghost use Rattle.gp_tool.specs.Device.{HoldsCard, refusal_status};
+ghost use Rattle.gp_tool.specs.Verbs.{EndsRun, IsGoodInput, NoFault, around};
 
 use crate::ended::Ended;
 use crate::run::run;
@@ -38,23 +30,11 @@ pub fn run_verb<S: Source, K: Sink, F: Flash>(
     flash: F,
 ) -> Ended<F>
     ensures memory { result.status ≡ 7 → (source.new ≡ source.old) × (sink.new ≡ sink.old) × (result.flash ≡ flash) × (result.done ≡ 0) }
-    ensures run { result.status ≢ 7
-        → (IsNotPowered F.tells F.faults F.pages F.moment F.may_leave F.left_since result.status result.done flash result.flash
-        × (source.new ≡ source.old) × (sink.new ≡ sink.old))
-        ⊎ ((registry : Registry) × (F.tells → Reopens (F.pages flash) registry) × (ending : Ending) × (result.status ≡ exit_status ending)
-        × EndCause ending (faults_of S.faults K.faults F.faults source.old sink.old flash) (faults_of S.faults K.faults F.faults source.new sink.new result.flash)
-        × Flushes K.tells ending
-        (outside S.left K.written K.handed_on K.flushes source.old sink.old) (outside S.left K.written K.handed_on K.flushes source.new sink.new)
-        × Ends S.tells K.tells
-        (HasRun F.tells F.pages F.moment F.may_leave F.left_since flash result.flash (powered_on registry) result.done)
-        (HasFailed F.tells F.moment F.may_leave F.left_since flash result.flash (powered_on registry) result.done)
-        (powered_on registry) ending
-        (outside S.left K.written K.handed_on K.flushes source.old sink.old) (outside S.left K.written K.handed_on K.flushes source.new sink.new)) }
-    ensures no_card { F.tells → ((registry : Registry) → Reopens (F.pages flash) registry → ⊥) → (result.status ≡ 3) ⊎ (result.status ≡ 4) ⊎ (result.status ≡ 7) }
-    ensures complete { S.tells → F.tells → (registry : Registry) → Reopens (F.pages flash) registry
-        → AreGood (lines (S.left source.old)) → length (S.left source.old) < INPUT_LIMIT
-        → (Rose (S.faults source.old) (S.faults source.new) → ⊥) → (Rose (K.faults sink.old) (K.faults sink.new) → ⊥)
-        → (Rose (F.faults flash) (F.faults result.flash) → ⊥) → (result.status ≡ 0) ⊎ (result.status ≡ 7) }
+    ensures run { result.status ≢ 7 → EndsRun S.Source K.Sink F.Flash result.status result.done
+        (around source.old sink.old flash) (around source.new sink.new result.flash) }
+    ensures no_card { F.tells → (HoldsCard F.Flash flash → ⊥) → (result.status ≡ 3) ⊎ (result.status ≡ 4) ⊎ (result.status ≡ 7) }
+    ensures complete { S.tells → F.tells → HoldsCard F.Flash flash → IsGoodInput (S.state source.old).left
+        → NoFault S.Source K.Sink F.Flash (around source.old sink.old flash) (around source.new sink.new result.flash) → (result.status ≡ 0) ⊎ (result.status ≡ 7) }
     ensures later { F.faults flash ≤ F.faults result.flash }
 {
     match Card::power_on(alloc, flash) {

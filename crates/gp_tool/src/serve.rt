@@ -46,14 +46,14 @@ pub fn serve_line<K: Sink, F: Flash>(
     requires up { card.old.up ≡ true }
     requires few { done.old < INPUT_LIMIT }
     ensures served { ServesLine K.tells line.now ((card.new ≡ card.old) × (done.new ≡ done.old))
-        (Stands F.tells F.pages F.may_leave card.old) (Stands F.tells F.pages F.may_leave card.new)
-        (LeavesOneOf F.tells F.moment F.left_since card.old.flash card.new.flash)
-        done.old done.new (K.written sink.old) (K.written sink.new) result }
+        (Stands F.Flash card.old) (Stands F.Flash card.new)
+        (LeavesOneOf F.Flash card.old.flash card.new.flash)
+        done.old done.new (K.state sink.old).written (K.state sink.new).written result }
     ensures up { GoesAhead result (card.new.up ≡ true) }
     ensures few { done.new ≤ done.old + 1 }
-    ensures flushes { K.flushes sink.new ≡ K.flushes sink.old }
+    ensures flushes { (K.state sink.new).flushes ≡ (K.state sink.old).flushes }
     ensures later { F.faults card.old.flash ≤ F.faults card.new.flash }
-    ensures cause { ServeCause (K.faults sink.old) (K.faults sink.new) (F.faults card.old.flash) (F.faults card.new.flash) result }
+    ensures cause { ServeCause (K.state sink.old).faults (K.state sink.new).faults (F.faults card.old.flash) (F.faults card.new.flash) result }
 {
     match read_form(line, &mut space.command) {
         None => Served::NoForm,

@@ -42,9 +42,9 @@ use objects::show_objects;
 
 // Writes the line of the card.
 fn show_life<K: Sink>(life: CardLife, sink: &mut K) -> Result<(), WriteFailed>
-    ensures written { Writes K.tells (K.written sink.old) (K.written sink.new) (card_line life) result }
-    ensures flushes { K.flushes sink.new ≡ K.flushes sink.old }
-    ensures cause { HasCause (K.faults sink.old) (K.faults sink.new) result }
+    ensures written { Writes K.tells (K.state sink.old).written (K.state sink.new).written (card_line life) result }
+    ensures flushes { (K.state sink.new).flushes ≡ (K.state sink.old).flushes }
+    ensures cause { HasCause (K.state sink.old).faults (K.state sink.new).faults result }
 {
     let mut line = ArrayVec::new();
     push_word(b"card ", &mut line);
@@ -57,9 +57,9 @@ fn show_life<K: Sink>(life: CardLife, sink: &mut K) -> Result<(), WriteFailed>
 fn show_front<K: Sink>(tables: &Tables, sink: &mut K) -> Result<(), WriteFailed>
     requires in_order { IsInOrder tables.now }
     ensures written { (page : ℕ → List ℕ) (said : Registry) → Says page tables.now said
-        → Writes K.tells (K.written sink.old) (K.written sink.new) (card_line said.life ++ flat_map entry_line said.entries) result }
-    ensures flushes { K.flushes sink.new ≡ K.flushes sink.old }
-    ensures cause { HasCause (K.faults sink.old) (K.faults sink.new) result }
+        → Writes K.tells (K.state sink.old).written (K.state sink.new).written (card_line said.life ++ flat_map entry_line said.entries) result }
+    ensures flushes { (K.state sink.new).flushes ≡ (K.state sink.old).flushes }
+    ensures cause { HasCause (K.state sink.old).faults (K.state sink.new).faults result }
 {
     show_life(tables.life, sink)?;
     show_entries(tables, sink)
@@ -69,10 +69,10 @@ fn show_front<K: Sink>(tables: &Tables, sink: &mut K) -> Result<(), WriteFailed>
 fn show_owned<K: Sink>(tables: &Tables, sink: &mut K) -> Result<(), WriteFailed>
     requires in_order { IsInOrder tables.now }
     ensures written { (page : ℕ → List ℕ) (said : Registry) → Says page tables.now said
-        → Writes K.tells (K.written sink.old) (K.written sink.new)
+        → Writes K.tells (K.state sink.old).written (K.state sink.new).written
         (flat_map key_line said.keys ++ (flat_map counter_line said.counters ++ flat_map object_line said.objects)) result }
-    ensures flushes { K.flushes sink.new ≡ K.flushes sink.old }
-    ensures cause { HasCause (K.faults sink.old) (K.faults sink.new) result }
+    ensures flushes { (K.state sink.new).flushes ≡ (K.state sink.old).flushes }
+    ensures cause { HasCause (K.state sink.old).faults (K.state sink.new).faults result }
 {
     show_keys(tables, sink)?;
     show_data(tables, sink)
@@ -82,9 +82,9 @@ fn show_owned<K: Sink>(tables: &Tables, sink: &mut K) -> Result<(), WriteFailed>
 fn show_data<K: Sink>(tables: &Tables, sink: &mut K) -> Result<(), WriteFailed>
     requires in_order { IsInOrder tables.now }
     ensures written { (page : ℕ → List ℕ) (said : Registry) → Says page tables.now said
-        → Writes K.tells (K.written sink.old) (K.written sink.new) (flat_map counter_line said.counters ++ flat_map object_line said.objects) result }
-    ensures flushes { K.flushes sink.new ≡ K.flushes sink.old }
-    ensures cause { HasCause (K.faults sink.old) (K.faults sink.new) result }
+        → Writes K.tells (K.state sink.old).written (K.state sink.new).written (flat_map counter_line said.counters ++ flat_map object_line said.objects) result }
+    ensures flushes { (K.state sink.new).flushes ≡ (K.state sink.old).flushes }
+    ensures cause { HasCause (K.state sink.old).faults (K.state sink.new).faults result }
 {
     show_counters(tables, sink)?;
     show_objects(tables, sink)
@@ -93,22 +93,22 @@ fn show_data<K: Sink>(tables: &Tables, sink: &mut K) -> Result<(), WriteFailed>
 /// Writes the registry of a card as text, a line at a time. Only the digests of Executable Load Files make calls on the device.
 pub fn show<F: Flash, K: Sink>(card: &mut Card<F>, sink: &mut K) -> Result<(), ShowFault>
     requires up { card.old.up ≡ true }
-    ensures written { (state : State) → Stands F.tells F.pages F.may_leave card.old state → F.tells → K.tells
-        → OnOk result (K.written sink.new ≡ K.written sink.old ++ shown state.registry) }
-    ensures part { (state : State) → Stands F.tells F.pages F.may_leave card.old state → F.tells → K.tells
-        → OnErr result ((n : ℕ) × (K.written sink.new ≡ K.written sink.old ++ take n (shown state.registry))) }
+    ensures written { (state : State) → Stands F.Flash card.old state → F.tells → K.tells
+        → OnOk result ((K.state sink.new).written ≡ (K.state sink.old).written ++ shown state.registry) }
+    ensures part { (state : State) → Stands F.Flash card.old state → F.tells → K.tells
+        → OnErr result ((n : ℕ) × ((K.state sink.new).written ≡ (K.state sink.old).written ++ take n (shown state.registry))) }
     // Power lost at any moment leaves the registry.
-    ensures moments { F.tells → (state : State) → Stands F.tells F.pages F.may_leave card.old state
-        → LeavesOnly F.moment F.left_since card.old.flash card.new.flash (λ outcome. Reopens outcome state.registry) }
-    ensures stands { (state : State) → Stands F.tells F.pages F.may_leave card.old state → OnOk result (Stands F.tells F.pages F.may_leave card.new state) }
-    ensures refused { (state : State) → Stands F.tells F.pages F.may_leave card.old state
-        → IfErr result (λ fault. fault ≡ Write → Stands F.tells F.pages F.may_leave card.new state) }
+    ensures moments { F.tells → (state : State) → Stands F.Flash card.old state
+        → LeavesOnly F.Flash card.old.flash card.new.flash (λ outcome. Reopens outcome state.registry) }
+    ensures stands { (state : State) → Stands F.Flash card.old state → OnOk result (Stands F.Flash card.new state) }
+    ensures refused { (state : State) → Stands F.Flash card.old state
+        → IfErr result (λ fault. fault ≡ Write → Stands F.Flash card.new state) }
     ensures pages { F.tells → F.pages card.new.flash ≡ F.pages card.old.flash }
-    ensures flushes { K.flushes sink.new ≡ K.flushes sink.old }
+    ensures flushes { (K.state sink.new).flushes ≡ (K.state sink.old).flushes }
     ensures later { F.faults card.old.flash ≤ F.faults card.new.flash }
-    ensures later_writes { K.faults sink.old ≤ K.faults sink.new }
-    ensures quiet { OnOk result (K.faults sink.new ≡ K.faults sink.old) }
-    ensures cause { IfErr result (ShowCause (F.faults card.old.flash) (F.faults card.new.flash) (K.faults sink.old) (K.faults sink.new)) }
+    ensures later_writes { (K.state sink.old).faults ≤ (K.state sink.new).faults }
+    ensures quiet { OnOk result ((K.state sink.new).faults ≡ (K.state sink.old).faults) }
+    ensures cause { IfErr result (ShowCause (F.faults card.old.flash) (F.faults card.new.flash) (K.state sink.old).faults (K.state sink.new).faults) }
 {
     show_front(card.tables(), sink)?;
     show_files(card, sink)?;

@@ -3,3 +3,4 @@ pub mod Buffered
 pub mod Counted
 pub mod Lines
 pub mod Memory
+pub mod Streams

@@ -49,13 +49,13 @@ pub fn look_ahead<S: Source>(
     room: usize,
 ) -> Result<Ahead, ReadFailed>
     requires within { length buffer.old.held ≤ room }
-    ensures bytes { S.tells → buffer.new.held ++ S.left source.new ≡ buffer.old.held ++ S.left source.old }
+    ensures bytes { S.tells → buffer.new.held ++ (S.state source.new).left ≡ buffer.old.held ++ (S.state source.old).left }
     ensures within { length buffer.new.held ≤ room }
     ensures found { IfOk result (Finds room buffer.new.held) }
-    ensures last { S.tells → result ≡ Ok Ahead.Last → S.left source.new ≡ [] }
+    ensures last { S.tells → result ≡ Ok Ahead.Last → (S.state source.new).left ≡ [] }
     ensures failed { OnErr result (NoNewline buffer.new.held) }
     ensures failed_short { OnErr result (length (strip_carriage_return buffer.new.held) ≤ LINE_LIMIT) }
-    ensures cause { HasCause (S.faults source.old) (S.faults source.new) result }
+    ensures cause { HasCause (S.state source.old).faults (S.state source.new).faults result }
 {
     loop {
         if let Some(at) = newline_in(buffer.held()) {

@@ -43,10 +43,10 @@ fn read_front<S: Source>(source: &mut S, buf: &mut [u8], most: usize) -> Result<
     requires some { 0 < most }
     requires room { 0 < length buf.old }
     ensures within { IfOk result (λ count. (count ≤ length buf.new) × (count ≤ most)) }
-    ensures bytes { S.tells → IfOk result (λ count. S.left source.old ≡ take count buf.new ++ S.left source.new) }
-    ensures end { S.tells → result ≡ Ok 0 → S.left source.new ≡ [] }
-    ensures err { S.tells → OnErr result (S.left source.new ≡ S.left source.old) }
-    ensures cause { HasCause (S.faults source.old) (S.faults source.new) result }
+    ensures bytes { S.tells → IfOk result (λ count. (S.state source.old).left ≡ take count buf.new ++ (S.state source.new).left) }
+    ensures end { S.tells → result ≡ Ok 0 → (S.state source.new).left ≡ [] }
+    ensures err { S.tells → OnErr result ((S.state source.new).left ≡ (S.state source.old).left) }
+    ensures cause { HasCause (S.state source.old).faults (S.state source.new).faults result }
 {
     let space = most.min(buf.len());
     source.read_some(&mut buf[..space])
@@ -63,10 +63,10 @@ fn read_behind<S: Source>(
     requires room { end < ROOM }
     ensures same { take end bytes.new ≡ take end bytes.old }
     ensures within { IfOk result (λ count. (end + count ≤ ROOM) × (count ≤ most)) }
-    ensures bytes { S.tells → IfOk result (λ count. S.left source.old ≡ take count (drop end bytes.new) ++ S.left source.new) }
-    ensures end { S.tells → result ≡ Ok 0 → S.left source.new ≡ [] }
-    ensures err { S.tells → OnErr result (S.left source.new ≡ S.left source.old) }
-    ensures cause { HasCause (S.faults source.old) (S.faults source.new) result }
+    ensures bytes { S.tells → IfOk result (λ count. (S.state source.old).left ≡ take count (drop end bytes.new) ++ (S.state source.new).left) }
+    ensures end { S.tells → result ≡ Ok 0 → (S.state source.new).left ≡ [] }
+    ensures err { S.tells → OnErr result ((S.state source.new).left ≡ (S.state source.old).left) }
+    ensures cause { HasCause (S.state source.old).faults (S.state source.new).faults result }
 {
     read_front(source, &mut bytes[end..], most)
 }
@@ -86,11 +86,11 @@ fn read_on<S: Source>(
     ensures same { slice_range bytes.new start end.old ≡ slice_range bytes.old start end.old }
     ensures within { IfOk result (λ count. (end.new ≡ end.old + count) × (end.new ≤ ROOM)) }
     ensures count { IfOk result (λ count. (length (slice_range bytes.new start end.new) ≡ length (slice_range bytes.old start end.old) + count) × (count ≤ most)) }
-    ensures bytes { S.tells → IfOk result (λ count. slice_range bytes.new start end.new ++ S.left source.new ≡ slice_range bytes.old start end.old ++ S.left source.old) }
-    ensures end { S.tells → result ≡ Ok 0 → S.left source.new ≡ [] }
+    ensures bytes { S.tells → IfOk result (λ count. slice_range bytes.new start end.new ++ (S.state source.new).left ≡ slice_range bytes.old start end.old ++ (S.state source.old).left) }
+    ensures end { S.tells → result ≡ Ok 0 → (S.state source.new).left ≡ [] }
     ensures err { OnErr result (end.new ≡ end.old) }
-    ensures err_source { S.tells → OnErr result (S.left source.new ≡ S.left source.old) }
-    ensures cause { HasCause (S.faults source.old) (S.faults source.new) result }
+    ensures err_source { S.tells → OnErr result ((S.state source.new).left ≡ (S.state source.old).left) }
+    ensures cause { HasCause (S.state source.old).faults (S.state source.new).faults result }
 {
     let count = read_behind(source, bytes, *end, most)?;
     *end += count;
@@ -163,12 +163,12 @@ impl Buffer {
     pub fn fill<S: Source>(&mut self, source: &mut S, most: usize) -> Result<usize, ReadFailed>
         requires some { 0 < most }
         requires room { 2 * length self.old.held < ROOM }
-        ensures bytes { S.tells → self.new.held ++ S.left source.new ≡ self.old.held ++ S.left source.old }
+        ensures bytes { S.tells → self.new.held ++ (S.state source.new).left ≡ self.old.held ++ (S.state source.old).left }
         ensures count { IfOk result (λ count. (length self.new.held ≡ length self.old.held + count) × (count ≤ most)) }
         ensures front { take (length self.old.held) self.new.held ≡ self.old.held }
-        ensures end { S.tells → result ≡ Ok 0 → S.left source.new ≡ [] }
+        ensures end { S.tells → result ≡ Ok 0 → (S.state source.new).left ≡ [] }
         ensures err { OnErr result (self.new.held ≡ self.old.held) }
-        ensures cause { HasCause (S.faults source.old) (S.faults source.new) result }
+        ensures cause { HasCause (S.state source.old).faults (S.state source.new).faults result }
     {
         settle(&mut self.bytes, &mut self.start, &mut self.end);
         read_on(source, &mut self.bytes, self.start, &mut self.end, most)

@@ -40,18 +40,18 @@ fn advance<S: Source>(
     number: u32,
 ) -> Result<usize, LineStop>
     requires within { length buffer.old.held ≤ room }
-    ensures line { S.tells → OnOk result (IsNextLine room (buffer.old.held ++ S.left source.old) buffer.new.text (buffer.new.held ++ S.left source.new)) }
-    ensures lines { S.tells → OnOk result (lines (buffer.old.held ++ S.left source.old) ≡ buffer.new.text ∷ lines (buffer.new.held ++ S.left source.new)) }
+    ensures line { S.tells → OnOk result (IsNextLine room (buffer.old.held ++ (S.state source.old).left) buffer.new.text (buffer.new.held ++ (S.state source.new).left)) }
+    ensures lines { S.tells → OnOk result (lines (buffer.old.held ++ (S.state source.old).left) ≡ buffer.new.text ∷ lines (buffer.new.held ++ (S.state source.new).left)) }
     ensures text { OnOk result (length buffer.new.text ≤ LINE_LIMIT) }
     ensures within { length buffer.new.held ≤ room }
     ensures count { IfOk result (λ n. (0 < n) × (n + length buffer.new.held ≤ room)
-        × (S.tells → n + length (buffer.new.held ++ S.left source.new) ≡ length (buffer.old.held ++ S.left source.old))) }
-    ensures stop { S.tells → IfErr result (Stops room number (buffer.old.held ++ S.left source.old)) }
+        × (S.tells → n + length (buffer.new.held ++ (S.state source.new).left) ≡ length (buffer.old.held ++ (S.state source.old).left))) }
+    ensures stop { S.tells → IfErr result (Stops room number (buffer.old.held ++ (S.state source.old).left)) }
     ensures numbered { IfErr result (IsNumbered number) }
     ensures clear { IfErr result (λ stop. stop ≡ LineStop.ReadFailed → NoNewline buffer.new.held) }
     ensures short { IfErr result (λ stop. stop ≡ LineStop.ReadFailed → length (strip_carriage_return buffer.new.held) ≤ LINE_LIMIT) }
-    ensures cause { LineCause (S.faults source.old) (S.faults source.new) result }
-    ensures kept { S.tells → OnErr result (buffer.new.held ++ S.left source.new ≡ buffer.old.held ++ S.left source.old) }
+    ensures cause { LineCause (S.state source.old).faults (S.state source.new).faults result }
+    ensures kept { S.tells → OnErr result (buffer.new.held ++ (S.state source.new).left ≡ buffer.old.held ++ (S.state source.old).left) }
 {
     match look_ahead(buffer, source, room) {
         Ok(Ahead::Newline(at)) => cut_whole(buffer, at, room, number),
@@ -83,12 +83,12 @@ impl Lines {
         ensures number { IfOk result (λ line. line.number ≡ self.old.number + 1) }
         ensures text { IfOk result (λ line. length line.text.now ≤ LINE_LIMIT) }
         ensures* after_borrow { sem 𝓛 (Rests the_row self.entry (λ new.
-            GivesNext S.tells self.old new (S.left source.old) (S.left source.new) result)) }
+            GivesNext S.tells self.old new (S.state source.old).left (S.state source.new).left result)) }
 
         // Why there is none, where it is said for the first time.
-        ensures stop { S.tells → self.old.stop ≡ None → IfErr result (Stops (room self.old) (self.old.number + 1) (ahead self.old (S.left source.old))) }
+        ensures stop { S.tells → self.old.stop ≡ None → IfErr result (Stops (room self.old) (self.old.number + 1) (ahead self.old (S.state source.old).left)) }
         ensures numbered { self.old.stop ≡ None → IfErr result (IsNumbered (self.old.number + 1)) }
-        ensures cause { self.old.stop ≡ None → LineCause (S.faults source.old) (S.faults source.new) result }
+        ensures cause { self.old.stop ≡ None → LineCause (S.state source.old).faults (S.state source.new).faults result }
 
         // A stop is given again, with no call on the source.
         ensures again { IfSome self.old.stop (λ stop. (result ≡ Err stop) × (source.new ≡ source.old)) }

@@ -89,13 +89,7 @@ impl MemSink {
 impl Sink for MemSink {
     ghost tells = { Unit {0} };
 
-    ghost written = { λ s. s.written };
-
-    ghost handed_on = { λ s. s.handed_on };
-
-    ghost flushes = { λ s. s.flushes };
-
-    ghost faults = { λ s. s.faults };
+    ghost state = { λ s. record { written = s.written; handed_on = s.handed_on; flushes = s.flushes; faults = s.faults } };
 
     fn write_all(&mut self, bytes: &[u8]) -> Result<(), WriteFailed>
         ensures ok { Unit {0} → OnOk result (self.new.written ≡ self.old.written ++ bytes.now) }

@@ -64,9 +64,7 @@ fn copy_front(from: &[u8], to: &mut [u8], most: usize) -> usize
 impl Source for MemSource {
     ghost tells = { Unit {0} };
 
-    ghost left = { λ s. s.left };
-
-    ghost faults = { λ s. s.faults };
+    ghost state = { λ s. record { left = s.left; faults = s.faults } };
 
     fn read_some(&mut self, buf: &mut [u8]) -> Result<usize, ReadFailed>
         requires room { 0 < length buf.old }
@@ -116,9 +114,7 @@ impl<'a> SliceSource<'a> {
 impl Source for SliceSource<'_> {
     ghost tells = { Unit {0} };
 
-    ghost left = { λ s. s };
-
-    ghost faults = { λ _. 0 };
+    ghost state = { λ s. record { left = s; faults = 0 } };
 
     fn read_some(&mut self, buf: &mut [u8]) -> Result<usize, ReadFailed> {
         let count = copy_front(self.rest, buf, usize::MAX);

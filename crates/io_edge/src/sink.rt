@@ -1,7 +1,8 @@
 //! What bytes go to.
 
-ghost use Rattle.std.specs.Prelude.{◌≡◌, ◌++◌, List, ℕ, take, OnOk, OnErr};
+ghost use Rattle.std.specs.Prelude.{◌≡◌, ◌++◌, ℕ, take, OnOk, OnErr};
 ghost use Rattle.faults.specs.Faults.{HasCause, next_count};
+ghost use Rattle.io_edge.specs.Streams.{SinkState};
 
 /// A write or a flush was refused.
 #[derive(Clone, Copy, Debug, PartialEq, Eq)]
@@ -13,29 +14,20 @@ pub trait Sink {
     // A fact where what was written and handed on is known, and `⊥` where it is not.
     ghost tells: { Type 0 };
 
-    // The bytes that were written.
-    ghost written: { Self → List ℕ };
-
-    // The bytes that were handed on for good. That these are all that were written is said by a flush alone.
-    ghost handed_on: { Self → List ℕ };
-
-    // How many calls of `flush` there were.
-    ghost flushes: { Self → ℕ };
-
-    // How many calls have failed.
-    ghost faults: { Self → ℕ };
+    // What contracts see of it.
+    ghost state: { Self → SinkState };
 
     /// Appends all the bytes. After an `Err` the first of them may have been appended.
     fn write_all(&mut self, bytes: &[u8]) -> Result<(), WriteFailed>
-        ensures ok { tells → OnOk result (written self.new ≡ written self.old ++ bytes.now) }
-        ensures err { tells → OnErr result ((n : ℕ) × (written self.new ≡ written self.old ++ take n bytes.now)) }
-        ensures flushes { flushes self.new ≡ flushes self.old }
-        ensures cause { HasCause (faults self.old) (faults self.new) result };
+        ensures ok { tells → OnOk result ((state self.new).written ≡ (state self.old).written ++ bytes.now) }
+        ensures err { tells → OnErr result ((n : ℕ) × ((state self.new).written ≡ (state self.old).written ++ take n bytes.now)) }
+        ensures flushes { (state self.new).flushes ≡ (state self.old).flushes }
+        ensures cause { HasCause ((state self.old).faults) ((state self.new).faults) result };
 
     /// Hands on what was written, and appends nothing.
     fn flush(&mut self) -> Result<(), WriteFailed>
-        ensures same { tells → written self.new ≡ written self.old }
-        ensures handed_on { tells → OnOk result (handed_on self.new ≡ written self.new) }
-        ensures flushes { flushes self.new ≡ next_count (flushes self.old) }
-        ensures cause { HasCause (faults self.old) (faults self.new) result };
+        ensures same { tells → (state self.new).written ≡ (state self.old).written }
+        ensures handed_on { tells → OnOk result ((state self.new).handed_on ≡ (state self.new).written) }
+        ensures flushes { (state self.new).flushes ≡ next_count (state self.old).flushes }
+        ensures cause { HasCause ((state self.old).faults) ((state self.new).faults) result };
 }

@@ -36,9 +36,7 @@ impl<R: Read> StdSource<R> {
 impl<R: Read> Source for StdSource<R> {
     ghost tells = { ⊥ };
 
-    ghost left = { λ _. [] };
-
-    ghost faults = { λ s. s.faults };
+    ghost state = { λ s. record { left = []; faults = s.faults } };
 
     fn read_some(&mut self, buf: &mut [u8]) -> Result<usize, ReadFailed>
         requires room { 0 < length buf.old }
@@ -90,13 +88,7 @@ impl<W: Write> StdSink<W> {
 impl<W: Write> Sink for StdSink<W> {
     ghost tells = { ⊥ };
 
-    ghost written = { λ _. [] };
-
-    ghost handed_on = { λ _. [] };
-
-    ghost flushes = { λ s. s.flushes };
-
-    ghost faults = { λ s. s.faults };
+    ghost state = { λ s. record { written = []; handed_on = []; flushes = s.flushes; faults = s.faults } };
 
     fn write_all(&mut self, bytes: &[u8]) -> Result<(), WriteFailed>
         ensures flushes { self.new.flushes ≡ self.old.flushes }

@@ -1,5 +1,6 @@
 -- The four parts of a commit, at every moment.
 use Rattle.std.proofs.Common.{◌≡◌, ◌⊎◌, inl, inr, Bool, true, false, ℕ, ◌<◌, ◌≤◌, List, [], length, Option, Some, slice_get, get_or, refl, sym, ap, ◌∙◌, subst, arith, ◌==◌}
+use Rattle.flash_core.specs.declared.flash.Flash.{Ghosts as Flash}
 use Rattle.flash_core.specs.declared.page.Page.{Page}
 use Rattle.flash_core.specs.Device.{Only}
 use Rattle.frame_pool.specs.Staged.{AreDistinct}
@@ -24,31 +25,31 @@ outside : (p : ℕ) → IsPage p → IsRecord p → ⊥
 outside p (inl lt) r = omega (arith, lt, r.0)
 outside p (inr le) r = omega (arith, le, r.1)
 
-module _ {F T : Type 0} (pages : F → List Page) (moment : F → ℕ) (may_leave : F → List Page → Type 0) (left_since : F → ℕ → List Page → Type 0) (only : (f : F) (c : List Page) → T → left_since f (moment f) c → may_leave f c) (told : T)
-    (pool : List (ℕ × Page)) (some : 0 < length pool) (room : length pool ≤ 30) (homes : AreStorePages pool) (distinct : AreDistinct pool) (f0 : F) (closed : is_open (pages f0) ≡ false) where
+module _ {F T : Type 0} (device : Flash F) (only : (f : F) (c : List Page) → T → device.left_since f (device.moment f) c → device.may_leave f c) (told : T)
+    (pool : List (ℕ × Page)) (some : 0 < length pool) (room : length pool ≤ 30) (homes : AreStorePages pool) (distinct : AreDistinct pool) (f0 : F) (closed : is_open (device.pages f0) ≡ false) where
   -- power lost leaves the pages from before or those after
   abbrev pub Either : List ℕ → List Page → Type 0
-  Either loose c = Leaves (stored (pages f0)) loose c ⊎ Leaves (current pool (pages f0)) [] c
+  Either loose c = Leaves (stored (device.pages f0)) loose c ⊎ Leaves (current pool (device.pages f0)) [] c
 
   -- behind a part of a commit: what power lost may have left so far, and what is recorded
   pub record SoFar (loose : List ℕ) (f : F) : Type 0 where
-    pub moments : LeavesOnly moment left_since f0 f (Either loose)
-    pub kept : Recorded pool (pages f0) (pages f)
+    pub moments : LeavesOnly device f0 f (Either loose)
+    pub kept : Recorded pool (device.pages f0) (device.pages f)
 
   -- The copies and the descriptor are written behind the closed gate.
-  pub first : (loose : List ℕ) (f1 : F) → Always (may_leave f0) (SameBelow (pages f0)) → Always (may_leave f0) (Leaves (stored (pages f0)) loose) → Touches pages moment may_leave left_since IsRecord f0 f1 → LeavesOnly moment left_since f0 f1 (Either loose)
-  first loose f1 calm before run = only_torn pages moment may_leave left_since only told IsRecord f0 f1 (Either loose) run here
+  pub first : (loose : List ℕ) (f1 : F) → Always (device.may_leave f0) (SameBelow (device.pages f0)) → Always (device.may_leave f0) (Leaves (stored (device.pages f0)) loose) → Touches device IsRecord f0 f1 → LeavesOnly device f0 f1 (Either loose)
+  first loose f1 calm before run = only_torn device only told IsRecord f0 f1 (Either loose) run here
     where
-      here : (c : List Page) → IsTorn IsRecord (may_leave f0) c → Either loose c
+      here : (c : List Page) → IsTorn IsRecord (device.may_leave f0) c → Either loose c
       here c torn =
           let d = torn.0 in
           let below = calm d torn.1 in
-          let gate_d : is_open d ≡ false = gate_same d (pages f0) (below 45 (omega arith)) ∙ closed in
+          let gate_d : is_open d ≡ false = gate_same d (device.pages f0) (below 45 (omega arith)) ∙ closed in
           let gate : is_open c ≡ false = gate_same c d (torn.2 45 (λ r. omega (arith, r.0))) ∙ gate_d in
-          inl (shut (stored (pages f0)) loose c gate (λ p lt. torn.2 p (outside p (inl lt)) ∙ below p (omega (arith, lt)) ∙ sym (stored_shut (pages f0) p closed))
+          inl (shut (stored (device.pages f0)) loose c gate (λ p lt. torn.2 p (outside p (inl lt)) ∙ below p (omega (arith, lt)) ∙ sym (stored_shut (device.pages f0) p closed))
           (λ p le tight. torn.2 p (outside p (inr le)) ∙ sym (stored_shut d p gate_d) ∙ (before d torn.1).load p le tight))
 
-  pub recorded : (f1 : F) → Touches pages moment may_leave left_since IsRecord f0 f1 → CopiesOf (length pool) pool (pages f1) → (page : Page) × (slice_get (pages f1) 46 ≡ Some page) × Names pool page.bytes → Recorded pool (pages f0) (pages f1)
+  pub recorded : (f1 : F) → Touches device IsRecord f0 f1 → CopiesOf (length pool) pool (device.pages f1) → (page : Page) × (slice_get (device.pages f1) 46 ≡ Some page) × Names pool page.bytes → Recorded pool (device.pages f0) (device.pages f1)
   recorded f1 run copies names = record {
     names = subst (Names pool) (sym (ap bytes_of names.1)) names.2;
     copies = copies;
@@ -56,59 +57,59 @@ module _ {F T : Type 0} (pages : F → List Page) (moment : F → ℕ) (may_leav
   }
 
   -- The gate is opened before the copies.
-  pub second : (loose : List ℕ) (f1 f2 : F) → Always (may_leave f0) (SameBelow (pages f0)) → Always (may_leave f0) (Leaves (stored (pages f0)) loose) → Touches pages moment may_leave left_since IsRecord f0 f1 → CopiesOf (length pool) pool (pages f1)
-      → (page : Page) × (slice_get (pages f1) 46 ≡ Some page) × Names pool page.bytes → Only (pages f1) (may_leave f1) → Touches pages moment may_leave left_since (λ p. p ≡ 45) f1 f2 → SoFar loose f2
+  pub second : (loose : List ℕ) (f1 f2 : F) → Always (device.may_leave f0) (SameBelow (device.pages f0)) → Always (device.may_leave f0) (Leaves (stored (device.pages f0)) loose) → Touches device IsRecord f0 f1 → CopiesOf (length pool) pool (device.pages f1)
+      → (page : Page) × (slice_get (device.pages f1) 46 ≡ Some page) × Names pool page.bytes → Only (device.pages f1) (device.may_leave f1) → Touches device (λ p. p ≡ 45) f1 f2 → SoFar loose f2
   second loose f1 f2 calm before wrote copies names synced run = record {
-    moments = then_only pages moment may_leave left_since only told f0 f1 f2 (Either loose) (first loose f1 calm before wrote) (only_torn pages moment may_leave left_since only told (λ p. p ≡ 45) f1 f2 (Either loose) run here);
-    kept = recorded_after (λ p. p ≡ 45) pool (pages f0) (pages f1) (pages f2) homes (λ p is. inl is) run.seen was;
+    moments = then_only device only told f0 f1 f2 (Either loose) (first loose f1 calm before wrote) (only_torn device only told (λ p. p ≡ 45) f1 f2 (Either loose) run here);
+    kept = recorded_after (λ p. p ≡ 45) pool (device.pages f0) (device.pages f1) (device.pages f2) homes (λ p is. inl is) run.seen was;
   }
     where
-      was : Recorded pool (pages f0) (pages f1)
+      was : Recorded pool (device.pages f0) (device.pages f1)
       was = recorded f1 wrote copies names
 
-      here : (c : List Page) → IsTorn (λ p. p ≡ 45) (may_leave f1) c → Either loose c
+      here : (c : List Page) → IsTorn (λ p. p ≡ 45) (device.may_leave f1) c → Either loose c
       here c torn =
-          let same : SameOutside (λ p. p ≡ 45) (pages f1) c = subst (λ d. SameOutside (λ p. p ≡ 45) d c) (synced torn.0 torn.1) torn.2 in
+          let same : SameOutside (λ p. p ≡ 45) (device.pages f1) c = subst (λ d. SameOutside (λ p. p ≡ 45) d c) (synced torn.0 torn.1) torn.2 in
           by_gate same (is_or_not (is_open c))
         where
-          at : SameOutside (λ p. p ≡ 45) (pages f1) c → (p : ℕ) → IsPage p → slice_get c p ≡ stored (pages f0) p
-          at same p page = same p (no_gate p page) ∙ wrote.seen p (outside p page) ∙ sym (stored_shut (pages f0) p closed)
+          at : SameOutside (λ p. p ≡ 45) (device.pages f1) c → (p : ℕ) → IsPage p → slice_get c p ≡ stored (device.pages f0) p
+          at same p page = same p (no_gate p page) ∙ wrote.seen p (outside p page) ∙ sym (stored_shut (device.pages f0) p closed)
 
-          by_gate : SameOutside (λ p. p ≡ 45) (pages f1) c → (is_open c ≡ true) ⊎ (is_open c ≡ false) → Either loose c
-          by_gate same (inl gate) = inr (opened pool (pages f0) c some room homes distinct closed (recorded_after (λ p. p ≡ 45) pool (pages f0) (pages f1) c homes (λ p is. inl is) same was) gate)
-          by_gate same (inr gate) = inl (shut (stored (pages f0)) loose c gate (λ p lt. at same p (inl lt)) (λ p le tight. at same p (inr le)))
+          by_gate : SameOutside (λ p. p ≡ 45) (device.pages f1) c → (is_open c ≡ true) ⊎ (is_open c ≡ false) → Either loose c
+          by_gate same (inl gate) = inr (opened pool (device.pages f0) c some room homes distinct closed (recorded_after (λ p. p ≡ 45) pool (device.pages f0) (device.pages f1) c homes (λ p is. inl is) same was) gate)
+          by_gate same (inr gate) = inl (shut (stored (device.pages f0)) loose c gate (λ p lt. at same p (inl lt)) (λ p le tight. at same p (inr le)))
 
   -- The pages in place are written behind the open gate.
-  pub third : (loose : List ℕ) (f2 f3 : F) → SoFar loose f2 → is_open (pages f2) ≡ true → Only (pages f2) (may_leave f2) → Touches pages moment may_leave left_since (IsStaged pool) f2 f3 → SoFar loose f3
+  pub third : (loose : List ℕ) (f2 f3 : F) → SoFar loose f2 → is_open (device.pages f2) ≡ true → Only (device.pages f2) (device.may_leave f2) → Touches device (IsStaged pool) f2 f3 → SoFar loose f3
   third loose f2 f3 before gate synced run = record {
-    moments = then_only pages moment may_leave left_since only told f0 f2 f3 (Either loose) before.moments (only_torn pages moment may_leave left_since only told (IsStaged pool) f2 f3 (Either loose) run here);
-    kept = recorded_after (IsStaged pool) pool (pages f0) (pages f2) (pages f3) homes (λ p is. inr is) run.seen before.kept;
+    moments = then_only device only told f0 f2 f3 (Either loose) before.moments (only_torn device only told (IsStaged pool) f2 f3 (Either loose) run here);
+    kept = recorded_after (IsStaged pool) pool (device.pages f0) (device.pages f2) (device.pages f3) homes (λ p is. inr is) run.seen before.kept;
   }
     where
       low : IsStaged pool 45 → ⊥
       low is = omega (arith, staged_store pool 45 homes is)
 
-      here : (c : List Page) → IsTorn (IsStaged pool) (may_leave f2) c → Either loose c
+      here : (c : List Page) → IsTorn (IsStaged pool) (device.may_leave f2) c → Either loose c
       here c torn =
-          let same : SameOutside (IsStaged pool) (pages f2) c = subst (λ d. SameOutside (IsStaged pool) d c) (synced torn.0 torn.1) torn.2 in
-          inr (opened pool (pages f0) c some room homes distinct closed (recorded_after (IsStaged pool) pool (pages f0) (pages f2) c homes (λ p is. inr is) same before.kept) (gate_same c (pages f2) (same 45 low) ∙ gate))
+          let same : SameOutside (IsStaged pool) (device.pages f2) c = subst (λ d. SameOutside (IsStaged pool) d c) (synced torn.0 torn.1) torn.2 in
+          inr (opened pool (device.pages f0) c some room homes distinct closed (recorded_after (IsStaged pool) pool (device.pages f0) (device.pages f2) c homes (λ p is. inr is) same before.kept) (gate_same c (device.pages f2) (same 45 low) ∙ gate))
 
   -- The gate is closed before the pages in place.
-  pub fourth : (loose : List ℕ) (f3 f4 : F) → SoFar loose f3 → HomesOf (length pool) pool (pages f3) → Only (pages f3) (may_leave f3) → Touches pages moment may_leave left_since (λ p. p ≡ 45) f3 f4 → LeavesOnly moment left_since f0 f4 (Either loose)
+  pub fourth : (loose : List ℕ) (f3 f4 : F) → SoFar loose f3 → HomesOf (length pool) pool (device.pages f3) → Only (device.pages f3) (device.may_leave f3) → Touches device (λ p. p ≡ 45) f3 f4 → LeavesOnly device f0 f4 (Either loose)
   fourth loose f3 f4 before put synced run =
-      then_only pages moment may_leave left_since only told f0 f3 f4 (Either loose) before.moments (only_torn pages moment may_leave left_since only told (λ p. p ≡ 45) f3 f4 (Either loose) run here)
+      then_only device only told f0 f3 f4 (Either loose) before.moments (only_torn device only told (λ p. p ≡ 45) f3 f4 (Either loose) run here)
     where
-      here : (c : List Page) → IsTorn (λ p. p ≡ 45) (may_leave f3) c → Either loose c
+      here : (c : List Page) → IsTorn (λ p. p ≡ 45) (device.may_leave f3) c → Either loose c
       here c torn =
-          let same : SameOutside (λ p. p ≡ 45) (pages f3) c = subst (λ d. SameOutside (λ p. p ≡ 45) d c) (synced torn.0 torn.1) torn.2 in
-          by_gate (recorded_after (λ p. p ≡ 45) pool (pages f0) (pages f3) c homes (λ p is. inl is) same before.kept) (λ i e lt is. same e.0 (λ gate. omega (arith, gate, homes i e is)) ∙ put i e lt is) (is_or_not (is_open c))
+          let same : SameOutside (λ p. p ≡ 45) (device.pages f3) c = subst (λ d. SameOutside (λ p. p ≡ 45) d c) (synced torn.0 torn.1) torn.2 in
+          by_gate (recorded_after (λ p. p ≡ 45) pool (device.pages f0) (device.pages f3) c homes (λ p is. inl is) same before.kept) (λ i e lt is. same e.0 (λ gate. omega (arith, gate, homes i e is)) ∙ put i e lt is) (is_or_not (is_open c))
         where
-          by_gate : Recorded pool (pages f0) c → HomesOf (length pool) pool c → (is_open c ≡ true) ⊎ (is_open c ≡ false) → Either loose c
-          by_gate kept stand (inl gate) = inr (opened pool (pages f0) c some room homes distinct closed kept gate)
-          by_gate kept stand (inr gate) = inr (closed_after pool (pages f0) c some room homes distinct closed kept stand gate)
+          by_gate : Recorded pool (device.pages f0) c → HomesOf (length pool) pool c → (is_open c ≡ true) ⊎ (is_open c ≡ false) → Either loose c
+          by_gate kept stand (inl gate) = inr (opened pool (device.pages f0) c some room homes distinct closed kept gate)
+          by_gate kept stand (inr gate) = inr (closed_after pool (device.pages f0) c some room homes distinct closed kept stand gate)
 
   -- what the device stands for in the end
-  pub ended : (f3 f4 : F) → Recorded pool (pages f0) (pages f3) → HomesOf (length pool) pool (pages f3) → Touches pages moment may_leave left_since (λ p. p ≡ 45) f3 f4 → is_open (pages f4) ≡ false → IsListed (current pool (pages f0)) (pages f4)
+  pub ended : (f3 f4 : F) → Recorded pool (device.pages f0) (device.pages f3) → HomesOf (length pool) pool (device.pages f3) → Touches device (λ p. p ≡ 45) f3 f4 → is_open (device.pages f4) ≡ false → IsListed (current pool (device.pages f0)) (device.pages f4)
   ended f3 f4 was put run gate =
-      listed pool (pages f0) (pages f4) some room homes distinct closed (recorded_after (λ p. p ≡ 45) pool (pages f0) (pages f3) (pages f4) homes (λ p is. inl is) run.seen was)
+      listed pool (device.pages f0) (device.pages f4) some room homes distinct closed (recorded_after (λ p. p ≡ 45) pool (device.pages f0) (device.pages f3) (device.pages f4) homes (λ p is. inl is) run.seen was)
       (λ i e lt is. run.seen e.0 (λ at. omega (arith, at, homes i e is)) ∙ put i e lt is) gate

@@ -1,5 +1,6 @@
 -- The two parts of the end of a commit that was cut off, at every moment.
 use Rattle.std.proofs.Common.{◌≡◌, ◌≢◌, inl, inr, ⊎_elim, true, false, ℕ, ◌+◌, ◌<◌, ◌≤◌, List, slice_get, get_or, sym, ap, ◌∙◌, subst, arith}
+use Rattle.flash_core.specs.declared.flash.Flash.{Ghosts as Flash}
 use Rattle.flash_core.specs.declared.page.Page.{Page}
 use Rattle.flash_core.specs.Device.{Only}
 use Rattle.page_journal.specs.Journal.{is_open, descriptor, IsValid, copied_place, stored}
@@ -34,23 +35,23 @@ same_list : (a b : List Page) (p : ℕ) → is_open a ≡ true → slice_get b 4
 same_list a b p gate at45 at46 at =
     stored_open b p (gate_same b a at45 ∙ gate) ∙ ap (λ bytes. slice_get b (copied_place bytes p)) (descriptor_same b a at46) ∙ at ∙ sym (stored_open a p gate)
 
-module _ {F T : Type 0} (pages : F → List Page) (moment : F → ℕ) (may_leave : F → List Page → Type 0) (left_since : F → ℕ → List Page → Type 0) (only : (f : F) (c : List Page) → T → left_since f (moment f) c → may_leave f c) (told : T)
-    (bytes : List ℕ) (valid : IsValid bytes) (f0 : F) (gate : is_open (pages f0) ≡ true) (named : descriptor (pages f0) ≡ bytes) where
+module _ {F T : Type 0} (device : Flash F) (only : (f : F) (c : List Page) → T → device.left_since f (device.moment f) c → device.may_leave f c) (told : T)
+    (bytes : List ℕ) (valid : IsValid bytes) (f0 : F) (gate : is_open (device.pages f0) ≡ true) (named : descriptor (device.pages f0) ≡ bytes) where
   -- The copies are written in place behind the open gate.
-  pub copied : (loose : List ℕ) (f1 : F) → Always (may_leave f0) (SameBelow (pages f0)) → Always (may_leave f0) (Leaves (stored (pages f0)) loose) → Touches pages moment may_leave left_since (IsInDescriptor bytes) f0 f1
-      → LeavesOnly moment left_since f0 f1 (Leaves (stored (pages f0)) loose)
-  copied loose f1 calm before run = only_torn pages moment may_leave left_since only told (IsInDescriptor bytes) f0 f1 (Leaves (stored (pages f0)) loose) run here
+  pub copied : (loose : List ℕ) (f1 : F) → Always (device.may_leave f0) (SameBelow (device.pages f0)) → Always (device.may_leave f0) (Leaves (stored (device.pages f0)) loose) → Touches device (IsInDescriptor bytes) f0 f1
+      → LeavesOnly device f0 f1 (Leaves (stored (device.pages f0)) loose)
+  copied loose f1 calm before run = only_torn device only told (IsInDescriptor bytes) f0 f1 (Leaves (stored (device.pages f0)) loose) run here
     where
       high : (p : ℕ) → 45 ≤ p → IsInDescriptor bytes p → ⊥
       high p le n = omega (arith, le, n.2, valid.homes n.0 n.1)
 
-      here : (c : List Page) → IsTorn (IsInDescriptor bytes) (may_leave f0) c → Leaves (stored (pages f0)) loose c
+      here : (c : List Page) → IsTorn (IsInDescriptor bytes) (device.may_leave f0) c → Leaves (stored (device.pages f0)) loose c
       here c torn =
           let d = torn.0 in
           let below = calm d torn.1 in
           let was = before d torn.1 in
-          let gate_d : is_open d ≡ true = gate_same d (pages f0) (below 45 (omega arith)) ∙ gate in
-          let named_d : descriptor d ≡ bytes = descriptor_same d (pages f0) (below 46 (omega arith)) ∙ named in
+          let gate_d : is_open d ≡ true = gate_same d (device.pages f0) (below 45 (omega arith)) ∙ gate in
+          let named_d : descriptor d ≡ bytes = descriptor_same d (device.pages f0) (below 46 (omega arith)) ∙ named in
           let at45 = torn.2 45 (high 45 (omega arith)) in
           let at46 = torn.2 46 (high 46 (omega arith)) in
           let same : (p : ℕ) → stored c p ≡ stored d p = λ p. same_list d c p gate_d at45 at46 (torn.2 (copied_place (descriptor d) p) (λ n. unnamed_place bytes p valid (subst (λ b. IsInDescriptor bytes (copied_place b p)) named_d n))) in
@@ -60,51 +61,51 @@ module _ {F T : Type 0} (pages : F → List Page) (moment : F → ℕ) (may_leav
             load = λ p le tight. same p ∙ was.load p le tight;
           }
 
-  module _ (f1 : F) (c : List Page) (run : Touches pages moment may_leave left_since (IsInDescriptor bytes) f0 f1) (put : CopiesHome (get_or bytes 0 0) bytes (pages f0) (pages f1)) (same : SameOutside (λ p. p ≡ 45) (pages f1) c) where
+  module _ (f1 : F) (c : List Page) (run : Touches device (IsInDescriptor bytes) f0 f1) (put : CopiesHome (get_or bytes 0 0) bytes (device.pages f0) (device.pages f1)) (same : SameOutside (λ p. p ≡ 45) (device.pages f1) c) where
     high1 : (p : ℕ) → 45 ≤ p → IsInDescriptor bytes p → ⊥
     high1 p le n = omega (arith, le, n.2, valid.homes n.0 n.1)
 
-    desc : slice_get c 46 ≡ slice_get (pages f0) 46
+    desc : slice_get c 46 ≡ slice_get (device.pages f0) 46
     desc = same 46 (λ is. omega (arith, is)) ∙ run.seen 46 (high1 46 (omega arith))
 
     -- behind the open gate the copies count
-    at_copy : (p : ℕ) → IsPage p → is_open c ≡ true → stored c p ≡ stored (pages f0) p
+    at_copy : (p : ℕ) → IsPage p → is_open c ≡ true → stored c p ≡ stored (device.pages f0) p
     at_copy p page opened =
-        let there : slice_get c (copied_place bytes p) ≡ slice_get (pages f0) (copied_place bytes p) = same (copied_place bytes p) (no_gate bytes p page) ∙ run.seen (copied_place bytes p) (unnamed_place bytes p valid) in
-        stored_open c p opened ∙ ap (λ b. slice_get c (copied_place b p)) (descriptor_same c (pages f0) desc ∙ named) ∙ there ∙ ap (λ b. slice_get (pages f0) (copied_place b p)) (sym named) ∙ sym (stored_open (pages f0) p gate)
+        let there : slice_get c (copied_place bytes p) ≡ slice_get (device.pages f0) (copied_place bytes p) = same (copied_place bytes p) (no_gate bytes p page) ∙ run.seen (copied_place bytes p) (unnamed_place bytes p valid) in
+        stored_open c p opened ∙ ap (λ b. slice_get c (copied_place b p)) (descriptor_same c (device.pages f0) desc ∙ named) ∙ there ∙ ap (λ b. slice_get (device.pages f0) (copied_place b p)) (sym named) ∙ sym (stored_open (device.pages f0) p gate)
 
     -- behind the closed one the pages in place
-    pub at_home : (p : ℕ) → IsPage p → slice_get c p ≡ stored (pages f0) p
+    pub at_home : (p : ℕ) → IsPage p → slice_get c p ≡ stored (device.pages f0) p
     at_home p page =
         same p (gate_page p page) ∙ ⊎_elim
         (λ (f : (at : ℕ) × (0 ≤ at) × (at < 0 + get_or bytes 0 0) × (get_or bytes (at + 1) 0 ≡ p) × (copied_place bytes p ≡ 47 + at)).
-        ap (slice_get (pages f1)) (sym f.3) ∙ put f.0 (omega (arith, f.2)) ∙ ap (slice_get (pages f0)) (sym f.4) ∙ back)
+        ap (slice_get (device.pages f1)) (sym f.3) ∙ put f.0 (omega (arith, f.2)) ∙ ap (slice_get (device.pages f0)) (sym f.4) ∙ back)
         (λ (m : ((k : ℕ) → 0 ≤ k → k < 0 + get_or bytes 0 0 → get_or bytes (k + 1) 0 ≢ p) × (copied_place bytes p ≡ p)).
-        run.seen p (λ n. m.0 n.0 (omega arith) (omega (arith, n.1)) n.2) ∙ ap (slice_get (pages f0)) (sym m.1) ∙ back)
+        run.seen p (λ n. m.0 n.0 (omega arith) (omega (arith, n.1)) n.2) ∙ ap (slice_get (device.pages f0)) (sym m.1) ∙ back)
         (where_is bytes 0 (get_or bytes 0 0) p)
       where
         gate_page : (p : ℕ) → IsPage p → p ≡ 45 → ⊥
         gate_page p (inl lt) is = omega (arith, lt, is)
         gate_page p (inr le) is = omega (arith, le, is)
 
-        back : slice_get (pages f0) (copied_place bytes p) ≡ stored (pages f0) p
-        back = ap (λ b. slice_get (pages f0) (copied_place b p)) (sym named) ∙ sym (stored_open (pages f0) p gate)
+        back : slice_get (device.pages f0) (copied_place bytes p) ≡ stored (device.pages f0) p
+        back = ap (λ b. slice_get (device.pages f0) (copied_place b p)) (sym named) ∙ sym (stored_open (device.pages f0) p gate)
 
-    pub leaves : (loose : List ℕ) → Leaves (stored (pages f0)) loose c
+    pub leaves : (loose : List ℕ) → Leaves (stored (device.pages f0)) loose c
     leaves loose = ⊎_elim
         (λ (opened : is_open c ≡ true). record {
-          sound = λ _. subst IsValid (sym (descriptor_same c (pages f0) desc ∙ named)) valid;
+          sound = λ _. subst IsValid (sym (descriptor_same c (device.pages f0) desc ∙ named)) valid;
           store = λ p lt. at_copy p (inl lt) opened;
           load = λ p le tight. at_copy p (inr le) opened;
         })
-        (λ (closed : is_open c ≡ false). shut (stored (pages f0)) loose c closed (λ p lt. at_home p (inl lt)) (λ p le tight. at_home p (inr le)))
+        (λ (closed : is_open c ≡ false). shut (stored (device.pages f0)) loose c closed (λ p lt. at_home p (inl lt)) (λ p le tight. at_home p (inr le)))
         (is_or_not (is_open c))
 
-    pub settled : is_open c ≡ false → IsListed (stored (pages f0)) c
+    pub settled : is_open c ≡ false → IsListed (stored (device.pages f0)) c
     settled closed p page = stored_shut c p closed ∙ at_home p page
 
   -- Then the gate is closed.
-  pub closing : (loose : List ℕ) (f1 f2 : F) → Touches pages moment may_leave left_since (IsInDescriptor bytes) f0 f1 → CopiesHome (get_or bytes 0 0) bytes (pages f0) (pages f1) → Only (pages f1) (may_leave f1) → Touches pages moment may_leave left_since (λ p. p ≡ 45) f1 f2
-      → LeavesOnly moment left_since f1 f2 (Leaves (stored (pages f0)) loose)
+  pub closing : (loose : List ℕ) (f1 f2 : F) → Touches device (IsInDescriptor bytes) f0 f1 → CopiesHome (get_or bytes 0 0) bytes (device.pages f0) (device.pages f1) → Only (device.pages f1) (device.may_leave f1) → Touches device (λ p. p ≡ 45) f1 f2
+      → LeavesOnly device f1 f2 (Leaves (stored (device.pages f0)) loose)
   closing loose f1 f2 wrote put synced run =
-      only_torn pages moment may_leave left_since only told (λ p. p ≡ 45) f1 f2 (Leaves (stored (pages f0)) loose) run (λ c torn. leaves f1 c wrote put (subst (λ d. SameOutside (λ p. p ≡ 45) d c) (synced torn.0 torn.1) torn.2) loose)
+      only_torn device only told (λ p. p ≡ 45) f1 f2 (Leaves (stored (device.pages f0)) loose) run (λ c torn. leaves f1 c wrote put (subst (λ d. SameOutside (λ p. p ≡ 45) d c) (synced torn.0 torn.1) torn.2) loose)

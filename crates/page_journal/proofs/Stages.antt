@@ -2,6 +2,7 @@
 use Rattle.std.proofs.Common.{◌≡◌, ◌≢◌, ◌⊎◌, inl, inr, true, false, ℕ, zero, suc, ◌<◌, ◌≤◌, List, [], ◌∷◌, Option, None, Some, IfSome, is_some, is_none, slice_get, refl, sym, ap, ◌∙◌, arith}
 use Rattle.std.proofs.lemmas.Bool.{cases_eq}
 use Rattle.std.proofs.lemmas.Bool.Decides.{nat_tests}
+use Rattle.flash_core.specs.declared.flash.Flash.{Ghosts as Flash}
 use Rattle.flash_core.specs.declared.page.Page.{Page}
 use Rattle.frame_pool.specs.Staged.{with_page}
 use Rattle.page_journal.specs.Journal.{bytes_of, is_open, copied_place, place_of_page, stored}
@@ -39,18 +40,18 @@ pub stored_at : (pages : List Page) (journal : Option Page) (page : ℕ) → is_
 stored_at pages None page gate named = stored_shut pages page gate
 stored_at pages (Some d) page gate named = stored_open pages page gate ∙ ap (λ (o : Option Page). slice_get pages (copied_place (bytes_of o) page)) named
 
-module _ {F T : Type 0} (pages : F → List Page) (moment : F → ℕ) (may_leave : F → List Page → Type 0) (left_since : F → ℕ → List Page → Type 0) (only : (f : F) (c : List Page) → T → left_since f (moment f) c → may_leave f c) (told : T) where
+module _ {F T : Type 0} (device : Flash F) (only : (f : F) (c : List Page) → T → device.left_since f (device.moment f) c → device.may_leave f c) (told : T) where
   -- a load page that was written is loose
-  pub free : (loose : List ℕ) (page : ℕ) (old new : F) → 96 ≤ page → is_open (pages old) ≡ false → Always (may_leave old) (SameBelow (pages old)) → Always (may_leave old) (Leaves (stored (pages old)) loose)
-      → Touches pages moment may_leave left_since (λ p. p ≡ page) old new → LeavesOnly moment left_since old new (Leaves (stored (pages old)) (page ∷ loose))
-  free loose page old new high closed calm before run = only_torn pages moment may_leave left_since only told (λ p. p ≡ page) old new (Leaves (stored (pages old)) (page ∷ loose)) run here
+  pub free : (loose : List ℕ) (page : ℕ) (old new : F) → 96 ≤ page → is_open (device.pages old) ≡ false → Always (device.may_leave old) (SameBelow (device.pages old)) → Always (device.may_leave old) (Leaves (stored (device.pages old)) loose)
+      → Touches device (λ p. p ≡ page) old new → LeavesOnly device old new (Leaves (stored (device.pages old)) (page ∷ loose))
+  free loose page old new high closed calm before run = only_torn device only told (λ p. p ≡ page) old new (Leaves (stored (device.pages old)) (page ∷ loose)) run here
     where
-      here : (c : List Page) → IsTorn (λ p. p ≡ page) (may_leave old) c → Leaves (stored (pages old)) (page ∷ loose) c
+      here : (c : List Page) → IsTorn (λ p. p ≡ page) (device.may_leave old) c → Leaves (stored (device.pages old)) (page ∷ loose) c
       here c torn =
           let d = torn.0 in
           let below = calm d torn.1 in
           let was = before d torn.1 in
-          let gate_d : is_open d ≡ false = gate_same d (pages old) (below 45 (omega arith)) ∙ closed in
+          let gate_d : is_open d ≡ false = gate_same d (device.pages old) (below 45 (omega arith)) ∙ closed in
           let gate : is_open c ≡ false = gate_same c d (torn.2 45 (λ is. omega (arith, is, high))) ∙ gate_d in
-          shut (stored (pages old)) (page ∷ loose) c gate (λ p lt. torn.2 p (λ is. omega (arith, is, lt, high)) ∙ sym (stored_shut d p gate_d) ∙ was.store p lt)
+          shut (stored (device.pages old)) (page ∷ loose) c gate (λ p lt. torn.2 p (λ is. omega (arith, is, lt, high)) ∙ sym (stored_shut d p gate_d) ∙ was.store p lt)
           (λ p le tight. torn.2 p (λ is. tight (0, omega arith, sym is)) ∙ sym (stored_shut d p gate_d) ∙ was.load p le (λ in_loose. tight (suc in_loose.0, omega (arith, in_loose.1), in_loose.2)))

@@ -1,5 +1,6 @@
 -- What power lost may leave of committed pages. The layers above cite these relations, and no journal.
-use Rattle.std.specs.Prelude.{◌≡◌, ◌⊎◌, ℕ, ◌<◌, ◌≤◌, List, Option, None, Some, Contains}
+use Rattle.std.specs.Prelude.{◌≡◌, ◌⊎◌, ℕ, ◌<◌, ◌≤◌, List, [], Option, None, Some, Contains}
+use Rattle.flash_core.specs.declared.flash.Flash.{Ghosts as Flash}
 use Rattle.flash_core.specs.declared.page.Page.{Page}
 use Rattle.frame_pool.specs.Staged.{staged}
 use Rattle.page_journal.specs.Journal.{stored, HasValidJournal}
@@ -16,11 +17,15 @@ abbrev pub Always : (List Page → Type 0) → (List Page → Type 0) → Type 0
 Always may_leave P = (outcome : List Page) → may_leave outcome → P outcome
 
 -- Whatever a power loss at any moment since old leaves has P.
-pub record LeavesOnly {F : Type 0} (moment : F → ℕ) (left_since : F → ℕ → List Page → Type 0) (old new : F) (P : List Page → Type 0) : Type 0 where
-  pub later : moment old ≤ moment new
-  pub each : (outcome : List Page) → left_since new (moment old) outcome → P outcome
+pub record LeavesOnly {F : Type 0} (device : Flash F) (old new : F) (P : List Page → Type 0) : Type 0 where
+  pub later : device.moment old ≤ device.moment new
+  pub each : (outcome : List Page) → device.left_since new (device.moment old) outcome → P outcome
   -- for a run that began earlier
-  pub before : (t : ℕ) (outcome : List Page) → t ≤ moment old → left_since new t outcome → left_since old t outcome ⊎ P outcome
+  pub before : (t : ℕ) (outcome : List Page) → t ≤ device.moment old → device.left_since new t outcome → device.left_since old t outcome ⊎ P outcome
+
+-- the committed pages of a list, or all those of another
+abbrev pub LeavesEither : (ℕ → Option Page) → List ℕ → (ℕ → Option Page) → List Page → Type 0
+LeavesEither before loose after outcome = Leaves before loose outcome ⊎ Leaves after [] outcome
 
 -- the first of the two that is there
 abbrev pub first_of : Option Page → Option Page → Option Page

@@ -1,6 +1,7 @@
 -- What contracts see of a store, and what it keeps.
 use Rattle.std.specs.Prelude.{◌≡◌, ◌⊎◌, ℕ, ◌<◌, ◌≤◌, Bool, true, List, Option, Some, is_some, IfSome, slice_get}
 use Rattle.faults.specs.Faults.{Rose}
+use Rattle.flash_core.specs.declared.flash.Flash.{Ghosts as Flash}
 use Rattle.flash_core.specs.declared.page.Page.{Page}
 use Rattle.page_journal.specs.declared.cause.MountCause.{MountCause}
 use Rattle.page_journal.specs.declared.cause.MountCause.TheVariants.{Memory, FlashFailed, BadJournal}
@@ -43,7 +44,7 @@ CauseHolds tells before now pages FlashFailed = Rose before now
 CauseHolds tells before now pages BadJournal = tells → (is_open pages ≡ true) × (IsValid (descriptor pages) → ⊥)
 
 -- the same, or memory was wanted before any call on the device
-abbrev pub MountFails : {F : Type 0} → Type 0 → (F → ℕ) → (F → List Page) → F → MountCause → F → Type 0
-MountFails tells faults pages old (Memory refused) new = new ≡ old
-MountFails tells faults pages old FlashFailed new = Rose (faults old) (faults new)
-MountFails tells faults pages old BadJournal new = tells → (is_open (pages old) ≡ true) × (IsValid (descriptor (pages old)) → ⊥)
+abbrev pub MountFails : {F : Type 0} → Flash F → F → MountCause → F → Type 0
+MountFails device old (Memory refused) new = new ≡ old
+MountFails device old FlashFailed new = Rose (device.faults old) (device.faults new)
+MountFails device old BadJournal new = device.tells → (is_open (device.pages old) ≡ true) × (IsValid (descriptor (device.pages old)) → ⊥)

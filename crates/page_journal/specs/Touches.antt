@@ -1,5 +1,6 @@
 -- What a run of device calls may change.
 use Rattle.std.specs.Prelude.{◌≡◌, ℕ, List, slice_get}
+use Rattle.flash_core.specs.declared.flash.Flash.{Ghosts as Flash}
 use Rattle.flash_core.specs.declared.page.Page.{Page}
 use Rattle.page_journal.specs.Moments.{LeavesOnly}
 
@@ -12,7 +13,7 @@ abbrev pub IsTorn : (ℕ → Type 0) → (List Page → Type 0) → List Page �
 IsTorn inside old outcome = (before : List Page) × old before × SameOutside inside before outcome
 
 -- A run that touches these pages alone.
-pub record Touches {F : Type 0} (pages : F → List Page) (moment : F → ℕ) (may_leave : F → List Page → Type 0) (left_since : F → ℕ → List Page → Type 0) (inside : ℕ → Type 0) (old new : F) : Type 0 where
-  pub seen : SameOutside inside (pages old) (pages new)
-  pub now : (outcome : List Page) → may_leave new outcome → IsTorn inside (may_leave old) outcome
-  pub moments : LeavesOnly moment left_since old new (IsTorn inside (may_leave old))
+pub record Touches {F : Type 0} (device : Flash F) (inside : ℕ → Type 0) (old new : F) : Type 0 where
+  pub seen : SameOutside inside (device.pages old) (device.pages new)
+  pub now : (outcome : List Page) → device.may_leave new outcome → IsTorn inside (device.may_leave old) outcome
+  pub moments : LeavesOnly device old new (IsTorn inside (device.may_leave old))

@@ -1,12 +1,12 @@
 //! A commit and the end of one that was cut off, at every moment.
 
-ghost use Rattle.std.specs.Prelude.{◌≡◌, ◌⊎◌, ℕ, ◌<◌, ◌≤◌, List, [], length, Some, false, true, slice_get, OnOk};
+ghost use Rattle.std.specs.Prelude.{◌≡◌, ℕ, ◌<◌, ◌≤◌, List, length, Some, false, true, slice_get, OnOk};
 ghost use Rattle.faults.specs.Faults.{HasCause};
 ghost use Rattle.flash_core.specs.declared.page.Page.{Page as PageOf};
 ghost use Rattle.flash_core.specs.Device.{Only};
 ghost use Rattle.frame_pool.specs.Staged.{AreDistinct};
 ghost use Rattle.page_journal.specs.Journal.{is_open, stored, IsValid};
-ghost use Rattle.page_journal.specs.Moments.{Always, LeavesOnly, Leaves, current};
+ghost use Rattle.page_journal.specs.Moments.{Always, LeavesEither, LeavesOnly, Leaves, current};
 ghost use Rattle.page_journal.specs.Store.{AreStorePages, SameBelow, IsListed};
 
 use crate::steps::{OPEN, copy_in_place, put_in_place, record, set_gate};
@@ -22,8 +22,8 @@ pub fn commit_pages<F: Flash>(flash: &mut F, pool: &FramePool) -> Result<(), Fla
     requires closed { F.tells → is_open (F.pages flash.old) ≡ false }
     requires calm { F.tells → Always (F.may_leave flash.old) (SameBelow (F.pages flash.old)) }
     ensures moments { F.tells → (loose : List ℕ) → Always (F.may_leave flash.old) (Leaves (stored (F.pages flash.old)) loose)
-        → LeavesOnly F.moment F.left_since flash.old flash.new
-        (λ outcome. Leaves (stored (F.pages flash.old)) loose outcome ⊎ Leaves (current pool.now (F.pages flash.old)) [] outcome) }
+        → LeavesOnly F.Flash flash.old flash.new
+        (LeavesEither (stored (F.pages flash.old)) loose (current pool.now (F.pages flash.old))) }
     ensures list { F.tells → OnOk result (IsListed (current pool.now (F.pages flash.old)) (F.pages flash.new)) }
     ensures only { F.tells → OnOk result (Only (F.pages flash.new) (F.may_leave flash.new)) }
     ensures shut { F.tells → OnOk result (is_open (F.pages flash.new) ≡ false) }
@@ -44,7 +44,7 @@ pub fn settle_pages<F: Flash>(flash: &mut F, descriptor: &Page) -> Result<(), Fl
     requires named { F.tells → slice_get (F.pages flash.old) 46 ≡ Some descriptor.now }
     requires calm { F.tells → Always (F.may_leave flash.old) (SameBelow (F.pages flash.old)) }
     ensures moments { F.tells → (loose : List ℕ) → Always (F.may_leave flash.old) (Leaves (stored (F.pages flash.old)) loose)
-        → LeavesOnly F.moment F.left_since flash.old flash.new (Leaves (stored (F.pages flash.old)) loose) }
+        → LeavesOnly F.Flash flash.old flash.new (Leaves (stored (F.pages flash.old)) loose) }
     ensures list { F.tells → OnOk result (IsListed (stored (F.pages flash.old)) (F.pages flash.new)) }
     ensures only { F.tells → OnOk result (Only (F.pages flash.new) (F.may_leave flash.new)) }
     ensures shut { F.tells → OnOk result (is_open (F.pages flash.new) ≡ false) }

@@ -25,7 +25,7 @@ pub const OPEN: u8 = 0xA5;
 /// Writes one page, and syncs.
 pub fn write_synced<F: Flash>(flash: &mut F, page: u16, from: &Page) -> Result<(), FlashFailed>
     requires { page < 608 }
-    ensures touches { F.tells → Touches F.pages F.moment F.may_leave F.left_since (λ p. p ≡ page) flash.old flash.new }
+    ensures touches { F.tells → Touches F.Flash (λ p. p ≡ page) flash.old flash.new }
     ensures written { F.tells → OnOk result (slice_get (F.pages flash.new) page ≡ Some from.now) }
     ensures only { F.tells → OnOk result (Only (F.pages flash.new) (F.may_leave flash.new)) }
     ensures cause { HasCause (F.faults flash.old) (F.faults flash.new) result }
@@ -37,7 +37,7 @@ pub fn write_synced<F: Flash>(flash: &mut F, page: u16, from: &Page) -> Result<(
 // Writes the copies of the staged pages.
 fn write_copies<F: Flash>(flash: &mut F, pool: &FramePool) -> Result<(), FlashFailed>
     requires { length pool.now ≤ 30 }
-    ensures touches { F.tells → Touches F.pages F.moment F.may_leave F.left_since IsCopy flash.old flash.new }
+    ensures touches { F.tells → Touches F.Flash IsCopy flash.old flash.new }
     ensures copies { F.tells → OnOk result (CopiesOf (length pool.now) pool.now (F.pages flash.new)) }
     ensures cause { HasCause (F.faults flash.old) (F.faults flash.new) result }
 {
@@ -52,7 +52,7 @@ fn write_copies<F: Flash>(flash: &mut F, pool: &FramePool) -> Result<(), FlashFa
 pub fn record<F: Flash>(flash: &mut F, pool: &FramePool) -> Result<(), FlashFailed>
     requires room { length pool.now ≤ 30 }
     requires homes { AreStorePages pool.now }
-    ensures touches { F.tells → Touches F.pages F.moment F.may_leave F.left_since IsRecord flash.old flash.new }
+    ensures touches { F.tells → Touches F.Flash IsRecord flash.old flash.new }
     ensures copies { F.tells → OnOk result (CopiesOf (length pool.now) pool.now (F.pages flash.new)) }
     ensures names { F.tells → OnOk result ((page : PageOf) × (slice_get (F.pages flash.new) 46 ≡ Some page) × Names pool.now page.bytes) }
     ensures only { F.tells → OnOk result (Only (F.pages flash.new) (F.may_leave flash.new)) }
@@ -64,7 +64,7 @@ pub fn record<F: Flash>(flash: &mut F, pool: &FramePool) -> Result<(), FlashFail
 
 /// Writes the gate, and syncs.
 pub fn set_gate<F: Flash>(flash: &mut F, byte: u8) -> Result<(), FlashFailed>
-    ensures touches { F.tells → Touches F.pages F.moment F.may_leave F.left_since (λ p. p ≡ 45) flash.old flash.new }
+    ensures touches { F.tells → Touches F.Flash (λ p. p ≡ 45) flash.old flash.new }
     ensures written { F.tells → OnOk result ((page : PageOf) × (slice_get (F.pages flash.new) 45 ≡ Some page) × (slice_index page.bytes 0 ≡ byte)) }
     ensures only { F.tells → OnOk result (Only (F.pages flash.new) (F.may_leave flash.new)) }
     ensures cause { HasCause (F.faults flash.old) (F.faults flash.new) result }
@@ -75,7 +75,7 @@ pub fn set_gate<F: Flash>(flash: &mut F, byte: u8) -> Result<(), FlashFailed>
 /// Writes the staged pages in place, and syncs.
 pub fn put_in_place<F: Flash>(flash: &mut F, pool: &FramePool) -> Result<(), FlashFailed>
     requires homes { AreStorePages pool.now }
-    ensures touches { F.tells → Touches F.pages F.moment F.may_leave F.left_since (IsStaged pool.now) flash.old flash.new }
+    ensures touches { F.tells → Touches F.Flash (IsStaged pool.now) flash.old flash.new }
     ensures homes { F.tells → OnOk result (HomesOf (length pool.now) pool.now (F.pages flash.new)) }
     ensures only { F.tells → OnOk result (Only (F.pages flash.new) (F.may_leave flash.new)) }
     ensures cause { HasCause (F.faults flash.old) (F.faults flash.new) result }
@@ -90,7 +90,7 @@ pub fn put_in_place<F: Flash>(flash: &mut F, pool: &FramePool) -> Result<(), Fla
 /// Writes the copies that a descriptor names in place, and syncs.
 pub fn copy_in_place<F: Flash>(flash: &mut F, descriptor: &Page) -> Result<(), FlashFailed>
     requires { IsValid descriptor.now.bytes }
-    ensures touches { F.tells → Touches F.pages F.moment F.may_leave F.left_since (IsInDescriptor descriptor.now.bytes) flash.old flash.new }
+    ensures touches { F.tells → Touches F.Flash (IsInDescriptor descriptor.now.bytes) flash.old flash.new }
     ensures homes { F.tells → OnOk result (CopiesHome (slice_index descriptor.now.bytes 0) descriptor.now.bytes (F.pages flash.old) (F.pages flash.new)) }
     ensures only { F.tells → OnOk result (Only (F.pages flash.new) (F.may_leave flash.new)) }
     ensures cause { HasCause (F.faults flash.old) (F.faults flash.new) result }

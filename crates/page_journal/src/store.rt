@@ -6,7 +6,7 @@ ghost use Rattle.flash_core.specs.declared.page.Page.{Page as PageOf};
 ghost use Rattle.flash_core.specs.Device.{NoneNew, SameBut, Only};
 ghost use Rattle.frame_pool.specs.Staged.{staged, with_page};
 ghost use Rattle.page_journal.specs.Journal.{HasValidJournal, IsValid, is_open, stored};
-ghost use Rattle.page_journal.specs.Moments.{Always, LeavesOnly, Leaves, current};
+ghost use Rattle.page_journal.specs.Moments.{Always, LeavesEither, LeavesOnly, Leaves, current};
 ghost use Rattle.page_journal.specs.Store.{IsListed, HasJournal, CauseHolds, MountFails};
 
 use crate::cause::{MountCause, MountError};
@@ -50,12 +50,12 @@ impl<F: Flash> PageStore<F> {
         ensures settled { F.tells → IfOk result (λ s. IsTrue s.settled ↔ (is_open (F.pages flash) ≡ false)) }
         ensures sound { F.tells → IfOk result (λ s. HasValidJournal (F.pages flash)) }
         ensures only { F.tells → IfOk result (λ s. Only (F.pages flash) (F.may_leave s.flash)) }
-        ensures moments { F.tells → IfOk result (λ s. LeavesOnly F.moment F.left_since flash s.flash (F.may_leave flash)) }
+        ensures moments { F.tells → IfOk result (λ s. LeavesOnly F.Flash flash s.flash (F.may_leave flash)) }
         ensures later { IfOk result (λ s. F.faults flash ≤ F.faults s.flash) }
         ensures err_later { IfErr result (λ e. F.faults flash ≤ F.faults e.flash) }
         ensures err_pages { F.tells → IfErr result (λ e. F.pages e.flash ≡ F.pages flash) }
-        ensures err_moments { F.tells → IfErr result (λ e. LeavesOnly F.moment F.left_since flash e.flash (F.may_leave flash)) }
-        ensures err { IfErr result (λ e. MountFails F.tells F.faults F.pages flash e.cause e.flash) }
+        ensures err_moments { F.tells → IfErr result (λ e. LeavesOnly F.Flash flash e.flash (F.may_leave flash)) }
+        ensures err { IfErr result (λ e. MountFails F.Flash flash e.cause e.flash) }
     {
         let pool = match FramePool::new(alloc) {
             Ok(pool) => pool,
@@ -106,7 +106,7 @@ impl<F: Flash> PageStore<F> {
         requires none { self.old.staged ≡ [] }
         // The committed pages are the same at every moment.
         ensures moments { F.tells → (loose : List ℕ) → Always (F.may_leave self.old.flash) (Leaves (stored (F.pages self.old.flash)) loose)
-            → LeavesOnly F.moment F.left_since self.old.flash self.new.flash (Leaves (stored (F.pages self.old.flash)) loose) }
+            → LeavesOnly F.Flash self.old.flash self.new.flash (Leaves (stored (F.pages self.old.flash)) loose) }
         ensures list { F.tells → OnOk result (IsListed (stored (F.pages self.old.flash)) (F.pages self.new.flash)) }
         ensures only { F.tells → self.old.settled ≡ false → OnOk result (Only (F.pages self.new.flash) (F.may_leave self.new.flash)) }
         ensures idle { self.old.settled ≡ true → IsOk result × (self.new ≡ self.old) }
@@ -135,7 +135,7 @@ impl<F: Flash> PageStore<F> {
         ensures same { (self.new.staged ≡ self.old.staged) × (self.new.settled ≡ self.old.settled) × (self.new.live ≡ self.old.live) }
         ensures pages { F.tells → F.pages self.new.flash ≡ F.pages self.old.flash }
         ensures loss { F.tells → NoneNew (F.may_leave self.old.flash) (F.may_leave self.new.flash) }
-        ensures moments { F.tells → LeavesOnly F.moment F.left_since self.old.flash self.new.flash (F.may_leave self.old.flash) }
+        ensures moments { F.tells → LeavesOnly F.Flash self.old.flash self.new.flash (F.may_leave self.old.flash) }
         ensures cause { HasCause (F.faults self.old.flash) (F.faults self.new.flash) result }
     {
         if let Some(staged) = self.pool.get(page) {
@@ -166,7 +166,7 @@ impl<F: Flash> PageStore<F> {
         ensures written { F.tells → OnOk result (stored (F.pages self.new.flash) page ≡ Some from.now) }
         ensures others { F.tells → (other : ℕ) → other ≢ page → stored (F.pages self.new.flash) other ≡ stored (F.pages self.old.flash) other }
         ensures moments { F.tells → (loose : List ℕ) → Always (F.may_leave self.old.flash) (Leaves (stored (F.pages self.old.flash)) loose)
-            → LeavesOnly F.moment F.left_since self.old.flash self.new.flash (Leaves (stored (F.pages self.old.flash)) (page ∷ loose)) }
+            → LeavesOnly F.Flash self.old.flash self.new.flash (Leaves (stored (F.pages self.old.flash)) (page ∷ loose)) }
         ensures same { (self.new.staged ≡ self.old.staged) × (self.new.settled ≡ true) × (self.new.live ≡ true) }
         ensures cause { HasCause (F.faults self.old.flash) (F.faults self.new.flash) result }
     {
@@ -181,8 +181,8 @@ impl<F: Flash> PageStore<F> {
         requires settled { self.old.settled ≡ true }
         // At every moment power lost leaves the committed pages from before or those after.
         ensures moments { F.tells → (loose : List ℕ) → Always (F.may_leave self.old.flash) (Leaves (stored (F.pages self.old.flash)) loose)
-            → LeavesOnly F.moment F.left_since self.old.flash self.new.flash
-            (λ outcome. Leaves (stored (F.pages self.old.flash)) loose outcome ⊎ Leaves (current self.old.staged (F.pages self.old.flash)) [] outcome) }
+            → LeavesOnly F.Flash self.old.flash self.new.flash
+            (LeavesEither (stored (F.pages self.old.flash)) loose (current self.old.staged (F.pages self.old.flash))) }
         ensures list { F.tells → OnOk result (IsListed (current self.old.staged (F.pages self.old.flash)) (F.pages self.new.flash)) }
         ensures only { F.tells → 0 < length self.old.staged → OnOk result (Only (F.pages self.new.flash) (F.may_leave self.new.flash)) }
         ensures idle { self.old.staged ≡ [] → IsOk result × (self.new ≡ self.old) }
@@ -204,7 +204,7 @@ impl<F: Flash> PageStore<F> {
 // Syncs a device, and reads the descriptor where the gate is open.
 fn read_journal<F: Flash>(flash: &mut F) -> Result<Option<Page>, MountCause>
     ensures pages { F.tells → F.pages flash.new ≡ F.pages flash.old }
-    ensures moments { F.tells → LeavesOnly F.moment F.left_since flash.old flash.new (F.may_leave flash.old) }
+    ensures moments { F.tells → LeavesOnly F.Flash flash.old flash.new (F.may_leave flash.old) }
     ensures only { F.tells → OnOk result (Only (F.pages flash.new) (F.may_leave flash.new)) }
     ensures stands { F.tells → IfOk result (HasJournal (F.pages flash.new)) }
     ensures valid { IfOk result (λ journal. IfSome journal (λ page. IsValid page.bytes)) }

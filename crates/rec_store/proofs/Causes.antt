@@ -1,6 +1,7 @@
 -- Causes of refusals.
 use Rattle.std.proofs.Common.{◌≡◌, ℕ, ◌≤◌, List, Result, Ok, Err, sym, subst, ◌∙◌, arith}
 use Rattle.std.specs.Prelude.{IfErr, IfOk, IsErrAnd}
+use Rattle.flash_core.specs.declared.flash.Flash.{Ghosts as Flash}
 use Rattle.flash_core.specs.declared.page.Page.{Page}
 use Rattle.rec_store.specs.Contents.{CardFails, OpenFails, SlotsFail}
 use Rattle.rec_store.specs.Reopens.{Reopens}
@@ -27,11 +28,11 @@ fails_later tells before mid now bad also later step FlashFailed why = omega (ar
 fails_later tells before mid now bad also later step NotACard why = λ told. step told (why told)
 
 -- why a card is not opened, where the store is what the device was
-pub opens_later : {F : Type 0} (tells : Type 0) (faults : F → ℕ) (pages : F → List Page) (old mid new : F) → faults old ≤ faults mid → (tells → pages mid ≡ pages old)
-    → (cause : OpenCause) → CardFails tells faults pages mid cause new → OpenFails tells faults pages old cause new
-opens_later tells faults pages old mid new later same (Memory refused) why = absurd why
-opens_later tells faults pages old mid new later same FlashFailed why = omega (arith, why, later)
-opens_later tells faults pages old mid new later same NotACard why = λ told. (λ registry reopens. (why told).0 registry (subst (λ p. Reopens p registry) (sym (same told)) reopens), (why told).1 ∙ same told)
+pub opens_later : {F : Type 0} (device : Flash F) (old mid new : F) → device.faults old ≤ device.faults mid → (device.tells → device.pages mid ≡ device.pages old)
+    → (cause : OpenCause) → CardFails device mid cause new → OpenFails device old cause new
+opens_later device old mid new later same (Memory refused) why = absurd why
+opens_later device old mid new later same FlashFailed why = omega (arith, why, later)
+opens_later device old mid new later same NotACard why = λ told. (λ registry reopens. (why told).0 registry (subst (λ p. Reopens p registry) (sym (same told)) reopens), (why told).1 ∙ same told)
 
 module _ {T E : Type 0} where
   pub each_ok : (result : Result T E) (P Q : T → Type 0) → ((value : T) → P value → Q value) → IfOk result P → IfOk result Q

@@ -9,7 +9,7 @@ use Rattle.card_types.specs.declared.tables.Tables.{Tables}
 use Rattle.page_journal.specs.Journal.{stored}
 use Rattle.page_journal.specs.Moments.{Leaves, current}
 use Rattle.page_journal.specs.Store.{IsListed}
-use Rattle.rec_store.specs.Reopens.{HoldsRegistry, Keeps, NoLoadPage, Reopens, current_page, load_in, load_page, store_page}
+use Rattle.rec_store.specs.Reopens.{HoldsRegistry, KeepsPages, NoLoadPage, Reopens, current_page, load_in, load_page, store_page}
 use Rattle.rec_store.specs.StoredTables.{HoldsTables}
 use Rattle.rec_store.proofs.OneRegistry.{one_registry}
 use Rattle.rec_store.proofs.Reopening.{keeps_left, left, load_current, load_same, none_loose}
@@ -24,7 +24,7 @@ some_or_none [] = inl refl
 some_or_none (first ∷ rest) = inr (omega arith)
 
 module _ (pool : List (ℕ × Page)) (pages : List Page) (may_leave : List Page → Type 0) (t : Tables) (before after : Registry) (none : NoLoadPage pool) (held : HoldsTables (current_page pool pages) t)
-    (card : IsCard (load_page pages) t) (says : Says (load_page pages) t after) (was : Keeps pages may_leave before) where
+    (card : IsCard (load_page pages) t) (says : Says (load_page pages) t after) (was : KeepsPages pages may_leave before) where
   list_card : IsCard (load_in (current pool pages)) t
   list_card = subst (λ load. IsCard load t) (sym (load_now pool pages none)) card
 
@@ -40,14 +40,14 @@ module _ (pool : List (ℕ × Page)) (pages : List Page) (may_leave : List Page 
   either outcome (inr leaves) = inr (left (current pool pages) [] outcome t leaves (none_loose t) list_card after held list_says)
 
   -- with nothing staged the two are one
-  pub idle : pool ≡ [] → Keeps pages may_leave after
-  idle empty = subst (Keeps pages may_leave) (one_registry (store_page pages) (load_page pages) before after was.now.holds now) was
+  pub idle : pool ≡ [] → KeepsPages pages may_leave after
+  idle empty = subst (KeepsPages pages may_leave) (one_registry (store_page pages) (load_page pages) before after was.now.holds now) was
     where
       now : HoldsRegistry (store_page pages) (load_page pages) after
       now = record { tables = t; held = subst (λ staged. HoldsTables (current_page staged pages) t) empty held; card = card; says = says }
 
   -- once the pages are committed
-  pub done : (new : List Page) (later : List Page → Type 0) → Either new → IsListed (current pool pages) new → Only new later → Keeps new later after
+  pub done : (new : List Page) (later : List Page → Type 0) → Either new → IsListed (current pool pages) new → Only new later → KeepsPages new later after
   done new later either_new listed only =
       keeps_left (current pool pages) [] t after (none_loose t) held list_card list_says new later leaves (λ outcome possible. subst (Leaves (current pool pages) []) (sym (only outcome possible)) leaves)
     where

@@ -21,7 +21,7 @@ use Rattle.page_journal.specs.Journal.{HasValidJournal, bytes_of, stored}
 use Rattle.page_journal.specs.Moments.{Always, Leaves, current, first_of}
 use Rattle.rec_store.specs.EntrySlot.{HoldsEntry}
 use Rattle.rec_store.specs.FileSlot.{HoldsFile}
-use Rattle.rec_store.specs.Reopens.{IsFree, Keeps, NoLoadPage, Reopens, load_in, load_page, store_in, store_page}
+use Rattle.rec_store.specs.Reopens.{IsFree, KeepsPages, NoLoadPage, Reopens, load_in, load_page, store_in, store_page}
 use Rattle.rec_store.specs.KeySlot.{HoldsKey}
 use Rattle.rec_store.specs.ObjectSlot.{HoldsObject}
 use Rattle.rec_store.specs.Places.{slot_at, slot_from}
@@ -124,7 +124,7 @@ module _ (list : ℕ → Option Page) (loose : List ℕ) (outcome : List Page) (
 
 -- pages that hold a registry, of which all else that power loss leaves are loose pages
 pub keeps : (pages : List Page) (may_leave : List Page → Type 0) (registry : Registry) (t : Tables) → HasValidJournal pages → HoldsTables (store_page pages) t → IsCard (load_page pages) t → Says (load_page pages) t registry
-    → (loose : List ℕ) → Always may_leave (Leaves (stored pages) loose) → ((n : ℕ) → Contains loose n → IsFree t n) → Keeps pages may_leave registry
+    → (loose : List ℕ) → Always may_leave (Leaves (stored pages) loose) → ((n : ℕ) → Contains loose n → IsFree t n) → KeepsPages pages may_leave registry
 keeps pages may_leave registry t sound held card says loose leaves free = record {
   reopens = λ outcome possible. left (stored pages) loose outcome t (leaves outcome possible) free card registry held says;
   now = record { sound = sound; holds = record { tables = t; held = held; card = card; says = says } };
@@ -134,8 +134,8 @@ keeps pages may_leave registry t sound held card says loose leaves free = record
 }
 
 -- pages that are the same, where power loss leaves nothing else
-pub keeps_on : (old new : List Page) (may_leave later : List Page → Type 0) (registry : Registry) → new ≡ old → NoneNew may_leave later → Keeps old may_leave registry → Keeps new later registry
-keeps_on old new may_leave later registry same none was = subst (λ pages. Keeps pages later registry) (sym same) (record {
+pub keeps_on : (old new : List Page) (may_leave later : List Page → Type 0) (registry : Registry) → new ≡ old → NoneNew may_leave later → KeepsPages old may_leave registry → KeepsPages new later registry
+keeps_on old new may_leave later registry same none was = subst (λ pages. KeepsPages pages later registry) (sym same) (record {
   reopens = λ outcome possible. was.reopens outcome (none outcome possible);
   now = was.now;
   loose = was.loose;
@@ -174,7 +174,7 @@ free_of_held store t u page first second = free_same t u page (same_pages store 
 
 -- pages that power loss leaves of a list, and what it leaves then
 pub keeps_left : (list : ℕ → Option Page) (loose : List ℕ) (t : Tables) (registry : Registry) → ((n : ℕ) → Contains loose n → IsFree t n) → HoldsTables (store_in list) t → IsCard (load_in list) t → Says (load_in list) t registry
-    → (pages : List Page) (may_leave : List Page → Type 0) → Leaves list loose pages → Always may_leave (Leaves list loose) → Keeps pages may_leave registry
+    → (pages : List Page) (may_leave : List Page → Type 0) → Leaves list loose pages → Always may_leave (Leaves list loose) → KeepsPages pages may_leave registry
 keeps_left list loose t registry free held card says pages may_leave now later =
     keeps pages may_leave registry t now.sound (left_tables list loose pages t now free card held) (left_card list loose pages t now free card) (left_says list loose pages t now free card registry says) loose
     (λ outcome possible.

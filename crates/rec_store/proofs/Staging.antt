@@ -8,6 +8,7 @@ use Rattle.std.proofs.Math.Nat.{div-add-mod}
 use Rattle.card_types.proofs.Members.{contains_cases}
 use Rattle.card_types.specs.Slots.{held}
 use Rattle.card_types.specs.declared.tables.Tables.{Tables}
+use Rattle.flash_core.specs.declared.flash.Flash.{Ghosts as Flash}
 use Rattle.flash_core.specs.declared.page.Page.{Page}
 use Rattle.frame_pool.specs.Staged.{staged, with_page}
 use Rattle.page_journal.specs.Journal.{bytes_of, stored}
@@ -121,9 +122,9 @@ module _ {F : Type 0} (store new : Store F) (page : ℕ) (x : Page) (anew : new 
   numbers_anew shown is = ap (λ (s : Store F). numbers s.staged) anew ∙ staged_numbers store.staged page x ∙ ap (λ staged. with_staged staged page) is
 
   -- what is kept of records, where it holds the tables
-  pub kept_anew : (tells : Type 0) (pages : F → List Page) (t : Tables) → page < 45 → AreRoomy t → store.settled ≡ true → NoLoadPage store.staged
-      → (tells → HoldsTables (current_page (with_page store.staged page x) (pages store.flash)) t)
-      → AreRoomy t × (new.settled ≡ true) × NoLoadPage new.staged × (tells → new.live ≡ true → HoldsTables (current_page new.staged (pages new.flash)) t)
-  kept_anew tells pages t lt roomy settled none held =
-      subst (λ (s : Store F). AreRoomy t × (s.settled ≡ true) × NoLoadPage s.staged × (tells → s.live ≡ true → HoldsTables (current_page s.staged (pages s.flash)) t)) (sym anew)
+  pub kept_anew : (device : Flash F) (t : Tables) → page < 45 → AreRoomy t → store.settled ≡ true → NoLoadPage store.staged
+      → (device.tells → HoldsTables (current_page (with_page store.staged page x) (device.pages store.flash)) t)
+      → AreRoomy t × (new.settled ≡ true) × NoLoadPage new.staged × (device.tells → new.live ≡ true → HoldsTables (current_page new.staged (device.pages new.flash)) t)
+  kept_anew device t lt roomy settled none held =
+      subst (λ (s : Store F). AreRoomy t × (s.settled ≡ true) × NoLoadPage s.staged × (device.tells → s.live ≡ true → HoldsTables (current_page s.staged (device.pages s.flash)) t)) (sym anew)
       (roomy, settled, none_loaded store.staged page x lt none, λ told live. held told)

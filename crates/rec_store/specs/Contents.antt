@@ -3,6 +3,7 @@ use Rattle.std.specs.Prelude.{◌≡◌, ℕ, Bool, List}
 use Rattle.card_types.specs.Registry.{Registry}
 use Rattle.card_types.specs.declared.tables.Tables.{Tables}
 use Rattle.faults.specs.Faults.{Rose}
+use Rattle.flash_core.specs.declared.flash.Flash.{Ghosts as Flash}
 use Rattle.flash_core.specs.declared.page.Page.{Page}
 use Rattle.page_journal.specs.declared.cause.MountCause.{MountCause}
 use Rattle.page_journal.specs.declared.cause.MountCause.TheVariants as mount
@@ -19,10 +20,10 @@ pub record Contents (F : Type 0) : Type 0 where
   pub live : Bool
 
 -- Why a device is not mounted: memory was wanted before any call on it, it failed, or its pages hold no registry.
-abbrev pub OpenFails : {F : Type 0} → Type 0 → (F → ℕ) → (F → List Page) → F → OpenCause → F → Type 0
-OpenFails tells faults pages old (Memory refused) new = new ≡ old
-OpenFails tells faults pages old FlashFailed new = Rose (faults old) (faults new)
-OpenFails tells faults pages old NotACard new = tells → ((registry : Registry) → Reopens (pages old) registry → ⊥) × (pages new ≡ pages old)
+abbrev pub OpenFails : {F : Type 0} → Flash F → F → OpenCause → F → Type 0
+OpenFails device old (Memory refused) new = new ≡ old
+OpenFails device old FlashFailed new = Rose (device.faults old) (device.faults new)
+OpenFails device old NotACard new = device.tells → ((registry : Registry) → Reopens (device.pages old) registry → ⊥) × (device.pages new ≡ device.pages old)
 
 -- Why slots are not read: the device failed, or one of them holds nothing that a card has.
 abbrev pub SlotsFail : Type 0 → ℕ → ℕ → Type 0 → OpenCause → Type 0
@@ -37,7 +38,7 @@ opened_cause mount.FlashFailed = FlashFailed
 opened_cause mount.BadJournal = NotACard
 
 -- Why the tables of a card are not read: the device failed, or its pages hold no registry. Then nothing is written.
-abbrev pub CardFails : {F : Type 0} → Type 0 → (F → ℕ) → (F → List Page) → F → OpenCause → F → Type 0
-CardFails tells faults pages old (Memory refused) new = ⊥
-CardFails tells faults pages old FlashFailed new = Rose (faults old) (faults new)
-CardFails tells faults pages old NotACard new = tells → ((registry : Registry) → Reopens (pages old) registry → ⊥) × (pages new ≡ pages old)
+abbrev pub CardFails : {F : Type 0} → Flash F → F → OpenCause → F → Type 0
+CardFails device old (Memory refused) new = ⊥
+CardFails device old FlashFailed new = Rose (device.faults old) (device.faults new)
+CardFails device old NotACard new = device.tells → ((registry : Registry) → Reopens (device.pages old) registry → ⊥) × (device.pages new ≡ device.pages old)

@@ -1,9 +1,10 @@
 -- Which registry pages hold.
-use Rattle.std.specs.Prelude.{◌≡◌, ℕ, ◌≤◌, ◌++◌, List, [], Option, None, Contains, All, take, replicate, nat_lt, if◌then◌else◌}
+use Rattle.std.specs.Prelude.{◌≡◌, ◌⊎◌, ℕ, ◌≤◌, ◌++◌, List, [], Option, None, Contains, All, take, replicate, nat_lt, if◌then◌else◌}
 use Rattle.card_check.specs.IsCard.{IsCard, pages_named}
 use Rattle.card_types.specs.Registry.{Registry}
 use Rattle.card_types.specs.Says.{Says, used}
 use Rattle.card_types.specs.declared.tables.Tables.{Tables}
+use Rattle.flash_core.specs.declared.flash.Flash.{Ghosts as Flash}
 use Rattle.flash_core.specs.declared.page.Page.{Page}
 use Rattle.frame_pool.specs.Staged.{staged}
 use Rattle.page_journal.specs.Journal.{HasValidJournal, bytes_of, stored}
@@ -54,10 +55,18 @@ ReopensAsOne registries pages = (registry : Registry) × Contains registries reg
 abbrev pub IsFree : Tables → ℕ → Type 0
 IsFree tables page = All (λ file. Contains (pages_named file) page → ⊥) (used tables.files.items)
 
--- Power lost now leaves this registry: all store pages stand, and all load pages that its files have.
-pub record Keeps (pages : List Page) (may_leave : List Page → Type 0) (registry : Registry) : Type 0 where
+-- Of pages and what power lost now may leave: it leaves this registry: all store pages stand, and all load pages that its files have.
+pub record KeepsPages (pages : List Page) (may_leave : List Page → Type 0) (registry : Registry) : Type 0 where
   pub reopens : Always may_leave (λ outcome. Reopens outcome registry)
   pub now : Reopens pages registry
   pub loose : List ℕ
   pub leaves : Always may_leave (Leaves (stored pages) loose)
   pub free : (page : ℕ) → Contains loose page → IsFree now.holds.tables page
+
+-- the same of a device
+abbrev pub Keeps : {F : Type 0} → Flash F → F → Registry → Type 0
+Keeps device flash registry = KeepsPages (device.pages flash) (device.may_leave flash) registry
+
+-- after a power loss that left these pages the card has one registry or the other
+abbrev pub ReopensEither : Registry → Registry → List Page → Type 0
+ReopensEither before after pages = Reopens pages before ⊎ Reopens pages after

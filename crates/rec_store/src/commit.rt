@@ -1,12 +1,12 @@
 //! A commit of changes.
 
-ghost use Rattle.std.specs.Prelude.{◌≡◌, ◌⊎◌, [], false, true, IsOk, OnErr, OnOk};
+ghost use Rattle.std.specs.Prelude.{◌≡◌, [], false, true, IsOk, OnErr, OnOk};
 ghost use Rattle.card_check.specs.IsCard.{IsCard};
 ghost use Rattle.card_types.specs.Registry.{Registry};
 ghost use Rattle.card_types.specs.Says.{Says};
 ghost use Rattle.faults.specs.Faults.{HasCause};
 ghost use Rattle.page_journal.specs.Moments.{LeavesOnly};
-ghost use Rattle.rec_store.specs.Reopens.{Keeps, Reopens, load_page};
+ghost use Rattle.rec_store.specs.Reopens.{Keeps, ReopensEither, load_page};
 
 use crate::records::Records;
 use flash_core::{Flash, FlashFailed};
@@ -18,12 +18,12 @@ impl<F: Flash> Records<F> {
         requires live { self.old.live ≡ true }
         requires card { F.tells → IsCard (load_page (F.pages self.old.flash)) self.old.tables }
         // Power lost at any moment leaves the registry from before, or the one that the tables say.
-        ensures moments { F.tells → (before after : Registry) → Keeps (F.pages self.old.flash) (F.may_leave self.old.flash) before
+        ensures moments { F.tells → (before after : Registry) → Keeps F.Flash self.old.flash before
             → Says (load_page (F.pages self.old.flash)) self.old.tables after
-            → LeavesOnly F.moment F.left_since self.old.flash self.new.flash (λ outcome. Reopens outcome before ⊎ Reopens outcome after) }
-        ensures keeps { F.tells → (before after : Registry) → Keeps (F.pages self.old.flash) (F.may_leave self.old.flash) before
+            → LeavesOnly F.Flash self.old.flash self.new.flash (ReopensEither before after) }
+        ensures keeps { F.tells → (before after : Registry) → Keeps F.Flash self.old.flash before
             → Says (load_page (F.pages self.old.flash)) self.old.tables after
-            → OnOk result (Keeps (F.pages self.new.flash) (F.may_leave self.new.flash) after) }
+            → OnOk result (Keeps F.Flash self.new.flash after) }
         ensures load { F.tells → OnOk result (load_page (F.pages self.new.flash) ≡ load_page (F.pages self.old.flash)) }
         ensures tables { self.new.tables ≡ self.old.tables }
         ensures idle { self.old.staged ≡ [] → IsOk result × (self.new ≡ self.old) }

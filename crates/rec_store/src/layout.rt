@@ -33,7 +33,7 @@ pub fn lay_out<F: Flash>(
     // Power lost from then on leaves each registry that tables with these things in their first slots say.
     ensures keeps { F.tells → (tables : Tables) (registry : Registry) → HasFirst tables life entries.now files.now keys.now objects.now
         → IsCard (load_page (F.pages flash.new)) tables → Says (load_page (F.pages flash.new)) tables registry
-        → OnOk result (Keeps (F.pages flash.new) (F.may_leave flash.new) registry) }
+        → OnOk result (Keeps F.Flash flash.new registry) }
     ensures load { F.tells → (page : ℕ) → 96 ≤ page → slice_get (F.pages flash.new) page ≡ slice_get (F.pages flash.old) page }
     ensures cause { HasCause (F.faults flash.old) (F.faults flash.new) result }
 {

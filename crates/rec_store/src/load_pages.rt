@@ -19,10 +19,10 @@ impl<F: Flash> Records<F> {
         ensures same { (self.new.tables ≡ self.old.tables) × (self.new.staged ≡ self.old.staged) × (self.new.live ≡ true) }
         ensures pages { F.tells → F.pages self.new.flash ≡ F.pages self.old.flash }
         // Power lost at any moment leaves the registry.
-        ensures moments { F.tells → (registry : Registry) → Keeps (F.pages self.old.flash) (F.may_leave self.old.flash) registry
-            → LeavesOnly F.moment F.left_since self.old.flash self.new.flash (λ outcome. Reopens outcome registry) }
-        ensures keeps { F.tells → (registry : Registry) → Keeps (F.pages self.old.flash) (F.may_leave self.old.flash) registry
-            → Keeps (F.pages self.new.flash) (F.may_leave self.new.flash) registry }
+        ensures moments { F.tells → (registry : Registry) → Keeps F.Flash self.old.flash registry
+            → LeavesOnly F.Flash self.old.flash self.new.flash (λ outcome. Reopens outcome registry) }
+        ensures keeps { F.tells → (registry : Registry) → Keeps F.Flash self.old.flash registry
+            → Keeps F.Flash self.new.flash registry }
         ensures cause { HasCause (F.faults self.old.flash) (F.faults self.new.flash) result }
     {
         let answer = self.store.read(page, into);
@@ -42,10 +42,10 @@ impl<F: Flash> Records<F> {
         ensures says { F.tells → (registry : Registry) → Says (load_page (F.pages self.old.flash)) self.old.tables registry → Says (load_page (F.pages self.new.flash)) self.old.tables registry }
         ensures same { (self.new.tables ≡ self.old.tables) × (self.new.staged ≡ self.old.staged) × (self.new.live ≡ true) }
         // With nothing staged power lost at any moment leaves the registry.
-        ensures moments { F.tells → self.old.staged ≡ [] → (registry : Registry) → Keeps (F.pages self.old.flash) (F.may_leave self.old.flash) registry
-            → LeavesOnly F.moment F.left_since self.old.flash self.new.flash (λ outcome. Reopens outcome registry) }
-        ensures keeps { F.tells → self.old.staged ≡ [] → (registry : Registry) → Keeps (F.pages self.old.flash) (F.may_leave self.old.flash) registry
-            → Keeps (F.pages self.new.flash) (F.may_leave self.new.flash) registry }
+        ensures moments { F.tells → self.old.staged ≡ [] → (registry : Registry) → Keeps F.Flash self.old.flash registry
+            → LeavesOnly F.Flash self.old.flash self.new.flash (λ outcome. Reopens outcome registry) }
+        ensures keeps { F.tells → self.old.staged ≡ [] → (registry : Registry) → Keeps F.Flash self.old.flash registry
+            → Keeps F.Flash self.new.flash registry }
         ensures cause { HasCause (F.faults self.old.flash) (F.faults self.new.flash) result }
     {
         prove!(from.bytes[..].len() == 256);

@@ -35,16 +35,16 @@ impl<F: Flash> Records<F> {
         ensures in_order { IfOk result (λ r. IsInOrder r.tables) }
         // The tables say the registry that the pages reopened as, and power lost leaves it from then on.
         ensures says { F.tells → IfOk result (λ r. (registry : Registry) × Reopens (F.pages flash) registry
-            × Says (load_page (F.pages r.flash)) r.tables registry × Keeps (F.pages r.flash) (F.may_leave r.flash) registry) }
+            × Says (load_page (F.pages r.flash)) r.tables registry × Keeps F.Flash r.flash registry) }
         ensures load { F.tells → IfOk result (λ r. load_page (F.pages r.flash) ≡ load_page (F.pages flash)) }
         // Power lost at any moment leaves no registry that it could not leave before.
         ensures moments { F.tells → (registries : List Registry) → Always (F.may_leave flash) (ReopensAsOne registries)
-            → IfOk result (λ r. LeavesOnly F.moment F.left_since flash r.flash (ReopensAsOne registries)) }
+            → IfOk result (λ r. LeavesOnly F.Flash flash r.flash (ReopensAsOne registries)) }
         ensures later { IfOk result (λ r. F.faults flash ≤ F.faults r.flash) }
         ensures err_later { IfErr result (λ e. F.faults flash ≤ F.faults e.flash) }
         ensures err_moments { F.tells → (registries : List Registry) → Always (F.may_leave flash) (ReopensAsOne registries)
-            → IfErr result (λ e. LeavesOnly F.moment F.left_since flash e.flash (ReopensAsOne registries)) }
-        ensures err { IfErr result (λ e. OpenFails F.tells F.faults F.pages flash e.cause e.flash) }
+            → IfErr result (λ e. LeavesOnly F.Flash flash e.flash (ReopensAsOne registries)) }
+        ensures err { IfErr result (λ e. OpenFails F.Flash flash e.cause e.flash) }
     {
         // Each slot of these tables is read over.
         let tables = match Tables::factory(alloc) {
@@ -88,11 +88,11 @@ fn open<F: Flash>(mut tables: Tables, mut store: PageStore<F>) -> Result<Records
     ensures held { F.tells → IfOk result (λ r. HoldsTables (store_page (F.pages store.flash)) r.tables) }
     ensures list { F.tells → IfOk result (λ r. IsListed (stored (F.pages store.flash)) (F.pages r.flash)) }
     ensures only { F.tells → IfOk result (λ r. Only (F.pages r.flash) (F.may_leave r.flash)) }
-    ensures moments { F.tells → IfOk result (λ r. LeavesOnly F.moment F.left_since store.flash r.flash (Leaves (stored (F.pages store.flash)) [])) }
+    ensures moments { F.tells → IfOk result (λ r. LeavesOnly F.Flash store.flash r.flash (Leaves (stored (F.pages store.flash)) [])) }
     ensures later { IfOk result (λ r. F.faults store.flash ≤ F.faults r.flash) }
     ensures err_later { IfErr result (λ e. F.faults store.flash ≤ F.faults e.flash) }
-    ensures err_moments { F.tells → IfErr result (λ e. LeavesOnly F.moment F.left_since store.flash e.flash (Leaves (stored (F.pages store.flash)) [])) }
-    ensures err { IfErr result (λ e. CardFails F.tells F.faults F.pages store.flash e.cause e.flash) }
+    ensures err_moments { F.tells → IfErr result (λ e. LeavesOnly F.Flash store.flash e.flash (Leaves (stored (F.pages store.flash)) [])) }
+    ensures err { IfErr result (λ e. CardFails F.Flash store.flash e.cause e.flash) }
 {
     match read_card(&mut tables, &mut store) {
         Ok(()) => Ok(Records { tables, store }),
@@ -116,9 +116,9 @@ fn read_card<F: Flash>(tables: &mut Tables, store: &mut PageStore<F>) -> Result<
     ensures held { F.tells → OnOk result (HoldsTables (store_page (F.pages store.old.flash)) tables.new) }
     ensures list { F.tells → OnOk result (IsListed (stored (F.pages store.old.flash)) (F.pages store.new.flash)) }
     ensures only { F.tells → OnOk result (Only (F.pages store.new.flash) (F.may_leave store.new.flash)) }
-    ensures moments { F.tells → LeavesOnly F.moment F.left_since store.old.flash store.new.flash (Leaves (stored (F.pages store.old.flash)) []) }
+    ensures moments { F.tells → LeavesOnly F.Flash store.old.flash store.new.flash (Leaves (stored (F.pages store.old.flash)) []) }
     ensures later { F.faults store.old.flash ≤ F.faults store.new.flash }
-    ensures err { IfErr result (λ cause. CardFails F.tells F.faults F.pages store.old.flash cause store.new.flash) }
+    ensures err { IfErr result (λ cause. CardFails F.Flash store.old.flash cause store.new.flash) }
 {
     read_tables(tables, store)?;
     if !is_card(tables) {
@@ -136,7 +136,7 @@ fn read_tables<F: Flash>(tables: &mut Tables, store: &mut PageStore<F>) -> Resul
     ensures held { F.tells → OnOk result (HoldsTables (store_page (F.pages store.old.flash)) tables.new) }
     ensures roomy { OnOk result (AreRoomy tables.new) }
     ensures entries { OnOk result (All HasThreeBytes (used tables.new.entries.items)) }
-    ensures read { IsRead F.tells F.pages F.moment F.may_leave F.left_since F.faults store.old store.new }
+    ensures read { IsRead F.Flash store.old store.new }
     ensures err { IfErr result (SlotsFail F.tells (F.faults store.old.flash) (F.faults store.new.flash)
         ((held : TablesOf) → HoldsTables (store_page (F.pages store.old.flash)) held → ⊥)) }
 {

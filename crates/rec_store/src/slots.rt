@@ -77,7 +77,7 @@ pub fn read_store<F: Flash>(store: &mut PageStore<F>, page: u16) -> Result<Page,
     requires none { store.old.staged ≡ [] }
     requires range { page < 45 }
     ensures page { F.tells → IfOk result (λ read. store_page (F.pages store.old.flash) page ≡ read.bytes) }
-    ensures read { IsRead F.tells F.pages F.moment F.may_leave F.left_since F.faults store.old store.new }
+    ensures read { IsRead F.Flash store.old store.new }
     ensures cause { OnErr result (Rose (F.faults store.old.flash) (F.faults store.new.flash)) }
 {
     let mut into = Page { bytes: [0; 256] };
@@ -96,7 +96,7 @@ pub fn read_slots<F: Flash, T: Slot>(
     requires range { T.FIRST * (256 / T.SIZE) + length slots.old ≤ 45 * (256 / T.SIZE) }
     ensures ok { F.tells → OnOk result (AreHeld T.holds (slot_from (store_page (F.pages store.old.flash)) T.FIRST T.SIZE) (length slots.new) slots.new) }
     ensures read_each { OnOk result (All T.is_read (used slots.new)) }
-    ensures read { IsRead F.tells F.pages F.moment F.may_leave F.left_since F.faults store.old store.new }
+    ensures read { IsRead F.Flash store.old store.new }
     ensures err { IfErr result (SlotsFail F.tells (F.faults store.old.flash) (F.faults store.new.flash)
         ((slot : ℕ) × (slot < length slots.old) × ((thing : Option T) → T.holds (slot_from (store_page (F.pages store.old.flash)) T.FIRST T.SIZE slot) thing → ⊥))) }
 {

@@ -71,9 +71,9 @@ impl TextListing<KeyRec> for ListedCounters<'_> {
 pub fn show_counters<K: Sink>(tables: &Tables, sink: &mut K) -> Result<(), WriteFailed>
     requires in_order { IsInOrder tables.now }
     ensures written { (page : ℕ → List ℕ) (said : Registry) → Says page tables.now said
-        → Writes K.tells (K.written sink.old) (K.written sink.new) (flat_map counter_line said.counters) result }
-    ensures flushes { K.flushes sink.new ≡ K.flushes sink.old }
-    ensures cause { HasCause (K.faults sink.old) (K.faults sink.new) result }
+        → Writes K.tells (K.state sink.old).written (K.state sink.new).written (flat_map counter_line said.counters) result }
+    ensures flushes { (K.state sink.new).flushes ≡ (K.state sink.old).flushes }
+    ensures cause { HasCause (K.state sink.old).faults (K.state sink.new).faults result }
 {
     write_lines(&ListedCounters { tables }, &tables.keys, sink)
 }

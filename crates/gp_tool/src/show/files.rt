@@ -95,21 +95,21 @@ fn write_file<F: Flash, K: Sink>(
 ) -> Result<(), ShowFault>
     requires up { card.old.up ≡ true }
     requires used { held card.old.tables.files.items slot ≡ Some file.now }
-    ensures written { F.tells → (state : State) → Stands F.tells F.pages F.may_leave card.old state
-        → Writes K.tells (K.written sink.old) (K.written sink.new) (file_line (file_of (load_page (F.pages card.old.flash)) card.old.tables.entries.items file.now)) result }
-    ensures moments { F.tells → (state : State) → Stands F.tells F.pages F.may_leave card.old state
-        → LeavesOnly F.moment F.left_since card.old.flash card.new.flash (λ outcome. Reopens outcome state.registry) }
-    ensures stands { (state : State) → Stands F.tells F.pages F.may_leave card.old state → OnOk result (Stands F.tells F.pages F.may_leave card.new state) }
-    ensures refused { (state : State) → Stands F.tells F.pages F.may_leave card.old state
-        → IfErr result (λ fault. fault ≡ Write → Stands F.tells F.pages F.may_leave card.new state) }
+    ensures written { F.tells → (state : State) → Stands F.Flash card.old state
+        → Writes K.tells (K.state sink.old).written (K.state sink.new).written (file_line (file_of (load_page (F.pages card.old.flash)) card.old.tables.entries.items file.now)) result }
+    ensures moments { F.tells → (state : State) → Stands F.Flash card.old state
+        → LeavesOnly F.Flash card.old.flash card.new.flash (λ outcome. Reopens outcome state.registry) }
+    ensures stands { (state : State) → Stands F.Flash card.old state → OnOk result (Stands F.Flash card.new state) }
+    ensures refused { (state : State) → Stands F.Flash card.old state
+        → IfErr result (λ fault. fault ≡ Write → Stands F.Flash card.new state) }
     ensures same { card.new.tables ≡ card.old.tables }
     ensures up { OnOk result (card.new.up ≡ true) }
     ensures pages { F.tells → F.pages card.new.flash ≡ F.pages card.old.flash }
-    ensures flushes { K.flushes sink.new ≡ K.flushes sink.old }
+    ensures flushes { (K.state sink.new).flushes ≡ (K.state sink.old).flushes }
     ensures later { F.faults card.old.flash ≤ F.faults card.new.flash }
-    ensures later_writes { K.faults sink.old ≤ K.faults sink.new }
-    ensures quiet { OnOk result (K.faults sink.new ≡ K.faults sink.old) }
-    ensures cause { IfErr result (ShowCause (F.faults card.old.flash) (F.faults card.new.flash) (K.faults sink.old) (K.faults sink.new)) }
+    ensures later_writes { (K.state sink.old).faults ≤ (K.state sink.new).faults }
+    ensures quiet { OnOk result ((K.state sink.new).faults ≡ (K.state sink.old).faults) }
+    ensures cause { IfErr result (ShowCause (F.faults card.old.flash) (F.faults card.new.flash) (K.state sink.old).faults (K.state sink.new).faults) }
 {
     prove!(file.pages[..].len() == 128);
     let digest = card.file_digest(slot)?;
@@ -123,20 +123,20 @@ fn write_file<F: Flash, K: Sink>(
 /// Writes the lines of the Executable Load Files.
 pub fn show_files<F: Flash, K: Sink>(card: &mut Card<F>, sink: &mut K) -> Result<(), ShowFault>
     requires up { card.old.up ≡ true }
-    ensures written { F.tells → (state : State) → Stands F.tells F.pages F.may_leave card.old state
-        → Writes K.tells (K.written sink.old) (K.written sink.new) (flat_map file_line state.registry.files) result }
-    ensures moments { F.tells → (state : State) → Stands F.tells F.pages F.may_leave card.old state
-        → LeavesOnly F.moment F.left_since card.old.flash card.new.flash (λ outcome. Reopens outcome state.registry) }
-    ensures stands { (state : State) → Stands F.tells F.pages F.may_leave card.old state → OnOk result (Stands F.tells F.pages F.may_leave card.new state) }
-    ensures refused { (state : State) → Stands F.tells F.pages F.may_leave card.old state
-        → IfErr result (λ fault. fault ≡ Write → Stands F.tells F.pages F.may_leave card.new state) }
+    ensures written { F.tells → (state : State) → Stands F.Flash card.old state
+        → Writes K.tells (K.state sink.old).written (K.state sink.new).written (flat_map file_line state.registry.files) result }
+    ensures moments { F.tells → (state : State) → Stands F.Flash card.old state
+        → LeavesOnly F.Flash card.old.flash card.new.flash (λ outcome. Reopens outcome state.registry) }
+    ensures stands { (state : State) → Stands F.Flash card.old state → OnOk result (Stands F.Flash card.new state) }
+    ensures refused { (state : State) → Stands F.Flash card.old state
+        → IfErr result (λ fault. fault ≡ Write → Stands F.Flash card.new state) }
     ensures same { card.new.tables ≡ card.old.tables }
     ensures pages { F.tells → F.pages card.new.flash ≡ F.pages card.old.flash }
-    ensures flushes { K.flushes sink.new ≡ K.flushes sink.old }
+    ensures flushes { (K.state sink.new).flushes ≡ (K.state sink.old).flushes }
     ensures later { F.faults card.old.flash ≤ F.faults card.new.flash }
-    ensures later_writes { K.faults sink.old ≤ K.faults sink.new }
-    ensures quiet { OnOk result (K.faults sink.new ≡ K.faults sink.old) }
-    ensures cause { IfErr result (ShowCause (F.faults card.old.flash) (F.faults card.new.flash) (K.faults sink.old) (K.faults sink.new)) }
+    ensures later_writes { (K.state sink.old).faults ≤ (K.state sink.new).faults }
+    ensures quiet { OnOk result ((K.state sink.new).faults ≡ (K.state sink.old).faults) }
+    ensures cause { IfErr result (ShowCause (F.faults card.old.flash) (F.faults card.new.flash) (K.state sink.old).faults (K.state sink.new).faults) }
 {
     let mut last = None;
     for _ in 0..FILES {

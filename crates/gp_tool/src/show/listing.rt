@@ -110,9 +110,9 @@ pub fn write_lines<T, L: TextListing<T>, K: Sink>(
     requires fits { (slot : ℕ) (thing : T) → held slots.now slot ≡ Some thing → L.listed listing.now thing ≡ true → L.can_spell listing.now thing }
     ensures written { (xs : List L.Named) (line_of : L.Named → List ℕ) → ((thing : T) → L.text listing.now thing ≡ line_of (L.named listing.now thing))
         → IsPermutation (map (L.named listing.now) (filter (L.listed listing.now) (used slots.now))) xs → IsStrictlySortedBy L.order xs
-        → Writes K.tells (K.written sink.old) (K.written sink.new) (flat_map line_of xs) result }
-    ensures flushes { K.flushes sink.new ≡ K.flushes sink.old }
-    ensures cause { HasCause (K.faults sink.old) (K.faults sink.new) result }
+        → Writes K.tells (K.state sink.old).written (K.state sink.new).written (flat_map line_of xs) result }
+    ensures flushes { (K.state sink.new).flushes ≡ (K.state sink.old).flushes }
+    ensures cause { HasCause (K.state sink.old).faults (K.state sink.new).faults result }
 {
     let mut last = None;
     let mut line = ArrayVec::new();

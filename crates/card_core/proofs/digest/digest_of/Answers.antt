@@ -28,7 +28,7 @@ feed_page-requires-clause-range g c =
 pub returns-in_err-feed_page-clause-read : goal.returns-in_err-feed_page-clause-read
 returns-in_err-feed_page-clause-read g c =
     let F = g.F.Flash in
-    reads_on F.tells F.pages F.moment F.may_leave F.left_since F.faults c.args.records.now c.loop-index.records c.feed_page.new.records c.loop-index.invariant.0 c.feed_page.ensures.read
+    reads_on F c.args.records.now c.loop-index.records c.feed_page.new.records c.loop-index.invariant.0 c.feed_page.ensures.read
 
 pub loop-index-preserved : goal.loop-index-preserved
 loop-index-preserved g c =
@@ -40,7 +40,7 @@ loop-index-preserved g c =
     let size = c.requires.file.size in
     let end : c.div_ceil-index-end.result ≡ c.from-len.result / 256 + min 1 (c.from-len.result % 256) = c.div_ceil-index-end.ensures in
     let before : 256 * c.loop-index.index < file.len = omega (arith, c.loop-index-test.true, end, c.from-len.ensures) in (
-      reads_on F.tells F.pages F.moment F.may_leave F.left_since F.faults old c.loop-index.records c.feed_page.new.records c.loop-index.invariant.0 c.feed_page.ensures.read,
+      reads_on F old c.loop-index.records c.feed_page.new.records c.loop-index.invariant.0 c.feed_page.ensures.read,
       (λ told.
           let message = take file.len (concat (map page (take c.loop-index.index file.pages))) in
           let more = subst (λ pages. Holds256 c.feed_page.new.hasher (message ++ take c.min-count.result (load_page pages (slice_index file.pages c.loop-index.index)))) (c.loop-index.invariant.0.seen told)

@@ -8,6 +8,6 @@ use Rattle.card_core.proofs.digest.digest_of.Given as goal
 abbrev pub invariant-loop-index : goal.invariant-loop-index
 invariant-loop-index g l =
     let F = g.F.Flash in
-    IsLoadRead F.tells F.pages F.moment F.may_leave F.left_since F.faults l.fn.records l.records
+    IsLoadRead F l.fn.records l.records
     × (F.tells → Holds256 l.hasher (take l.fn.file.len (concat (map (load_page (F.pages l.fn.records.flash)) (take l.index l.fn.file.pages)))))
     × (F.faults l.records.flash ≡ F.faults l.fn.records.flash)

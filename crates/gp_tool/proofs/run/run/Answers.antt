@@ -1,11 +1,12 @@
 use Rattle.std.proofs.Common.{refl}
-use Rattle.gp_tool.proofs.Flush.{after_flush, flushed}
+use Rattle.gp_tool.proofs.Flush.{after_flush, after_from, flushed}
 use Rattle.gp_tool.specs.Device.{HasFailed, HasRun}
 use Rattle.gp_tool.proofs.run.run.Goals as goal
 
 pub returns-clause-flushes : goal.returns-clause-flushes
 returns-clause-flushes g c =
-    flushed g.K.Sink.tells c.take_lines-end.result.ending _ _ _ (rw (← c.take_lines-end.ensures.flushes) c.flush_at_end.ensures.ending)
+    flushed g.K.Sink.tells c.take_lines-end.result.ending _ _ _
+    (after_from g.K.Sink.tells c.take_lines-end.result.ending _ _ _ _ c.take_lines-end.ensures.flushes c.flush_at_end.ensures.ending)
 
 pub returns-clause-ends : goal.returns-clause-ends
 returns-clause-ends g c first stands =
@@ -13,11 +14,11 @@ returns-clause-ends g c first stands =
     let from = c.args.card.now.flash in
     let new = c.take_lines-end.new.card.flash in
     after_flush g.S.Source.tells g.K.Sink.tells
-    (HasRun F.tells F.pages F.moment F.may_leave F.left_since from new first c.take_lines-end.result.done)
-    (HasFailed F.tells F.moment F.may_leave F.left_since from new first c.take_lines-end.result.done)
+    (HasRun F from new first c.take_lines-end.result.done)
+    (HasFailed F from new first c.take_lines-end.result.done)
     first _ _ _
     (record { left = refl; written = c.flush_at_end.ensures.same })
     c.take_lines-end.result.ending c.flush_at_end.result
-    (rw (← c.take_lines-end.ensures.flushes) c.flush_at_end.ensures.ending)
+    (after_from g.K.Sink.tells c.take_lines-end.result.ending _ _ _ _ c.take_lines-end.ensures.flushes c.flush_at_end.ensures.ending)
     c.take_lines-end.ensures.flushes
     (c.take_lines-end.ensures.ends first stands)

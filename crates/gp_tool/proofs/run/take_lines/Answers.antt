@@ -18,7 +18,7 @@ loop-ending-init g c =
       flushes = refl;
       going = λ first stands.
           going_first g.S.Source.tells g.K.Sink.tells first _ _ _ stands
-          (nothing_done F.moment F.left_since F.tells F.pages F.may_leave g.met.F.Flash.only_now c.args.card.now first stands);
+          (nothing_done F g.met.F.Flash.only_now c.args.card.now first stands);
     })
 
 pub returns-in-Some-clause-ends : goal.returns-in-Some-clause-ends
@@ -29,12 +29,12 @@ returns-in-Some-clause-ends g c first stands =
     let new = c.take_turn.new.card in
     going_ends g.S.Source.tells g.K.Sink.tells first _ _ _ _ _ c.loop-ending.lines (c.loop-ending.invariant.going first stands)
     _ _ _ _ _ _
-    (joins F.moment F.left_since F.tells from old.flash new.flash)
-    (stays F.tells F.pages F.moment F.may_leave F.left_since from old new c.loop-ending.done c.take_turn.new.done)
-    (HasRun F.tells F.pages F.moment F.may_leave F.left_since from new.flash first c.take_turn.new.done)
-    (HasFailed F.tells F.moment F.may_leave F.left_since from new.flash first c.take_turn.new.done)
-    (has_run F.tells F.pages F.moment F.may_leave F.left_since from new first c.take_turn.new.done)
-    (has_failed F.tells F.pages F.moment F.may_leave F.left_since g.met.F.Flash.counts_now from old.flash new.flash first c.take_turn.new.done)
+    (joins F from old.flash new.flash)
+    (stays F from old new c.loop-ending.done c.take_turn.new.done)
+    (HasRun F from new.flash first c.take_turn.new.done)
+    (HasFailed F from new.flash first c.take_turn.new.done)
+    (has_run F from new first c.take_turn.new.done)
+    (has_failed F g.met.F.Flash.counts_now from old.flash new.flash first c.take_turn.new.done)
     c.in-Some.ending c.in-Some.ensures.ends (c.in-Some.ensures.flushes ∙ c.loop-ending.invariant.flushes)
 
 pub loop-ending-preserved : goal.loop-ending-preserved
@@ -54,5 +54,5 @@ loop-ending-preserved g c =
       flushes = c.in_default.ensures.flushes ∙ kept.flushes;
       going = λ first stands.
           going_further g.S.Source.tells g.K.Sink.tells first _ _ _ _ _ c.loop-ending.lines (kept.going first stands) _ _ _ _ _ _
-          (joins F.moment F.left_since F.tells c.args.card.now.flash c.loop-ending.card.flash c.take_turn.new.card.flash) on;
+          (joins F c.args.card.now.flash c.loop-ending.card.flash c.take_turn.new.card.flash) on;
     }

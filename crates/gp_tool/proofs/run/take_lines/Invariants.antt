@@ -13,17 +13,17 @@ invariant-loop-ending g l = record {
   within : IsWithin l.lines;
   up : l.card.up ≡ true;
   few : l.done ≤ l.lines.passed;
-  reads : g.S.Source.faults l.source ≡ g.S.Source.faults l.fn.source;
-  writes : g.K.Sink.faults l.sink ≡ g.K.Sink.faults l.fn.sink;
+  reads : (g.S.Source.state l.source).faults ≡ (g.S.Source.state l.fn.source).faults;
+  writes : (g.K.Sink.state l.sink).faults ≡ (g.K.Sink.state l.fn.sink).faults;
   later : g.F.Flash.faults l.fn.card.flash ≤ g.F.Flash.faults l.card.flash;
-  flushes : g.K.Sink.flushes l.sink ≡ g.K.Sink.flushes l.fn.sink;
-  going : (first : State) → Stands g.F.Flash.tells g.F.Flash.pages g.F.Flash.may_leave l.fn.card first
+  flushes : (g.K.Sink.state l.sink).flushes ≡ (g.K.Sink.state l.fn.sink).flushes;
+  going : (first : State) → Stands g.F.Flash l.fn.card first
       → Going g.S.Source.tells g.K.Sink.tells first
-      (Stands g.F.Flash.tells g.F.Flash.pages g.F.Flash.may_leave l.card)
-      (LeavesOneOf g.F.Flash.tells g.F.Flash.moment g.F.Flash.left_since l.fn.card.flash l.card.flash)
+      (Stands g.F.Flash l.card)
+      (LeavesOneOf g.F.Flash l.fn.card.flash l.card.flash)
       l.done
-      (outside g.S.Source.left g.K.Sink.written g.K.Sink.handed_on g.K.Sink.flushes l.fn.source l.fn.sink)
-      (outside g.S.Source.left g.K.Sink.written g.K.Sink.handed_on g.K.Sink.flushes l.source l.sink)
+      (outside (g.S.Source.state l.fn.source) (g.K.Sink.state l.fn.sink))
+      (outside (g.S.Source.state l.source) (g.K.Sink.state l.sink))
       l.lines;
 }
 

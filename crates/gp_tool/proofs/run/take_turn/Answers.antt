@@ -23,8 +23,8 @@ returns-in-NoForm-clause-ends g c =
     let gives = rw c.in-Ok.is at c.next_line.follows.holds-at-none in
     let served = c.in-NoForm.ensures.served in
     refusal_ends g.S.Source.tells g.K.Sink.tells _ _ _ _ _ _ c.args.lines.now
-    (outside g.S.Source.left g.K.Sink.written g.K.Sink.handed_on g.K.Sink.flushes c.args.source.now c.args.sink.now)
-    (outside g.S.Source.left g.K.Sink.written g.K.Sink.handed_on g.K.Sink.flushes c.next_line.new.source c.refuse_line.new.sink)
+    (outside (g.S.Source.state c.args.source.now) (g.K.Sink.state c.args.sink.now))
+    (outside (g.S.Source.state c.next_line.new.source) (g.K.Sink.state c.refuse_line.new.sink))
     c.refuse_line.result
     served.1
     (bad_form g.S.Source.tells _ _ _ _ c.in-Ok.line gives served.0)
@@ -47,8 +47,8 @@ returns-in-FlashFault-clause-ends g c =
 pub returns-in-Err-TooLong-clause-ends : goal.returns-in-Err-TooLong-clause-ends
 returns-in-Err-TooLong-clause-ends g c =
     refusal_ends g.S.Source.tells g.K.Sink.tells _ _ _ _ _ _ c.args.lines.now
-    (outside g.S.Source.left g.K.Sink.written g.K.Sink.handed_on g.K.Sink.flushes c.args.source.now c.args.sink.now)
-    (outside g.S.Source.left g.K.Sink.written g.K.Sink.handed_on g.K.Sink.flushes c.next_line.new.source c.refuse_line-in-Err-TooLong.new.sink)
+    (outside (g.S.Source.state c.args.source.now) (g.K.Sink.state c.args.sink.now))
+    (outside (g.S.Source.state c.next_line.new.source) (g.K.Sink.state c.refuse_line-in-Err-TooLong.new.sink))
     c.refuse_line-in-Err-TooLong.result
     (refl, refl)
     (λ told. (let stop = rw c.in-Err-TooLong.field-0-is at (c.in-Err-TooLong.ensures.stop told c.requires.stop) in (stop.1.0, inr (stop.1.1, stop.1.2))))

@@ -16,7 +16,7 @@ returns-in-Some-Nothing-clause-served g c state stands =
         last = state;
         plays = plays_nothing state c.args.line.now spells;
         stands = stands;
-        leaves = nothing_done F.moment F.left_since F.tells F.pages F.may_leave g.met.F.Flash.only_now c.args.card.now state stands;
+        leaves = nothing_done F g.met.F.Flash.only_now c.args.card.now state stands;
         done = omega arith;
       },
       λ _. sym (append-nil _),
@@ -26,13 +26,13 @@ pub returns-in-Some-Reset-clause-served : goal.returns-in-Some-Reset-clause-serv
 returns-in-Some-Reset-clause-served g c state stands =
     let F = g.F.Flash in
     let spells = rw c.in-Some-Reset.field-0-is at c.in-Some-Reset.ensures.spelled in
-    let still = nothing_done F.moment F.left_since F.tells F.pages F.may_leave g.met.F.Flash.only_now c.args.card.now state stands in (
+    let still = nothing_done F g.met.F.Flash.only_now c.args.card.now state stands in (
       record {
         outcomes = [];
         last = powered_on state.registry;
         plays = plays_reset state c.args.line.now spells;
         stands = c.reset.ensures.stands state stands;
-        leaves = subst (λ new. LeavesOneOf F.tells F.moment F.left_since c.args.card.now.flash new (state.registry ∷ [])) (sym c.reset.ensures.same.0) still;
+        leaves = subst (λ new. LeavesOneOf F c.args.card.now.flash new (state.registry ∷ [])) (sym c.reset.ensures.same.0) still;
         done = omega arith;
       },
       λ _. sym (append-nil _),
@@ -51,7 +51,7 @@ returns-in-Err-clause-served g c = (
         next = step.0;
         spelled = spells;
         step = step.1;
-        leaves = one_of_two F.moment F.left_since F.tells c.args.card.now.flash c.process.new.self.flash state.registry step.0.state.registry step.2;
+        leaves = one_of_two F c.args.card.now.flash c.process.new.self.flash state.registry step.0.state.registry step.2;
       },
 )
 
@@ -66,7 +66,7 @@ returns-in-Ok-write_reply-clause-served g c state stands =
         last = outcome.state;
         plays = plays_command state c.args.line.now _ outcome spells step.1;
         stands = step.3.0;
-        leaves = one_of_two F.moment F.left_since F.tells c.args.card.now.flash c.process.new.self.flash state.registry outcome.state.registry step.2;
+        leaves = one_of_two F c.args.card.now.flash c.process.new.self.flash state.registry outcome.state.registry step.2;
         done = omega arith;
       },
       λ told. line_written _ _ outcome (rw (← step.3.1, ← c.deref.ensures.0) (c.in-Ok-write_reply.ensures.ok told)),
@@ -83,7 +83,7 @@ returns-in-Err-write_reply-clause-served g c state stands =
         last = outcome.state;
         plays = plays_command state c.args.line.now _ outcome spells step.1;
         stands = step.3.0;
-        leaves = one_of_two F.moment F.left_since F.tells c.args.card.now.flash c.process.new.self.flash state.registry outcome.state.registry step.2;
+        leaves = one_of_two F c.args.card.now.flash c.process.new.self.flash state.registry outcome.state.registry step.2;
         done = omega arith;
       },
       outcome,

@@ -7,9 +7,9 @@ use Rattle.gp_tool.proofs.show.show_data.Goals as goal
 pub returns-in_err-show_counters-clause-written : goal.returns-in_err-show_counters-clause-written
 returns-in_err-show_counters-clause-written g c page said says =
     MatchResult-from_err c.from_residual.result _ _ c.from_residual.ensures.0 (λ _ told.
-    part_of_both (g.K.Sink.written c.args.sink.now) (flat_map counter_line said.counters) (flat_map object_line said.objects) (g.K.Sink.written c.show_counters.new.sink) (c.in_err-show_counters.ensures.written page said says told))
+    part_of_both (g.K.Sink.state c.args.sink.now).written (flat_map counter_line said.counters) (flat_map object_line said.objects) (g.K.Sink.state c.show_counters.new.sink).written (c.in_err-show_counters.ensures.written page said says told))
 
 pub returns-clause-written : goal.returns-clause-written
 returns-clause-written g c page said says =
-    then_writes g.K.Sink.tells (g.K.Sink.written c.args.sink.now) (flat_map counter_line said.counters) (flat_map object_line said.objects) (g.K.Sink.written c.show_counters.new.sink) (g.K.Sink.written c.show_objects.new.sink) c.show_objects.result
+    then_writes g.K.Sink.tells (g.K.Sink.state c.args.sink.now).written (flat_map counter_line said.counters) (flat_map object_line said.objects) (g.K.Sink.state c.show_counters.new.sink).written (g.K.Sink.state c.show_objects.new.sink).written c.show_objects.result
     (c.in_ok-show_counters.ensures.written page said says) (c.show_objects.ensures.written page said says)

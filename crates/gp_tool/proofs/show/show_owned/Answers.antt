@@ -8,9 +8,9 @@ use Rattle.gp_tool.proofs.show.show_owned.Goals as goal
 pub returns-in_err-show_keys-clause-written : goal.returns-in_err-show_keys-clause-written
 returns-in_err-show_keys-clause-written g c page said says =
     MatchResult-from_err c.from_residual.result _ _ c.from_residual.ensures.0 (λ _ told.
-    part_of_both (g.K.Sink.written c.args.sink.now) (flat_map key_line said.keys) (flat_map counter_line said.counters ++ flat_map object_line said.objects) (g.K.Sink.written c.show_keys.new.sink) (c.in_err-show_keys.ensures.written page said says told))
+    part_of_both (g.K.Sink.state c.args.sink.now).written (flat_map key_line said.keys) (flat_map counter_line said.counters ++ flat_map object_line said.objects) (g.K.Sink.state c.show_keys.new.sink).written (c.in_err-show_keys.ensures.written page said says told))
 
 pub returns-clause-written : goal.returns-clause-written
 returns-clause-written g c page said says =
-    then_writes g.K.Sink.tells (g.K.Sink.written c.args.sink.now) (flat_map key_line said.keys) (flat_map counter_line said.counters ++ flat_map object_line said.objects) (g.K.Sink.written c.show_keys.new.sink) (g.K.Sink.written c.show_data.new.sink) c.show_data.result
+    then_writes g.K.Sink.tells (g.K.Sink.state c.args.sink.now).written (flat_map key_line said.keys) (flat_map counter_line said.counters ++ flat_map object_line said.objects) (g.K.Sink.state c.show_keys.new.sink).written (g.K.Sink.state c.show_data.new.sink).written c.show_data.result
     (c.in_ok-show_keys.ensures.written page said says) (c.show_data.ensures.written page said says)

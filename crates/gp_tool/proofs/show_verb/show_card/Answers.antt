@@ -1,13 +1,12 @@
 use Rattle.gp_tool.proofs.ShownCard.{shown_failed, shown_refused, shown_whole}
-use Rattle.gp_tool.specs.Ends.{beside}
 use Rattle.gp_tool.proofs.show_verb.show_card.Goals as goal
 use Rattle.gp_tool.proofs.show_verb.show_card.Goals.{in-Ok, in-Err-Flash, in-Err-Write}
 
 pub returns-clause-ends : goal.returns-clause-ends
-returns-clause-ends g c state left stands =
+returns-clause-ends g c state stands =
     let F = g.F.Flash in
     let K = g.K.Sink in
-    let seen = beside K.written K.handed_on K.flushes left in
+    let seen = K.state in
     elim c.match-show.branch [
       | in-Ok w ↦ shown_whole (F.tells × K.tells) K.tells (λ t. t.1) state.registry (seen c.args.sink.now) (seen c.show.new.sink) (seen c.flush_at_end.new.sink)
           c.flush_at_end.ensures.same c.show.ensures.flushes c.flush_at_end.result (rw w.ending-is at c.flush_at_end.ensures.ending)

@@ -1,4 +1,4 @@
-use Rattle.std.proofs.Common.{◌≡◌, refl, sym, ◌∙◌, arith}
+use Rattle.std.proofs.Common.{◌≡◌, sym, ◌∙◌, arith}
 use Rattle.gp_tool.specs.Ends.{exit_status}
 use Rattle.gp_tool.specs.declared.ending.Ending.{Ending}
 use Rattle.gp_tool.specs.declared.ending.Ending.TheVariants.{Finished, BadLine, FlashFault, ReadFault, WriteFault, InputTooLong}
@@ -15,10 +15,5 @@ not_memory InputTooLong is = omega (arith, is)
 
 pub returns-in-Some-Format-clause-memory : goal.returns-in-Some-Format-clause-memory
 returns-in-Some-Format-clause-memory g c form is =
-    let made = c.format_verb.ensures.format (g.S.Source.left c.args.source.now) 0 in
-    absurd (not_memory made.0 (sym made.1 ∙ is))
-
-pub returns-in-Some-Format-clause-format : goal.returns-in-Some-Format-clause-format
-returns-in-Some-Format-clause-format g c words =
-    let made = c.format_verb.ensures.format (g.S.Source.left c.args.source.now) (g.S.Source.faults c.args.source.now) in
-    (c.format_verb.ensures.done, refl, made.0, made.1, made.2, made.3, made.4)
+    let made = c.format_verb.ensures.format in
+    absurd (not_memory made.ending (sym made.ended.status_is ∙ is))

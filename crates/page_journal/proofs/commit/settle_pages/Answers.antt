@@ -12,7 +12,7 @@ pub returns-in_err-copy_in_place-clause-moments : goal.returns-in_err-copy_in_pl
 returns-in_err-copy_in_place-clause-moments g c told loose before =
     let F = g.F.Flash in
     let r = c.requires in
-    copied F.pages F.moment F.may_leave F.left_since g.met.F.Flash.only_now told c.args.descriptor.now.bytes r.valid c.args.flash.now (r.gate told) (ap bytes_of (r.named told)) loose _ (r.calm told) before (c.in_err-copy_in_place.ensures.touches told)
+    copied F g.met.F.Flash.only_now told c.args.descriptor.now.bytes r.valid c.args.flash.now (r.gate told) (ap bytes_of (r.named told)) loose _ (r.calm told) before (c.in_err-copy_in_place.ensures.touches told)
 
 pub returns-clause-moments : goal.returns-clause-moments
 returns-clause-moments g c told loose before =
@@ -22,9 +22,9 @@ returns-clause-moments g c told loose before =
     let e2 = c.set_gate.ensures in
     let bytes = c.args.descriptor.now.bytes in
     let f0 = c.args.flash.now in
-    then_only F.pages F.moment F.may_leave F.left_since g.met.F.Flash.only_now told f0 _ _ (Leaves (stored (F.pages f0)) loose)
-    (copied F.pages F.moment F.may_leave F.left_since g.met.F.Flash.only_now told bytes r.valid f0 (r.gate told) (ap bytes_of (r.named told)) loose _ (r.calm told) before (e1.touches told))
-    (closing F.pages F.moment F.may_leave F.left_since g.met.F.Flash.only_now told bytes r.valid f0 (r.gate told) (ap bytes_of (r.named told)) loose _ _ (e1.touches told) (e1.homes told) (e1.only told) (e2.touches told))
+    then_only F g.met.F.Flash.only_now told f0 _ _ (Leaves (stored (F.pages f0)) loose)
+    (copied F g.met.F.Flash.only_now told bytes r.valid f0 (r.gate told) (ap bytes_of (r.named told)) loose _ (r.calm told) before (e1.touches told))
+    (closing F g.met.F.Flash.only_now told bytes r.valid f0 (r.gate told) (ap bytes_of (r.named told)) loose _ _ (e1.touches told) (e1.homes told) (e1.only told) (e2.touches told))
 
 pub returns-clause-list : goal.returns-clause-list
 returns-clause-list g c told =
@@ -34,4 +34,4 @@ returns-clause-list g c told =
     let e2 = c.set_gate.ensures in
     let bytes = c.args.descriptor.now.bytes in
     let f0 = c.args.flash.now in
-    where_ok c.set_gate.result _ _ (λ w. settled F.pages F.moment F.may_leave F.left_since g.met.F.Flash.only_now told bytes r.valid f0 (r.gate told) (ap bytes_of (r.named told)) _ _ (e1.touches told) (e1.homes told) (e2.touches told).seen (gate_is (F.pages c.set_gate.new.flash) w.0 0 w.1 w.2)) (e2.written told)
+    where_ok c.set_gate.result _ _ (λ w. settled F g.met.F.Flash.only_now told bytes r.valid f0 (r.gate told) (ap bytes_of (r.named told)) _ _ (e1.touches told) (e1.homes told) (e2.touches told).seen (gate_is (F.pages c.set_gate.new.flash) w.0 0 w.1 w.2)) (e2.written told)

@@ -13,11 +13,11 @@ returns-in_err-write-clause-touches g c told =
     let r = c.in_ok-read.ensures in
     let home : c.from.result ≡ get_or c.args.descriptor.now.bytes (c.loop-index.index + 1) 0 = search rules in
     let inside = IsInDescriptor c.args.descriptor.now.bytes in
-    goes_on F.pages F.moment F.may_leave F.left_since g.met.F.Flash.only_now told inside _ _ _ (c.loop-index.invariant.touched told)
-    (goes_on F.pages F.moment F.may_leave F.left_since g.met.F.Flash.only_now told inside _ _ _
-    (quiet F.pages F.moment F.may_leave F.left_since g.met.F.Flash.only_now told inside _ _ (r.torn told) (r.loss told) (r.time told))
-    (wider F.pages F.moment F.may_leave F.left_since g.met.F.Flash.only_now told (λ p. p ≡ c.from.result) inside _ _ (λ p same. (c.loop-index.index, c.loop-index-test.true, sym (same ∙ home)))
-    (by_write F.pages F.moment F.may_leave F.left_since g.met.F.Flash.only_now told c.from.result _ _ (e.torn told) (e.loss told) (e.time told))))
+    goes_on F g.met.F.Flash.only_now told inside _ _ _ (c.loop-index.invariant.touched told)
+    (goes_on F g.met.F.Flash.only_now told inside _ _ _
+    (quiet F g.met.F.Flash.only_now told inside _ _ (r.torn told) (r.loss told) (r.time told))
+    (wider F g.met.F.Flash.only_now told (λ p. p ≡ c.from.result) inside _ _ (λ p same. (c.loop-index.index, c.loop-index-test.true, sym (same ∙ home)))
+    (by_write F g.met.F.Flash.only_now told c.from.result _ _ (e.torn told) (e.loss told) (e.time told))))
 
 pub loop-index-preserved : goal.loop-index-preserved
 loop-index-preserved g c =
@@ -31,11 +31,11 @@ loop-index-preserved g c =
     let inside = IsInDescriptor bytes in
     record {
       touched = λ told.
-          goes_on F.pages F.moment F.may_leave F.left_since g.met.F.Flash.only_now told inside _ _ _ (i.touched told)
-          (goes_on F.pages F.moment F.may_leave F.left_since g.met.F.Flash.only_now told inside _ _ _
-          (quiet F.pages F.moment F.may_leave F.left_since g.met.F.Flash.only_now told inside _ _ (r.torn told) (r.loss told) (r.time told))
-          (wider F.pages F.moment F.may_leave F.left_since g.met.F.Flash.only_now told (λ p. p ≡ c.from.result) inside _ _ (λ p same. (index, c.loop-index-test.true, sym (same ∙ home)))
-          (by_write F.pages F.moment F.may_leave F.left_since g.met.F.Flash.only_now told c.from.result _ _ (e.torn told) (e.loss told) (e.time told))));
+          goes_on F g.met.F.Flash.only_now told inside _ _ _ (i.touched told)
+          (goes_on F g.met.F.Flash.only_now told inside _ _ _
+          (quiet F g.met.F.Flash.only_now told inside _ _ (r.torn told) (r.loss told) (r.time told))
+          (wider F g.met.F.Flash.only_now told (λ p. p ≡ c.from.result) inside _ _ (λ p same. (index, c.loop-index-test.true, sym (same ∙ home)))
+          (by_write F g.met.F.Flash.only_now told c.from.result _ _ (e.torn told) (e.loss told) (e.time told))));
       homes = λ told.
           named_more index bytes c.read.new.into (F.pages c.args.flash.now) (F.pages c.loop-index.flash) (F.pages c.write.new.self) c.requires c.loop-index-test.true (i.homes told)
           (sym ((i.touched told).seen (47 + index) (copy_unnamed bytes index c.requires)) ∙ r.written told)

@@ -10,7 +10,7 @@ pub loop-index-init : goal.loop-index-init
 loop-index-init g c =
     let F = g.F.Flash in
     record {
-      touched = λ told. start F.pages F.moment F.may_leave F.left_since g.met.F.Flash.only_now told (IsStaged c.args.pool.now) c.args.flash.now;
+      touched = λ told. start F g.met.F.Flash.only_now told (IsStaged c.args.pool.now) c.args.flash.now;
       homes = λ told i entry lt. absurd (omega (arith, lt));
       faults = refl;
     }
@@ -23,10 +23,10 @@ returns-in_err-write-clause-touches g c told =
     let F = g.F.Flash in
     let e = c.in_err-write.ensures in
     let home = c.at-home.result.0 in
-    goes_on F.pages F.moment F.may_leave F.left_since g.met.F.Flash.only_now told (IsStaged c.args.pool.now) _ _ _ (c.loop-index.invariant.touched told)
-    (wider F.pages F.moment F.may_leave F.left_since g.met.F.Flash.only_now told (λ p. p ≡ home) (IsStaged c.args.pool.now) _ _
+    goes_on F g.met.F.Flash.only_now told (IsStaged c.args.pool.now) _ _ _ (c.loop-index.invariant.touched told)
+    (wider F g.met.F.Flash.only_now told (λ p. p ≡ home) (IsStaged c.args.pool.now) _ _
     (is_staged c.args.pool.now c.loop-index.index home _ c.len-index-end.ensures.distinct c.at-home.ensures)
-    (by_write F.pages F.moment F.may_leave F.left_since g.met.F.Flash.only_now told home _ _ (e.torn told) (e.loss told) (e.time told)))
+    (by_write F g.met.F.Flash.only_now told home _ _ (e.torn told) (e.loss told) (e.time told)))
 
 pub loop-index-preserved : goal.loop-index-preserved
 loop-index-preserved g c =
@@ -36,10 +36,10 @@ loop-index-preserved g c =
     let home = c.at-home.result.0 in
     record {
       touched = λ told.
-          goes_on F.pages F.moment F.may_leave F.left_since g.met.F.Flash.only_now told (IsStaged c.args.pool.now) _ _ _ (i.touched told)
-          (wider F.pages F.moment F.may_leave F.left_since g.met.F.Flash.only_now told (λ p. p ≡ home) (IsStaged c.args.pool.now) _ _
+          goes_on F g.met.F.Flash.only_now told (IsStaged c.args.pool.now) _ _ _ (i.touched told)
+          (wider F g.met.F.Flash.only_now told (λ p. p ≡ home) (IsStaged c.args.pool.now) _ _
           (is_staged c.args.pool.now c.loop-index.index home _ c.len-index-end.ensures.distinct c.at-home.ensures)
-          (by_write F.pages F.moment F.may_leave F.left_since g.met.F.Flash.only_now told home _ _ (e.torn told) (e.loss told) (e.time told)));
+          (by_write F g.met.F.Flash.only_now told home _ _ (e.torn told) (e.loss told) (e.time told)));
       homes = λ told. homes_more c.loop-index.index home c.args.pool.now _ _ _ c.len-index-end.ensures.distinct (i.homes told) c.at-home.ensures (e.torn told) (e.written told);
       faults = e.cause.ok ∙ i.faults;
     }
@@ -48,8 +48,8 @@ pub returns-clause-touches : goal.returns-clause-touches
 returns-clause-touches g c told =
     let F = g.F.Flash in
     let s = c.sync.ensures in
-    goes_on F.pages F.moment F.may_leave F.left_since g.met.F.Flash.only_now told (IsStaged c.args.pool.now) _ _ _ (c.loop-index.invariant.touched told)
-    (quiet F.pages F.moment F.may_leave F.left_since g.met.F.Flash.only_now told (IsStaged c.args.pool.now) _ _ (s.torn told) (s.loss told) (s.time told))
+    goes_on F g.met.F.Flash.only_now told (IsStaged c.args.pool.now) _ _ _ (c.loop-index.invariant.touched told)
+    (quiet F g.met.F.Flash.only_now told (IsStaged c.args.pool.now) _ _ (s.torn told) (s.loss told) (s.time told))
 
 pub returns-clause-homes : goal.returns-clause-homes
 returns-clause-homes g c told =

@@ -7,7 +7,7 @@ abbrev pub invariant-loop-index : goal.invariant-loop-index
 invariant-loop-index g l =
     let F = g.F.Flash in
     record {
-      touched : F.tells → Touches F.pages F.moment F.may_leave F.left_since (IsStaged l.pool) l.fn.flash l.flash;
+      touched : F.tells → Touches F (IsStaged l.pool) l.fn.flash l.flash;
       homes : F.tells → HomesOf l.index l.pool (F.pages l.flash);
       faults : F.faults l.flash ≡ F.faults l.fn.flash;
     }

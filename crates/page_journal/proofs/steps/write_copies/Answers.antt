@@ -8,7 +8,7 @@ pub loop-index-init : goal.loop-index-init
 loop-index-init g c =
     let F = g.F.Flash in
     record {
-      touched = λ told. start F.pages F.moment F.may_leave F.left_since g.met.F.Flash.only_now told IsCopy c.args.flash.now;
+      touched = λ told. start F g.met.F.Flash.only_now told IsCopy c.args.flash.now;
       copies = λ told i entry lt. absurd (omega (arith, lt));
       faults = refl;
     }
@@ -17,9 +17,9 @@ pub returns-in_err-write-clause-touches : goal.returns-in_err-write-clause-touch
 returns-in_err-write-clause-touches g c told =
     let F = g.F.Flash in
     let e = c.in_err-write.ensures in
-    goes_on F.pages F.moment F.may_leave F.left_since g.met.F.Flash.only_now told IsCopy _ _ _ (c.loop-index.invariant.touched told)
-    (wider F.pages F.moment F.may_leave F.left_since g.met.F.Flash.only_now told (λ p. p ≡ 47 + c.loop-index.index) IsCopy _ _ (λ p same. (omega (arith, same), omega (arith, same, c.loop-index-test.true, c.len-index-end.ensures.room)))
-    (by_write F.pages F.moment F.may_leave F.left_since g.met.F.Flash.only_now told (47 + c.loop-index.index) _ _ (e.torn told) (e.loss told) (e.time told)))
+    goes_on F g.met.F.Flash.only_now told IsCopy _ _ _ (c.loop-index.invariant.touched told)
+    (wider F g.met.F.Flash.only_now told (λ p. p ≡ 47 + c.loop-index.index) IsCopy _ _ (λ p same. (omega (arith, same), omega (arith, same, c.loop-index-test.true, c.len-index-end.ensures.room)))
+    (by_write F g.met.F.Flash.only_now told (47 + c.loop-index.index) _ _ (e.torn told) (e.loss told) (e.time told)))
 
 pub loop-index-preserved : goal.loop-index-preserved
 loop-index-preserved g c =
@@ -28,9 +28,9 @@ loop-index-preserved g c =
     let i = c.loop-index.invariant in
     record {
       touched = λ told.
-          goes_on F.pages F.moment F.may_leave F.left_since g.met.F.Flash.only_now told IsCopy _ _ _ (i.touched told)
-          (wider F.pages F.moment F.may_leave F.left_since g.met.F.Flash.only_now told (λ p. p ≡ 47 + c.loop-index.index) IsCopy _ _ (λ p same. (omega (arith, same), omega (arith, same, c.loop-index-test.true, c.len-index-end.ensures.room)))
-          (by_write F.pages F.moment F.may_leave F.left_since g.met.F.Flash.only_now told (47 + c.loop-index.index) _ _ (e.torn told) (e.loss told) (e.time told)));
+          goes_on F g.met.F.Flash.only_now told IsCopy _ _ _ (i.touched told)
+          (wider F g.met.F.Flash.only_now told (λ p. p ≡ 47 + c.loop-index.index) IsCopy _ _ (λ p same. (omega (arith, same), omega (arith, same, c.loop-index-test.true, c.len-index-end.ensures.room)))
+          (by_write F g.met.F.Flash.only_now told (47 + c.loop-index.index) _ _ (e.torn told) (e.loss told) (e.time told)));
       copies = λ told. copies_more c.loop-index.index _ c.args.pool.now _ _ _ (i.copies told) c.at.ensures (e.torn told) (e.written told);
       faults = e.cause.ok ∙ i.faults;
     }

@@ -7,7 +7,7 @@ abbrev pub invariant-loop-index : goal.invariant-loop-index
 invariant-loop-index g l =
     let F = g.F.Flash in
     record {
-      touched : F.tells → Touches F.pages F.moment F.may_leave F.left_since IsCopy l.fn.flash l.flash;
+      touched : F.tells → Touches F IsCopy l.fn.flash l.flash;
       copies : F.tells → CopiesOf l.index l.pool (F.pages l.flash);
       faults : F.faults l.flash ≡ F.faults l.fn.flash;
     }

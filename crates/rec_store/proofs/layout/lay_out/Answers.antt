@@ -13,6 +13,6 @@ returns-clause-keeps g c told tables registry first card says =
     let device = c.sync.new.self in
     let gate = c.in_ok-write.ensures in
     let synced = c.sync.ensures in
-    on_ok c.sync.result (Only shut (F.may_leave device)) (Keeps (F.pages device) (F.may_leave device) registry)
+    on_ok c.sync.result (Only shut (F.may_leave device)) (Keeps F device registry)
     (λ only. laid_out written shut (F.pages device) _ (F.may_leave device) tables registry (c.in_ok-write_tables.ensures.held told tables first) (gate.torn told) (gate.written told) refl (synced.torn told) only card says)
     (synced.written told)

@@ -28,9 +28,9 @@ returns-in_err-settle-clause-moments g c told =
     let read = c.read_tables.ensures.read in
     let P = Leaves (stored (F.pages s0)) [] in
     let leaves : Always (F.may_leave s0) P = only_leaves (F.pages s0) (F.may_leave s0) (c.requires.sound told) (c.requires.only told) in
-    let first = weaker F.moment F.left_since s0 s1 (F.may_leave s0) P (read.moments told) leaves in
-    let second = subst (λ pages. Always (F.may_leave s1) (Leaves (stored pages) []) → LeavesOnly F.moment F.left_since s1 s2 (Leaves (stored pages) [])) (read.seen told) (c.settle.ensures.moments told []) (λ outcome possible. leaves outcome (read.loss told outcome possible)) in
-    joined F.moment F.left_since s0 s1 s2 P P first second (λ outcome p. p)
+    let first = weaker F s0 s1 (F.may_leave s0) P (read.moments told) leaves in
+    let second = subst (λ pages. Always (F.may_leave s1) (Leaves (stored pages) []) → LeavesOnly F s1 s2 (Leaves (stored pages) [])) (read.seen told) (c.settle.ensures.moments told []) (λ outcome possible. leaves outcome (read.loss told outcome possible)) in
+    joined F s0 s1 s2 P P first second (λ outcome p. p)
 
 pub returns-clause-card : goal.returns-clause-card
 returns-clause-card g c page whole = let it = c.if-not-is_card.false in (c.is_card.ensures page whole).0 (cc it)
@@ -44,6 +44,6 @@ returns-clause-moments g c told =
     let read = c.read_tables.ensures.read in
     let P = Leaves (stored (F.pages s0)) [] in
     let leaves : Always (F.may_leave s0) P = only_leaves (F.pages s0) (F.may_leave s0) (c.requires.sound told) (c.requires.only told) in
-    let first = weaker F.moment F.left_since s0 s1 (F.may_leave s0) P (read.moments told) leaves in
-    let second = subst (λ pages. Always (F.may_leave s1) (Leaves (stored pages) []) → LeavesOnly F.moment F.left_since s1 s2 (Leaves (stored pages) [])) (read.seen told) (c.settle.ensures.moments told []) (λ outcome possible. leaves outcome (read.loss told outcome possible)) in
-    joined F.moment F.left_since s0 s1 s2 P P first second (λ outcome p. p)
+    let first = weaker F s0 s1 (F.may_leave s0) P (read.moments told) leaves in
+    let second = subst (λ pages. Always (F.may_leave s1) (Leaves (stored pages) []) → LeavesOnly F s1 s2 (Leaves (stored pages) [])) (read.seen told) (c.settle.ensures.moments told []) (λ outcome possible. leaves outcome (read.loss told outcome possible)) in
+    joined F s0 s1 s2 P P first second (λ outcome p. p)

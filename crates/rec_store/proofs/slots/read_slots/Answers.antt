@@ -49,7 +49,7 @@ loop-number-preserved g c =
     let slots = c.read_page.new.slots in
     let read = c.in_ok-read_page.ensures in
     record {
-      read = reads_on F.tells F.pages F.moment F.may_leave F.left_since F.faults c.args.store.now c.loop-number.store c.read_store.new.store was.read c.read_store.ensures.read;
+      read = reads_on F c.args.store.now c.loop-number.store c.read_store.new.store was.read c.read_store.ensures.read;
       holds = λ told. page_more (256 / size) c.loop-number.number (λ slot. g.T.Slot.holds (slot_from (store_page (F.pages c.args.store.now.flash)) g.T.Slot.FIRST size slot) (held slots slot))
           (λ slot lt. subst (g.T.Slot.holds (slot_from (store_page (F.pages c.args.store.now.flash)) g.T.Slot.FIRST size slot)) (sym (read.before slot lt)) (was.holds told slot lt))
           (λ place lt.

@@ -31,13 +31,13 @@ invariant_of-self-in-Err g c = (subst AreCards (sym c.digest_of.ensures.read.tab
 pub returns-in-Ok-clause-moments : goal.returns-in-Ok-clause-moments
 returns-in-Ok-clause-moments g c told state stands =
     let F = g.F.Flash in
-    reading F.tells F.pages F.may_leave c.args.self.now state stands c.self.inside.records.flash (ap (λ view. view.flash) c.self.view_is) F.moment F.left_since
+    reading F c.args.self.now state stands c.self.inside.records.flash (ap (λ view. view.flash) c.self.view_is)
     c.digest_of.new.records.flash c.digest_of.ensures.read.moments told
 
 pub returns-in-Err-clause-moments : goal.returns-in-Err-clause-moments
 returns-in-Err-clause-moments g c told state stands =
     let F = g.F.Flash in
-    reading F.tells F.pages F.may_leave c.args.self.now state stands c.self.inside.records.flash (ap (λ view. view.flash) c.self.view_is) F.moment F.left_since
+    reading F c.args.self.now state stands c.self.inside.records.flash (ap (λ view. view.flash) c.self.view_is)
     c.digest_of.new.records.flash c.digest_of.ensures.read.moments told
 
 pub returns-in-Ok-clause-stands : goal.returns-in-Ok-clause-stands

@@ -3,5 +3,5 @@ use Rattle.card_core.proofs.card.Card.power_on.Goals as goal
 
 pub returns-in-Ok-clause-stands : goal.returns-in-Ok-clause-stands
 returns-in-Ok-clause-stands g c =
-    mounted_stands g.F.Flash.tells g.F.Flash.pages g.F.Flash.may_leave c.powered_on.result c.nothing_held.result c.powered_on.ensures c.nothing_held.ensures
+    mounted_stands g.F.Flash c.powered_on.result c.nothing_held.result c.powered_on.ensures c.nothing_held.ensures
     c.args.flash c.in-Ok.records.flash c.in-Ok.records.tables c.in-Ok.ensures.card c.in-Ok.ensures.says

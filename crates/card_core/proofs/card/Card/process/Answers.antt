@@ -28,16 +28,16 @@ returns-in-Ok-clause-step g c state stands =
     let same = rule.ensures.same.0 ∙ ap (λ view. view.flash) c.self.view_is in (
       record { state = served.0; reply = rule.new.reply.items; rule = rule.result },
       served.2,
-      committed F.tells F.pages F.may_leave card state stands rule.new.records.flash same F.moment F.left_since c.commit.new.self.flash rule.new.records.tables served.0.registry says c.in-Ok.ensures.moments,
+      committed F card state stands rule.new.records.flash same c.commit.new.self.flash rule.new.records.tables served.0.registry says c.in-Ok.ensures.moments,
       (
         record {
           up = ap (λ view. view.up) c.self.view_is ∙ stands.up;
           page = stands.page;
           whole = stands.whole;
           on = rw c.in-Ok.ensures.tables served.1;
-          load = λ told. c.in-Ok.ensures.load told ∙ served_load F.tells F.pages F.may_leave card state stands rule.new.records.flash same told;
-          keeps = λ told. c.in-Ok.ensures.keeps told state.registry served.0.registry (served_keeps F.tells F.pages F.may_leave card state stands rule.new.records.flash same told)
-              (served_says F.tells F.pages F.may_leave card state stands rule.new.records.flash same rule.new.records.tables served.0.registry says told);
+          load = λ told. c.in-Ok.ensures.load told ∙ served_load F card state stands rule.new.records.flash same told;
+          keeps = λ told. c.in-Ok.ensures.keeps told state.registry served.0.registry (served_keeps F card state stands rule.new.records.flash same told)
+              (served_says F card state stands rule.new.records.flash same rule.new.records.tables served.0.registry says told);
         },
         refl,
         refl,
@@ -52,7 +52,7 @@ returns-in-Err-clause-step g c state stands =
     let same = rule.ensures.same.0 ∙ ap (λ view. view.flash) c.self.view_is in (
       record { state = served.0; reply = rule.new.reply.items; rule = rule.result },
       served.2,
-      committed F.tells F.pages F.may_leave c.args.self.now state stands rule.new.records.flash same F.moment F.left_since c.commit.new.self.flash rule.new.records.tables served.0.registry
+      committed F c.args.self.now state stands rule.new.records.flash same c.commit.new.self.flash rule.new.records.tables served.0.registry
           served.1.shows.says.registry c.in-Err.ensures.moments,
       tt,
     )
@@ -62,6 +62,6 @@ pub returns-in-Ok-clause-changes : goal.returns-in-Ok-clause-changes
 returns-in-Ok-clause-changes g c state next stands after told changes =
     let F = g.F.Flash in
     let did = returns-in-Ok-clause-step g c state stands in
-    let same = registry_told F.tells F.pages F.may_leave _ did.0.state next did.3.0 after told in
+    let same = registry_told F _ did.0.state next did.3.0 after told in
     let opened = changes_are_opened state c.args.command.now did.0 did.1 (subst (Changes state.registry) (sym same) changes) in
     (did.3.2 ∙ opened.0, opened.1)

@@ -27,9 +27,9 @@ loop-init g c =
       up = c.requires.up;
       tables = refl;
       stands = λ state stands. stands;
-      moments = λ told state stands. still_leaves F.tells F.pages F.may_leave card state stands F.moment F.left_since g.met.F.Flash.only_now told;
+      moments = λ told state stands. still_leaves F card state stands g.met.F.Flash.only_now told;
       pages = λ told. refl;
-      written = λ told state stands. none_written (files_sorted _ card.tables state.registry (says_told F.tells F.pages F.may_leave card state stands told));
+      written = λ told state stands. none_written (files_sorted _ card.tables state.registry (says_told F card state stands told));
       flushes = refl;
       later = omega arith;
       faults = refl;
@@ -48,15 +48,15 @@ loop-preserved g c =
       tables = c.write_file.ensures.same ∙ was.tables;
       stands = λ state stands. next.stands state (was.stands state stands);
       moments = λ told state stands.
-          joined F.moment F.left_since card.flash now.flash c.write_file.new.card.flash (λ outcome. Reopens outcome state.registry) (λ outcome. Reopens outcome state.registry)
+          joined F card.flash now.flash c.write_file.new.card.flash (λ outcome. Reopens outcome state.registry) (λ outcome. Reopens outcome state.registry)
           (was.moments told state stands) (c.write_file.ensures.moments told state (was.stands state stands)) (λ outcome reopens. reopens);
       pages = λ told. c.write_file.ensures.pages told ∙ was.pages told;
       written = λ told state stands.
-          (let says = says_told F.tells F.pages F.may_leave card state stands told in
+          (let says = says_told F card state stands told in
           let found = file_found _ card.tables state.registry says c.loop.last c.in-Some.slot file (rw (c.tables.ensures.tables ∙ was.tables) at c.in-Some.ensures.some) in
           next_written file_order_total (was.written told state stands) (file_of (load_page (F.pages card.flash)) card.tables.entries.items file) found (λ tells.
           next.written told state (was.stands state stands) tells
-          ∙ ap (λ text. g.K.Sink.written c.loop.sink ++ text) (same_file (F.pages card.flash) (F.pages now.flash) card.tables now.tables file (was.pages told) was.tables)));
+          ∙ ap (λ text. (g.K.Sink.state c.loop.sink).written ++ text) (same_file (F.pages card.flash) (F.pages now.flash) card.tables now.tables file (was.pages told) was.tables)));
       flushes = c.write_file.ensures.flushes ∙ was.flushes;
       later = omega (arith, was.later, c.write_file.ensures.later);
       faults = next.quiet ∙ was.faults;
@@ -69,17 +69,17 @@ returns-in_err-write_file-in-Some-clause-written g c told state stands =
     let now = c.loop.card in
     let file = c.in-Some.file in
     let was = c.loop.invariant in
-    let says = says_told F.tells F.pages F.may_leave card state stands told in
+    let says = says_told F card state stands told in
     let found = file_found _ card.tables state.registry says c.loop.last c.in-Some.slot file (rw (c.tables.ensures.tables ∙ was.tables) at c.in-Some.ensures.some) in
     MatchResult-from_err c.from_residual.result _ _ c.from_residual.ensures.0 (λ _ tells.
     (let part = c.in_err-write_file-in-Some.ensures.written told state (was.stands state stands) tells in
     part_of_lines file_order_total (was.written told state stands) (file_of (load_page (F.pages card.flash)) card.tables.entries.items file) found tells
-    (part.0, part.1 ∙ ap (λ text. g.K.Sink.written c.loop.sink ++ take part.0 text) (same_file (F.pages card.flash) (F.pages now.flash) card.tables now.tables file (was.pages told) was.tables))))
+    (part.0, part.1 ∙ ap (λ text. (g.K.Sink.state c.loop.sink).written ++ take part.0 text) (same_file (F.pages card.flash) (F.pages now.flash) card.tables now.tables file (was.pages told) was.tables))))
 
 pub returns-in_err-write_file-in-Some-clause-moments : goal.returns-in_err-write_file-in-Some-clause-moments
 returns-in_err-write_file-in-Some-clause-moments g c told state stands =
     let was = c.loop.invariant in
-    joined g.F.Flash.moment g.F.Flash.left_since c.args.card.now.flash c.loop.card.flash c.write_file.new.card.flash (λ outcome. Reopens outcome state.registry) (λ outcome. Reopens outcome state.registry)
+    joined g.F.Flash c.args.card.now.flash c.loop.card.flash c.write_file.new.card.flash (λ outcome. Reopens outcome state.registry) (λ outcome. Reopens outcome state.registry)
     (was.moments told state stands) (c.write_file.ensures.moments told state (was.stands state stands)) (λ outcome reopens. reopens)
 
 pub returns-in-None-clause-written : goal.returns-in-None-clause-written
@@ -87,7 +87,7 @@ returns-in-None-clause-written g c told state stands =
     let F = g.F.Flash in
     let card = c.args.card.now in
     let was = c.loop.invariant in
-    let says = says_told F.tells F.pages F.may_leave card state stands told in
+    let says = says_told F card state stands told in
     all_written (was.written told state stands)
     (no_file_found _ card.tables state.registry says c.loop.last (rw (c.tables.ensures.tables ∙ was.tables) at c.in-None.ensures.none))
 

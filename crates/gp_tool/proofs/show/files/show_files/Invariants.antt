@@ -16,14 +16,14 @@ invariant-loop g l =
     let first = l.initial.card in record {
       up : l.card.up ≡ true;
       tables : l.card.tables ≡ first.tables;
-      stands : (state : State) → Stands F.tells F.pages F.may_leave first state → Stands F.tells F.pages F.may_leave l.card state;
-      moments : F.tells → (state : State) → Stands F.tells F.pages F.may_leave first state
-          → LeavesOnly F.moment F.left_since first.flash l.card.flash (λ outcome. Reopens outcome state.registry);
+      stands : (state : State) → Stands F first state → Stands F l.card state;
+      moments : F.tells → (state : State) → Stands F first state
+          → LeavesOnly F first.flash l.card.flash (λ outcome. Reopens outcome state.registry);
       pages : F.tells → F.pages l.card.flash ≡ F.pages first.flash;
-      written : F.tells → (state : State) → Stands F.tells F.pages F.may_leave first state
+      written : F.tells → (state : State) → Stands F first state
           → IsWritten file_order file_line g.K.Sink.tells state.registry.files l.counter (option_map (file_of (load_page (F.pages first.flash)) first.tables.entries.items) l.last)
-          (g.K.Sink.written l.initial.sink) (g.K.Sink.written l.sink);
-      flushes : g.K.Sink.flushes l.sink ≡ g.K.Sink.flushes l.initial.sink;
+          (g.K.Sink.state l.initial.sink).written (g.K.Sink.state l.sink).written;
+      flushes : (g.K.Sink.state l.sink).flushes ≡ (g.K.Sink.state l.initial.sink).flushes;
       later : F.faults first.flash ≤ F.faults l.card.flash;
-      faults : g.K.Sink.faults l.sink ≡ g.K.Sink.faults l.initial.sink;
+      faults : (g.K.Sink.state l.sink).faults ≡ (g.K.Sink.state l.initial.sink).faults;
     }

@@ -16,7 +16,7 @@ loop-preserved g c =
       written = λ xs line_of spelled same sorted.
           (let found = next_listed named (L.listed c.args.listing.now) c.args.slots.now xs same L.order total sorted _ c.in-Some.found.slot thing c.in-Some.ensures.some in
           next_written total (c.loop.invariant.written xs line_of spelled same sorted) (named thing) found (λ told.
-          c.in_ok-write_all-in-Some.ensures.ok told ∙ ap (λ text. g.K.Sink.written c.loop.sink ++ text) (c.deref.ensures.0 ∙ c.spell.ensures ∙ spelled thing)));
+          c.in_ok-write_all-in-Some.ensures.ok told ∙ ap (λ text. (g.K.Sink.state c.loop.sink).written ++ text) (c.deref.ensures.0 ∙ c.spell.ensures ∙ spelled thing)));
       flushes = c.write_all.ensures.flushes ∙ c.loop.invariant.flushes;
       faults = c.in_ok-write_all-in-Some.ensures.cause.ok ∙ c.loop.invariant.faults;
     }
@@ -32,7 +32,7 @@ returns-in_err-write_all-in-Some-clause-written g c xs line_of spelled same sort
     (let part = c.in_err-write_all-in-Some.ensures.err told in
     let text = c.deref.ensures.0 ∙ c.spell.ensures ∙ spelled thing in
     part_of_lines total (c.loop.invariant.written xs line_of spelled same sorted) (named thing) found told
-    (part.0, part.1 ∙ ap (λ t. g.K.Sink.written c.loop.sink ++ take part.0 t) text)))
+    (part.0, part.1 ∙ ap (λ t. (g.K.Sink.state c.loop.sink).written ++ take part.0 t) text)))
 
 pub returns-in-None-clause-written : goal.returns-in-None-clause-written
 returns-in-None-clause-written g c xs line_of spelled same sorted =

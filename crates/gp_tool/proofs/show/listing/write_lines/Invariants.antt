@@ -12,7 +12,7 @@ invariant-loop g l = record {
       → IsPermutation (map (g.L.Listing.named l.listing) (filter (g.L.Listing.listed l.listing) (used l.slots))) xs
       → IsStrictlySortedBy g.L.Listing.order xs
       → IsWritten g.L.Listing.order line_of g.K.Sink.tells xs l.counter (option_map (g.L.Listing.named l.listing) (option_copied l.last))
-      (g.K.Sink.written l.initial.sink) (g.K.Sink.written l.sink);
-  flushes : g.K.Sink.flushes l.sink ≡ g.K.Sink.flushes l.initial.sink;
-  faults : g.K.Sink.faults l.sink ≡ g.K.Sink.faults l.initial.sink;
+      (g.K.Sink.state l.initial.sink).written (g.K.Sink.state l.sink).written;
+  flushes : (g.K.Sink.state l.sink).flushes ≡ (g.K.Sink.state l.initial.sink).flushes;
+  faults : (g.K.Sink.state l.sink).faults ≡ (g.K.Sink.state l.initial.sink).faults;
 }

@@ -14,6 +14,6 @@ returns-clause-moments g c told loose before =
     let stands = c.self.invariant.2 told (ap (λ s. s.live) c.self.view_is ∙ c.requires.live) in
     let closed = stands.as_read.gate ∙ none_some c.self.inside.journal (ap (λ s. s.settled) c.self.view_is ∙ c.requires.settled) in
     let e = c.write.ensures in
-    let run = by_write F.pages F.moment F.may_leave F.left_since g.met.F.Flash.only_now told page old new (e.torn told) (e.loss told) (e.time told) in
-    subst (λ f. Always (F.may_leave f) (Leaves (stored (F.pages f)) loose) → LeavesOnly F.moment F.left_since f new (Leaves (stored (F.pages f)) (page ∷ loose))) (ap (λ s. s.flash) c.self.view_is)
-    (λ was. free F.pages F.moment F.may_leave F.left_since g.met.F.Flash.only_now told loose page old new c.requires.range.0 closed stands.calm was run) before
+    let run = by_write F g.met.F.Flash.only_now told page old new (e.torn told) (e.loss told) (e.time told) in
+    subst (λ f. Always (F.may_leave f) (Leaves (stored (F.pages f)) loose) → LeavesOnly F f new (Leaves (stored (F.pages f)) (page ∷ loose))) (ap (λ s. s.flash) c.self.view_is)
+    (λ was. free F g.met.F.Flash.only_now told loose page old new c.requires.range.0 closed stands.calm was run) before

@@ -23,10 +23,10 @@ returns-clause-moments g c told before after =
     let new = c.commit.new.self.flash in
     let held = c.self.invariant.3 told (ap (λ r. r.live) c.self.view_is ∙ c.requires.live) in
     let card = subst (λ (r : Contents g.row.F.Denot). IsCard (load_page (F.pages r.flash)) r.tables) (sym c.self.view_is) (c.requires.card told) in
-    subst (λ (r : Contents g.row.F.Denot). Keeps (F.pages r.flash) (F.may_leave r.flash) before → Says (load_page (F.pages r.flash)) r.tables after
-    → LeavesOnly F.moment F.left_since r.flash new (λ outcome. Reopens outcome before ⊎ Reopens outcome after)) c.self.view_is
+    subst (λ (r : Contents g.row.F.Denot). Keeps F r.flash before → Says (load_page (F.pages r.flash)) r.tables after
+    → LeavesOnly F r.flash new (λ outcome. Reopens outcome before ⊎ Reopens outcome after)) c.self.view_is
     (λ was says.
-    weaker F.moment F.left_since old new (Either store.staged (F.pages old) (F.may_leave old) tables before after c.self.invariant.2 held card says was)
+    weaker F old new (Either store.staged (F.pages old) (F.may_leave old) tables before after c.self.invariant.2 held card says was)
     (λ outcome. Reopens outcome before ⊎ Reopens outcome after) (c.commit.ensures.moments told was.loose was.leaves)
     (either store.staged (F.pages old) (F.may_leave old) tables before after c.self.invariant.2 held card says was))
 
@@ -41,13 +41,13 @@ returns-clause-keeps g c told before after =
     let e = c.commit.ensures in
     let held = c.self.invariant.3 told (ap (λ r. r.live) c.self.view_is ∙ c.requires.live) in
     let card = subst (λ (r : Contents g.row.F.Denot). IsCard (load_page (F.pages r.flash)) r.tables) (sym c.self.view_is) (c.requires.card told) in
-    let K = Keeps (F.pages new) (F.may_leave new) after in
-    subst (λ (r : Contents g.row.F.Denot). Keeps (F.pages r.flash) (F.may_leave r.flash) before → Says (load_page (F.pages r.flash)) r.tables after → OnOk c.commit.result K) c.self.view_is
+    let K = Keeps F new after in
+    subst (λ (r : Contents g.row.F.Denot). Keeps F r.flash before → Says (load_page (F.pages r.flash)) r.tables after → OnOk c.commit.result K) c.self.view_is
     (λ was says. ⊎_elim
     (λ (empty : store.staged ≡ []). always_ok c.commit.result K
-    (subst (λ (s : Store g.row.F.Denot). Keeps (F.pages s.flash) (F.may_leave s.flash) after) (sym (e.idle empty).1) (idle store.staged (F.pages old) (F.may_leave old) tables before after c.self.invariant.2 held card says was empty)))
+    (subst (λ (s : Store g.row.F.Denot). Keeps F s.flash after) (sym (e.idle empty).1) (idle store.staged (F.pages old) (F.may_leave old) tables before after c.self.invariant.2 held card says was empty)))
     (λ (some : 0 < length store.staged).
-    let leaves = now_left F.tells F.pages F.moment F.may_leave F.left_since F.faults old new (Either store.staged (F.pages old) (F.may_leave old) tables before after c.self.invariant.2 held card says was)
+    let leaves = now_left F old new (Either store.staged (F.pages old) (F.may_leave old) tables before after c.self.invariant.2 held card says was)
     (e.moments told was.loose was.leaves) told g.met.F.Flash.counts_now (F.pages new) (g.met.F.Flash.as_read new told) in
     on_ok c.commit.result (IsListed list (F.pages new) × Only (F.pages new) (F.may_leave new)) K
     (λ committed. done store.staged (F.pages old) (F.may_leave old) tables before after c.self.invariant.2 held card says was (F.pages new) (F.may_leave new) leaves committed.0 committed.1)

@@ -35,13 +35,13 @@ returns-in-Ok-mount-clause-says g c told =
     let list = stored pages in
     let seen : F.pages store.flash ≡ pages = c.in-Ok-mount.ensures.pages told in
     let held = subst (λ p. IfOk c.open.result (λ r. HoldsTables (store_page p) r.tables)) seen (c.open.ensures.held told) in
-    let moments = subst (λ p. IfOk c.open.result (λ r. LeavesOnly F.moment F.left_since store.flash r.flash (Leaves (stored p) []))) seen (c.open.ensures.moments told) in
+    let moments = subst (λ p. IfOk c.open.result (λ r. LeavesOnly F store.flash r.flash (Leaves (stored p) []))) seen (c.open.ensures.moments told) in
     each_ok c.open.result
-    (λ r. ((page : ℕ → List ℕ) → HasPages page → IsCard page r.tables) × (HoldsTables (store_page pages) r.tables × LeavesOnly F.moment F.left_since store.flash r.flash (Leaves list [])))
-    (λ r. (registry : Registry) × Reopens pages registry × Says (load_page (F.pages r.flash)) r.tables registry × Keeps (F.pages r.flash) (F.may_leave r.flash) registry)
+    (λ r. ((page : ℕ → List ℕ) → HasPages page → IsCard page r.tables) × (HoldsTables (store_page pages) r.tables × LeavesOnly F store.flash r.flash (Leaves list [])))
+    (λ r. (registry : Registry) × Reopens pages registry × Says (load_page (F.pages r.flash)) r.tables registry × Keeps F r.flash registry)
     (λ r is.
     let card = is.0 (load_page pages) (has_pages list) in
-    let later = now_left F.tells F.pages F.moment F.may_leave F.left_since F.faults store.flash r.flash (Leaves list []) is.1.1 told g.met.F.Flash.counts_now in
+    let later = now_left F store.flash r.flash (Leaves list []) is.1.1 told g.met.F.Flash.counts_now in
     let now = later (F.pages r.flash) (g.met.F.Flash.as_read r.flash told) in
     let loads : load_page (F.pages r.flash) ≡ load_page pages = λ i n. load_same (stored (F.pages r.flash)) list n (λ high. now.load n high (λ loose. absurd (omega (arith, loose.1)))) i in (
       card.said,
@@ -49,8 +49,8 @@ returns-in-Ok-mount-clause-says g c told =
       subst (λ load. Says load r.tables card.said) (sym loads) card.says,
       keeps_left list [] r.tables card.said (none_loose r.tables) is.1.0 card card.says (F.pages r.flash) (F.may_leave r.flash) now later,
     ))
-    (also_ok c.open.result (λ r. (page : ℕ → List ℕ) → HasPages page → IsCard page r.tables) (λ r. HoldsTables (store_page pages) r.tables × LeavesOnly F.moment F.left_since store.flash r.flash (Leaves list []))
-    c.open.ensures.card (also_ok c.open.result (λ r. HoldsTables (store_page pages) r.tables) (λ r. LeavesOnly F.moment F.left_since store.flash r.flash (Leaves list [])) held moments))
+    (also_ok c.open.result (λ r. (page : ℕ → List ℕ) → HasPages page → IsCard page r.tables) (λ r. HoldsTables (store_page pages) r.tables × LeavesOnly F store.flash r.flash (Leaves list []))
+    c.open.ensures.card (also_ok c.open.result (λ r. HoldsTables (store_page pages) r.tables) (λ r. LeavesOnly F store.flash r.flash (Leaves list [])) held moments))
 
 -- pages that are left reopen as what was there
 one_of : (pages outcome : List Page) (registries : List Registry) → ReopensAsOne registries pages → Leaves (stored pages) [] outcome → ReopensAsOne registries outcome
@@ -65,10 +65,10 @@ returns-in-Ok-mount-clause-moments g c told registries always =
     let store = c.in-Ok-mount.store in
     let seen : F.pages store.flash ≡ F.pages flash = c.in-Ok-mount.ensures.pages told in
     let was = always (F.pages flash) (g.met.F.Flash.as_read flash told) in
-    let first = weaker F.moment F.left_since flash store.flash (F.may_leave flash) (ReopensAsOne registries) (c.in-Ok-mount.ensures.moments told) always in
+    let first = weaker F flash store.flash (F.may_leave flash) (ReopensAsOne registries) (c.in-Ok-mount.ensures.moments told) always in
     let P = Leaves (stored (F.pages store.flash)) [] in
-    each_ok c.open.result (λ r. LeavesOnly F.moment F.left_since store.flash r.flash P) (λ r. LeavesOnly F.moment F.left_since flash r.flash (ReopensAsOne registries))
-    (λ r second. joined F.moment F.left_since flash store.flash r.flash (ReopensAsOne registries) P first second
+    each_ok c.open.result (λ r. LeavesOnly F store.flash r.flash P) (λ r. LeavesOnly F flash r.flash (ReopensAsOne registries))
+    (λ r second. joined F flash store.flash r.flash (ReopensAsOne registries) P first second
     (λ outcome leaves. one_of (F.pages flash) outcome registries was (subst (λ p. Leaves (stored p) [] outcome) seen leaves)))
     (c.open.ensures.moments told)
 
@@ -79,10 +79,10 @@ returns-in-Ok-mount-clause-err_moments g c told registries always =
     let store = c.in-Ok-mount.store in
     let seen : F.pages store.flash ≡ F.pages flash = c.in-Ok-mount.ensures.pages told in
     let was = always (F.pages flash) (g.met.F.Flash.as_read flash told) in
-    let first = weaker F.moment F.left_since flash store.flash (F.may_leave flash) (ReopensAsOne registries) (c.in-Ok-mount.ensures.moments told) always in
+    let first = weaker F flash store.flash (F.may_leave flash) (ReopensAsOne registries) (c.in-Ok-mount.ensures.moments told) always in
     let P = Leaves (stored (F.pages store.flash)) [] in
-    each_error c.open.result (λ e. LeavesOnly F.moment F.left_since store.flash e.flash P) (λ e. LeavesOnly F.moment F.left_since flash e.flash (ReopensAsOne registries))
-    (λ e second. joined F.moment F.left_since flash store.flash e.flash (ReopensAsOne registries) P first second
+    each_error c.open.result (λ e. LeavesOnly F store.flash e.flash P) (λ e. LeavesOnly F flash e.flash (ReopensAsOne registries))
+    (λ e second. joined F flash store.flash e.flash (ReopensAsOne registries) P first second
     (λ outcome leaves. one_of (F.pages flash) outcome registries was (subst (λ p. Leaves (stored p) [] outcome) seen leaves)))
     (c.open.ensures.err_moments told)
 
@@ -91,6 +91,6 @@ returns-in-Ok-mount-clause-err g c =
     let F = g.F.Flash in
     let flash = c.args.flash in
     let store = c.in-Ok-mount.store in
-    each_error c.open.result (λ e. CardFails F.tells F.faults F.pages store.flash e.cause e.flash) (λ e. OpenFails F.tells F.faults F.pages flash e.cause e.flash)
-    (λ e why. opens_later F.tells F.faults F.pages flash store.flash e.flash c.in-Ok-mount.ensures.later c.in-Ok-mount.ensures.pages e.cause why)
+    each_error c.open.result (λ e. CardFails F store.flash e.cause e.flash) (λ e. OpenFails F flash e.cause e.flash)
+    (λ e why. opens_later F flash store.flash e.flash c.in-Ok-mount.ensures.later c.in-Ok-mount.ensures.pages e.cause why)
     c.open.ensures.err

@@ -23,4 +23,4 @@ returns-clause-keeps g c told registry was =
     let old = c.self.inside.store.flash in
     let new = c.read-answer.new.self.flash in
     keeps_on (F.pages old) (F.pages new) (F.may_leave old) (F.may_leave new) registry (c.read-answer.ensures.pages told) (c.read-answer.ensures.loss told)
-    (subst (λ f. Keeps (F.pages f) (F.may_leave f) registry) (sym (ap (λ r. r.flash) c.self.view_is)) was)
+    (subst (λ f. Keeps F f registry) (sym (ap (λ r. r.flash) c.self.view_is)) was)

@@ -15,7 +15,7 @@ invariant_of-self g c =
     let store = c.self.inside.store in
     let after : Tables = record before { life = c.args.life } in
     let page : Page = record { bytes = c.superblock.result } in
-    kept_anew store c.stage.new.self 0 page c.stage.ensures F.tells F.pages after (omega arith) (life_roomy before after c.self.invariant.0 c.args.life) c.self.invariant.1 c.self.invariant.2
+    kept_anew store c.stage.new.self 0 page c.stage.ensures F after (omega arith) (life_roomy before after c.self.invariant.0 c.args.life) c.self.invariant.1 c.self.invariant.2
     (λ told. life_set store.staged (F.pages store.flash) 0 page before after (c.self.invariant.3 told (ap (λ r. r.live) c.self.view_is ∙ c.requires.live)) c.args.life refl refl c.superblock.ensures)
 
 pub returns-clause-staged : goal.returns-clause-staged

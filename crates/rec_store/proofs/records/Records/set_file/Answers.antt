@@ -36,7 +36,7 @@ invariant_of-self g c =
     let e = c.stage_slots.ensures in
     let one : slot / 1 ≡ slot = omega arith in
     let in_page : HoldsPage HoldsFile 256 e.0.bytes slot (slice_set items slot value) = subst (λ n. HoldsPage HoldsFile 256 e.0.bytes n (slice_set items slot value)) one (subst (HoldsPage HoldsFile 256 e.0.bytes (slot / 1)) (c.deref.ensures.value ∙ put) e.2) in
-    kept_anew store c.stage_slots.new.store (9 + slot / 1) e.0 e.1 F.tells F.pages after (omega (arith, c.requires.range)) (file_roomy before after c.self.invariant.0 slot value sets c.requires.roomy) c.self.invariant.1 c.self.invariant.2
+    kept_anew store c.stage_slots.new.store (9 + slot / 1) e.0 e.1 F after (omega (arith, c.requires.range)) (file_roomy before after c.self.invariant.0 slot value sets c.requires.roomy) c.self.invariant.1 c.self.invariant.2
     (λ told. file_set store.staged (F.pages store.flash) (9 + slot / 1) e.0 before after (c.self.invariant.3 told (ap (λ r. r.live) c.self.view_is ∙ c.requires.live)) slot value sets c.requires.range (omega arith) in_page)
 
 pub returns-clause-staged : goal.returns-clause-staged

@@ -31,7 +31,7 @@ invariant_of-self g c =
     let sets : SetsKey before after slot value = record { life = refl; entries = refl; files = refl; keys = put; objects = refl } in
     let e = c.stage_slots.ensures in
     let in_page : HoldsPage HoldsKey 64 e.0.bytes (slot / 4) (slice_set items slot value) = subst (HoldsPage HoldsKey 64 e.0.bytes (slot / 4)) (c.deref.ensures.value ∙ put) e.2 in
-    kept_anew store c.stage_slots.new.store (key_page slot) e.0 e.1 F.tells F.pages after (omega (arith, c.requires.range)) (key_roomy before after c.self.invariant.0 slot value sets c.requires.roomy) c.self.invariant.1 c.self.invariant.2
+    kept_anew store c.stage_slots.new.store (key_page slot) e.0 e.1 F after (omega (arith, c.requires.range)) (key_roomy before after c.self.invariant.0 slot value sets c.requires.roomy) c.self.invariant.1 c.self.invariant.2
     (λ told. key_set store.staged (F.pages store.flash) (key_page slot) e.0 before after (c.self.invariant.3 told (ap (λ r. r.live) c.self.view_is ∙ c.requires.live)) slot value sets c.requires.range refl in_page)
 
 pub returns-clause-staged : goal.returns-clause-staged

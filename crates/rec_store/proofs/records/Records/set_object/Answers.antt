@@ -26,7 +26,7 @@ invariant_of-self g c =
     let sets : SetsObject before after slot value = record { life = refl; entries = refl; files = refl; keys = refl; objects = put } in
     let e = c.stage_slots.ensures in
     let in_page : HoldsPage HoldsObject 128 e.0.bytes (slot / 2) (slice_set items slot value) = subst (HoldsPage HoldsObject 128 e.0.bytes (slot / 2)) (c.deref.ensures.value ∙ put) e.2 in
-    kept_anew store c.stage_slots.new.store (object_page slot) e.0 e.1 F.tells F.pages after (omega (arith, c.requires.range)) (object_roomy before after c.self.invariant.0 slot value sets) c.self.invariant.1 c.self.invariant.2
+    kept_anew store c.stage_slots.new.store (object_page slot) e.0 e.1 F after (omega (arith, c.requires.range)) (object_roomy before after c.self.invariant.0 slot value sets) c.self.invariant.1 c.self.invariant.2
     (λ told. object_set store.staged (F.pages store.flash) (object_page slot) e.0 before after (c.self.invariant.3 told (ap (λ r. r.live) c.self.view_is ∙ c.requires.live)) slot value sets c.requires.range refl in_page)
 
 pub returns-clause-staged : goal.returns-clause-staged

@@ -9,7 +9,7 @@ use Rattle.flash_core.specs.declared.page.Page.{Page}
 use Rattle.page_journal.specs.Journal.{stored}
 use Rattle.page_journal.specs.Moments.{Leaves, LeavesOnly}
 use Rattle.rec_store.specs.Contents.{Contents}
-use Rattle.rec_store.specs.Reopens.{IsFree, Keeps, Reopens, current_page, load_page, store_page}
+use Rattle.rec_store.specs.Reopens.{IsFree, Keeps, KeepsPages, Reopens, current_page, load_page, store_page}
 use Rattle.rec_store.specs.StoredTables.{HoldsTables}
 use Rattle.rec_store.proofs.Leaving.{weaker}
 use Rattle.rec_store.proofs.Readings.{now_left}
@@ -25,7 +25,7 @@ returns-clause-bytes g c told =
     (λ is. sym (load_read (stored pages) c.args.page c.args.from.now c.requires.range.0 is c.if-prove.false)) (c.write_free.ensures.written told)
 
 -- with the page that is written, which no file has, no loose page is one of a file
-freed : (pages : List Page) (may_leave : List Page → Type 0) (t : Tables) (page : ℕ) → HoldsTables (store_page pages) t → IsFree t page → {registry : _} → (was : Keeps pages may_leave registry)
+freed : (pages : List Page) (may_leave : List Page → Type 0) (t : Tables) (page : ℕ) → HoldsTables (store_page pages) t → IsFree t page → {registry : _} → (was : KeepsPages pages may_leave registry)
     → (n : ℕ) → Contains (page ∷ was.loose) n → IsFree was.now.holds.tables n
 freed pages may_leave t page held free was n among = elim (contains_cases page was.loose n among) [
   | inl same ↦ subst (IsFree was.now.holds.tables) same (free_of_held (store_page pages) t was.now.holds.tables page held was.now.holds.held free)
@@ -45,11 +45,11 @@ returns-clause-moments g c told none registry =
     let new = c.write_free.new.self.flash in
     let page = c.args.page in
     let free_now = subst (λ (r : Contents g.row.F.Denot). IsFree r.tables page) (sym c.self.view_is) c.requires.free in
-    subst (λ (r : Contents g.row.F.Denot). Keeps (F.pages r.flash) (F.may_leave r.flash) registry → LeavesOnly F.moment F.left_since r.flash new (λ outcome. Reopens outcome registry)) c.self.view_is
+    subst (λ (r : Contents g.row.F.Denot). Keeps F r.flash registry → LeavesOnly F r.flash new (λ outcome. Reopens outcome registry)) c.self.view_is
     (λ was.
     let on = was.now.holds in
     let free = freed (F.pages old) (F.may_leave old) c.self.inside.tables page (held_now g c told none) free_now was in
-    weaker F.moment F.left_since old new (Leaves (stored (F.pages old)) (page ∷ was.loose)) (λ outcome. Reopens outcome registry)
+    weaker F old new (Leaves (stored (F.pages old)) (page ∷ was.loose)) (λ outcome. Reopens outcome registry)
     (c.write_free.ensures.moments told was.loose was.leaves)
     (λ outcome leaves. left (stored (F.pages old)) (page ∷ was.loose) outcome on.tables leaves free on.card registry on.held on.says))
 
@@ -60,11 +60,11 @@ returns-clause-keeps g c told none registry =
     let new = c.write_free.new.self.flash in
     let page = c.args.page in
     let free_now = subst (λ (r : Contents g.row.F.Denot). IsFree r.tables page) (sym c.self.view_is) c.requires.free in
-    subst (λ (r : Contents g.row.F.Denot). Keeps (F.pages r.flash) (F.may_leave r.flash) registry → Keeps (F.pages new) (F.may_leave new) registry) c.self.view_is
+    subst (λ (r : Contents g.row.F.Denot). Keeps F r.flash registry → Keeps F new registry) c.self.view_is
     (λ was.
     let on = was.now.holds in
     let free = freed (F.pages old) (F.may_leave old) c.self.inside.tables page (held_now g c told none) free_now was in
-    let later = now_left F.tells F.pages F.moment F.may_leave F.left_since F.faults old new (Leaves (stored (F.pages old)) (page ∷ was.loose)) (c.write_free.ensures.moments told was.loose was.leaves) told g.met.F.Flash.counts_now in
+    let later = now_left F old new (Leaves (stored (F.pages old)) (page ∷ was.loose)) (c.write_free.ensures.moments told was.loose was.leaves) told g.met.F.Flash.counts_now in
     keeps_left (stored (F.pages old)) (page ∷ was.loose) on.tables registry free on.held on.card on.says (F.pages new) (F.may_leave new) (later (F.pages new) (g.met.F.Flash.as_read new told)) later)
 
 pub returns-clause-says : goal.returns-clause-says

@@ -1,0 +1,104 @@
+-- How each verb ends. `source`, `sink` and `device` are what contracts see of a source, a sink and a device.
+use Rattle.std.specs.Prelude.{◌≡◌, ◌⊎◌, ℕ, ◌<◌, List, [], length}
+use Rattle.std.specs.Str.Lines.{lines}
+use Rattle.card_types.specs.Registry.{Registry}
+use Rattle.faults.specs.Faults.{Rose}
+use Rattle.flash_core.specs.declared.flash.Flash.{Ghosts as Flash}
+use Rattle.io_edge.specs.Streams.{SourceState}
+use Rattle.io_edge.specs.declared.line.TheConstants.{INPUT_LIMIT}
+use Rattle.io_edge.specs.declared.sink.Sink.{Ghosts as Sink}
+use Rattle.io_edge.specs.declared.source.Source.{Ghosts as Source}
+use Rattle.policy_rules.specs.State.{State, powered_on}
+use Rattle.rec_store.specs.Reopens.{Reopens}
+use Rattle.gp_tool.specs.Device.{HasFailed, HasRun, IsNotPowered}
+use Rattle.gp_tool.specs.Ends.{EndCause, Ends, Flushes, exit_status, faults_of, outside}
+use Rattle.gp_tool.specs.Formatted.{FormatEnds}
+use Rattle.gp_tool.specs.Good.{AreGood}
+use Rattle.gp_tool.specs.Shown.{HasShown, ShowEnds}
+use Rattle.gp_tool.specs.declared.ending.Ending.{Ending}
+
+-- what a run is given
+pub record Around (S K F : Type 0) : Type 0 where
+  pub source : S
+  pub sink : K
+  pub flash : F
+
+abbrev pub around : {S K F : Type 0} → S → K → F → Around S K F
+around source sink flash = record { source = source; sink = sink; flash = flash }
+
+-- how a run from a first state ends that has processed so many commands
+abbrev pub RunEnds : {S K F : Type 0} → Source S → Sink K → Flash F → State → Ending → ℕ → Around S K F → Around S K F → Type 0
+RunEnds source sink device first ending count old new =
+    Ends source.tells sink.tells (HasRun device old.flash new.flash first count) (HasFailed device old.flash new.flash first count) first ending
+    (outside (source.state old.source) (sink.state old.sink)) (outside (source.state new.source) (sink.state new.sink))
+
+-- whose faults a run ends with
+abbrev pub RunCause : {S K F : Type 0} → Source S → Sink K → Flash F → Ending → Around S K F → Around S K F → Type 0
+RunCause source sink device ending old new =
+    EndCause ending (faults_of (source.state old.source) (sink.state old.sink) (device.faults old.flash))
+    (faults_of (source.state new.source) (sink.state new.sink) (device.faults new.flash))
+
+-- The card was powered on with a registry, and the status is that of the run's ending.
+pub record RunsCard {S K F : Type 0} (source : Source S) (sink : Sink K) (device : Flash F) (status count : ℕ) (old new : Around S K F) : Type 0 where
+  pub registry : Registry
+  pub reopens : device.tells → Reopens (device.pages old.flash) registry
+  pub ending : Ending
+  pub status_is : status ≡ exit_status ending
+  pub cause : RunCause source sink device ending old new
+  pub flushes : Flushes sink.tells ending (sink.state old.sink) (sink.state new.sink)
+  pub ends : RunEnds source sink device (powered_on registry) ending count old new
+
+-- It was, or it was not powered on, and nothing is read or written.
+abbrev pub EndsRun : {S K F : Type 0} → Source S → Sink K → Flash F → ℕ → ℕ → Around S K F → Around S K F → Type 0
+EndsRun source sink device status count old new =
+    (IsNotPowered device status count old.flash new.flash × (new.source ≡ old.source) × (new.sink ≡ old.sink))
+    ⊎ RunsCard source sink device status count old new
+
+-- nothing has failed
+pub record NoFault {S K F : Type 0} (source : Source S) (sink : Sink K) (device : Flash F) (old new : Around S K F) : Type 0 where
+  pub reads : Rose (source.state old.source).faults (source.state new.source).faults → ⊥
+  pub writes : Rose (sink.state old.sink).faults (sink.state new.sink).faults → ⊥
+  pub flash : Rose (device.faults old.flash) (device.faults new.flash) → ⊥
+
+-- each line of an input has a form and is not too long, and the input is short enough
+abbrev pub IsGoodInput : List ℕ → Type 0
+IsGoodInput input = AreGood (lines input) × (length input < INPUT_LIMIT)
+
+-- What `format` and `show` are given: they read nothing.
+pub record Beside (K F : Type 0) : Type 0 where
+  pub sink : K
+  pub flash : F
+
+abbrev pub beside : {K F : Type 0} → K → F → Beside K F
+beside sink flash = record { sink = sink; flash = flash }
+
+-- a source that nothing is read from
+abbrev pub unread : SourceState
+unread = record { left = []; faults = 0 }
+
+-- The status is that of an ending.
+pub record HasEnded {K F : Type 0} (sink : Sink K) (device : Flash F) (ending : Ending) (status : ℕ) (old new : Beside K F) : Type 0 where
+  pub status_is : status ≡ exit_status ending
+  pub cause : EndCause ending (faults_of unread (sink.state old.sink) (device.faults old.flash)) (faults_of unread (sink.state new.sink) (device.faults new.flash))
+  pub flushes : Flushes sink.tells ending (sink.state old.sink) (sink.state new.sink)
+
+-- no command is processed, and the device is the card as it leaves the factory unless it failed
+pub record EndsFormat {K F : Type 0} (sink : Sink K) (device : Flash F) (status count : ℕ) (old new : Beside K F) : Type 0 where
+  pub none : count ≡ 0
+  pub ending : Ending
+  pub ended : HasEnded sink device ending status old new
+  pub ends : FormatEnds device sink.tells ending new.flash (sink.state old.sink) (sink.state new.sink)
+
+-- The card was powered on with a registry, which was written, and the device keeps it.
+pub record ShowsCard {K F : Type 0} (sink : Sink K) (device : Flash F) (status : ℕ) (old new : Beside K F) : Type 0 where
+  pub registry : Registry
+  pub reopens : device.tells → Reopens (device.pages old.flash) registry
+  pub ending : Ending
+  pub ended : HasEnded sink device ending status old new
+  pub ends : ShowEnds (device.tells × sink.tells) registry ending (sink.state old.sink) (sink.state new.sink)
+  pub shown : HasShown device old.flash new.flash registry
+
+-- It was, or it was not powered on, and nothing is written. No command is processed.
+abbrev pub EndsShow : {K F : Type 0} → Sink K → Flash F → ℕ → ℕ → Beside K F → Beside K F → Type 0
+EndsShow sink device status count old new =
+    (count ≡ 0) × ((IsNotPowered device status count old.flash new.flash × (new.sink ≡ old.sink)) ⊎ ShowsCard sink device status old new)
