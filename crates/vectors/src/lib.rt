@@ -13,6 +13,7 @@
 //! - `journal`: load pages that a commit keeps.
 //! - `judging`: rules that no command of a card comes to.
 //! - `keeper`: keys in memory.
+//! - `registry_changes`: entries and load files that come and go on a card.
 //! - `streams`: sources, sinks and lines.
 //! - `tables`: tables that no image can spell.
 //! - `transcripts`: sessions of SCP03 with every value in between, at both ends.
@@ -45,6 +46,8 @@ mod journal;
 mod judging;
 #[cfg(test)]
 mod keeper;
+#[cfg(test)]
+mod registry_changes;
 #[cfg(test)]
 mod streams;
 #[cfg(test)]

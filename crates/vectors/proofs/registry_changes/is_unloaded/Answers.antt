@@ -1,0 +1,14 @@
+use Rattle.std.proofs.Common.{◌≡◌, ◌==◌, List, Option, ap, ◌∙◌}
+use Rattle.std.proofs.lemmas.Bool.{eq-eqb}
+use Rattle.card_types.specs.Least.{NoneFits}
+use Rattle.card_types.specs.Slots.{held}
+use Rattle.card_types.specs.declared.tables.Entry.{Entry}
+use Rattle.card_types.specs.declared.tables.Tables.{Tables}
+use Rattle.vectors.proofs.Found.{where_none}
+use Rattle.vectors.proofs.registry_changes.is_unloaded.Goals as goal
+
+pub returns : goal.returns
+returns c none other entry at same =
+    let slots = c.deref.ensures.value ∙ ap (λ (t : Tables). t.entries.items) c.tables.ensures.tables in
+    let fits : NoneFits (λ (e : Entry). e.file == c.args.slot) c.deref.result.now = where_none c.first_that.result _ c.is_none.result c.is_none.ensures none c.first_that.ensures.none in
+    fits other entry (ap (λ (s : List (Option Entry)). held s other) slots ∙ at) (eq-eqb entry.file c.args.slot same)
