@@ -1,3 +1,5 @@
+pub mod AboveBelow
+pub mod AboveChanges
 pub mod AboveNamed
 pub mod Climb
 pub mod LineLength

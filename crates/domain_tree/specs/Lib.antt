@@ -1,3 +1,4 @@
 pub mod Above
+pub mod AboveLaws
 pub mod Holders
 pub mod Slots

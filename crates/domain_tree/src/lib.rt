@@ -3,7 +3,9 @@
 #![tactic(auto)]
 
 mod holders;
+mod laws;
 mod walk;
 
 pub use holders::nearest;
+pub use laws::{above_added, above_changed, above_moved, above_removed};
 pub use walk::{Wanted, above, first_above, would_loop};
