@@ -1,9 +1,6 @@
 #!/usr/bin/env bash
-# What the merge gate costs: it runs `rt ci --anew` in a copy, and prints for each crate the
+# What the merge gate costs: it runs `rt ci` from nothing in a copy, and prints for each crate the
 # processor seconds of the prover: proofs, tests, and must-fail edits.
-#
-#   bench/gate.sh            every crate
-#   bench/gate.sh CRATE...   these crates and those below them
 #
 # It looks twice a second, so what a process does in its last half second is not counted. It
 # ends as the gate does, and prints the gate's last lines where that fails.
@@ -19,7 +16,10 @@ git init -q
 # The edits' own copies lie below this folder too, so that nobody else's processes count.
 mkdir tmp
 chmod 1777 . tmp
-TMPDIR=$copy/tmp rt ci --anew "$@" >tmp/log 2>&1 </dev/null &
+# A kit that keeps proofs between runs has the flag; any other proves from nothing always.
+anew=()
+if rt help 2>&1 | grep -q -- '--anew'; then anew=(--anew); fi
+TMPDIR=$copy/tmp rt ci "${anew[@]}" >tmp/log 2>&1 </dev/null &
 gate=$!
 
 declare -A spent
