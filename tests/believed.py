@@ -1,0 +1,138 @@
+#!/usr/bin/env python3
+"""What a reviewer has to believe: the definitions that the clauses of the top calls lead to.
+
+    tests/believed.py             for each top call its definitions: how many, and their lines, by crate
+    tests/believed.py WORD...     the definitions themselves, with file and line, of the calls whose name has a WORD
+
+It goes by names: from the words of a call's clauses to the definitions in specs/ that the file imports, and from each of
+these on. Words of the toolchain's library and types of the code are not followed. Run it anywhere in the repository.
+"""
+import collections
+import pathlib
+import re
+import sys
+
+CRATES = pathlib.Path(__file__).resolve().parent.parent / "crates"
+
+# A top call: the crate, its file, and where its clauses begin: a function, or a trait with all its clauses.
+CALLS = [
+    ("gp_tool", "top.rt", "pub fn gp<"),
+    ("card_core", "card.rt", "pub fn power_on("),
+    ("card_core", "card.rt", "pub fn process("),
+    ("card_core", "card.rt", "pub fn reset("),
+    ("card_core", "formatting.rt", "pub fn format<"),
+    ("flash_core", "flash.rt", "pub trait Flash"),
+    ("io_edge", "source.rt", "pub trait Source"),
+    ("io_edge", "sink.rt", "pub trait Sink"),
+    ("policy_rules", "laws.rt", "pub fn "),
+    ("scp03_host", "laws.rt", "pub fn "),
+]
+
+WORD = re.compile(r"[^\W\d][\w'-]*(?:\.[A-Za-z_][\w']*)*")
+USE = re.compile(r"(?:ghost )?use Rattle\.(\w+)\.specs\.([\w.]+?)(?:\.\{([^}]*)\})?(?: as (\w+))?;?$")
+DEFINITION = re.compile(r"(?:abbrev |unfoldable )?pub (?:record |data )?([^\s:({]+)")
+
+
+def imports(lines):
+    """What each imported name stands for: a crate, a file of its specs/, and a name in it, or None for the whole file."""
+    found = {}
+    for line in lines:
+        use = USE.match(line.strip())
+        if not use or use[2].startswith("declared"):
+            continue
+        if use[3] is None:
+            found[use[4] or use[2]] = use[1], use[2], None
+            continue
+        for name in filter(None, (it.strip() for it in use[3].split(","))):
+            own, _, other = name.partition(" as ")
+            found[other.strip() or own] = use[1], use[2], own
+    return found
+
+
+class Specs:
+    """One file of specs/: its definitions with first line, number of lines and words, and its imports."""
+
+    def __init__(self, path):
+        self.path = path
+        lines = path.read_text().split("\n")
+        self.uses = imports(line for line in lines if line.startswith("use "))
+        self.first, self.size = {}, collections.Counter()
+        self.words = collections.defaultdict(set)
+        self.owner = {}
+        name = None
+        for number, line in enumerate(lines, 1):
+            if not line.strip() or line.lstrip().startswith("--") or line.startswith("use "):
+                continue
+            head = DEFINITION.match(line)
+            if head:
+                name = head[1]
+                self.first[name] = number
+            if name:
+                self.size[name] += 1
+                self.words[name] |= set(WORD.findall(line))
+                member = re.match(r"  ([A-Z]\w*) :", line)
+                if member:
+                    self.owner[member[1]] = name
+
+
+def all_specs():
+    return {(path.parts[-3], path.stem): Specs(path) for path in sorted(CRATES.glob("*/specs/*.antt")) if path.stem != "Lib"}
+
+
+def clauses(crate, file, begin):
+    """The words of the clauses, and what the file imports."""
+    text = (CRATES / crate / "src" / file).read_text()
+    uses = imports(re.findall(r"(?m)^\s*(ghost use .*;)$", text))
+    start = text.index(begin)
+    end = len(text) if begin.endswith("fn ") or "trait" in begin else text.index("\n    {\n" if text[start - 4 : start].isspace() else "\n{\n", start)
+    return set(WORD.findall(text[start:end])), uses
+
+
+def reached(specs, words, uses):
+    """The definitions that these words lead to."""
+    seen, left = set(), []
+
+    def push(crate, module, name):
+        file = specs.get((crate, module))
+        name = file and (name if name in file.first else file.owner.get(name))
+        if name and (crate, module, name) not in seen:
+            seen.add((crate, module, name))
+            left.append((crate, module, name))
+
+    def follow(words, uses, here):
+        for word in words:
+            front, _, member = word.partition(".")
+            if front in uses:
+                crate, module, name = uses[front]
+                push(crate, module, name or member)
+            elif here:
+                push(*here, front)
+
+    follow(words, uses, None)
+    while left:
+        crate, module, name = left.pop()
+        file = specs[crate, module]
+        follow(file.words[name], file.uses, (crate, module))
+    return seen
+
+
+def main(wanted):
+    specs = all_specs()
+    for crate, file, begin in CALLS:
+        call = f"{crate} {begin.removeprefix('pub ').rstrip('(<')}".replace(" fn ", " ").rstrip()
+        if begin == "pub fn ":
+            call = f"{crate} laws"
+        if wanted and not any(word in call for word in wanted):
+            continue
+        found = reached(specs, *clauses(crate, file, begin))
+        lines = collections.Counter()
+        for at in found:
+            lines[at[0]] += specs[at[:2]].size[at[2]]
+        print(f"{call}: {len(found)} definitions in {sum(lines.values())} lines: " + ", ".join(f"{name} {count}" for name, count in sorted(lines.items())))
+        for at in sorted(found, key=lambda it: (it[0], it[1], specs[it[:2]].first[it[2]])) if wanted else []:
+            path = specs[at[:2]].path
+            print(f"  {at[2]}  {path.relative_to(CRATES.parent)}:{specs[at[:2]].first[at[2]]}")
+
+
+if __name__ == "__main__":
+    main(sys.argv[1:])
