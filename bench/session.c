@@ -1,4 +1,4 @@
-/* The yardstick of session.sh: the card's end of SCP03 sessions at level 33 over the AES of
+/* The yardstick of session.sh: the card side of SCP03 sessions at level 33 over the AES of
    OpenSSL, and the lines of their host.
 
      session lines COUNT GETS    writes the lines of COUNT sessions, each of INITIALIZE UPDATE,

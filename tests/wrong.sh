@@ -1,13 +1,13 @@
 #!/usr/bin/env bash
-# Tries the wrong bodies in crates/*/wrong: edits of the code, each named by a sentence
+# Tries the mutants in crates/*/wrong: edits of the code, each named by a sentence
 # that would be wrong. The prover has to refuse each of them, as it has to refuse those in
 # crates/*/must-fail, which `rt ci` tries. These take too long for every run, so they are
 # tried before a crate is closed.
 #
-#   tests/wrong.sh            the wrong bodies of every crate
+#   tests/wrong.sh            the mutants of every crate
 #   tests/wrong.sh CRATE...   those of these crates
 #
-# It works in a copy, and ends with 0 where each wrong body is refused.
+# It works in a copy, and ends with 0 where each mutant is refused.
 set -euo pipefail
 
 top=$(dirname "$(dirname "$(readlink -f "${BASH_SOURCE[0]}")")")
@@ -32,7 +32,7 @@ if (($# == 0)); then
 fi
 for name; do
     if [[ ! -d crates/$name/must-fail ]]; then
-        echo "wrong: crates/$name has no wrong bodies" >&2
+        echo "wrong: crates/$name has no mutants" >&2
         exit 1
     fi
     # The edits are tried over what a check of the crate keeps.

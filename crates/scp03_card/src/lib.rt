@@ -1,4 +1,4 @@
-//! The card's end of the secure channel protocol SCP03 (GlobalPlatform Amendment D), generic in the
+//! The card side of the secure channel protocol SCP03 (GlobalPlatform Amendment D), generic in the
 //! key. It takes no memory.
 //!
 //! ```rust

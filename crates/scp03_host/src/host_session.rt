@@ -1,4 +1,4 @@
-//! The host's end of a session.
+//! The host side of a session.
 
 ghost use Rattle.std.specs.Prelude.{◌≡◌};
 ghost use Rattle.scp03_card.specs.Kept.{StandsFor};
@@ -11,7 +11,7 @@ use std::marker::Model;
 
 /// A session that the host has begun.
 ///
-/// As at the card's end, the MAC chaining value of the messages sent is kept, and the number of the last
+/// As on the card side, the MAC chaining value of the messages sent is kept, and the number of the last
 /// one.
 #[derive(Drop)]
 pub struct HostSession<K: BlockKey> {

@@ -107,7 +107,7 @@ fn enciphered_zeros(key: &Aes128) -> u128 {
     u128::from_be_bytes(block)
 }
 
-/// The host's end, with EXTERNAL AUTHENTICATE in `out`.
+/// The host side, with EXTERNAL AUTHENTICATE in `out`.
 fn begun_host(transcript: &Transcript, out: &mut ArrayVec<u8, 261>) -> Told<HostSession<Aes128>> {
     let level = transcript.level;
     let host = begin(keys(), &HOST_CHALLENGE, &update_reply(), level, 0, out)
@@ -119,7 +119,7 @@ fn begun_host(transcript: &Transcript, out: &mut ArrayVec<u8, 261>) -> Told<Host
     Ok(host)
 }
 
-/// The card's end, after it.
+/// The card side, after it.
 fn begun_card(transcript: &Transcript, sent: &[u8]) -> Told<Session<Aes128>> {
     let level = transcript.level;
     let command = Command::read(sent).ok().ok_or("a command")?;

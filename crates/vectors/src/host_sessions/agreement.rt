@@ -96,7 +96,7 @@ fn offered<K: BlockKey>() -> Result<Offer<K>, &'static str> {
     Ok(offer::<K>(keys(&KEYS[..K::LEN]), 0x01fffe, &aid, &HOST))
 }
 
-/// The host's end, with EXTERNAL AUTHENTICATE in `out`.
+/// The host side, with EXTERNAL AUTHENTICATE in `out`.
 fn begun_host<K: BlockKey>(
     level: Level,
     update: &[u8; 32],
@@ -107,7 +107,7 @@ fn begun_host<K: BlockKey>(
         .ok_or("the card's cryptogram")
 }
 
-/// The card's end, after it.
+/// The card side, after it.
 fn begun_card<K: BlockKey>(
     level: Level,
     offer: Offer<K>,
