@@ -12,7 +12,7 @@ use Rattle.policy_rules.specs.Step.{refusal_leaves}
 use Rattle.policy_rules.proofs.Judging.{does_so}
 use Rattle.std.proofs.Common.{inl}
 use Rattle.std.proofs.lemmas.List.{get_or-set_same, length-set, set-set}
-use Rattle.policy_rules.proofs.Selected.{selected_entry}
+use Rattle.policy_rules.proofs.Selected.{selected_acts}
 use Rattle.policy_rules.specs.Means.{ActsIn}
 use Rattle.policy_rules.specs.declared.live.Live.{Live}
 use Rattle.policy_rules.specs.declared.live.TheConstants.{CHANNELS}
@@ -145,9 +145,7 @@ module _ (page : ℕ → List ℕ) (tables : Tables) (live : Live) (all : List H
 
   -- the slot is that of the domain that the command acts for
   pub acts_for : ActsIn page tables slot admitted
-  acts_for =
-      let found = selected_entry page tables live admitted.at admitted.channel slot stands.shows.says low opened in
-      record { says = stands.shows.says.registry; well = stands.sound.well; entry = found.0; at = found.1; on = found.2 }
+  acts_for = selected_acts page tables live admitted admitted.channel slot stands.shows.says stands.sound low opened refl
 
   pub managed_done : (tables' : Tables) (body : List ℕ) (result : Result Status Rule) → tables'.entries.items ≡ tables.entries.items → Manages admitted page tables tables' body result
       → CarriesOutBut page admitted (record { tables = tables'; live = live; held = all }) body result

@@ -1,7 +1,6 @@
 //! INITIALIZE UPDATE: a session is offered.
 
 ghost use Rattle.std.specs.Prelude.{◌≡◌, ◌≤◌, ℕ, true, List, [], length, None, Some, IfSome, IfNone, OnErr};
-ghost use Rattle.card_core.specs.Domains.{HasSelected};
 ghost use Rattle.card_core.specs.Kept.{AreCards};
 ghost use Rattle.card_core.specs.Offers.{OffersAs};
 ghost use Rattle.card_types.specs.Ascending.{IsAscending};
@@ -16,7 +15,7 @@ ghost use Rattle.card_types.specs.declared.tables.Entry.{Entry};
 ghost use Rattle.policy_rules.specs.Admission.{Admitted};
 ghost use Rattle.policy_rules.specs.GetData.{IsDataObject};
 ghost use Rattle.policy_rules.specs.InitializeUpdate.{diversification_of, offer_body};
-ghost use Rattle.policy_rules.specs.Means.{IsRequestOf};
+ghost use Rattle.policy_rules.specs.Means.{ActsIn, IsRequestOf};
 ghost use Rattle.policy_rules.specs.declared.request.Request.TheVariants.{Initialize};
 ghost use Rattle.scp03_card.specs.Kept.{StandsForOffer};
 ghost use Rattle.scp03_card.specs.Offer as model;
@@ -127,8 +126,7 @@ pub fn initialize_update<F: Flash>(
     requires cards { AreCards records.old.tables }
     requires challenge { length challenge.now ≡ 8 }
     requires empty { reply.old.items ≡ [] }
-    ensures done { (page : ℕ → List ℕ) (admitted : Admitted) (entry : Entry) → Says page records.old.tables admitted.at.registry → Well admitted.at.registry
-        → IsAscending admitted.at.registry → HasSelected records.old.tables domain entry admitted
+    ensures done { (page : ℕ → List ℕ) (admitted : Admitted) → ActsIn page records.old.tables domain admitted → IsAscending admitted.at.registry
         → IsRequestOf (Initialize version challenge.entry) admitted.command
         → OffersAs admitted page records.old.tables records.new.tables held.old held.new reply.new.items result }
     ensures entries { records.new.tables.entries.items ≡ records.old.tables.entries.items }

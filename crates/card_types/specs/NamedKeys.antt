@@ -1,6 +1,6 @@
 -- The keys of a key set, by names.
-use Rattle.std.specs.Prelude.{◌≡◌, ℕ, List, Option, Some, length}
-use Rattle.card_types.specs.Registry.{Registry, counter_named, key_named}
+use Rattle.std.specs.Prelude.{◌≡◌, ℕ, List, Option, Some, Contains, length}
+use Rattle.card_types.specs.Registry.{Counter, Registry, counter_named, key_named}
 use Rattle.card_types.specs.Says.{counter_of, key_of}
 use Rattle.card_types.specs.Well.{IsKeyLength}
 use Rattle.card_types.specs.declared.key_set.KeySet.{KeySet}
@@ -18,3 +18,7 @@ pub record AreKeysOf (entries : List (Option Entry)) (said : Registry) (owner : 
   pub mac : key_named said owner version 2 ≡ Some (key_of entries set.mac.now)
   pub dek : key_named said owner version 3 ≡ Some (key_of entries set.dek.now)
   pub counter : counter_named said owner version ≡ Some (counter_of entries set.enc.now)
+
+-- the domain has no sequence counter with this key version number
+abbrev pub NoCounterOf : Registry → List ℕ → ℕ → Type 0
+NoCounterOf said owner version = (counter : Counter) → Contains said.counters counter → counter.owner ≡ owner → counter.version ≡ version → ⊥

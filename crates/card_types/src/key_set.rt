@@ -3,7 +3,7 @@
 ghost use Rattle.std.specs.Prelude.{◌≡◌, ◌≤◌, ◌↔◌, ◌⊎◌, ℕ, List, true, Some, IsSome, IsTrue, IfSome, IfNone, Contains, length};
 ghost use Rattle.card_types.specs.InOrder.{IsInOrder};
 ghost use Rattle.card_types.specs.KeySets.{HasKey, HasKeys, HoldsKeyOf, IsKeyOf, IsSetOf, NoSetOf, is_key};
-ghost use Rattle.card_types.specs.NamedKeys.{AreKeysOf, HaveKeyLength};
+ghost use Rattle.card_types.specs.NamedKeys.{AreKeysOf, HaveKeyLength, NoCounterOf};
 ghost use Rattle.card_types.specs.Registry.{Counter, Registry};
 ghost use Rattle.card_types.specs.Says.{Says, domain_aid, keeps_counter};
 ghost use Rattle.card_types.specs.Slots.{held};
@@ -145,7 +145,7 @@ pub fn keys_of_set(tables: &Tables, owner: u8, version: u8) -> Option<KeySet<'_>
     ensures some { (page : ℕ → List ℕ) (said : Registry) → Says page tables.now said
         → IfSome result (AreKeysOf tables.now.entries.items said (domain_aid tables.now.entries.items owner) version) }
     ensures none { (page : ℕ → List ℕ) (said : Registry) (entry : Entry) → Says page tables.now said → Well said → held tables.now.entries.items owner ≡ Some entry
-        → IfNone result ((counter : Counter) → Contains said.counters counter → counter.owner ≡ domain_aid tables.now.entries.items owner → counter.version ≡ version → ⊥) }
+        → IfNone result (NoCounterOf said (domain_aid tables.now.entries.items owner) version) }
 {
     let [first, second, third] = set_of(&tables.keys, owner, version)?;
     Some(KeySet {

@@ -3,6 +3,7 @@ mod Causes
 mod Copies
 mod Descriptors
 mod Lists
+mod PagesStand
 mod Commits
 mod Settles
 mod Stages

@@ -1,4 +1,5 @@
 pub mod Journal
+pub mod Laws
 pub mod Moments
 pub mod Store
 pub mod Touches

@@ -31,15 +31,19 @@
 //!  9. A call fails only where the device's count of faults rose (`cause` on each call). After a commit or a
 //!     settling that failed the store takes no further change until it is mounted again (`live`).
 //!
+//! Where a page stands is said apart from the search for it (`pages_stand`).
+//!
 //! The layers above cite `Leaves`, `Always` and `LeavesOnly` of `specs/Moments.antt`, and no journal.
 #![tactic(auto)]
 
 mod cause;
 mod commit;
 mod descriptor;
+mod laws;
 mod steps;
 mod store;
 
 pub use cause::{MountCause, MountError};
+pub use laws::pages_stand;
 pub use steps::GATE;
 pub use store::PageStore;

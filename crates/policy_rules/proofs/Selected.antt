@@ -1,12 +1,14 @@
 -- What is selected on a channel, by its slot and by its AID.
-use Rattle.std.proofs.Common.{◌≡◌, ℕ, ◌<◌, List, Option, None, Some, sym, subst, ◌∙◌}
+use Rattle.std.proofs.Common.{◌≡◌, ℕ, ◌<◌, List, Option, None, Some, sym, ap, subst, ◌∙◌}
 use Rattle.std.specs.Prelude.{slice_index_or}
 use Rattle.card_types.proofs.Domains.{domain_aid_is}
 use Rattle.card_types.specs.Says.{domain_aid}
 use Rattle.card_types.specs.Slots.{held}
 use Rattle.card_types.specs.declared.tables.Entry.{Entry}
 use Rattle.card_types.specs.declared.tables.Tables.{Tables}
-use Rattle.policy_rules.specs.Means.{IsSelectedIn, SaysState}
+use Rattle.policy_rules.specs.Admission.{Admitted}
+use Rattle.policy_rules.specs.Means.{ActsIn, IsSelectedIn, SaysState}
+use Rattle.policy_rules.specs.Sound.{IsSound}
 use Rattle.policy_rules.specs.State.{State}
 use Rattle.policy_rules.specs.Volatile.{Channel, channel_at, selected_of, selected_on}
 use Rattle.policy_rules.specs.declared.live.Live.{Live}
@@ -24,3 +26,10 @@ selected_entry page tables live state number slot says low is =
     let found = by_slot tables.entries.items slot (channel_at state.volatile number)
     (subst (λ (o : Option ℕ). IsSelectedIn tables.entries.items o (channel_at state.volatile number)) is (says.selected number low)) in
     (found.0, found.1, found.2 ∙ sym (domain_aid_is tables.entries.items slot found.0 found.1))
+
+-- it is the domain that a command on the channel acts for
+pub selected_acts : (page : ℕ → List ℕ) (tables : Tables) (live : Live) (admitted : Admitted) (number slot : ℕ) → SaysState page tables live admitted.at → IsSound admitted.at
+    → number < CHANNELS → slice_index_or live.selected number None ≡ Some slot → number ≡ admitted.channel → ActsIn page tables slot admitted
+selected_acts page tables live admitted number slot says sound low is here =
+    let found = selected_entry page tables live admitted.at number slot says low is in
+    record { says = says.registry; well = sound.well; entry = found.0; at = found.1; on = ap (selected_on admitted.at.volatile) (sym here) ∙ found.2 }

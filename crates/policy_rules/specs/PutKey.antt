@@ -134,6 +134,10 @@ abbrev pub SaysChecks : Bool → Admitted → Type 0
 SaysChecks true admitted = PutKeyFails admitted (PK PK3) → ⊥
 SaysChecks false admitted = PutKeyFails admitted (PK PK3)
 
+-- the same of PUT KEY, and nothing of other commands
+abbrev pub TellsChecks : Bool → Admitted → Type 0
+TellsChecks flag admitted = admitted.command.ins ≡ 0xD8 → SaysChecks flag admitted
+
 -- the keys that are put, with key identifiers from the one given on
 abbrev pub keys_from : List ℕ → ℕ → ℕ → List (List ℕ) → List Key
 keys_from owner version identifier [] = []

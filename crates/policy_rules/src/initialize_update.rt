@@ -1,12 +1,12 @@
 //! INITIALIZE UPDATE (GlobalPlatform Amendment D, 7.1.1).
 
-ghost use Rattle.std.specs.Prelude.{◌≡◌, ◌≤◌, ◌&&◌, not, ℕ, List, None, Some, IfOk, IfErr};
+ghost use Rattle.std.specs.Prelude.{◌≡◌, ◌≤◌, ◌&&◌, not, ℕ, List, None, Some, IfOk, IfErr, OnOk};
 ghost use Rattle.card_types.specs.AidOrder.{same_aid};
 ghost use Rattle.card_types.specs.Counters.{HasNextCounter};
 ghost use Rattle.card_types.specs.InOrder.{IsInOrder};
 ghost use Rattle.card_types.specs.NamedKeys.{AreKeysOf, HaveKeyLength};
 ghost use Rattle.card_types.specs.Registry.{Registry};
-ghost use Rattle.card_types.specs.Says.{Says, counter_of, domain_aid};
+ghost use Rattle.card_types.specs.Says.{Says, domain_aid};
 ghost use Rattle.card_types.specs.Slots.{held};
 ghost use Rattle.card_types.specs.Well.{Well};
 ghost use Rattle.card_types.specs.declared.factory.TheConstants.{ISSUER};
@@ -14,9 +14,8 @@ ghost use Rattle.card_types.specs.declared.tables.Entry.{Entry};
 ghost use Rattle.policy_rules.specs.Admission.{Admitted};
 ghost use Rattle.policy_rules.specs.FirstFailing.{IsFirst};
 ghost use Rattle.policy_rules.specs.InitializeUpdate.{InitializeUpdateFails, offer_rules, initialize_update_rule_name, initialize_update_rule_status};
-ghost use Rattle.policy_rules.specs.KeySets.{UsesSet};
-ghost use Rattle.policy_rules.specs.Management.{acting};
-ghost use Rattle.policy_rules.specs.Means.{Parses};
+ghost use Rattle.policy_rules.specs.KeySets.{UsesSetOfKey};
+ghost use Rattle.policy_rules.specs.Means.{ActsIn, Parses};
 ghost use Rattle.policy_rules.specs.Select.{is_card_locked};
 ghost use Rattle.policy_rules.specs.declared.instruction.TheConstants.{INITIALIZE_UPDATE};
 
@@ -115,15 +114,10 @@ pub fn judge_initialize_update(
         → IfOk result (λ found. AreKeysOf tables.now.entries.items said (domain_aid tables.now.entries.items found.keys.enc.now.owner) found.keys.enc.now.version found.keys) }
     ensures found { (page : ℕ → List ℕ) (said : Registry) (entry : Entry) → Says page tables.now said → Well said
         → held tables.now.entries.items domain ≡ Some entry
-        → IfOk result (λ found. UsesSet said (domain_aid tables.now.entries.items domain) version
-        (domain_aid tables.now.entries.items found.keys.enc.now.owner) (counter_of tables.now.entries.items found.keys.enc.now)) }
-    ensures passed { (page : ℕ → List ℕ) (admitted : Admitted) (entry : Entry) → Says page tables.now admitted.at.registry → Well admitted.at.registry
-        → held tables.now.entries.items domain ≡ Some entry
-        → acting admitted ≡ domain_aid tables.now.entries.items domain → version ≡ admitted.command.p1
-        → IfOk result (λ found. IsFirst (InitializeUpdateFails admitted) offer_rules None) }
-    ensures refused { (page : ℕ → List ℕ) (admitted : Admitted) (entry : Entry) → Says page tables.now admitted.at.registry → Well admitted.at.registry
-        → held tables.now.entries.items domain ≡ Some entry
-        → acting admitted ≡ domain_aid tables.now.entries.items domain → version ≡ admitted.command.p1
+        → IfOk result (λ found. UsesSetOfKey tables.now.entries.items said domain version found.keys.enc.now) }
+    ensures passed { (page : ℕ → List ℕ) (admitted : Admitted) → ActsIn page tables.now domain admitted → version ≡ admitted.command.p1
+        → OnOk result (IsFirst (InitializeUpdateFails admitted) offer_rules None) }
+    ensures refused { (page : ℕ → List ℕ) (admitted : Admitted) → ActsIn page tables.now domain admitted → version ≡ admitted.command.p1
         → IfErr result (λ rule. IsFirst (InitializeUpdateFails admitted) offer_rules (Some rule)) }
 {
     let Some(entry) = in_slot(&tables.entries, domain) else {

@@ -6,9 +6,9 @@ ghost use Rattle.card_types.specs.InOrder.{IsInOrder};
 ghost use Rattle.policy_rules.specs.Admission.{Admitted};
 ghost use Rattle.policy_rules.specs.Commands.{Judges};
 ghost use Rattle.policy_rules.specs.Means.{IsMeant, IsRequestOf, SaysState};
-ghost use Rattle.policy_rules.specs.PutKey.{SaysChecks};
+ghost use Rattle.policy_rules.specs.PutKey.{TellsChecks};
 ghost use Rattle.policy_rules.specs.Sound.{IsSound};
-ghost use Rattle.policy_rules.specs.declared.instruction.TheConstants.{EXTERNAL_AUTHENTICATE, PUT_KEY};
+ghost use Rattle.policy_rules.specs.declared.instruction.TheConstants.{EXTERNAL_AUTHENTICATE};
 
 use crate::delete_key::judge_delete_key;
 use crate::get_data::judge_get_data;
@@ -38,7 +38,7 @@ pub fn judge(
     requires meant { IsMeant request.now }
     ensures judged { (page : ℕ → List ℕ) (admitted : Admitted) → SaysState page tables.now live.now admitted.at → IsSound admitted.at → channel ≡ admitted.channel
         → IsRequestOf request.now admitted.command → admitted.command.ins ≢ EXTERNAL_AUTHENTICATE
-        → (admitted.command.ins ≡ PUT_KEY → SaysChecks checks_fit admitted) → Judges admitted result }
+        → TellsChecks checks_fit admitted → Judges admitted result }
     ensures elsewhere { (command : Apdu) → IsRequestOf request.now command → command.ins ≡ EXTERNAL_AUTHENTICATE → result ≡ None }
 {
     match request {

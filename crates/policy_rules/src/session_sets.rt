@@ -2,13 +2,13 @@
 
 ghost use Rattle.std.specs.Prelude.{◌≡◌, ℕ, List, Some, true, IfSome, IfNone};
 ghost use Rattle.card_types.specs.InOrder.{IsInOrder};
-ghost use Rattle.card_types.specs.Registry.{Counter, Registry};
-ghost use Rattle.card_types.specs.Says.{Says, counter_of, domain_aid, keeps_counter as keeps_counter_by};
+ghost use Rattle.card_types.specs.Registry.{Registry};
+ghost use Rattle.card_types.specs.Says.{Says, domain_aid, keeps_counter as keeps_counter_by};
 ghost use Rattle.card_types.specs.Slots.{held};
 ghost use Rattle.card_types.specs.Well.{Well};
 ghost use Rattle.card_types.specs.declared.tables.Entry.{Entry};
 ghost use Rattle.policy_rules.specs.KeyOrder.{has_set_in, holds_counter_of};
-ghost use Rattle.policy_rules.specs.KeySets.{OwnsSets, UsesSet};
+ghost use Rattle.policy_rules.specs.KeySets.{NoSetToUse, OwnsSets, UsesSetOfKey};
 
 use crate::key_order::{keeps_counter, lowest_set, numbered_set};
 use card_types::{InSlot, KeyRec, Tables};
@@ -71,11 +71,10 @@ pub fn session_set(tables: &Tables, domain: u8, version: u8) -> Option<InSlot<'_
     ensures counts { IfSome result (λ found. keeps_counter_by found.thing.now ≡ true) }
     ensures some { (page : ℕ → List ℕ) (said : Registry) (entry : Entry) → Says page tables.now said → Well said
         → held tables.now.entries.items domain ≡ Some entry
-        → IfSome result (λ found. UsesSet said (domain_aid tables.now.entries.items domain) version
-        (domain_aid tables.now.entries.items found.thing.now.owner) (counter_of tables.now.entries.items found.thing.now)) }
+        → IfSome result (λ found. UsesSetOfKey tables.now.entries.items said domain version found.thing.now) }
     ensures none { (page : ℕ → List ℕ) (said : Registry) (entry : Entry) → Says page tables.now said → Well said
         → held tables.now.entries.items domain ≡ Some entry
-        → IfNone result ((owner : List ℕ) (counter : Counter) → UsesSet said (domain_aid tables.now.entries.items domain) version owner counter → ⊥) }
+        → IfNone result (NoSetToUse said (domain_aid tables.now.entries.items domain) version) }
 {
     let owner = set_owner(tables, domain)?;
     if version == 0 {

@@ -2,14 +2,14 @@ use Rattle.std.proofs.Common.{None, Some, refl, sym, subst, ◌∙◌}
 use Rattle.card_types.proofs.Domains.{key_owner_is_used}
 use Rattle.card_types.specs.Counters.{HasNextCounter}
 use Rattle.card_types.specs.InOrder.{IsInOrder}
-use Rattle.card_types.specs.Says.{Says, counter_of, domain_aid, key_of}
+use Rattle.card_types.specs.Says.{counter_of, domain_aid, key_of}
 use Rattle.card_core.proofs.Cards.{in_order}
 use Rattle.card_core.proofs.CounterRaised.{raised_are_cards, raised_well, says_raised}
 use Rattle.card_core.proofs.OfferMade.{offer_stands, refusal_handed, set_asked}
-use Rattle.card_core.specs.Domains.{HasSelected}
 use Rattle.card_core.specs.Offers.{IsMade}
 use Rattle.card_core.specs.declared.held.Held.TheVariants.{Offered}
 use Rattle.policy_rules.specs.Management.{acting}
+use Rattle.policy_rules.specs.Means.{ActsIn}
 use Rattle.scp03_card.specs.Offer.{offered}
 use Rattle.policy_rules.proofs.InitializeUpdateLaws.{offer_judged}
 use Rattle.card_core.proofs.initialize_update.initialize_update.Goals as goal
@@ -21,11 +21,9 @@ pub write_offer-requires-clause-in_order : goal.write_offer-requires-clause-in_o
 write_offer-requires-clause-in_order g c = subst IsInOrder (sym c.tables-tables.ensures.tables) (in_order c.args.records.now.tables c.requires.cards)
 
 pub returns-in_err-found-clause-done : goal.returns-in_err-found-clause-done
-returns-in_err-found-clause-done g c page admitted entry says well ascending on request =
+returns-in_err-found-clause-done g c page admitted acts ascending request =
     let means = request.means in
-    let same = sym c.tables-tables.ensures.tables in
-    let first = c.in_err-found.ensures.refused page admitted entry (subst (λ t. Says page t admitted.at.registry) same says) well
-    (subst (λ t. HasSelected t c.args.domain entry admitted) same on).at (subst (λ t. HasSelected t c.args.domain entry admitted) same on).on means.0 in
+    let first = c.in_err-found.ensures.refused page admitted (subst (λ t. ActsIn page t c.args.domain admitted) (sym c.tables-tables.ensures.tables) acts) means.0 in
     refusal_handed admitted page c.args.records.now.tables c.args.held.now c.args.reply.now.items c.from_residual.result c.in_err-found.field-0.0
     c.from_residual.ensures.1 (offer_judged admitted (Some c.in_err-found.field-0.0) request.form first) c.requires.empty
 
@@ -38,18 +36,19 @@ returns-clause-cards g c =
     c.in_ok-found.found.slot c.in_ok-found.found.keys.enc.now c.in_ok-found.ensures.at c.in_ok-found.ensures.next c.raise_counter.ensures.raises c.requires.cards
 
 pub returns-clause-done : goal.returns-clause-done
-returns-clause-done g c page admitted entry told well ascending chosen request =
+returns-clause-done g c page admitted acts ascending request =
     let means = request.means in
     let tables = c.tables-tables.result.now in
     let same = c.tables-tables.ensures.tables in
-    let says = subst (λ t. Says page t admitted.at.registry) (sym same) told in
-    let on = subst (λ t. HasSelected t c.args.domain entry admitted) (sym same) chosen in
+    let on = subst (λ t. ActsIn page t c.args.domain admitted) (sym same) acts in
+    let says = on.says in
+    let well = on.well in
     let found = c.in_ok-found.found in
     let key = found.keys.enc.now in
     let given = c.in_ok-found.ensures in
     let owner = key_owner_is_used page tables admitted.at.registry says well found.slot key given.at in
-    let first = given.passed page admitted entry says well on.at on.on means.0 in
-    let uses = given.found page admitted.at.registry entry says well on.at in
+    let first = given.passed page admitted on means.0 in
+    let uses = given.found page admitted.at.registry on.entry says well on.at in
     let keys = given.keys page admitted.at.registry says in
     let stands = offer_stands _ _ _ _ _ found.aid.now (acting admitted) c.copy_from_slice.new.self admitted.command.body c.offer_of-offer.ensures.made
     (given.selected ∙ sym on.on) (c.copy_from_slice.ensures.after ∙ means.1) in
@@ -70,8 +69,8 @@ returns-clause-done g c page admitted entry told well ascending chosen request =
         key_dek = keys.dek;
         is = refl;
       };
-      says = says_raised c.args.records.now c.raise_counter.new.keeper else_ tables same found.slot key given.at given.next raises page admitted.at.registry told;
-      well = raised_well c.args.records.now c.raise_counter.new.keeper else_ tables same found.slot key given.at given.next raises page admitted.at.registry told well;
+      says = says_raised c.args.records.now c.raise_counter.new.keeper else_ tables same found.slot key given.at given.next raises page admitted.at.registry acts.says;
+      well = raised_well c.args.records.now c.raise_counter.new.keeper else_ tables same found.slot key given.at given.next raises page admitted.at.registry acts.says acts.well;
       holds = stands;
       is = c.write_offer.ensures.written page admitted.at.registry owner.0 offer says well owner.1 stands;
     } in

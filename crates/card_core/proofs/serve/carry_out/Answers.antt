@@ -117,15 +117,15 @@ returns-in-Initialize-clause-done g c = λ page judged stands at is.
     record { held = c.told-held; channels = stands.sound.fits.channels } in
     let opened : slice_index_or c.args.live.now.selected judged.channel None ≡ Some c.args.received.now.selected =
     subst (λ (n : ℕ). slice_index_or c.args.live.now.selected n None ≡ Some c.args.received.now.selected) at c.requires.selected in
-    let found = selected_entry page c.args.records.now.tables c.args.live.now judged.at judged.channel c.args.received.now.selected stands.shows.says low opened in
+    let acts = acts_for page c.args.records.now.tables c.args.live.now c.args.held.now judged stands c.told-held c.args.received.now.channel c.args.received.now.selected
+    c.requires.channel at c.requires.selected in
     let request : IsRequestOf (Initialize c.in-Initialize.version c.in-Initialize.challenge) (apdu_of c.args.command.now) =
     record { form = search rules; means = search rules } in
     let asked = subst (IsRequestOf (Initialize c.in-Initialize.version c.in-Initialize.challenge)) (sym is) request in
     let here : slice_index_or c.args.held.now c.from-place.result c.index-held-place-in-Initialize.result ≡ slice_index_or c.args.held.now judged.channel held.Nothing =
     ap (λ (n : ℕ). slice_index_or c.args.held.now n c.index-held-place-in-Initialize.result) (c.from-place.ensures ∙ at)
     ∙ get_or_default c.args.held.now judged.channel c.index-held-place-in-Initialize.result held.Nothing (subst (λ (n : ℕ). judged.channel < n) (sym c.told-held) low) in
-    let offers = c.initialize_update.ensures.done page judged found.0 stands.shows.says.registry stands.sound.well stands.sound.ascending
-    (record { at = found.1; on = found.2 }) asked in
+    let offers = c.initialize_update.ensures.done page judged acts stands.sound.ascending asked in
     rw (c.from-place.ensures ∙ at) (offer_carried page c.args.records.now.tables c.args.live.now c.args.held.now judged stands four low c.args.received.now.selected
     c.initialize_update.new.records.tables c.initialize_update.new.held c.initialize_update.new.reply.items c.initialize_update.result
     asked.form opened c.initialize_update.ensures.entries

@@ -2,7 +2,6 @@ use Rattle.std.proofs.Common.{rules, ◌≡◌, None, Some, sym, ap, ◌∙◌}
 use Rattle.std.specs.Prelude.{slice_index_or}
 use Rattle.policy_rules.specs.Commands.{Judges}
 use Rattle.policy_rules.specs.FirstFailing.{IsFirst}
-use Rattle.policy_rules.specs.Means.{ActsIn}
 use Rattle.policy_rules.specs.PutKey.{PutKeyFails, put_rules}
 use Rattle.policy_rules.specs.Volatile.{selected_on}
 use Rattle.policy_rules.proofs.DataAsked.{asked_for, asks, has_data}
@@ -12,7 +11,7 @@ use Rattle.policy_rules.proofs.Judging.{by_err}
 use Rattle.policy_rules.proofs.ManageChannelLaws.{open_passes, open_refused}
 use Rattle.policy_rules.proofs.PutKeyLaws.{put_judged}
 use Rattle.policy_rules.proofs.SelectLaws.{select_passes, select_refused}
-use Rattle.policy_rules.proofs.Selected.{selected_entry}
+use Rattle.policy_rules.proofs.Selected.{selected_acts, selected_entry}
 use Rattle.policy_rules.proofs.own_rules.judge.Goals as goal
 
 pub returns-in-Ok-clause-judged : goal.returns-in-Ok-clause-judged
@@ -61,17 +60,17 @@ pub returns-in-Ok-judge_initialize_update-clause-judged : goal.returns-in-Ok-jud
 returns-in-Ok-judge_initialize_update-clause-judged c page admitted says sound here request other checks =
     let asked = rw c.in-Initialize.is at request in
     let is : slice_index_or c.args.live.now.selected c.args.channel None ≡ Some c.unwrap-domain-in-Initialize.result = search rules in
-    let on = selected_entry page c.args.tables.now c.args.live.now admitted.at c.args.channel c.unwrap-domain-in-Initialize.result says c.requires.channel is in
+    let acts = selected_acts page c.args.tables.now c.args.live.now admitted c.args.channel c.unwrap-domain-in-Initialize.result says sound c.requires.channel is here in
     offer_judged admitted None asked.form
-    (c.in-Ok-judge_initialize_update.ensures.passed page admitted on.0 says.registry sound.well on.1 (ap (selected_on admitted.at.volatile) (sym here) ∙ on.2) asked.means.0)
+    (c.in-Ok-judge_initialize_update.ensures.passed page admitted acts asked.means.0)
 
 pub returns-in-Err-judge_initialize_update-clause-judged : goal.returns-in-Err-judge_initialize_update-clause-judged
 returns-in-Err-judge_initialize_update-clause-judged c page admitted says sound here request other checks =
     let asked = rw c.in-Initialize.is at request in
     let is : slice_index_or c.args.live.now.selected c.args.channel None ≡ Some c.unwrap-domain-in-Initialize.result = search rules in
-    let on = selected_entry page c.args.tables.now c.args.live.now admitted.at c.args.channel c.unwrap-domain-in-Initialize.result says c.requires.channel is in
+    let acts = selected_acts page c.args.tables.now c.args.live.now admitted c.args.channel c.unwrap-domain-in-Initialize.result says sound c.requires.channel is here in
     offer_judged admitted (Some c.in-Err-judge_initialize_update.rule) asked.form
-    (c.in-Err-judge_initialize_update.ensures.refused page admitted on.0 says.registry sound.well on.1 (ap (selected_on admitted.at.volatile) (sym here) ∙ on.2) asked.means.0)
+    (c.in-Err-judge_initialize_update.ensures.refused page admitted acts asked.means.0)
 
 pub returns-in-Authenticate-clause-judged : goal.returns-in-Authenticate-clause-judged
 returns-in-Authenticate-clause-judged c page admitted says sound here request other checks =
@@ -82,14 +81,7 @@ pub returns-in-PutKey-clause-judged : goal.returns-in-PutKey-clause-judged
 returns-in-PutKey-clause-judged c page admitted says sound here request other checks =
     let asked = rw c.in-PutKey.is at request in
     let is : slice_index_or c.args.live.now.selected c.args.channel None ≡ Some c.unwrap-domain-in-PutKey.result = search rules in
-    let on = selected_entry page c.args.tables.now c.args.live.now admitted.at c.args.channel c.unwrap-domain-in-PutKey.result says c.requires.channel is in
-    let acts : ActsIn page c.args.tables.now c.unwrap-domain-in-PutKey.result admitted = record {
-      says = says.registry;
-      well = sound.well;
-      entry = on.0;
-      at = on.1;
-      on = ap (selected_on admitted.at.volatile) (sym here) ∙ on.2;
-    } in
+    let acts = selected_acts page c.args.tables.now c.args.live.now admitted c.args.channel c.unwrap-domain-in-PutKey.result says sound c.requires.channel is here in
     put_judged admitted _ asked.form
     (rw c.err.ensures.value (by_err (λ found. IsFirst (PutKeyFails admitted) put_rules found) c.judge_put_key.result
     (c.judge_put_key.ensures.passed page admitted acts asked (checks asked.form.0)) (c.judge_put_key.ensures.refused page admitted acts asked (checks asked.form.0))))
@@ -98,14 +90,7 @@ pub returns-in-Store-clause-judged : goal.returns-in-Store-clause-judged
 returns-in-Store-clause-judged c page admitted says sound here request other checks =
     let asked = rw c.in-Store.is at request in
     let is : slice_index_or c.args.live.now.selected c.args.channel None ≡ Some c.unwrap-domain-in-Store.result = search rules in
-    let on = selected_entry page c.args.tables.now c.args.live.now admitted.at c.args.channel c.unwrap-domain-in-Store.result says c.requires.channel is in
-    let acts : ActsIn page c.args.tables.now c.unwrap-domain-in-Store.result admitted = record {
-      says = says.registry;
-      well = sound.well;
-      entry = on.0;
-      at = on.1;
-      on = ap (selected_on admitted.at.volatile) (sym here) ∙ on.2;
-    } in
+    let acts = selected_acts page c.args.tables.now c.args.live.now admitted c.args.channel c.unwrap-domain-in-Store.result says sound c.requires.channel is here in
     rw c.err-in-Store.ensures.value (by_err (Judges admitted) c.judge_store_data.result
     (c.judge_store_data.ensures.passed page admitted acts asked) (c.judge_store_data.ensures.refused page admitted acts asked))
 
@@ -113,13 +98,6 @@ pub returns-in-DeleteKey-clause-judged : goal.returns-in-DeleteKey-clause-judged
 returns-in-DeleteKey-clause-judged c page admitted says sound here request other checks =
     let asked = rw c.in-DeleteKey.is at request in
     let is : slice_index_or c.args.live.now.selected c.args.channel None ≡ Some c.unwrap-domain-in-DeleteKey.result = search rules in
-    let on = selected_entry page c.args.tables.now c.args.live.now admitted.at c.args.channel c.unwrap-domain-in-DeleteKey.result says c.requires.channel is in
-    let acts : ActsIn page c.args.tables.now c.unwrap-domain-in-DeleteKey.result admitted = record {
-      says = says.registry;
-      well = sound.well;
-      entry = on.0;
-      at = on.1;
-      on = ap (selected_on admitted.at.volatile) (sym here) ∙ on.2;
-    } in
+    let acts = selected_acts page c.args.tables.now c.args.live.now admitted c.args.channel c.unwrap-domain-in-DeleteKey.result says sound c.requires.channel is here in
     rw c.err-in-DeleteKey.ensures.value (by_err (Judges admitted) c.judge_delete_key.result
     (c.judge_delete_key.ensures.passed page admitted acts asked) (c.judge_delete_key.ensures.refused page admitted acts asked))
