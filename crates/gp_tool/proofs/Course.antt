@@ -11,10 +11,10 @@ use Rattle.gp_tool.proofs.ComeFirst.{come_more, lines_come}
 use Rattle.gp_tool.proofs.Moments.{Joins, among_first, among_more, plays_ends}
 use Rattle.gp_tool.proofs.PlaysMore.{plays_more, plays_none, text_more}
 use Rattle.gp_tool.specs.Device.{registries}
-use Rattle.gp_tool.specs.Ends.{AreShort, Course, Ends, IsBad, Outside, Reached, room_ahead}
+use Rattle.gp_tool.specs.Ends.{AreShort, Course, Ends, IsBad, Outside, Reached, TakesNoMore, room_ahead}
 use Rattle.gp_tool.specs.Going.{Going}
 use Rattle.gp_tool.specs.Plays.{Plays, bad_line, reply_line, text_of}
-use Rattle.gp_tool.specs.Turn.{GoesOn, EndsWith}
+use Rattle.gp_tool.specs.Turn.{GoesOn, EndsWith, total}
 use Rattle.gp_tool.specs.declared.ending.Ending.{Ending}
 use Rattle.gp_tool.specs.declared.ending.Ending.TheVariants.{Finished, BadLine, FlashFault, ReadFault, WriteFault, InputTooLong}
 
@@ -66,6 +66,10 @@ module _ (reads writes : Type 0) (first : State) (Now : State → Type 0) (Since
   -- the next line is bad, by the room behind the bytes that were passed
   bad_there : (reads → IsBad (room old) (ahead old now.source.left)) → reads → IsBad (room_ahead before.source.left (ahead old now.source.left)) (ahead old now.source.left)
   bad_there bad told = subst (λ (n : ℕ). IsBad n (ahead old now.source.left)) (room_is told) (bad told)
+
+  -- what was taken of the whole input
+  taken_there : (ahead left : List ℕ) → (reads → TakesNoMore (total old now) ahead left) → reads → TakesNoMore (length before.source.left) ahead left
+  taken_there ahead left taken told = subst (λ (n : ℕ). TakesNoMore n ahead left) (going.passed told) (taken told)
 
   -- what power lost may leave behind the commands of one line more
   leaves_more : (Between Since' : List Registry → Type 0) → Joins Since Between Since' → (more : List Outcome)
@@ -140,6 +144,7 @@ module _ (reads writes : Type 0) (first : State) (Now : State → Type 0) (Since
       ahead = ahead old now.source.left;
       course = going.course;
       reached = going.reached;
+      taken = taken_there (ahead old now.source.left) later.source.left ends.3;
       bad = bad_there ends.1;
       written = λ told.
           all_written before.sink.written (text_of going.outcomes) (bad_line (length going.given + 1)) now.sink.written later.sink.written (going.written told)
@@ -159,6 +164,7 @@ module _ (reads writes : Type 0) (first : State) (Now : State → Type 0) (Since
           next = fails.next;
           course = going.course;
           reached = going.reached;
+          taken = taken_there (ahead old now.source.left) later.source.left ends.3;
           comes = λ told.
               (let comes = next.next told in
               (comes.0, subst (λ (n : ℕ). IsNextLine n (ahead old now.source.left) next.line comes.0) (room_is told) comes.1));
@@ -174,11 +180,12 @@ module _ (reads writes : Type 0) (first : State) (Now : State → Type 0) (Since
       state = going.state;
       held = ends.1;
       course = going.course;
-      reached = λ told. subst (λ (rest : List ℕ). Reached before.source.left going.given rest) (ends.5 told) (going.reached told);
+      reached = λ told. subst (λ (rest : List ℕ). Reached before.source.left going.given rest) (ends.6 told) (going.reached told);
       no_line = λ _. ends.2;
       short = λ _. ends.3;
-      within = λ told. rw (← ends.5 told, ← room_is told) ends.4;
-      written = λ told. ends.6 told ∙ going.written told;
+      few = λ _. ends.4;
+      within = λ told. rw (← ends.6 told, ← room_is told) ends.5;
+      written = λ told. ends.7 told ∙ going.written told;
       device = rested ends.0;
     }
     going_ends InputTooLong ends flushes = record {
@@ -188,6 +195,7 @@ module _ (reads writes : Type 0) (first : State) (Now : State → Type 0) (Since
       ahead = ahead old now.source.left;
       course = going.course;
       reached = going.reached;
+      taken = taken_there (ahead old now.source.left) later.source.left ends.3;
       cut = λ told.
           (let cut = ends.1 told in
           (cut.0, subst (λ (n : ℕ). IsCut n (ahead old now.source.left) cut.0) (room_is told) cut.1, cut.2));
@@ -207,6 +215,7 @@ module _ (reads writes : Type 0) (first : State) (Now : State → Type 0) (Since
           line = reply_line line.2;
           course = course_more first going.given takes.line going.outcomes played.outcomes going.state played.last going.course takes.fits played.plays;
           reached = reached_more takes.line line.0 takes.next;
+          taken = taken_there line.0 later.source.left line.5;
           is_text = inl (inr (going.outcomes, line.2, ap (λ more. going.outcomes ++ more) line.3, refl, refl));
           written = λ told.
               (let part = line.4 told in
@@ -224,6 +233,7 @@ module _ (reads writes : Type 0) (first : State) (Now : State → Type 0) (Since
       line = bad_line (length going.given + 1);
       course = going.course;
       reached = going.reached;
+      taken = taken_there (ahead old now.source.left) later.source.left refused.3;
       is_text = inr (bad_there refused.1, refl, refl);
       written = λ told.
           (let part = refused.2 told in (

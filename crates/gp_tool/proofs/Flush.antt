@@ -1,13 +1,14 @@
 -- A run behind its flush.
-use Rattle.std.proofs.Common.{◌≡◌, ℕ, ◌+◌, List, [], ◌∷◌, ◌++◌, length, take, refl, sym, ap, ◌∙◌, inl, inr}
+use Rattle.std.proofs.Common.{◌≡◌, ℕ, ◌+◌, ◌<◌, List, [], ◌∷◌, ◌++◌, length, take, refl, sym, ap, subst, ◌∙◌, inl, inr, arith}
 use Rattle.std.proofs.lemmas.List.{append-nil}
 use Rattle.std.proofs.Math.Seq.{take-length}
 use Rattle.faults.specs.Faults.{next_count}
 use Rattle.io_edge.specs.Streams.{SinkState}
+use Rattle.io_edge.specs.declared.line.TheConstants.{INPUT_LIMIT}
 use Rattle.policy_rules.specs.State.{State}
 use Rattle.policy_rules.specs.Step.{Outcome}
 use Rattle.gp_tool.proofs.PlaysMore.{text_more}
-use Rattle.gp_tool.specs.Ends.{Ends, Flushes, IsText, Outside}
+use Rattle.gp_tool.specs.Ends.{Ends, Flushes, IsText, Outside, TakesNoMore}
 use Rattle.gp_tool.specs.Flush.{AfterFlush, IsFlushed}
 use Rattle.gp_tool.specs.Plays.{bad_line, reply_line, text_of}
 use Rattle.gp_tool.specs.declared.ending.Ending.{Ending}
@@ -17,6 +18,14 @@ use Rattle.gp_tool.specs.declared.ending.Ending.TheVariants.{Finished, BadLine, 
 pub record IsLeft (writes : Type 0) (now later : Outside) : Type 0 where
   pub left : later.source.left ≡ now.source.left
   pub written : writes → later.sink.written ≡ now.sink.written
+
+-- what was taken stays so
+taken_still : (total : ℕ) (ahead left later : List ℕ) → later ≡ left → TakesNoMore total ahead left → TakesNoMore total ahead later
+taken_still total ahead left later same taken = subst (λ (bytes : List ℕ). TakesNoMore total ahead bytes) (sym same) taken
+
+-- at the end of the input nothing is held
+taken_all : (total : ℕ) (left : List ℕ) → left ≡ [] → total < INPUT_LIMIT → TakesNoMore total [] left
+taken_all total left none short = record { held = []; rest = sym none; few = omega arith; within = omega (arith, short) }
 
 -- a sink was not flushed before
 flushed_from : (writes : Type 0) (ending : Ending) (old mid new : SinkState) (result : Ending) → mid.flushes ≡ old.flushes
@@ -97,6 +106,7 @@ module _ (reads writes : Type 0) (Rests : List Outcome → State → Type 0) (Fa
         line = text.line;
         course = ends.course;
         reached = ends.reached;
+        taken = λ told. taken_all (length before.source.left) later.source.left (left.left ∙ ends.read told) (ends.short told);
         is_text = inl text.is_text;
         written = λ told. front before.sink.written text.before text.line later.sink.written (written told);
         flushes = inr (fault.1, written);
@@ -110,6 +120,7 @@ module _ (reads writes : Type 0) (Rests : List Outcome → State → Type 0) (Fa
         ahead = ends.ahead;
         course = ends.course;
         reached = ends.reached;
+        taken = λ told. taken_still (length before.source.left) ends.ahead now.source.left later.source.left left.left (ends.taken told);
         bad = ends.bad;
         written = λ told. left.written told ∙ ends.written told;
         device = ends.device;
@@ -126,6 +137,7 @@ module _ (reads writes : Type 0) (Rests : List Outcome → State → Type 0) (Fa
         line = line;
         course = ends.course;
         reached = ends.reached;
+        taken = λ told. taken_still (length before.source.left) ends.ahead now.source.left later.source.left left.left (ends.taken told);
         is_text = inr (ends.bad, refl, refl);
         written = λ told. front before.sink.written (text_of ends.outcomes) line later.sink.written (written told);
         flushes = inr (fault.1, written);
@@ -139,6 +151,7 @@ module _ (reads writes : Type 0) (Rests : List Outcome → State → Type 0) (Fa
         ahead = ends.ahead;
         course = ends.course;
         reached = ends.reached;
+        taken = λ told. taken_still (length before.source.left) ends.ahead now.source.left later.source.left left.left (ends.taken told);
         cut = ends.cut;
         written = λ told. left.written told ∙ ends.written told;
         device = ends.device;
@@ -156,6 +169,7 @@ module _ (reads writes : Type 0) (Rests : List Outcome → State → Type 0) (Fa
         line = text.line;
         course = ends.course;
         reached = ends.reached;
+        taken = λ told. taken_still (length before.source.left) ends.ahead now.source.left later.source.left left.left (ends.taken told);
         is_text = inl text.is_text;
         written = λ told. front before.sink.written text.before text.line later.sink.written (written told);
         flushes = inr (fault.1, written);
@@ -172,6 +186,7 @@ module _ (reads writes : Type 0) (Rests : List Outcome → State → Type 0) (Fa
         next = ends.next;
         course = ends.course;
         reached = ends.reached;
+        taken = λ told. taken_still (length before.source.left) ends.ahead now.source.left later.source.left left.left (ends.taken told);
         comes = ends.comes;
         fits = ends.fits;
         spelled = ends.spelled;
@@ -189,6 +204,7 @@ module _ (reads writes : Type 0) (Rests : List Outcome → State → Type 0) (Fa
         reached = λ told. rw left.left (ends.reached told);
         no_line = ends.no_line;
         short = ends.short;
+        few = ends.few;
         within = λ told. rw left.left (ends.within told);
         written = λ told. left.written told ∙ ends.written told;
         device = ends.device;
@@ -203,6 +219,7 @@ module _ (reads writes : Type 0) (Rests : List Outcome → State → Type 0) (Fa
         line = ends.line;
         course = ends.course;
         reached = ends.reached;
+        taken = λ told. taken_still (length before.source.left) ends.ahead now.source.left later.source.left left.left (ends.taken told);
         is_text = ends.is_text;
         written = λ told. (let part = ends.written told in (part.0, left.written told ∙ part.1));
         flushes = inl done.1;

@@ -30,6 +30,7 @@ module _ (reads writes : Type 0) (Rests Rests' : List Outcome → State → Type
     ahead = ends.ahead;
     course = ends.course;
     reached = ends.reached;
+    taken = ends.taken;
     bad = ends.bad;
     written = ends.written;
     device = rests ends.outcomes ends.state ends.device;
@@ -44,6 +45,7 @@ module _ (reads writes : Type 0) (Rests Rests' : List Outcome → State → Type
     next = ends.next;
     course = ends.course;
     reached = ends.reached;
+    taken = ends.taken;
     comes = ends.comes;
     fits = ends.fits;
     spelled = ends.spelled;
@@ -60,6 +62,7 @@ module _ (reads writes : Type 0) (Rests Rests' : List Outcome → State → Type
     reached = ends.reached;
     no_line = ends.no_line;
     short = ends.short;
+    few = ends.few;
     within = ends.within;
     written = ends.written;
     device = rests ends.outcomes ends.state ends.device;
@@ -73,6 +76,7 @@ module _ (reads writes : Type 0) (Rests Rests' : List Outcome → State → Type
     line = ends.line;
     course = ends.course;
     reached = ends.reached;
+    taken = ends.taken;
     is_text = ends.is_text;
     written = ends.written;
     flushes = ends.flushes;
@@ -85,6 +89,7 @@ module _ (reads writes : Type 0) (Rests Rests' : List Outcome → State → Type
     ahead = ends.ahead;
     course = ends.course;
     reached = ends.reached;
+    taken = ends.taken;
     cut = ends.cut;
     written = ends.written;
     device = rests ends.outcomes ends.state ends.device;

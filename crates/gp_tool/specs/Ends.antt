@@ -5,7 +5,7 @@ use Rattle.std.specs.Str.Lines.{lines, strip_carriage_return}
 use Rattle.faults.specs.Faults.{Rose, next_count}
 use Rattle.io_edge.specs.Lines.{NoNewline, IsNextLine, IsCut, IsNextText}
 use Rattle.io_edge.specs.Streams.{SinkState, SourceState}
-use Rattle.io_edge.specs.declared.line.TheConstants.{INPUT_LIMIT, LINE_LIMIT}
+use Rattle.io_edge.specs.declared.line.TheConstants.{HELD_LIMIT, INPUT_LIMIT, LINE_LIMIT}
 use Rattle.policy_rules.specs.Run.{Command}
 use Rattle.policy_rules.specs.State.{State}
 use Rattle.policy_rules.specs.Step.{Outcome, Step}
@@ -51,6 +51,14 @@ abbrev pub IsBad : ℕ → List ℕ → Type 0
 IsBad room ahead =
     (text : List ℕ) × (((after : List ℕ) × IsNextLine room ahead text after × HasNoForm text) ⊎ (IsNextText room ahead text × (LINE_LIMIT < length text)))
 
+-- What stands ahead behind the lines given is no more than the bytes held at once, and then what is left in the source. Of an
+-- input of so many bytes no more is taken in all than may be.
+pub record TakesNoMore (total : ℕ) (ahead left : List ℕ) : Type 0 where
+  pub held : List ℕ
+  pub rest : ahead ≡ held ++ left
+  pub few : length held ≤ HELD_LIMIT
+  pub within : total ≤ length left + INPUT_LIMIT
+
 -- the text of the replies to some commands is what stands before its last line, and that line; they are empty where it is
 abbrev pub IsText : List Outcome → List ℕ → List ℕ → Type 0
 IsText outcomes before line =
@@ -82,6 +90,7 @@ pub record IsAtBadLine (reads writes : Type 0) (Rests : List Outcome → State �
   pub ahead : List ℕ
   pub course : Course first given outcomes state
   pub reached : reads → Reached old.source.left given ahead
+  pub taken : reads → TakesNoMore (length old.source.left) ahead new.source.left
   pub bad : reads → IsBad (room_ahead old.source.left ahead) ahead
   pub written : writes → new.sink.written ≡ old.sink.written ++ (text_of outcomes ++ bad_line (length given + 1))
   pub device : Rests outcomes state
@@ -97,6 +106,7 @@ pub record IsAtReadFault (reads writes : Type 0) (Rests : List Outcome → State
   pub reached : reads → Reached old.source.left given (held ++ new.source.left)
   pub no_line : reads → NoNewline held
   pub short : reads → length (strip_carriage_return held) ≤ LINE_LIMIT
+  pub few : reads → length held ≤ HELD_LIMIT
   pub within : reads → length held ≤ room_ahead old.source.left (held ++ new.source.left)
   pub written : writes → new.sink.written ≡ old.sink.written ++ text_of outcomes
   pub device : Rests outcomes state
@@ -109,6 +119,7 @@ pub record IsAtLimit (reads writes : Type 0) (Rests : List Outcome → State →
   pub ahead : List ℕ
   pub course : Course first given outcomes state
   pub reached : reads → Reached old.source.left given ahead
+  pub taken : reads → TakesNoMore (length old.source.left) ahead new.source.left
   pub cut : reads → (text : List ℕ) × IsCut (room_ahead old.source.left ahead) ahead text × (length text ≤ LINE_LIMIT)
   pub written : writes → new.sink.written ≡ old.sink.written ++ text_of outcomes
   pub device : Rests outcomes state
@@ -124,6 +135,7 @@ pub record IsAtFlashFault (reads writes : Type 0) (Fails : List Outcome → Stat
   pub next : Outcome
   pub course : Course first given outcomes state
   pub reached : reads → Reached old.source.left given ahead
+  pub taken : reads → TakesNoMore (length old.source.left) ahead new.source.left
   pub comes : reads → (after : List ℕ) × IsNextLine (room_ahead old.source.left ahead) ahead line after
   pub fits : length line ≤ LINE_LIMIT
   pub spelled : SpellsInputs line (Command bytes ∷ [])
@@ -142,6 +154,7 @@ pub record IsAtWriteFault (reads writes : Type 0) (Rests : List Outcome → Stat
   pub line : List ℕ
   pub course : Course first given outcomes state
   pub reached : reads → Reached old.source.left given ahead
+  pub taken : reads → TakesNoMore (length old.source.left) ahead new.source.left
   pub is_text : IsText outcomes before line
       ⊎ ((reads → IsBad (room_ahead old.source.left ahead) ahead) × (before ≡ text_of outcomes) × (line ≡ bad_line (length given + 1)))
   pub written : writes → (count : ℕ) × (new.sink.written ≡ old.sink.written ++ (before ++ take count line))

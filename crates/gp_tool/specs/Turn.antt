@@ -3,11 +3,11 @@
 use Rattle.std.specs.Prelude.{◌≡◌, ◌⊎◌, ℕ, ◌+◌, ◌<◌, ◌≤◌, List, [], ◌∷◌, ◌++◌, length, take, None}
 use Rattle.std.specs.Str.Lines.{strip_carriage_return}
 use Rattle.io_edge.specs.Lines.{Reading, NoNewline, IsNextLine, IsCut, IsWithin, ahead, room}
-use Rattle.io_edge.specs.declared.line.TheConstants.{LINE_LIMIT}
+use Rattle.io_edge.specs.declared.line.TheConstants.{HELD_LIMIT, LINE_LIMIT}
 use Rattle.card_types.specs.Registry.{Registry}
 use Rattle.policy_rules.specs.State.{State}
 use Rattle.policy_rules.specs.Step.{Outcome}
-use Rattle.gp_tool.specs.Ends.{Outside, IsBad}
+use Rattle.gp_tool.specs.Ends.{Outside, IsBad, TakesNoMore}
 use Rattle.gp_tool.specs.Plays.{bad_line, reply_line, text_of}
 use Rattle.gp_tool.specs.Serve.{FailsLine, PlaysLine}
 use Rattle.gp_tool.specs.declared.ending.Ending.{Ending}
@@ -38,6 +38,14 @@ pub record GoesOn (reads writes : Type 0) (Before After : State → Type 0) (Lea
       → (takes : TakesLine reads After Leaving count count' state (room old) (ahead old before.source.left) (ahead new now.source.left))
       × (writes → now.sink.written ≡ before.sink.written ++ text_of takes.played.outcomes)
 
+-- how many bytes an input has of which so many were passed
+abbrev pub total : Reading → Outside → ℕ
+total old before = old.passed + length (ahead old before.source.left)
+
+-- what was taken of what stood ahead
+abbrev pub TakesNext : Type 0 → Reading → Outside → Outside → Type 0
+TakesNext reads old before now = reads → TakesNoMore (total old before) (ahead old before.source.left) now.source.left
+
 -- what is written of a bad line, whole or up to a fault
 abbrev pub Refuses : Type 0 → ℕ → List ℕ → List ℕ → Ending → Type 0
 Refuses writes number old new BadLine = writes → new ≡ old ++ bad_line number
@@ -51,6 +59,7 @@ Refuses writes number old new InputTooLong = ⊥
 abbrev pub RefusesNext : Type 0 → Type 0 → Type 0 → Reading → Outside → Outside → Ending → Type 0
 RefusesNext reads writes Same old before now ending =
     Same × (reads → IsBad (room old) (ahead old before.source.left)) × Refuses writes (old.number + 1) before.sink.written now.sink.written ending
+    × TakesNext reads old before now
 
 -- The run ends with what is ahead.
 abbrev pub EndsWith : Type 0 → Type 0 → Type 0 → (State → Type 0) → (State → Type 0) → (List Registry → Type 0) → ℕ → ℕ → Reading → Outside → Outside → Ending → Type 0
@@ -59,15 +68,17 @@ EndsWith reads writes Same Before After Leaving count count' old before now Fini
 EndsWith reads writes Same Before After Leaving count count' old before now BadLine = RefusesNext reads writes Same old before now BadLine
 EndsWith reads writes Same Before After Leaving count count' old before now FlashFault =
     (count' ≡ count) × (writes → now.sink.written ≡ before.sink.written)
-    × ((state : State) → Before state → FailsNext reads Leaving state (room old) (ahead old before.source.left))
+    × ((state : State) → Before state → FailsNext reads Leaving state (room old) (ahead old before.source.left)) × TakesNext reads old before now
 EndsWith reads writes Same Before After Leaving count count' old before now ReadFault =
-    Same × (held : List ℕ) × NoNewline held × (length (strip_carriage_return held) ≤ LINE_LIMIT) × (length held ≤ room old)
+    Same × (held : List ℕ) × NoNewline held × (length (strip_carriage_return held) ≤ LINE_LIMIT) × (length held ≤ HELD_LIMIT) × (length held ≤ room old)
     × (reads → ahead old before.source.left ≡ held ++ now.source.left) × (writes → now.sink.written ≡ before.sink.written)
 EndsWith reads writes Same Before After Leaving count count' old before now InputTooLong =
     Same × (reads → (text : List ℕ) × IsCut (room old) (ahead old before.source.left) text × (length text ≤ LINE_LIMIT)) × (writes → now.sink.written ≡ before.sink.written)
+    × TakesNext reads old before now
 EndsWith reads writes Same Before After Leaving count count' old before now WriteFault =
     ((state : State) → Before state
     → (after : List ℕ) × (takes : TakesLine reads After Leaving count count' state (room old) (ahead old before.source.left) after)
     × (outcome : Outcome) × (takes.played.outcomes ≡ outcome ∷ [])
-    × (writes → (n : ℕ) × (now.sink.written ≡ before.sink.written ++ take n (reply_line outcome))))
+    × (writes → (n : ℕ) × (now.sink.written ≡ before.sink.written ++ take n (reply_line outcome)))
+    × (reads → TakesNoMore (total old before) after now.source.left))
     ⊎ RefusesNext reads writes Same old before now WriteFault

@@ -4,7 +4,7 @@
 use Rattle.std.specs.Prelude.{◌≡◌, ◌≢◌, ◌⊎◌, ℕ, ◌+◌, ◌-◌, ◌<◌, ◌≤◌, List, [], ◌∷◌, ◌++◌, length, Option, None, Some, Result, Ok, Err, MatchResult, All}
 use Rattle.std.specs.Str.Lines.{lines, strip_carriage_return}
 use Rattle.faults.specs.Faults.{Rose}
-use Rattle.io_edge.specs.declared.line.TheConstants.{INPUT_LIMIT, LINE_LIMIT}
+use Rattle.io_edge.specs.declared.line.TheConstants.{HELD_LIMIT, INPUT_LIMIT, LINE_LIMIT}
 use Rattle.io_edge.specs.declared.line.Line.{Line}
 use Rattle.io_edge.specs.declared.line.LineStop.{LineStop}
 use Rattle.io_edge.specs.declared.line.LineStop.TheVariants.{End, ReadFailed, TooLong, InputTooLong}
@@ -91,11 +91,16 @@ LineCause before now result = MatchResult result (λ _. now ≡ before) (StopCau
 abbrev pub IsWithin : Reading → Type 0
 IsWithin reading = reading.passed + length reading.held ≤ INPUT_LIMIT
 
+-- what a call passed, and what is held behind that, are no more than may be held at once
+abbrev pub IsFew : Reading → Reading → Type 0
+IsFew old new = new.passed + length new.held ≤ old.passed + HELD_LIMIT
+
 -- The reading after a line is given.
 pub record GivesLine (tells : Type 0) (old new : Reading) (left left' : List ℕ) (given : Line) : Type 0 where
   pub number : new.number ≡ given.number
   pub stop : new.stop ≡ None
   pub within : IsWithin new
+  pub few : IsFew old new
   pub line : tells → IsNextLine (room old) (ahead old left) given.text.now (ahead new left')
   pub lines : tells → lines (ahead old left) ≡ given.text.now ∷ lines (ahead new left')
   pub further : old.passed < new.passed
@@ -106,6 +111,7 @@ pub record GivesStop (tells : Type 0) (old new : Reading) (left left' : List ℕ
   pub number : new.number ≡ old.number
   pub stop : new.stop ≡ Some cause
   pub within : IsWithin new
+  pub few : IsFew old new
   pub passed : new.passed ≡ old.passed
   pub kept : tells → ahead new left' ≡ ahead old left
   -- A read is refused only where no whole line is held, and what is held of the next line is not too long already.

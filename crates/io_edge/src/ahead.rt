@@ -5,6 +5,7 @@ ghost use Rattle.std.specs.Str.Lines.{strip_carriage_return};
 ghost use Rattle.faults.specs.Faults.{HasCause};
 ghost use Rattle.io_edge.specs.Lines.{NoNewline};
 ghost use Rattle.io_edge.specs.Ahead.{Finds};
+ghost use Rattle.io_edge.specs.declared.line.TheConstants.{HELD_LIMIT};
 
 use crate::buffer::Buffer;
 use crate::line::LINE_LIMIT;
@@ -51,6 +52,7 @@ pub fn look_ahead<S: Source>(
     requires within { length buffer.old.held ≤ room }
     ensures bytes { S.tells → buffer.new.held ++ (S.state source.new).left ≡ buffer.old.held ++ (S.state source.old).left }
     ensures within { length buffer.new.held ≤ room }
+    ensures few { length buffer.new.held ≤ HELD_LIMIT }
     ensures found { IfOk result (Finds room buffer.new.held) }
     ensures last { S.tells → result ≡ Ok Ahead.Last → (S.state source.new).left ≡ [] }
     ensures failed { OnErr result (NoNewline buffer.new.held) }

@@ -4,12 +4,14 @@ ghost use Rattle.std.specs.Prelude.{◌≡◌, ◌<◌, ◌≤◌, ◌+◌, ◌-
 ghost use Rattle.faults.specs.Faults.{HasCause};
 ghost use Rattle.io_edge.specs.Buffered.{Buffered};
 ghost use Rattle.io_edge.specs.declared.buffer.TheConstants.{ROOM};
+ghost use Rattle.io_edge.specs.declared.line.TheConstants.{HELD_LIMIT};
 
+use crate::line::HELD_LIMIT;
 use crate::source::{ReadFailed, Source};
 use std::marker::Model;
 
 /// How many bytes are held, at most.
-pub const ROOM: usize = 16_384;
+pub const ROOM: usize = HELD_LIMIT;
 
 // Copies `len` bytes from `start` on to the front.
 fn move_front(bytes: &mut [u8; ROOM], start: usize, len: usize)
@@ -134,7 +136,7 @@ impl Buffer {
     /// The bytes held.
     pub fn held(&self) -> &[u8]
         ensures held { result.now ≡ self.now.held }
-        ensures room { length self.now.held ≤ ROOM }
+        ensures room { length self.now.held ≤ HELD_LIMIT }
     {
         &self.bytes[..self.end][self.start..]
     }

@@ -22,7 +22,7 @@ mod sink;
 mod source;
 mod standard;
 
-pub use line::{INPUT_LIMIT, LINE_LIMIT, Line, LineStop};
+pub use line::{HELD_LIMIT, INPUT_LIMIT, LINE_LIMIT, Line, LineStop};
 pub use lines::Lines;
 pub use memory_sink::MemSink;
 pub use memory_source::{MemSource, SliceSource};

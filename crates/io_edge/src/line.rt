@@ -3,6 +3,9 @@
 /// How many bytes of an input are taken, at most: 64 MiB.
 pub const INPUT_LIMIT: usize = 67_108_864;
 
+/// How many bytes are taken and not given yet, at most.
+pub const HELD_LIMIT: usize = 16_384;
+
 /// How many bytes a line has without its end, at most: the digits of a command of 261 bytes.
 pub const LINE_LIMIT: usize = 522;
 

@@ -6,7 +6,7 @@ ghost use Rattle.std.specs.Io.BufRead.{Rests};
 ghost use Rattle.std.specs.Str.Lines.{lines, strip_carriage_return};
 ghost use Rattle.io_edge.specs.Ahead.{Finds};
 ghost use Rattle.io_edge.specs.Lines.{Reading, NoNewline, IsNextLine, IsNumbered, IsWithin, Stops, LineCause, GivesNext, ahead, room};
-ghost use Rattle.io_edge.specs.declared.line.TheConstants.{INPUT_LIMIT, LINE_LIMIT};
+ghost use Rattle.io_edge.specs.declared.line.TheConstants.{HELD_LIMIT, INPUT_LIMIT, LINE_LIMIT};
 
 use crate::ahead::{Ahead, look_ahead};
 use crate::buffer::Buffer;
@@ -29,7 +29,7 @@ impl Model for Lines {
 
     ghost view = { λ l. record { number = l.number; passed = l.passed; held = l.buffer.held; stop = l.stop } };
 
-    ghost invariant = { λ l. (l.passed + length l.buffer.held ≤ INPUT_LIMIT) × (l.number ≤ l.passed) };
+    ghost invariant = { λ l. (l.passed + length l.buffer.held ≤ INPUT_LIMIT) × (l.number ≤ l.passed) × (length l.buffer.held ≤ HELD_LIMIT) };
 }
 
 // Cuts off the next line, and answers how many bytes it took with its end.
@@ -44,6 +44,8 @@ fn advance<S: Source>(
     ensures lines { S.tells → OnOk result (lines (buffer.old.held ++ (S.state source.old).left) ≡ buffer.new.text ∷ lines (buffer.new.held ++ (S.state source.new).left)) }
     ensures text { OnOk result (length buffer.new.text ≤ LINE_LIMIT) }
     ensures within { length buffer.new.held ≤ room }
+    ensures few { length buffer.new.held ≤ HELD_LIMIT }
+    ensures few_with { IfOk result (λ n. n + length buffer.new.held ≤ HELD_LIMIT) }
     ensures count { IfOk result (λ n. (0 < n) × (n + length buffer.new.held ≤ room)
         × (S.tells → n + length (buffer.new.held ++ (S.state source.new).left) ≡ length (buffer.old.held ++ (S.state source.old).left))) }
     ensures stop { S.tells → IfErr result (Stops room number (buffer.old.held ++ (S.state source.old).left)) }

@@ -1,6 +1,6 @@
 use Rattle.std.proofs.Common.{refl, ◌∙◌, inl, inr}
 use Rattle.gp_tool.specs.Ends.{outside}
-use Rattle.gp_tool.proofs.Turns.{given_line, bad_form, failing_line, refusal_ends, refuses_from}
+use Rattle.gp_tool.proofs.Turns.{given_line, bad_form, failing_line, line_leaves, line_takes, refusal_ends, refuses_from, stop_takes}
 use Rattle.gp_tool.proofs.run.take_turn.Goals as goal
 
 pub returns-in-Done-clause-goes_on : goal.returns-in-Done-clause-goes_on
@@ -29,6 +29,7 @@ returns-in-NoForm-clause-ends g c =
     served.1
     (bad_form g.S.Source.tells _ _ _ _ c.in-Ok.line gives served.0)
     (refuses_from g.K.Sink.tells _ _ _ _ c.refuse_line.result served.2 (rw (← c.in-Ok.ensures.number) c.refuse_line.ensures.refused))
+    (line_takes g.S.Source.tells _ _ _ _ c.in-Ok.line gives)
 
 pub returns-in-WriteFault-clause-ends : goal.returns-in-WriteFault-clause-ends
 unfolding given_line
@@ -36,13 +37,13 @@ returns-in-WriteFault-clause-ends g c =
     let gives = rw c.in-Ok.is at c.next_line.follows.holds-at-none in
     inl (λ state stands.
     (let served = c.in-WriteFault.ensures.served state stands in
-    (_, given_line g.S.Source.tells _ _ _ _ c.in-Ok.line _ _ _ _ state gives c.in-Ok.ensures.text served.0, served.1, served.2, served.3)))
+    (_, given_line g.S.Source.tells _ _ _ _ c.in-Ok.line _ _ _ _ state gives c.in-Ok.ensures.text served.0, served.1, served.2, served.3, line_leaves g.S.Source.tells _ _ _ _ c.in-Ok.line gives)))
 
 pub returns-in-FlashFault-clause-ends : goal.returns-in-FlashFault-clause-ends
 returns-in-FlashFault-clause-ends g c =
     let gives = rw c.in-Ok.is at c.next_line.follows.holds-at-none in
     let served = c.in-FlashFault.ensures.served in
-    (served.0, served.1, λ state stands. failing_line g.S.Source.tells _ _ _ _ c.in-Ok.line _ state gives c.in-Ok.ensures.text (served.2 state stands))
+    (served.0, served.1, λ state stands. failing_line g.S.Source.tells _ _ _ _ c.in-Ok.line _ state gives c.in-Ok.ensures.text (served.2 state stands), line_takes g.S.Source.tells _ _ _ _ c.in-Ok.line gives)
 
 pub returns-in-Err-TooLong-clause-ends : goal.returns-in-Err-TooLong-clause-ends
 returns-in-Err-TooLong-clause-ends g c =
@@ -54,3 +55,4 @@ returns-in-Err-TooLong-clause-ends g c =
     (λ told. (let stop = rw c.in-Err-TooLong.field-0-is at (c.in-Err-TooLong.ensures.stop told c.requires.stop) in (stop.1.0, inr (stop.1.1, stop.1.2))))
     (let number = rw c.in-Err-TooLong.field-0-is at (c.in-Err-TooLong.ensures.numbered c.requires.stop) in
     rw (← number) c.refuse_line-in-Err-TooLong.ensures.refused)
+    (stop_takes g.S.Source.tells _ _ _ _ _ (rw c.in-Err-TooLong.is at c.next_line.follows.holds-at-none))

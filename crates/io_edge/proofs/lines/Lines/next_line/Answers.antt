@@ -11,6 +11,7 @@ returns-in-Err g c =
           number = refl;
           stop = refl;
           within = (let held = c.advance.ensures.within in let fits = c.self.invariant in omega (arith, held, fits.0));
+          few = (let few = c.advance.ensures.few in omega (arith, few));
           passed = refl;
           kept = c.in-Err.ensures.kept;
           clear = λ _. c.in-Err.ensures.clear;
