@@ -4,7 +4,7 @@ use Rattle.std.specs.List.{range_with_len}
 use Rattle.card_types.specs.declared.found.Found.{Found}
 use Rattle.card_types.specs.declared.found.Found.TheVariants.{Entry, File}
 use Rattle.rec_store.specs.Keeper.{key_pages}
-use Rattle.rec_store.specs.Places.{file_page}
+use Rattle.rec_store.specs.Places.{entry_page, file_page}
 use Rattle.rec_store.specs.Room.{HasRoomFor}
 
 -- the store pages with the slots of entries, and of data objects
@@ -18,7 +18,12 @@ object_pages = range_with_len 37 8
 abbrev pub owner_pages : List ℕ
 owner_pages = entry_pages ++ key_pages ++ object_pages
 
--- the pages that change where the thing in this slot is moved
+-- the page with the thing in this slot
+abbrev pub thing_page : Found → ℕ
+thing_page (Entry slot) = entry_page slot
+thing_page (File slot) = file_page slot
+
+-- the pages that may change where the thing in this slot is moved
 abbrev pub thing_pages : Found → List ℕ
 thing_pages (Entry slot) = entry_pages
 thing_pages (File slot) = file_page slot ∷ []
