@@ -1,5 +1,8 @@
 mod Added
 mod Frames
 mod Freed
+mod Locked
+mod Marking
 mod Removed
 mod Replaced
+mod Tree
