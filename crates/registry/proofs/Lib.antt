@@ -5,4 +5,5 @@ mod Locked
 mod Marking
 mod Removed
 mod Replaced
+mod Staging
 mod Tree

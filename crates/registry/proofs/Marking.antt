@@ -1,35 +1,18 @@
 -- Slots of entries, one after the other, of which those of a tree get a lock mark.
-use Rattle.std.proofs.Common.{◌≡◌, ◌≢◌, ◌⊎◌, inl, inr, ℕ, ◌+◌, ◌<◌, ◌==◌, Bool, List, [], ◌∷◌, length, Option, None, Some, refl, ap, sym, subst, ◌∙◌, arith}
-use Rattle.std.specs.Prelude.{Contains, slice_set}
+use Rattle.std.proofs.Common.{◌≡◌, ◌≢◌, inl, inr, ℕ, ◌+◌, ◌<◌, Bool, List, length, Option, None, Some, refl, ap, sym, subst, ◌∙◌, arith}
+use Rattle.std.specs.Prelude.{slice_set}
 use Rattle.std.specs.Option.{option_map}
-use Rattle.std.proofs.lemmas.Bool.{cases_Bool, cases_eq}
+use Rattle.std.proofs.lemmas.Bool.{cases_eq}
 use Rattle.std.proofs.lemmas.List.{get_or-set_other, get_or-set_same, length-set}
 use Rattle.card_types.specs.Says.{domain_slot}
 use Rattle.card_types.specs.Slots.{held}
 use Rattle.card_types.specs.declared.tables.Entry.{Entry}
 use Rattle.card_types.proofs.DrawnCounter.{held_within}
-use Rattle.card_types.proofs.Members.{contains_cases, contains_first, contains_later}
 use Rattle.rec_store.specs.Places.{entry_page}
-use Rattle.rec_store.specs.Room.{with_staged}
+use Rattle.registry.specs.Pages.{StagesChanged}
 use Rattle.registry.specs.Tree.{IsInTree, with_lock}
+use Rattle.registry.proofs.Staging.{IsStaged}
 use Rattle.registry.proofs.Tree.{used_in_tree}
-
--- what is staged with a page
-pub staged_before : (staged : List ℕ) (page other : ℕ) → Contains (with_staged staged page) other → Contains staged other ⊎ (page ≡ other)
-staged_before [] page other there = elim (contains_cases page [] other there) [
-  | inl same ↦ inr same
-  | inr later ↦ inl later
-]
-staged_before (first ∷ rest) page other there = elim (cases_Bool (first == page)) [
-  | inl same ↦ inl (rw same at there)
-  | inr apart ↦ elim (contains_cases first (with_staged rest page) other (rw apart at there)) [
-    | inl here ↦ inl (subst (Contains (first ∷ rest)) here (contains_first first rest))
-    | inr later ↦ elim (staged_before rest page other later) [
-      | inl old ↦ inl (contains_later first rest other old)
-      | inr new ↦ inr new
-    ]
-  ]
-]
 
 -- so far: the slots of the tree below the count have the mark, and all others hold what they held
 pub record IsMarked (start now : List (Option Entry)) (domain : ℕ) (locked : Bool) (count : ℕ) : Type 0 where
@@ -37,11 +20,6 @@ pub record IsMarked (start now : List (Option Entry)) (domain : ℕ) (locked : B
   pub steps : (slot : ℕ) → domain_slot now slot ≡ domain_slot start slot
   pub inside : (slot : ℕ) → slot < count → IsInTree start domain slot → held now slot ≡ option_map (with_lock locked) (held start slot)
   pub outside : (slot : ℕ) → (slot < count → IsInTree start domain slot → ⊥) → held now slot ≡ held start slot
-
--- each page that is staged was staged, or a slot on it below the count holds another entry
-abbrev pub IsStaged : List ℕ → List ℕ → List (Option Entry) → List (Option Entry) → ℕ → Type 0
-IsStaged before staged start now count =
-    (page : ℕ) → Contains staged page → Contains before page ⊎ ((slot : ℕ) × (entry_page slot ≡ page) × (slot < count) × (held now slot ≢ held start slot))
 
 pub none_marked : (start : List (Option Entry)) (domain : ℕ) (locked : Bool) → IsMarked start start domain locked 0
 none_marked start domain locked = record {
@@ -66,12 +44,6 @@ module _ (start now : List (Option Entry)) (domain : ℕ) (locked : Bool) (slot 
     ];
     outside = λ k not. so_far.outside k (λ low there. not (omega (arith, low)) there);
   }
-
-  pub passed_staged : (before staged : List ℕ) → IsStaged before staged start now slot → IsStaged before staged start now (slot + 1)
-  passed_staged before staged each page there = elim (each page there) [
-    | inl old ↦ inl old
-    | inr new ↦ inr (new.0, new.1, omega (arith, new.2), new.3)
-  ]
 
   module _ (after : List (Option Entry)) (set : after ≡ slice_set now slot (option_map (with_lock locked) (held now slot))) (within : slot < length now) where
     here : held after slot ≡ option_map (with_lock locked) (held start slot)
@@ -103,9 +75,8 @@ module _ (start now : List (Option Entry)) (domain : ℕ) (locked : Bool) (slot 
       ];
     }
 
-    pub marked_staged : (before staged then : List ℕ) → IsStaged before staged start now slot
-        → ((page : ℕ) → Contains then page → Contains staged page ⊎ ((k : ℕ) × (entry_page k ≡ page) × (held after k ≢ held now k)))
-        → IsStaged before then start after (slot + 1)
+    pub marked_staged : (before staged then : List ℕ) → IsStaged entry_page before staged start now slot → StagesChanged entry_page now after staged then
+        → IsStaged entry_page before then start after (slot + 1)
     marked_staged before staged then each more page there = elim (more page there) [
       | inl old ↦ elim (each page old) [
         | inl older ↦ inl older

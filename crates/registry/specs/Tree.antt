@@ -1,5 +1,5 @@
 -- A security domain with all that is below it, and the lock marks there (GlobalPlatform Card Specification 2.3.1, 11.10).
-use Rattle.std.specs.Prelude.{◌≡◌, ◌≢◌, ◌↔◌, ◌⊎◌, ℕ, List, Bool, Option, true, Contains}
+use Rattle.std.specs.Prelude.{◌≡◌, ◌↔◌, ◌⊎◌, ℕ, List, Bool, Option, true}
 use Rattle.std.specs.Option.{option_map}
 use Rattle.card_types.specs.Registry as registry
 use Rattle.card_types.specs.Registry.{domain_of}
@@ -9,7 +9,6 @@ use Rattle.card_types.specs.declared.tables.Entry.{Entry}
 use Rattle.card_types.specs.declared.tables.Tables.{Tables}
 use Rattle.domain_tree.specs.Above.{Above}
 use Rattle.rec_store.specs.Contents.{Contents}
-use Rattle.rec_store.specs.Places.{entry_page}
 
 -- the test tells the AIDs of the domain and of all that is below it
 abbrev pub IsTreeOf : registry.Registry → List ℕ → (List ℕ → Bool) → Type 0
@@ -31,12 +30,6 @@ pub record LocksTree (before after : Tables) (domain : ℕ) (locked : Bool) : Ty
   pub files : after.files.items ≡ before.files.items
   pub keys : after.keys.items ≡ before.keys.items
   pub objects : after.objects.items ≡ before.objects.items
-
--- each page that is staged then was staged, or a slot on it holds another entry than before
-abbrev pub StagesChanged : {F : Type 0} → Contents F → Contents F → Type 0
-StagesChanged old new =
-    (page : ℕ) → Contains new.staged page → Contains old.staged page
-    ⊎ ((slot : ℕ) × (entry_page slot ≡ page) × (held new.tables.entries.items slot ≢ held old.tables.entries.items slot))
 
 -- nothing but the entries, and the pages that are staged, is another
 pub record SameButEntries {F : Type 0} (old new : Contents F) : Type 0 where

@@ -11,8 +11,8 @@
 //!     `add_file`). Where it is refused, nothing has changed (`unchanged`).
 //!  3. No call makes a call on the device, and none commits (`same`).
 //!  4. There is room for what one command changes, and each call keeps it (`room`; `room_for_command` and `room_for_parts`).
-//!     A call that changes one slot stages the page with that slot, and no other; `lock_tree` stages only pages with a slot that
-//!     changed (`staged`).
+//!     A call that changes one slot stages the page with that slot, and no other; `lock_tree` and `remove_entry` stage only pages
+//!     with a slot that changed (`staged`).
 #![tactic(auto)]
 
 mod entries;

@@ -9,10 +9,11 @@ ghost use Rattle.card_types.specs.Slots.{held};
 ghost use Rattle.card_types.specs.Well.{Well};
 ghost use Rattle.card_types.specs.declared.limits.TheConstants.{ENTRIES};
 ghost use Rattle.domain_tree.specs.Slots.{IsFreeOfLoops};
+ghost use Rattle.rec_store.specs.Places.{entry_page};
 ghost use Rattle.rec_store.specs.Room.{HasRoomFor};
-ghost use Rattle.registry.specs.Pages.{KeepsRoom, entry_pages};
+ghost use Rattle.registry.specs.Pages.{KeepsRoom, StagesChanged, entry_pages};
 ghost use Rattle.registry.specs.Setting.{ChangesEntry};
-ghost use Rattle.registry.specs.Tree.{IsInTree, IsTreeOf, LocksTree, StagesChanged, with_lock};
+ghost use Rattle.registry.specs.Tree.{IsInTree, IsTreeOf, LocksTree, with_lock};
 
 use card_types::{ENTRIES, Entry, in_slot};
 use domain_tree::above;
@@ -47,7 +48,7 @@ fn lock_slot<F: Flash>(records: &mut Records<F>, slot: u8, locked: bool)
     requires room { HasRoomFor entry_pages records.old.staged }
     ensures slots { ChangesEntry records.old.tables records.new.tables slot (with_lock locked) }
     ensures same { (records.new.flash ≡ records.old.flash) × (records.new.live ≡ true) }
-    ensures staged { StagesChanged records.old records.new }
+    ensures staged { StagesChanged entry_page records.old.tables.entries.items records.new.tables.entries.items records.old.staged records.new.staged }
     ensures room { KeepsRoom entry_pages records.old.staged records.new.staged }
 {
     if let Some(entry) = marked(&records.tables().entries, slot, locked) {
@@ -65,7 +66,7 @@ pub fn lock_tree<F: Flash>(records: &mut Records<F>, domain: u8, locked: bool)
         × IsTreeOf said (domain_aid records.old.tables.entries.items domain) these × Says page records.new.tables (with_locks said these locked) }
     ensures slots { LocksTree records.old.tables records.new.tables domain locked }
     ensures same { (records.new.flash ≡ records.old.flash) × (records.new.live ≡ true) }
-    ensures staged { StagesChanged records.old records.new }
+    ensures staged { StagesChanged entry_page records.old.tables.entries.items records.new.tables.entries.items records.old.staged records.new.staged }
     ensures room { KeepsRoom entry_pages records.old.staged records.new.staged }
 {
     for slot in 0..ENTRIES as u8 {

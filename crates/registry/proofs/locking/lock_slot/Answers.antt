@@ -7,7 +7,7 @@ use Rattle.card_types.specs.declared.tables.Tables.{Tables}
 use Rattle.rec_store.specs.Places.{entry_page}
 use Rattle.registry.specs.Pages.{entry_pages}
 use Rattle.registry.proofs.Frames.{among_entry_pages, frame_of, keeps_staged}
-use Rattle.registry.proofs.Marking.{staged_before}
+use Rattle.registry.proofs.Staging.{staged_before}
 use Rattle.registry.proofs.locking.lock_slot.Goals as goal
 
 pub set_entry-requires-clause-frame : goal.set_entry-requires-clause-frame

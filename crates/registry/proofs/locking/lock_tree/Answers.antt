@@ -5,12 +5,14 @@ use Rattle.card_types.specs.declared.limits.TheConstants.{ENTRIES}
 use Rattle.card_types.specs.declared.tables.Entry.{Entry}
 use Rattle.card_types.specs.declared.tables.Tables.{Tables}
 use Rattle.domain_tree.specs.Slots.{IsFreeOfLoops}
+use Rattle.rec_store.specs.Places.{entry_page}
 use Rattle.registry.specs.Pages.{entry_pages}
 use Rattle.registry.specs.Tree.{IsInTree, LocksTree}
 use Rattle.registry.proofs.Frames.{keeps_on, still_room}
 use Rattle.registry.proofs.Locked.{says_locked}
-use Rattle.registry.proofs.Marking.{all_inside, all_outside, marked_staged, marked_too, passed, passed_staged}
+use Rattle.registry.proofs.Marking.{all_inside, all_outside, marked_staged, marked_too, passed}
 use Rattle.registry.proofs.Replaced.{thing_of}
+use Rattle.registry.proofs.Staging.{passed_staged}
 use Rattle.registry.proofs.Tree.{free_still, in_tree_still}
 use Rattle.registry.proofs.locking.lock_tree.Goals as goal
 use Rattle.registry.proofs.locking.lock_tree.Goals.{then-is_in_tree, else-is_in_tree}
@@ -69,7 +71,7 @@ loop-slot-preserved g c =
             same = before.same;
             marked = passed start slots domain locked slot before.marked out;
             all = λ _. all;
-            staged = passed_staged start slots domain locked slot before.marked first.staged loop.staged before.staged;
+            staged = passed_staged entry_page first.staged loop.staged start slots slot before.staged;
             room = before.room;
           }))
     ]
