@@ -1,5 +1,5 @@
 -- Slots of the things of one domain, of which some are freed.
-use Rattle.std.proofs.Common.{◌≡◌, inl, inr, ℕ, zero, suc, ◌+◌, ◌<◌, ◌==◌, true, false, List, [], ◌∷◌, length, Option, None, Some, refl, ap, subst, ◌∙◌, arith}
+use Rattle.std.proofs.Common.{◌≡◌, ◌≢◌, inl, inr, ℕ, zero, suc, ◌+◌, ◌<◌, ◌==◌, true, false, List, [], ◌∷◌, length, Option, None, Some, refl, ap, sym, subst, ◌∙◌, arith}
 use Rattle.std.specs.Prelude.{filter, map, not, slice_set}
 use Rattle.std.proofs.lemmas.Bool.{cases_Bool, cases_eq}
 use Rattle.std.proofs.lemmas.List.{get_or-set_other, get_or-set_same}
@@ -47,3 +47,17 @@ module _ {T : Type 0} (owner : T → ℕ) (domain : ℕ) where
           ap (is_owned owner domain) free)
       | inr other ↦ ap (is_owned owner domain) (get_or-set_other slots slot k None None other) ∙ before k (omega (arith, lt, other))
     ]
+
+  -- a slot that is freed held something before
+  pub freed_differs : (slots start : List (Option T)) (slot : ℕ) → is_owned owner domain (held slots slot) ≡ true → held slots slot ≡ held start slot
+      → slot < length slots → (after : List (Option T)) → after ≡ slice_set slots slot None → held after slot ≢ held start slot
+  freed_differs slots start slot goes same within after set alike =
+      let free : held after slot ≡ None = ap (λ (s : List (Option T)). held s slot) set ∙ get_or-set_same slots slot None None within in
+      let clash : is_owned owner domain None ≡ true = ap (is_owned owner domain) (sym free ∙ alike ∙ sym same) ∙ goes in
+      cc
+
+-- and those behind it hold what they held
+pub rest_set : {T : Type 0} (slots start : List (Option T)) (slot : ℕ) → ((k : ℕ) → (k < slot → ⊥) → held slots k ≡ held start k)
+    → (k : ℕ) → (k < slot + 1 → ⊥) → held (slice_set slots slot None) k ≡ held start k
+rest_set slots start slot rest k high =
+    get_or-set_other slots slot k None None (λ same. high (omega (arith, same))) ∙ rest k (λ low. high (omega (arith, low)))

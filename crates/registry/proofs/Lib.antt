@@ -1,5 +1,9 @@
 mod Added
 mod Frames
 mod Freed
+mod Locked
+mod Marking
 mod Removed
 mod Replaced
+mod Staging
+mod Tree

@@ -2,3 +2,4 @@ pub mod Adding
 pub mod Pages
 pub mod Removing
 pub mod Setting
+pub mod Tree

@@ -1,10 +1,11 @@
 -- The store pages that one command may change, and the frames for them.
-use Rattle.std.specs.Prelude.{ℕ, List, [], ◌∷◌, ◌++◌, Contains}
+use Rattle.std.specs.Prelude.{◌≡◌, ◌≢◌, ◌⊎◌, ℕ, List, [], ◌∷◌, ◌++◌, Option, Contains}
 use Rattle.std.specs.List.{range_with_len}
+use Rattle.card_types.specs.Slots.{held}
 use Rattle.card_types.specs.declared.found.Found.{Found}
 use Rattle.card_types.specs.declared.found.Found.TheVariants.{Entry, File}
 use Rattle.rec_store.specs.Keeper.{key_pages}
-use Rattle.rec_store.specs.Places.{file_page}
+use Rattle.rec_store.specs.Places.{entry_page, file_page}
 use Rattle.rec_store.specs.Room.{HasRoomFor}
 
 -- the store pages with the slots of entries, and of data objects
@@ -18,7 +19,12 @@ object_pages = range_with_len 37 8
 abbrev pub owner_pages : List ℕ
 owner_pages = entry_pages ++ key_pages ++ object_pages
 
--- the pages that change where the thing in this slot is moved
+-- the page with the thing in this slot
+abbrev pub thing_page : Found → ℕ
+thing_page (Entry slot) = entry_page slot
+thing_page (File slot) = file_page slot
+
+-- the pages that may change where the thing in this slot is moved
 abbrev pub thing_pages : Found → List ℕ
 thing_pages (Entry slot) = entry_pages
 thing_pages (File slot) = file_page slot ∷ []
@@ -26,6 +32,14 @@ thing_pages (File slot) = file_page slot ∷ []
 -- the pages that one command may change, with that of one Executable Load File: the superblock is in page 0
 abbrev pub registry_pages : ℕ → List ℕ
 registry_pages file = 0 ∷ file_page file ∷ owner_pages
+
+-- a slot on the page holds another thing than before
+abbrev pub IsChangedOn : {T : Type 0} → (ℕ → ℕ) → List (Option T) → List (Option T) → ℕ → Type 0
+IsChangedOn page_of before after page = (slot : ℕ) × (page_of slot ≡ page) × (held after slot ≢ held before slot)
+
+-- each page that is staged then was staged, or a slot on it holds another thing than before
+abbrev pub StagesChanged : {T : Type 0} → (ℕ → ℕ) → List (Option T) → List (Option T) → List ℕ → List ℕ → Type 0
+StagesChanged page_of before after old new = (page : ℕ) → Contains new page → Contains old page ⊎ IsChangedOn page_of before after page
 
 -- room for any pages, these among them, is kept
 abbrev pub KeepsRoom : List ℕ → List ℕ → List ℕ → Type 0

@@ -1,5 +1,5 @@
 -- Things that leave the registry.
-use Rattle.std.specs.Prelude.{◌≡◌, ◌≢◌, ℕ, ◌==◌, Bool, false, Option, None, Some, map, slice_set, if◌then◌else◌}
+use Rattle.std.specs.Prelude.{◌≡◌, ◌≢◌, ◌⊎◌, ℕ, ◌==◌, Bool, Contains, false, Option, None, Some, map, slice_set, if◌then◌else◌}
 use Rattle.card_types.specs.Slots.{held}
 use Rattle.card_types.specs.declared.tables.Entry.{Entry}
 use Rattle.card_types.specs.declared.tables.KeyRec.{KeyRec}
@@ -7,6 +7,8 @@ use Rattle.card_types.specs.declared.tables.LoadFile.{LoadFile}
 use Rattle.card_types.specs.declared.tables.Object.{Object}
 use Rattle.card_types.specs.declared.tables.Tables.{Tables}
 use Rattle.rec_store.specs.Contents.{Contents}
+use Rattle.rec_store.specs.Places.{entry_page, key_page, object_page}
+use Rattle.registry.specs.Pages.{IsChangedOn}
 
 -- the slot is the domain of no other entry and of no Executable Load File
 pub record IsNoDomain (tables : Tables) (slot : ℕ) : Type 0 where
@@ -39,6 +41,14 @@ pub record RemovesEntry (before after : Tables) (slot : ℕ) : Type 0 where
   pub files : after.files.items ≡ before.files.items
   pub keys : after.keys.items ≡ map (freed key_owner slot) before.keys.items
   pub objects : after.objects.items ≡ map (freed object_owner slot) before.objects.items
+
+-- each page that is staged then was staged, or a slot on it, of an entry, a key or a data object, holds another thing than before
+abbrev pub StagesOwned : {F : Type 0} → Contents F → Contents F → Type 0
+StagesOwned old new =
+    (page : ℕ) → Contains new.staged page → Contains old.staged page
+    ⊎ IsChangedOn entry_page old.tables.entries.items new.tables.entries.items page
+    ⊎ IsChangedOn key_page old.tables.keys.items new.tables.keys.items page
+    ⊎ IsChangedOn object_page old.tables.objects.items new.tables.objects.items page
 
 -- nothing but the data objects, and the pages that are staged, is another
 pub record SameButObjects {F : Type 0} (old new : Contents F) : Type 0 where

@@ -7,7 +7,8 @@ ghost use Rattle.card_types.specs.Says.{Says, domain_aid, entry_of};
 ghost use Rattle.card_types.specs.Slots.{held};
 ghost use Rattle.card_types.specs.Well.{Well};
 ghost use Rattle.card_types.specs.declared.limits.TheConstants.{ENTRIES};
-ghost use Rattle.rec_store.specs.Room.{HasRoomFor};
+ghost use Rattle.rec_store.specs.Places.{entry_page};
+ghost use Rattle.rec_store.specs.Room.{HasRoomFor, with_staged};
 ghost use Rattle.registry.specs.Adding.{AddsEntry, IsTaken};
 ghost use Rattle.registry.specs.Pages.{KeepsRoom, entry_pages};
 ghost use Rattle.registry.specs.Setting.{ChangesEntry};
@@ -32,6 +33,7 @@ pub fn add_entry<F: Flash>(records: &mut Records<F>, value: Entry) -> Result<u8,
         → (result ≡ Err AddRefusal.Full ↔ ((¬ IsTaken said value.aid) × (length said.entries ≡ ENTRIES))) }
     ensures unchanged { OnErr result (records.new ≡ records.old) }
     ensures same { (records.new.flash ≡ records.old.flash) × (records.new.live ≡ true) }
+    ensures staged { IfOk result (λ slot. records.new.staged ≡ with_staged records.old.staged (entry_page slot)) }
     ensures room { KeepsRoom entry_pages records.old.staged records.new.staged }
 {
     let tables = records.tables();
@@ -49,6 +51,7 @@ pub fn set_life<F: Flash>(records: &mut Records<F>, slot: u8, life: LifeMark)
         → Says page records.new.tables (with_life said (domain_aid records.old.tables.entries.items slot) life) }
     ensures slots { ChangesEntry records.old.tables records.new.tables slot (λ entry. record entry { life = life }) }
     ensures same { (records.new.flash ≡ records.old.flash) × (records.new.live ≡ true) }
+    ensures staged { records.new.staged ≡ with_staged records.old.staged (entry_page slot) }
     ensures room { KeepsRoom entry_pages records.old.staged records.new.staged }
 {
     let mut entry = *in_slot(&records.tables().entries, slot).unwrap();
@@ -65,6 +68,7 @@ pub fn set_receipts<F: Flash>(records: &mut Records<F>, slot: u8, number: u16)
         → Says page records.new.tables (with_receipts said (domain_aid records.old.tables.entries.items slot) number) }
     ensures slots { ChangesEntry records.old.tables records.new.tables slot (λ entry. record entry { receipts = number }) }
     ensures same { (records.new.flash ≡ records.old.flash) × (records.new.live ≡ true) }
+    ensures staged { records.new.staged ≡ with_staged records.old.staged (entry_page slot) }
     ensures room { KeepsRoom entry_pages records.old.staged records.new.staged }
 {
     let mut entry = *in_slot(&records.tables().entries, slot).unwrap();

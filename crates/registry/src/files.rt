@@ -11,7 +11,7 @@ ghost use Rattle.card_types.specs.Slots.{held};
 ghost use Rattle.card_types.specs.Well.{Well};
 ghost use Rattle.card_types.specs.declared.limits.TheConstants.{FILES};
 ghost use Rattle.rec_store.specs.Places.{file_page};
-ghost use Rattle.rec_store.specs.Room.{HasRoomFor};
+ghost use Rattle.rec_store.specs.Room.{HasRoomFor, with_staged};
 ghost use Rattle.registry.specs.Adding.{AddsFile, IsTaken};
 ghost use Rattle.registry.specs.Pages.{KeepsRoom};
 ghost use Rattle.registry.specs.Removing.{IsUnloaded};
@@ -36,6 +36,7 @@ pub fn add_file<F: Flash>(records: &mut Records<F>, value: LoadFile) -> Result<u
         → (result ≡ Err AddRefusal.Full ↔ ((¬ IsTaken said value.aid) × (length said.files ≡ FILES))) }
     ensures unchanged { OnErr result (records.new ≡ records.old) }
     ensures same { (records.new.flash ≡ records.old.flash) × (records.new.live ≡ true) }
+    ensures staged { IfOk result (λ slot. records.new.staged ≡ with_staged records.old.staged (file_page slot)) }
     ensures room { IfOk result (λ slot. KeepsRoom (file_page slot ∷ []) records.old.staged records.new.staged) }
 {
     let tables = records.tables();
@@ -54,6 +55,7 @@ pub fn remove_file<F: Flash>(records: &mut Records<F>, slot: u8)
         → Says page records.new.tables (without_file said (file_aid records.old.tables.files.items slot)) }
     ensures slots { SetsFile records.old.tables records.new.tables slot None }
     ensures same { (records.new.flash ≡ records.old.flash) × (records.new.live ≡ true) }
+    ensures staged { records.new.staged ≡ with_staged records.old.staged (file_page slot) }
     ensures room { KeepsRoom (file_page slot ∷ []) records.old.staged records.new.staged }
 {
     prove!(usize::from(slot) < records.tables().files.len());

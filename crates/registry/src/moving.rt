@@ -7,8 +7,8 @@ ghost use Rattle.card_types.specs.RegistryChange.{moved};
 ghost use Rattle.card_types.specs.Says.{Says, domain_aid};
 ghost use Rattle.card_types.specs.Slots.{held};
 ghost use Rattle.card_types.specs.Well.{Well};
-ghost use Rattle.rec_store.specs.Room.{HasRoomFor};
-ghost use Rattle.registry.specs.Pages.{KeepsRoom, thing_pages};
+ghost use Rattle.rec_store.specs.Room.{HasRoomFor, with_staged};
+ghost use Rattle.registry.specs.Pages.{KeepsRoom, thing_page, thing_pages};
 ghost use Rattle.registry.specs.Setting.{Moves};
 
 use card_types::{Found, in_slot};
@@ -25,6 +25,7 @@ pub fn move_to<F: Flash>(records: &mut Records<F>, thing: Found, domain: u8)
         → Says page records.old.tables said → Well said → Says page records.new.tables (moved said aid (domain_aid records.old.tables.entries.items domain)) }
     ensures slots { Moves records.old.tables records.new.tables thing domain }
     ensures same { (records.new.flash ≡ records.old.flash) × (records.new.live ≡ true) }
+    ensures staged { records.new.staged ≡ with_staged records.old.staged (thing_page thing) }
     ensures room { KeepsRoom (thing_pages thing) records.old.staged records.new.staged }
 {
     match thing {

@@ -7,9 +7,10 @@ ghost use Rattle.card_types.specs.Says.{Says, domain_aid};
 ghost use Rattle.card_types.specs.Slots.{held};
 ghost use Rattle.card_types.specs.Well.{Well};
 ghost use Rattle.rec_store.specs.Keeper.{SameElse};
+ghost use Rattle.rec_store.specs.Places.{key_page, object_page};
 ghost use Rattle.rec_store.specs.Room.{HasRoomFor};
-ghost use Rattle.registry.specs.Pages.{KeepsRoom, owner_pages};
-ghost use Rattle.registry.specs.Removing.{IsNoDomain, RemovesEntry, SameButObjects, freed, is_owned, key_owner, object_owner};
+ghost use Rattle.registry.specs.Pages.{KeepsRoom, StagesChanged, owner_pages};
+ghost use Rattle.registry.specs.Removing.{IsNoDomain, RemovesEntry, SameButObjects, StagesOwned, freed, is_owned, key_owner, object_owner};
 
 use card_types::{KEYS, KeyRec, OBJECTS, Object, in_slot};
 use flash_core::Flash;
@@ -39,6 +40,7 @@ fn free_keys<F: Flash>(records: &mut Records<F>, domain: u8)
     requires room { HasRoomFor owner_pages records.old.staged }
     ensures freed { records.new.tables.keys.items ≡ map (freed key_owner domain) records.old.tables.keys.items }
     ensures same { SameElse records.old records.new }
+    ensures staged { StagesChanged key_page records.old.tables.keys.items records.new.tables.keys.items records.old.staged records.new.staged }
     ensures room { KeepsRoom owner_pages records.old.staged records.new.staged }
 {
     for slot in 0..KEYS as u8 {
@@ -54,6 +56,7 @@ fn free_objects<F: Flash>(records: &mut Records<F>, domain: u8)
     requires room { HasRoomFor owner_pages records.old.staged }
     ensures freed { records.new.tables.objects.items ≡ map (freed object_owner domain) records.old.tables.objects.items }
     ensures same { SameButObjects records.old records.new }
+    ensures staged { StagesChanged object_page records.old.tables.objects.items records.new.tables.objects.items records.old.staged records.new.staged }
     ensures room { KeepsRoom owner_pages records.old.staged records.new.staged }
 {
     for slot in 0..OBJECTS as u8 {
@@ -74,6 +77,7 @@ pub fn remove_entry<F: Flash>(records: &mut Records<F>, slot: u8)
         → Says page records.new.tables (without_entry said (domain_aid records.old.tables.entries.items slot)) }
     ensures slots { RemovesEntry records.old.tables records.new.tables slot }
     ensures same { (records.new.flash ≡ records.old.flash) × (records.new.live ≡ true) }
+    ensures staged { StagesOwned records.old records.new }
     ensures room { KeepsRoom owner_pages records.old.staged records.new.staged }
 {
     prove!(usize::from(slot) < records.tables().entries.len());

@@ -1,6 +1,7 @@
 //! Entries and Executable Load Files that come and go on a card. Behind each change it is committed, and mounted again.
 
 ghost use Rattle.std.specs.Prelude.{◌≡◌, ◌==◌, [], true, IfOk, IsSome, IsTrue};
+ghost use Rattle.card_types.specs.InOrder.{IsInOrder};
 ghost use Rattle.card_types.specs.Slots.{held};
 ghost use Rattle.registry.specs.Removing.{IsNoDomain, IsUnloaded};
 
@@ -14,7 +15,8 @@ use flash_core::MemFlash;
 use key_sets::put_set;
 use rec_store::{Records, lay_out};
 use registry::{
-    AddRefusal, add_entry, add_file, move_to, remove_entry, remove_file, set_life, set_receipts,
+    AddRefusal, add_entry, add_file, lock_tree, move_to, remove_entry, remove_file, set_life,
+    set_receipts,
 };
 use std::alloc::Global;
 use std::test::Fail;
@@ -103,7 +105,7 @@ fn formatted(alloc: Global) -> Result<MemFlash, Fail> {
 }
 
 fn mounted(alloc: Global, flash: MemFlash) -> Result<Records<MemFlash>, Fail>
-    ensures { IfOk result (λ r. (r.staged ≡ []) × (r.live ≡ true)) }
+    ensures { IfOk result (λ r. (r.staged ≡ []) × (r.live ≡ true) × IsInOrder r.tables) }
 {
     match Records::mount(alloc, flash) {
         Ok(records) => Ok(records),
@@ -287,5 +289,51 @@ fn things_come_and_go(rt: HostRuntime) -> Result<(), Fail> {
     assert!(rt; there == ([domain, None, None], 6, None));
     let (there, _flash) = seen(alloc, removed(alloc, flash, Found::Entry(1))?)?;
     assert!(rt; there == ([None, None, None], 3, None));
+    Ok(())
+}
+
+/// Locks or unlocks the domain in a slot with all below it.
+fn tree_locked(alloc: Global, flash: MemFlash, domain: u8, locked: bool) -> Result<MemFlash, Fail> {
+    let mut records = mounted(alloc, flash)?;
+    if !has_entry(&records, domain) {
+        return Err("the slot of a domain".into());
+    }
+    lock_tree(&mut records, domain, locked);
+    kept(records)
+}
+
+/// Of the entries in the first six slots, which are locked.
+fn marks(alloc: Global, flash: MemFlash) -> Result<([Option<bool>; 6], MemFlash), Fail> {
+    let records = mounted(alloc, flash)?;
+    let mut marks = [None; 6];
+    for (slot, mark) in marks.iter_mut().enumerate() {
+        if let Some(Some(entry)) = records.tables().entries.get(slot) {
+            *mark = Some(entry.life.locked);
+        }
+    }
+    Ok((marks, records.into_flash()))
+}
+
+#[test]
+fn trees_are_locked_and_unlocked(rt: HostRuntime) -> Result<(), Fail> {
+    let alloc = rt.alloc();
+    let (_, flash) = load(alloc, formatted(alloc)?, 0xF1, 0)?;
+    // A domain, a domain below it, an application there, a second root with an application, and an entry of none of them.
+    let (_, flash) = add(alloc, flash, 0xD1, 0, 0)?;
+    let (_, flash) = add(alloc, flash, 0xD2, 1, 0)?;
+    let (_, flash) = add(alloc, flash, 0xA1, 2, 1)?;
+    let (_, flash) = add(alloc, flash, 0xD3, 0, 0)?;
+    let flash = moved(alloc, flash, Found::Entry(4), 4)?;
+    let (_, flash) = add(alloc, flash, 0xA2, 4, 1)?;
+    let (before, flash) = marks(alloc, flash)?;
+    assert!(rt; before == [Some(false); 6]);
+    let (first, flash) = marks(alloc, tree_locked(alloc, flash, 1, true)?)?;
+    assert!(rt; first == [false, true, true, true, false, false].map(Some));
+    let (second, flash) = marks(alloc, tree_locked(alloc, flash, 2, false)?)?;
+    assert!(rt; second == [false, true, false, false, false, false].map(Some));
+    let (third, flash) = marks(alloc, tree_locked(alloc, flash, 4, true)?)?;
+    assert!(rt; third == [false, true, false, false, true, true].map(Some));
+    let (last, _flash) = marks(alloc, tree_locked(alloc, flash, 1, false)?)?;
+    assert!(rt; last == [false, false, false, false, true, true].map(Some));
     Ok(())
 }

@@ -1,4 +1,4 @@
-use Rattle.std.proofs.Common.{◌≡◌, ◌<◌, true, List, Option, length, ap, sym, subst, ◌∙◌, arith}
+use Rattle.std.proofs.Common.{◌≡◌, ◌<◌, true, List, Option, None, length, ap, sym, subst, ◌∙◌, arith}
 use Rattle.std.specs.Prelude.{map}
 use Rattle.std.proofs.lemmas.List.{length-set}
 use Rattle.card_types.specs.Slots.{held}
@@ -9,7 +9,8 @@ use Rattle.rec_store.specs.Places.{object_page}
 use Rattle.registry.specs.Pages.{owner_pages}
 use Rattle.registry.specs.Removing.{freed, is_owned, object_owner}
 use Rattle.registry.proofs.Frames.{frame_of, object_of_owner, keeps_on, keeps_staged, still_room}
-use Rattle.registry.proofs.Freed.{freed_after, gone_more, gone_set, none_freed}
+use Rattle.registry.proofs.Freed.{freed_after, freed_differs, gone_more, gone_set, none_freed, rest_set}
+use Rattle.registry.proofs.Staging.{changed_staged, passed_staged, set_staged}
 use Rattle.registry.proofs.removal.free_objects.Goals as goal
 use Rattle.registry.proofs.removal.free_objects.Goals.{then-is_object_of, else-is_object_of}
 
@@ -26,6 +27,7 @@ loop-slot-preserved g c =
     let slot = c.loop-slot.slot in
     let loop = c.loop-slot.records in
     let before = c.loop-slot.invariant in
+    let start = c.args.records.now.tables.objects.items in
     let slots = loop.tables.objects.items in
     let up : loop.live ≡ true = before.same.live ∙ c.requires.live in
     let given : c.deref.result.now ≡ slots = c.deref.ensures.value ∙ ap (λ (t : Tables). t.objects.items) c.tables.ensures.tables in
@@ -38,6 +40,7 @@ loop-slot-preserved g c =
       | then-is_object_of w ↦
           (let set = w.set_object.ensures in
           let put = set.tables.objects in
+          let differs = freed_differs object_owner domain slots start slot (sym here ∙ w.if-is_object_of.true) (before.rest slot (λ low. omega (arith, low))) within w.set_object.new.self.tables.objects.items put in
           rw w.records-is (record {
             same = record {
               flash = set.same.0 ∙ before.same.flash;
@@ -47,16 +50,20 @@ loop-slot-preserved g c =
               files = set.tables.files ∙ before.same.files;
               keys = set.tables.keys ∙ before.same.keys;
             };
+            staged = set_staged object_page c.args.records.now.staged loop.staged start slots slot before.staged w.set_object.new.self.tables.objects.items None w.set_object.new.self.staged put set.staged differs;
             room = keeps_on owner_pages c.args.records.now.staged loop.staged w.set_object.new.self.staged before.room
                 (keeps_staged owner_pages loop.staged (object_page slot) (object_of_owner slot low) w.set_object.new.self.staged set.staged);
             all = λ _. ap (λ (s : List (Option Object)). length s) put ∙ length-set slots slot _ ∙ all;
             left = ap (λ (s : List (Option Object)). map (freed object_owner domain) s) put ∙ freed_after object_owner domain slots slot (sym here ∙ w.if-is_object_of.true) ∙ before.left;
+            rest = λ k high. ap (λ (s : List (Option Object)). held s k) put ∙ rest_set slots start slot before.rest k high;
             gone = rw put (gone_set object_owner domain slots slot before.gone within);
           }))
       | else-is_object_of w ↦
           rw w.records-is (record {
             same = before.same;
+            staged = passed_staged object_page c.args.records.now.staged loop.staged start slots slot before.staged;
             room = before.room;
+            rest = λ k high. before.rest k (λ low. high (omega (arith, low)));
             all = λ _. all;
             left = before.left;
             gone = gone_more object_owner domain slots slot before.gone (sym here ∙ w.if-is_object_of.false);
@@ -68,3 +75,8 @@ returns-clause-freed g c =
     let slots = c.loop-slot.records.tables.objects.items in
     let all : length slots ≡ OBJECTS = c.loop-slot.invariant.all (omega (arith, c.loop-slot-test.false)) in
     sym (none_freed object_owner c.args.domain slots (λ slot within. c.loop-slot.invariant.gone slot (omega (arith, within, all, c.loop-slot-test.false)))) ∙ c.loop-slot.invariant.left
+
+pub returns-clause-staged : goal.returns-clause-staged
+returns-clause-staged g c =
+    changed_staged object_page c.args.records.now.staged c.loop-slot.records.staged c.args.records.now.tables.objects.items c.loop-slot.records.tables.objects.items c.loop-slot.slot
+    c.loop-slot.invariant.staged

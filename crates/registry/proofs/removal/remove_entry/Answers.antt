@@ -1,8 +1,11 @@
-use Rattle.std.proofs.Common.{◌<◌, List, Option, ap, ◌∙◌, arith}
-use Rattle.std.specs.Prelude.{map}
+use Rattle.std.proofs.Common.{◌≡◌, inl, inr, ℕ, ◌<◌, List, Option, None, length, ap, sym, subst, ◌∙◌, arith}
+use Rattle.std.specs.Prelude.{Contains, map}
+use Rattle.std.proofs.lemmas.List.{get_or-set_same}
 use Rattle.card_types.proofs.DrawnCounter.{held_within}
 use Rattle.card_types.specs.Slots.{held}
 use Rattle.card_types.specs.declared.limits.TheConstants.{ENTRIES}
+use Rattle.card_types.specs.declared.tables.Entry.{Entry}
+use Rattle.card_types.specs.declared.tables.KeyRec.{KeyRec}
 use Rattle.card_types.specs.declared.tables.Object.{Object}
 use Rattle.rec_store.specs.Places.{entry_page}
 use Rattle.registry.specs.Pages.{owner_pages}
@@ -10,6 +13,7 @@ use Rattle.registry.specs.Removing.{freed, object_owner}
 use Rattle.registry.proofs.Frames.{entry_of_owner, frame_of, keeps_on, keeps_staged, still_room}
 use Rattle.registry.proofs.Removed.{entry_removed}
 use Rattle.registry.proofs.Replaced.{thing_of}
+use Rattle.registry.proofs.Staging.{staged_before}
 use Rattle.registry.proofs.removal.remove_entry.Goals as goal
 
 pub free_objects-requires-clause-room : goal.free_objects-requires-clause-room
@@ -47,3 +51,33 @@ returns-clause-room g c =
     keeps_on owner_pages before.staged between c.set_entry.new.self.staged
     (keeps_on owner_pages before.staged c.free_keys.new.records.staged between c.free_keys.ensures.room c.free_objects.ensures.room)
     (keeps_staged owner_pages between (entry_page slot) (entry_of_owner slot low) c.set_entry.new.self.staged c.set_entry.ensures.staged)
+
+pub returns-clause-staged : goal.returns-clause-staged
+returns-clause-staged g c page there =
+    let slot = c.args.slot in
+    let before = c.args.records.now in
+    let first = c.free_keys.ensures in
+    let second = c.free_objects.ensures in
+    let set = c.set_entry.ensures in
+    let entry = thing_of (held before.tables.entries.items slot) c.requires.slot in
+    let same_entries = second.same.entries ∙ first.same.entries in
+    let within = held_within before.tables.entries.items slot entry.0 entry.1 in
+    let free : held c.set_entry.new.self.tables.entries.items slot ≡ None =
+    ap (λ (s : List (Option Entry)). held s slot) set.tables.entries
+    ∙ get_or-set_same c.free_objects.new.records.tables.entries.items slot None None (omega (arith, within, ap (λ (s : List (Option Entry)). length s) same_entries)) in
+    let same_objects = set.tables.objects in
+    let same_keys = set.tables.keys ∙ second.same.keys in
+    elim (staged_before c.free_objects.new.records.staged (entry_page slot) page (subst (λ (s : List ℕ). Contains s page) set.staged there)) [
+      | inr new ↦ inr (inl (slot, new, λ same. (let clash = sym free ∙ same ∙ entry.1 in cc)))
+      | inl old ↦ elim (second.staged page old) [
+        | inr object ↦ inr (inr (inr (
+          object.0,
+          object.1,
+          λ same. object.2 (ap (λ (s : List (Option Object)). held s object.0) (sym same_objects) ∙ same ∙ ap (λ (s : List (Option Object)). held s object.0) (sym first.same.objects)),
+        )))
+        | inl older ↦ elim (first.staged page older) [
+          | inr key ↦ inr (inr (inl (key.0, key.1, λ same. key.2 (ap (λ (s : List (Option KeyRec)). held s key.0) (sym same_keys) ∙ same))))
+          | inl oldest ↦ inl oldest
+        ]
+      ]
+    ]
