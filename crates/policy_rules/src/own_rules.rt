@@ -36,9 +36,9 @@ pub fn judge(
     requires channel { channel < CHANNELS }
     requires opened { IsSome (slice_index_or live.now.selected channel None) }
     requires meant { IsMeant request.now }
-    ensures judged { (page : ℕ → List ℕ) (admitted : Admitted) → SaysState page tables.now live.now admitted.at → IsSound admitted.at → channel ≡ admitted.channel
-        → IsRequestOf request.now admitted.command → admitted.command.ins ≢ EXTERNAL_AUTHENTICATE
-        → TellsChecks checks_fit admitted → Judges admitted result }
+    ensures judged { (page : ℕ → List ℕ) (passed : Admitted) → SaysState page tables.now live.now passed.at → IsSound passed.at → channel ≡ passed.channel
+        → IsRequestOf request.now passed.command → passed.command.ins ≢ EXTERNAL_AUTHENTICATE
+        → TellsChecks checks_fit passed → Judges passed result }
     ensures elsewhere { (command : Apdu) → IsRequestOf request.now command → command.ins ≡ EXTERNAL_AUTHENTICATE → result ≡ None }
 {
     match request {
