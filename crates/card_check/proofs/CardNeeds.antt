@@ -14,7 +14,7 @@ use Rattle.card_types.specs.KeySets.{HasKeys, IsKeyOf}
 use Rattle.card_types.specs.Privileges.{has, security_domain}
 use Rattle.card_types.specs.Registry as registry
 use Rattle.card_types.specs.Registry.{domain_of, entry_named, file_named, keys_of}
-use Rattle.card_types.specs.Says.{Says, counter_of, domain_aid, entry_of, file_of, key_of, object_of, used}
+use Rattle.card_types.specs.Represents.{Represents, counter_of, domain_aid, entry_of, file_of, key_of, object_of, used}
 use Rattle.card_types.specs.Slots.{held}
 use Rattle.card_types.specs.Well.{IsFactoryFile, IsIssuerDomain, IsWellCounter, IsWellFile, IsWellKey, IsWellObject, Well}
 use Rattle.card_types.specs.declared.factory.TheConstants.{ISSUER, FACTORY_FILE}
@@ -56,7 +56,7 @@ module _ (page : ℕ → List ℕ) (tables : Tables) (card : IsCard page tables)
   abbrev said : registry.Registry
   said = card.said
 
-  abbrev says : Says page tables said
+  abbrev says : Represents page tables said
   says = card.says
 
   abbrev well : Well said

@@ -9,7 +9,7 @@ use Rattle.std.proofs.lemmas.Map.Lookups.{exact_unsigned}
 use Rattle.card_types.specs.AidOrder.{aid_order}
 use Rattle.card_types.specs.Ascending.{counter_order, key_order, object_order}
 use Rattle.card_types.specs.Registry as registry
-use Rattle.card_types.specs.Says.{Says, counter_of, entry_of, file_of, keeps_counter, key_of, object_of, used}
+use Rattle.card_types.specs.Represents.{Represents, counter_of, entry_of, file_of, keeps_counter, key_of, object_of, used}
 use Rattle.card_types.specs.declared.tables.Entry.{Entry}
 use Rattle.card_types.specs.declared.tables.KeyRec.{KeyRec}
 use Rattle.card_types.specs.declared.tables.LoadFile.{LoadFile}
@@ -84,7 +84,7 @@ module _ (page : ℕ → List ℕ) (tables : Tables) (card : HasCardSlots tables
     objects = objects.list;
   }
 
-  pub card_says : Says page tables said_by_card
+  pub card_says : Represents page tables said_by_card
   unfolding said_by_card
   card_says = record {
     life = refl;

@@ -14,7 +14,7 @@ use Rattle.card_types.specs.KeySets.{HasKey, HasKeys, IsKeyOf}
 use Rattle.card_types.specs.Privileges.{has, security_domain}
 use Rattle.card_types.specs.Registry as registry
 use Rattle.card_types.specs.Registry.{domain_of, entry_named, file_named, is_domain, keys_of}
-use Rattle.card_types.specs.Says.{Says, counter_of, domain_aid, entry_of, file_aid, file_of, keeps_counter, key_of, object_of, used}
+use Rattle.card_types.specs.Represents.{Represents, counter_of, domain_aid, entry_of, file_aid, file_of, keeps_counter, key_of, object_of, used}
 use Rattle.card_types.specs.Slots.{held}
 use Rattle.card_types.specs.Well.{HasKeyNamed, IsDomainNamed, IsFactoryFile, IsIssuerDomain, IsWellCounter, IsWellEntry, IsWellFile, IsWellKey, IsWellObject, IsWholeSet, LeadsToRoot, Well, pages_of}
 use Rattle.card_types.specs.declared.factory.TheConstants.{ISSUER, FACTORY_FILE}
@@ -40,7 +40,7 @@ use Rattle.card_check.proofs.CardNames.{apart, factory_load_file, file_aid_is, i
 use Rattle.card_check.proofs.Counting.{count_of_views, few_load_pages, length_of_pages, used_at_most}
 use Rattle.card_check.proofs.LoadPagesNamed.{all_of_members}
 
-module _ (page : ℕ → List ℕ) (whole : HasPages page) (tables : Tables) (card : HasCardSlots tables) (said : registry.Registry) (says : Says page tables said) where
+module _ (page : ℕ → List ℕ) (whole : HasPages page) (tables : Tables) (card : HasCardSlots tables) (said : registry.Registry) (says : Represents page tables said) where
   abbrev entries : List (Option Entry)
   entries = tables.entries.items
 

@@ -6,7 +6,7 @@ use Rattle.card_types.specs.Found.{aid_of}
 use Rattle.card_types.specs.Hierarchy.{IsLine}
 use Rattle.card_types.specs.KeySets.{HasKey, HasKeys}
 use Rattle.card_types.specs.Privileges.{IsNamed, authorized_management, delegated_management, has, receipt_generation, security_domain, token_verification}
-use Rattle.card_types.specs.Says.{domain_slot, keeps_counter}
+use Rattle.card_types.specs.Represents.{domain_slot, keeps_counter}
 use Rattle.card_types.specs.Slots.{held}
 use Rattle.card_types.specs.Well.{IsKeyLength, IsKeyName, IsObject, has_life}
 use Rattle.card_types.specs.declared.factory.TheConstants.{ISSUER, FACTORY_FILE, FACTORY_MODULE}

@@ -3,7 +3,7 @@ use Rattle.std.specs.Prelude.{◌≡◌, ℕ, ◌<◌, ◌≤◌, List, MatchOpt
 use Rattle.std.specs.List.{IsDistinct, concat}
 use Rattle.card_types.specs.Layout.{HasLayout}
 use Rattle.card_types.specs.Registry.{Registry}
-use Rattle.card_types.specs.Says.{Says, used}
+use Rattle.card_types.specs.Represents.{Represents, used}
 use Rattle.card_types.specs.Slots.{held}
 use Rattle.card_types.specs.Well.{Well, pages_of}
 use Rattle.card_types.specs.declared.factory.TheConstants.{FACTORY_FILE}
@@ -35,5 +35,5 @@ pub record IsCard (page : ℕ → List ℕ) (tables : Tables) : Type 0 where
   pub files : All IsInLoadPages (used tables.files.items)
   pub apart : IsDistinct nat_eq (concat (map pages_named (used tables.files.items)))
   pub said : Registry
-  pub says : Says page tables said
+  pub says : Represents page tables said
   pub well : Well said

@@ -1,7 +1,7 @@
 -- Load pages that are named.
 use Rattle.std.specs.Prelude.{◌≡◌, ℕ, ◌+◌, ◌<◌, ◌≤◌, ◌↔◌, Bool, true, false, List, Option, All, Contains, length, map, nat_eq, slice_index_or}
 use Rattle.std.specs.List.{IsDistinct, concat}
-use Rattle.card_types.specs.Says.{used}
+use Rattle.card_types.specs.Represents.{used}
 use Rattle.card_types.specs.declared.limits.TheConstants.{FILE_LIMIT, LOAD_PAGES}
 use Rattle.card_types.specs.declared.tables.LoadFile.{LoadFile}
 use Rattle.card_check.specs.IsCard.{IsLoadPage, pages_named}

@@ -4,7 +4,7 @@ ghost use Rattle.std.specs.Prelude.{◌↔◌, ℕ, List, IsTrue, All};
 ghost use Rattle.card_check.specs.CardSlots.{HasCardSlots};
 ghost use Rattle.card_check.specs.IsCard.{HasPages, IsCard};
 ghost use Rattle.card_check.specs.LoadPages.{HasPageNumbers};
-ghost use Rattle.card_types.specs.Says.{used};
+ghost use Rattle.card_types.specs.Represents.{used};
 
 use crate::entries::has_card_entries;
 use crate::files::has_card_files;

@@ -6,7 +6,7 @@ ghost use Rattle.card_check.specs.CardSlots.{HasRoom, IsCardKey, is_key_of as is
 ghost use Rattle.card_check.specs.EachSlot.{EachSlot};
 ghost use Rattle.card_types.specs.KeySets.{HasKey, HasKeys};
 ghost use Rattle.card_types.specs.Well.{IsKeyName};
-ghost use Rattle.card_types.specs.Says.{keeps_counter};
+ghost use Rattle.card_types.specs.Represents.{keeps_counter};
 ghost use Rattle.card_types.specs.declared.limits.TheConstants.{COUNTER_LIMIT, KEYS};
 
 use crate::domains::is_domain;

@@ -1,7 +1,7 @@
 //! Load pages, which the Executable Load Files name.
 
 ghost use Rattle.std.specs.Prelude.{◌≡◌, ◌↔◌, ◌≤◌, ℕ, [], ◌∷◌, ◌++◌, List, true, false, IsTrue, OnSome, IfSome, IfNone, All, length};
-ghost use Rattle.card_types.specs.Says.{used};
+ghost use Rattle.card_types.specs.Represents.{used};
 ghost use Rattle.card_check.specs.IsCard.{pages_named};
 ghost use Rattle.card_check.specs.LoadPages.{AreLoadPages, HasMarks, HasPageNumbers, HaveLoadPages, IsNewPage};
 ghost use Rattle.card_types.specs.declared.limits.TheConstants.{FILE_LIMIT, LOAD_PAGES};

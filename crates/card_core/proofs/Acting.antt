@@ -13,35 +13,35 @@ use Rattle.policy_rules.proofs.Judging.{does_so}
 use Rattle.std.proofs.Common.{inl}
 use Rattle.std.proofs.lemmas.List.{get_or-set_same, length-set, set-set}
 use Rattle.policy_rules.proofs.Selected.{selected_acts}
-use Rattle.policy_rules.specs.Means.{ActsIn}
+use Rattle.policy_rules.specs.Requests.{ActsIn}
 use Rattle.policy_rules.specs.declared.live.Live.{Live}
 use Rattle.policy_rules.specs.declared.live.TheConstants.{CHANNELS}
 use Rattle.policy_rules.specs.declared.rule.Rule.{Rule}
-use Rattle.card_core.specs.Holds.{Holds, HoldsAs, without_offer_held}
-use Rattle.card_core.specs.Kept.{Shows, StandsOn}
+use Rattle.card_core.specs.SecureChannels.{RepresentsChannels, RepresentsSecureChannel, without_offer_held}
+use Rattle.card_core.specs.Kept.{KeptRepresents, RepresentsSoundly}
 use Rattle.card_core.specs.Manages.{Manages}
-use Rattle.card_core.specs.Offers.{AnswersAs, OffersAs, standing_for}
+use Rattle.card_core.specs.Offers.{AnswersAs, OffersAs, secure_channel_for}
 use Rattle.card_core.specs.Serves.{CarriesOutBut, live_refused}
-use Rattle.card_core.specs.declared.held.Held.{Held}
-use Rattle.card_core.specs.declared.held.Held.TheVariants as held
+use Rattle.card_core.specs.declared.channel_session.ChannelSession.{ChannelSession}
+use Rattle.card_core.specs.declared.channel_session.ChannelSession.TheVariants as held
 use Rattle.card_core.proofs.Carrying.{refusal_shows}
-use Rattle.card_core.proofs.Standing.{HasFour, held_same, says_over, standing_shows}
+use Rattle.card_core.proofs.ChannelChanges.{HasFour, held_same, says_over, secure_channel_shows}
 
-module _ (page : ℕ → List ℕ) (tables : Tables) (live : Live) (all : List Held) (admitted : Admitted)
-    (stands : StandsOn page (record { tables = tables; live = live; held = all }) admitted.at)
+module _ (page : ℕ → List ℕ) (tables : Tables) (live : Live) (all : List ChannelSession) (admitted : Admitted)
+    (stands : RepresentsSoundly page (record { tables = tables; live = live; held = all }) admitted.at)
     (four : HasFour (record { tables = tables; live = live; held = all }) admitted.at) (low : admitted.channel < CHANNELS) where
   -- what the channel holds stands for what it holds in the model
-  pub holds_for : HoldsAs (slice_index_or all admitted.channel held.Nothing) (standing_for admitted)
+  pub holds_for : RepresentsSecureChannel (slice_index_or all admitted.channel held.Nothing) (secure_channel_for admitted)
   holds_for = stands.shows.holds admitted.channel low
 
   -- EXTERNAL AUTHENTICATE
-  pub answer_carried : (slot : ℕ) (now : Held) (result : Result Status Rule) → TakesCommand external_authenticate admitted.command
+  pub answer_carried : (slot : ℕ) (now : ChannelSession) (result : Result Status Rule) → TakesCommand external_authenticate admitted.command
       → slice_index_or live.selected admitted.channel None ≡ Some slot
       → AnswersAs admitted (slice_index_or all admitted.channel held.Nothing) now result
       → CarriesOutBut page admitted (record { tables = tables; live = live; held = slice_set all admitted.channel now }) [] result
   answer_carried slot now (Ok status) takes opened (offer, level, answers, judges, holds, word) = (
     _,
-    standing_shows page tables live all admitted.at stands.shows four admitted.channel low slot now _ opened holds,
+    secure_channel_shows page tables live all admitted.at stands.shows four admitted.channel low slot now _ opened holds,
     judges,
     does_so external_authenticate (λ holds here. inl here) admitted takes _
         (record { offer = offer; level = level; answers = answers; registry = refl; volatile = refl; body = refl; status = refl }),
@@ -49,7 +49,7 @@ module _ (page : ℕ → List ℕ) (tables : Tables) (live : Live) (all : List H
     word,
   )
   answer_carried slot now (Err rule) takes opened (judges, kept) = (
-    subst (λ (h : List Held). Shows page (record { tables = tables; live = live_refused rule admitted.channel live; held = h })
+    subst (λ (h : List ChannelSession). KeptRepresents page (record { tables = tables; live = live_refused rule admitted.channel live; held = h })
         (record { registry = admitted.at.registry; volatile = refusal_leaves admitted rule })) (sym dropped)
         (refusal_shows page (record { tables = tables; live = live; held = all }) admitted four low stands.shows rule),
     judges,
@@ -63,18 +63,18 @@ module _ (page : ℕ → List ℕ) (tables : Tables) (live : Live) (all : List H
           (without_offer_held (slice_index_or (slice_set all admitted.channel now) admitted.channel held.Nothing))
           ≡ slice_set all admitted.channel (without_offer_held (slice_index_or all admitted.channel held.Nothing))
       dropped =
-          ap (λ (h : Held). slice_set (slice_set all admitted.channel now) admitted.channel (without_offer_held h))
+          ap (λ (h : ChannelSession). slice_set (slice_set all admitted.channel now) admitted.channel (without_offer_held h))
           (get_or-set_same all admitted.channel now held.Nothing within)
           ∙ ap (slice_set (slice_set all admitted.channel now) admitted.channel) kept
           ∙ set-set all admitted.channel now (without_offer_held (slice_index_or all admitted.channel held.Nothing))
 
   -- INITIALIZE UPDATE
-  pub offer_carried : (slot : ℕ) (tables' : Tables) (now : Held) (body : List ℕ) (result : Result Status Rule) → TakesCommand initialize_update admitted.command
+  pub offer_carried : (slot : ℕ) (tables' : Tables) (now : ChannelSession) (body : List ℕ) (result : Result Status Rule) → TakesCommand initialize_update admitted.command
       → slice_index_or live.selected admitted.channel None ≡ Some slot → tables'.entries.items ≡ tables.entries.items
       → OffersAs admitted page tables tables' (slice_index_or all admitted.channel held.Nothing) now body result
       → CarriesOutBut page admitted (record { tables = tables'; live = live; held = slice_set all admitted.channel now }) body result
   offer_carried slot tables' now body (Ok status) takes opened entries (judges, made, word) =
-      let shows = standing_shows page tables live all admitted.at stands.shows four admitted.channel low slot now _ opened made.holds in (
+      let shows = secure_channel_shows page tables live all admitted.at stands.shows four admitted.channel low slot now _ opened made.holds in (
         _,
         record {
           says = says_over page tables tables' live _ _ _ entries made.says refl shows.says;
@@ -98,7 +98,7 @@ module _ (page : ℕ → List ℕ) (tables : Tables) (live : Live) (all : List H
   offer_carried slot tables' now body (Err rule) takes opened entries (judges, same, kept, empty) = (
     refusal_shows page (record { tables = tables'; live = live; held = slice_set all admitted.channel now }) admitted
         (record { held = length-set all admitted.channel now ∙ four.held; channels = four.channels }) low
-        (subst (λ (t : Tables). Shows page (record { tables = t; live = live; held = slice_set all admitted.channel now }) admitted.at) (sym same)
+        (subst (λ (t : Tables). KeptRepresents page (record { tables = t; live = live; held = slice_set all admitted.channel now }) admitted.at) (sym same)
         (held_same page (record { tables = tables; live = live; held = all }) admitted.at admitted.channel now (sym kept) stands.shows)) rule,
     judges,
     empty,
@@ -111,7 +111,7 @@ module _ (page : ℕ → List ℕ) (tables : Tables) (live : Live) (all : List H
     managed.done,
     record {
       says = says_over page tables tables' live admitted.at _ _ entries managed.says managed.volatile stands.shows.says;
-      holds = subst (Holds all) (sym managed.volatile) stands.shows.holds;
+      holds = subst (RepresentsChannels all) (sym managed.volatile) stands.shows.holds;
     },
     managed.judges,
     managed.does,
@@ -120,14 +120,14 @@ module _ (page : ℕ → List ℕ) (tables : Tables) (live : Live) (all : List H
   )
   managed_carried tables' body (Err rule) entries (judges, same, empty) = (
     refusal_shows page (record { tables = tables'; live = live; held = all }) admitted (record { held = four.held; channels = four.channels }) low
-        (subst (λ (t : Tables). Shows page (record { tables = t; live = live; held = all }) admitted.at) (sym same) stands.shows) rule,
+        (subst (λ (t : Tables). KeptRepresents page (record { tables = t; live = live; held = all }) admitted.at) (sym same) stands.shows) rule,
     judges,
     empty,
   )
 
 -- the channel that a command comes on, as the code names it, and the slot that is selected there
-module _ (page : ℕ → List ℕ) (tables : Tables) (live : Live) (all : List Held) (admitted : Admitted)
-    (stands : StandsOn page (record { tables = tables; live = live; held = all }) admitted.at) (held_four : length all ≡ CHANNELS)
+module _ (page : ℕ → List ℕ) (tables : Tables) (live : Live) (all : List ChannelSession) (admitted : Admitted)
+    (stands : RepresentsSoundly page (record { tables = tables; live = live; held = all }) admitted.at) (held_four : length all ≡ CHANNELS)
     (channel slot : ℕ) (below : channel < CHANNELS) (here : channel ≡ admitted.channel) (selected : slice_index_or live.selected channel None ≡ Some slot) where
   pub low : admitted.channel < CHANNELS
   low = subst (λ (n : ℕ). n < CHANNELS) here below
@@ -138,7 +138,7 @@ module _ (page : ℕ → List ℕ) (tables : Tables) (live : Live) (all : List H
   pub opened : slice_index_or live.selected admitted.channel None ≡ Some slot
   opened = subst (λ (n : ℕ). slice_index_or live.selected n None ≡ Some slot) here selected
 
-  pub held_there : (place : ℕ) (other : Held) → place ≡ channel → slice_index_or all place other ≡ slice_index_or all admitted.channel held.Nothing
+  pub held_there : (place : ℕ) (other : ChannelSession) → place ≡ channel → slice_index_or all place other ≡ slice_index_or all admitted.channel held.Nothing
   held_there place other is =
       ap (λ (n : ℕ). slice_index_or all n other) (is ∙ here)
       ∙ get_or_default all admitted.channel other held.Nothing (subst (λ (n : ℕ). admitted.channel < n) (sym held_four) low)

@@ -5,15 +5,15 @@ use Rattle.apdu_core.specs.Apdu.{Apdu, Short}
 use Rattle.card_types.proofs.EntryNames.{entry_in_slot}
 use Rattle.card_types.proofs.Domains.{domain_aid_is}
 use Rattle.card_types.specs.Registry.{Entry as NamedEntry, entry_named, is_domain}
-use Rattle.card_types.specs.Says.{entry_of}
+use Rattle.card_types.specs.Represents.{entry_of}
 use Rattle.card_types.specs.declared.tables.Tables.{Tables}
 use Rattle.policy_rules.proofs.Passing.{channel_is_low}
 use Rattle.policy_rules.proofs.OneOutcome.{of_one}
 use Rattle.policy_rules.proofs.Selected.{selected_entry}
-use Rattle.policy_rules.specs.Admission.{Bars, IsToApplication, Of, command_rules, general_rules}
+use Rattle.policy_rules.specs.Admission.{GeneralFails, IsToApplication, Of, command_rules, general_rules}
 use Rattle.policy_rules.specs.Classes.{IsKnown, channel_of, class_of}
 use Rattle.policy_rules.specs.FirstFailing.{IsFirst}
-use Rattle.policy_rules.specs.Means.{SaysState}
+use Rattle.policy_rules.specs.Requests.{RepresentsState}
 use Rattle.policy_rules.specs.State.{State}
 use Rattle.policy_rules.specs.Volatile.{channel_at, selected_on}
 use Rattle.policy_rules.specs.declared.class.Class.{Class}
@@ -21,9 +21,9 @@ use Rattle.policy_rules.specs.declared.instruction.TheConstants.{SELECT, MANAGE_
 use Rattle.policy_rules.specs.declared.live.Live.{Live}
 use Rattle.policy_rules.specs.declared.rule.RuleG.TheVariants.{G1, G2, G3, G4}
 use Rattle.card_core.specs.Domains.{is_domain_in}
-use Rattle.card_core.proofs.Standing.{none_selected, some_selected}
+use Rattle.card_core.proofs.ChannelChanges.{none_selected, some_selected}
 
-module _ (page : ℕ → List ℕ) (tables : Tables) (live : Live) (state : State) (bytes : List ℕ) (command : Apdu) (says : SaysState page tables live state) (short : Short command bytes) where
+module _ (page : ℕ → List ℕ) (tables : Tables) (live : Live) (state : State) (bytes : List ℕ) (command : Apdu) (says : RepresentsState page tables live state) (short : Short command bytes) where
   abbrev number : ℕ
   number = channel_of command.class
 
@@ -33,16 +33,16 @@ module _ (page : ℕ → List ℕ) (tables : Tables) (live : Live) (state : Stat
   not_of : (holds : Apdu → Type 0) → (holds command → ⊥) → Of bytes holds → ⊥
   not_of holds never of = never (of_one bytes holds command short of)
 
-  is_command : Bars state bytes G1 → ⊥
+  is_command : GeneralFails state bytes G1 → ⊥
   is_command none = none command short
 
-  has_class : (class : Class) → class_of command.class ≡ Some class → Bars state bytes G2 → ⊥
+  has_class : (class : Class) → class_of command.class ≡ Some class → GeneralFails state bytes G2 → ⊥
   has_class class is = not_of (λ c. class_of c.class ≡ None) (λ none. (let clash = sym none ∙ is in cc))
 
   closed : slice_index_or live.selected number None ≡ None → channel_at state.volatile number ≡ None
   closed is = none_selected tables.entries.items _ _ (says.selected number (channel_is_low command.class)) (ap is_none is)
 
-  is_open : (slot : ℕ) → slice_index_or live.selected number None ≡ Some slot → Bars state bytes G3 → ⊥
+  is_open : (slot : ℕ) → slice_index_or live.selected number None ≡ Some slot → GeneralFails state bytes G3 → ⊥
   is_open slot is =
       let some = some_selected tables.entries.items _ _ (says.selected number (channel_is_low command.class)) (ap is_none is) in
       not_of (λ c. channel_at state.volatile (channel_of c.class) ≡ None) (λ none. (let clash = sym none ∙ some.1 in cc))
@@ -67,22 +67,22 @@ module _ (page : ℕ → List ℕ) (tables : Tables) (live : Live) (state : Stat
       (let found = to_application slot is in
       let none = rw found.1 at application in sym found.2 ∙ none)
 
-  pub no_class : class_of command.class ≡ None → IsFirst (Bars state bytes) general_rules (Some G2)
+  pub no_class : class_of command.class ≡ None → IsFirst (GeneralFails state bytes) general_rules (Some G2)
   no_class none = inr (is_command, inl ((command, short, none), refl))
 
   module _ (class : Class) (is_class : class_of command.class ≡ Some class) where
-    pub no_channel : slice_index_or live.selected number None ≡ None → IsFirst (Bars state bytes) general_rules (Some G3)
+    pub no_channel : slice_index_or live.selected number None ≡ None → IsFirst (GeneralFails state bytes) general_rules (Some G3)
     no_channel none = inr (is_command, inr (has_class class is_class, inl ((command, short, closed none), refl)))
 
     module _ (slot : ℕ) (opened : slice_index_or live.selected number None ≡ Some slot) where
-      untaken : IsUntaken → IsFirst (Bars state bytes) general_rules (Some G4)
+      untaken : IsUntaken → IsFirst (GeneralFails state bytes) general_rules (Some G4)
       untaken fails = inr (is_command, inr (has_class class is_class, inr (is_open slot opened, inl ((command, short, fails), refl))))
 
-      pub unknown : (IsKnown command.class command.ins → ⊥) → IsFirst (Bars state bytes) general_rules (Some G4)
+      pub unknown : (IsKnown command.class command.ins → ⊥) → IsFirst (GeneralFails state bytes) general_rules (Some G4)
       unknown none = untaken (inl none)
 
       pub for_no_application : (is_domain_in tables.entries.items slot ≡ false) × (command.ins ≢ SELECT) × (command.ins ≢ MANAGE_CHANNEL)
-          → IsFirst (Bars state bytes) general_rules (Some G4)
+          → IsFirst (GeneralFails state bytes) general_rules (Some G4)
       for_no_application fails = untaken (inr (domain_takes slot opened fails.0, fails.1, fails.2))
 
       module _ (known : IsKnown command.class command.ins)
@@ -91,8 +91,8 @@ module _ (page : ℕ → List ℕ) (tables : Tables) (live : Live) (state : Stat
         is_taken (inl none) = none known
         is_taken (inr application) = taken (not_application slot opened application.0, application.1, application.2)
 
-        takes : Bars state bytes G4 → ⊥
+        takes : GeneralFails state bytes G4 → ⊥
         takes = not_of (λ c. (IsKnown c.class c.ins → ⊥) ⊎ (IsToApplication state c × (c.ins ≢ SELECT) × (c.ins ≢ MANAGE_CHANNEL))) is_taken
 
-        pub all_passed : IsFirst (Bars state bytes) command_rules None
+        pub all_passed : IsFirst (GeneralFails state bytes) command_rules None
         all_passed = inr (is_command, inr (has_class class is_class, inr (is_open slot opened, inr (takes, refl))))

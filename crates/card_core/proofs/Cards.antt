@@ -9,7 +9,7 @@ use Rattle.card_types.specs.Counters.{raised, raised_key}
 use Rattle.card_types.specs.InOrder.{IsInOrder}
 use Rattle.card_types.specs.Layout.{HasIssuer}
 use Rattle.card_types.specs.Registry.{Registry}
-use Rattle.card_types.specs.Says.{Says, domain_aid, keeps_counter, used}
+use Rattle.card_types.specs.Represents.{Represents, domain_aid, keeps_counter, used}
 use Rattle.card_types.specs.SlotChange.{SetsKey}
 use Rattle.card_types.specs.Slots.{held}
 use Rattle.card_types.specs.Well.{Well}
@@ -31,7 +31,7 @@ in_order tables cards =
 -- tables with the same entries and Executable Load Files are a card's too, where they say a registry that a card may have
 module _ (before after : Tables) (entries : after.entries.items ≡ before.entries.items) (files : after.files.items ≡ before.files.items)
     (keys : length after.keys.items ≡ length before.keys.items) (objects : length after.objects.items ≡ length before.objects.items) where
-  pub cards_after : ((page : ℕ → List ℕ) (said : Registry) → Says page before said → Well said → (now : Registry) × Says page after now × Well now)
+  pub cards_after : ((page : ℕ → List ℕ) (said : Registry) → Represents page before said → Well said → (now : Registry) × Represents page after now × Well now)
       → AreCards before → AreCards after
   cards_after each cards page whole =
       let is = cards page whole in

@@ -11,48 +11,48 @@ use Rattle.policy_rules.specs.Volatile.{Volatile, with_offer_dropped, without_lo
 use Rattle.policy_rules.specs.declared.live.Live.{Live}
 use Rattle.policy_rules.specs.declared.live.TheConstants.{CHANNELS}
 use Rattle.policy_rules.specs.declared.rule.Rule.{Rule}
-use Rattle.card_core.specs.Holds.{without_offer_held}
-use Rattle.card_core.specs.Kept.{Kept, Shows}
+use Rattle.card_core.specs.SecureChannels.{without_offer_held}
+use Rattle.card_core.specs.Kept.{Kept, KeptRepresents}
 use Rattle.card_core.specs.Serves.{CarriesOut, CarriesOutBut, live_refused, refused_at}
-use Rattle.card_core.specs.declared.held.Held.{Held}
-use Rattle.card_core.specs.declared.held.Held.TheVariants as held
-use Rattle.card_core.proofs.Standing.{HasFour, load_ended_shows, lost_shows}
+use Rattle.card_core.specs.declared.channel_session.ChannelSession.{ChannelSession}
+use Rattle.card_core.specs.declared.channel_session.ChannelSession.TheVariants as held
+use Rattle.card_core.proofs.ChannelChanges.{HasFour, load_ended_shows, lost_shows}
 
 -- it leaves no offer, and no load session that the rule does not keep
-pub refusal_shows : (page : ℕ → List ℕ) (card : Kept) (admitted : Admitted) → HasFour card admitted.at → admitted.channel < CHANNELS → Shows page card admitted.at
-    → (rule : Rule) → Shows page (refused_at card admitted.channel rule) (record { registry = admitted.at.registry; volatile = refusal_leaves admitted rule })
+pub refusal_shows : (page : ℕ → List ℕ) (card : Kept) (admitted : Admitted) → HasFour card admitted.at → admitted.channel < CHANNELS → KeptRepresents page card admitted.at
+    → (rule : Rule) → KeptRepresents page (refused_at card admitted.channel rule) (record { registry = admitted.at.registry; volatile = refusal_leaves admitted rule })
 refusal_shows page card admitted four low shows rule = by (keeps_load rule)
   where
     left : Volatile
     left = with_offer_dropped admitted.at.volatile admitted.channel
 
-    all : List Held
+    all : List ChannelSession
     all = slice_set card.held admitted.channel (without_offer_held (slice_index_or card.held admitted.channel held.Nothing))
 
-    dropped : Shows page (record { tables = card.tables; live = card.live; held = all }) (record { registry = admitted.at.registry; volatile = left })
+    dropped : KeptRepresents page (record { tables = card.tables; live = card.live; held = all }) (record { registry = admitted.at.registry; volatile = left })
     dropped = lost_shows page card.tables card.live card.held admitted.at shows four admitted.channel low
 
     by : (keeps : Bool)
-        → Shows page (record { tables = card.tables; live = if keeps then card.live else live_without_load card.live admitted.channel; held = all })
+        → KeptRepresents page (record { tables = card.tables; live = if keeps then card.live else live_without_load card.live admitted.channel; held = all })
         (record { registry = admitted.at.registry; volatile = if keeps then left else without_load left admitted.channel })
     by true = dropped
     by false = load_ended_shows page (record { tables = card.tables; live = card.live; held = all }) admitted.at.registry left admitted.channel dropped
 
 -- a refusal that is handed on
 pub refusal_carried : (page : ℕ → List ℕ) (card : Kept) (admitted : Admitted) (body : List ℕ) (result : Result Status Rule) (found : Rule)
-    → IsErrAnd result (λ rule. rule ≡ found) → HasFour card admitted.at → admitted.channel < CHANNELS → Shows page card admitted.at
+    → IsErrAnd result (λ rule. rule ≡ found) → HasFour card admitted.at → admitted.channel < CHANNELS → KeptRepresents page card admitted.at
     → Judges admitted (Some found) → body ≡ [] → CarriesOutBut page admitted card body result
 refusal_carried page card admitted body (Ok status) found given four low shows judges empty = absurd given
 refusal_carried page card admitted body (Err rule) found given four low shows judges empty =
     (refusal_shows page card admitted four low shows rule, subst (λ (r : Rule). Judges admitted (Some r)) (sym given) judges, empty)
 
 -- what a refusal ends has ended
-pub refused_carried : (page : ℕ → List ℕ) (card : Kept) (admitted : Admitted) (body : List ℕ) (rule : Rule) (channel place : ℕ) (live : Live) (now : Held)
+pub refused_carried : (page : ℕ → List ℕ) (card : Kept) (admitted : Admitted) (body : List ℕ) (rule : Rule) (channel place : ℕ) (live : Live) (now : ChannelSession)
     → channel ≡ admitted.channel → place ≡ admitted.channel → live ≡ live_refused rule channel card.live
     → now ≡ without_offer_held (slice_index_or card.held admitted.channel held.Nothing) → CarriesOutBut page admitted card body (Err rule)
     → CarriesOut page admitted (record { tables = card.tables; live = live; held = slice_set card.held place now }) body (Err rule)
 refused_carried page card admitted body rule channel place live now on at ended dropped carried = (
-  subst (λ (k : Kept). Shows page k (record { registry = admitted.at.registry; volatile = refusal_leaves admitted rule })) (sym same) carried.0,
+  subst (λ (k : Kept). KeptRepresents page k (record { registry = admitted.at.registry; volatile = refusal_leaves admitted rule })) (sym same) carried.0,
   carried.1,
   carried.2,
 )
@@ -61,4 +61,4 @@ refused_carried page card admitted body rule channel place live now on at ended 
     same =
         ap (λ (l : Live). record { tables = card.tables; live = l; held = slice_set card.held place now }) (ended ∙ ap (λ (n : ℕ). live_refused rule n card.live) on)
         ∙ ap (λ (n : ℕ). record { tables = card.tables; live = live_refused rule admitted.channel card.live; held = slice_set card.held n now }) at
-        ∙ ap (λ (h : Held). record { tables = card.tables; live = live_refused rule admitted.channel card.live; held = slice_set card.held admitted.channel h }) dropped
+        ∙ ap (λ (h : ChannelSession). record { tables = card.tables; live = live_refused rule admitted.channel card.live; held = slice_set card.held admitted.channel h }) dropped

@@ -4,7 +4,7 @@ use Rattle.std.specs.Prelude.{slice_set}
 use Rattle.card_types.proofs.DrawnCounter.{drawn_next, drawn_says, drawn_well}
 use Rattle.card_types.specs.Counters.{HasNextCounter, raised, raised_key}
 use Rattle.card_types.specs.Registry.{Registry}
-use Rattle.card_types.specs.Says.{Says, domain_aid, keeps_counter}
+use Rattle.card_types.specs.Represents.{Represents, domain_aid, keeps_counter}
 use Rattle.card_types.specs.SlotChange.{SetsKey}
 use Rattle.card_types.specs.Slots.{held}
 use Rattle.card_types.specs.Well.{Well}
@@ -42,10 +42,10 @@ module _ {F : Type 0} (old new : Contents F) (same : SameElse old new) (tables :
   raised_are_cards = drawn_cards old.tables new.tables slot key at next.0 set next.1
 
   -- and say the registry with that counter one higher
-  module _ (page : ℕ → List ℕ) (said : Registry) (says : Says page old.tables said) where
-    pub says_raised : Says page new.tables (raised said (domain_aid tables.entries.items key.owner) key.version)
+  module _ (page : ℕ → List ℕ) (said : Registry) (says : Represents page old.tables said) where
+    pub says_raised : Represents page new.tables (raised said (domain_aid tables.entries.items key.owner) key.version)
     says_raised =
-        subst (λ (t : Tables). Says page new.tables (raised said (domain_aid t.entries.items key.owner) key.version)) (sym is)
+        subst (λ (t : Tables). Represents page new.tables (raised said (domain_aid t.entries.items key.owner) key.version)) (sym is)
         (drawn_says old.tables new.tables slot key at next.0 set page said says)
 
     pub raised_well : Well said → Well (raised said (domain_aid tables.entries.items key.owner) key.version)

@@ -6,9 +6,9 @@ use Rattle.std.specs.List.Sorted.{IsPermutation}
 use Rattle.std.proofs.lemmas.Bool.{and_parts, eqb-true}
 use Rattle.std.proofs.lemmas.List.Sorted.{IsPermutation-map, IsPermutation-trans}
 use Rattle.card_types.proofs.Domains.{key_owner_is_used}
-use Rattle.card_types.proofs.Shows.{held_from_used}
+use Rattle.card_types.proofs.KeptRepresents.{held_from_used}
 use Rattle.card_types.specs.Registry.{Registry}
-use Rattle.card_types.specs.Says.{Says, counter_of, domain_aid, keeps_counter, key_of, used}
+use Rattle.card_types.specs.Represents.{Represents, counter_of, domain_aid, keeps_counter, key_of, used}
 use Rattle.card_types.specs.Slots.{held}
 use Rattle.card_types.specs.Well.{Well}
 use Rattle.card_types.specs.declared.tables.Entry.{Entry}
@@ -26,10 +26,10 @@ use Rattle.card_core.specs.Kept.{AreCards}
 
 module _ {F : Type 0} (old new : Contents F) (same : SameElse old new) (owner version : ℕ)
     (deletes : Deletes owner version old.tables.keys.items new.tables.keys.items) where
-  module _ (page : ℕ → List ℕ) (said : Registry) (says : Says page old.tables said) where
+  module _ (page : ℕ → List ℕ) (said : Registry) (says : Represents page old.tables said) where
     -- the registry without the keys
     pub deleted_says : Well said → (entry : Entry) → held old.tables.entries.items owner ≡ Some entry
-        → Says page new.tables (without_version said (domain_aid old.tables.entries.items owner) version)
+        → Represents page new.tables (without_version said (domain_aid old.tables.entries.items owner) version)
     deleted_says well entry at =
         let aid = domain_aid old.tables.entries.items owner in
         let here = used new.tables.keys.items in
@@ -44,7 +44,7 @@ module _ {F : Type 0} (old new : Contents F) (same : SameElse old new) (owner ve
         ascending.keys ascending.counters
 
     -- where no slot has changed, the registry is the same
-    same_says : new.tables.keys.items ≡ old.tables.keys.items → Says page new.tables said
+    same_says : new.tables.keys.items ≡ old.tables.keys.items → Represents page new.tables said
     same_says kept =
         keys_said old new same page said says said.keys said.counters
         (subst (λ (slots : List (Option KeyRec)). IsPermutation (map (key_of old.tables.entries.items) (used slots)) said.keys) (sym kept) says.keys)

@@ -4,7 +4,7 @@ use Rattle.std.specs.Prelude.{Option, filter, map}
 use Rattle.std.specs.List.Sorted.{IsPermutation, IsStrictlySortedBy}
 use Rattle.card_types.specs.Ascending.{counter_order, key_order}
 use Rattle.card_types.specs.Registry.{Counter, Key, Registry}
-use Rattle.card_types.specs.Says.{Says, counter_of, keeps_counter, key_of, used}
+use Rattle.card_types.specs.Represents.{Represents, counter_of, keeps_counter, key_of, used}
 use Rattle.card_types.specs.Well.{Well}
 use Rattle.card_types.specs.declared.tables.Object.{Object}
 use Rattle.policy_rules.specs.KeyVersions.{with_keys}
@@ -15,10 +15,10 @@ use Rattle.card_core.specs.Kept.{AreCards}
 
 module _ {F : Type 0} (old new : Contents F) (same : SameElse old new) where
   -- the registry with these keys and sequence counters
-  pub keys_said : (page : ℕ → List ℕ) (said : Registry) → Says page old.tables said → (keys : List Key) (counters : List Counter)
+  pub keys_said : (page : ℕ → List ℕ) (said : Registry) → Represents page old.tables said → (keys : List Key) (counters : List Counter)
       → IsPermutation (map (key_of old.tables.entries.items) (used new.tables.keys.items)) keys
       → IsPermutation (map (counter_of old.tables.entries.items) (filter keeps_counter (used new.tables.keys.items))) counters
-      → IsStrictlySortedBy key_order keys → IsStrictlySortedBy counter_order counters → Says page new.tables (with_keys said keys counters)
+      → IsStrictlySortedBy key_order keys → IsStrictlySortedBy counter_order counters → Represents page new.tables (with_keys said keys counters)
   keys_said page said says keys counters keys_are counters_are keys_rise counters_rise = record {
     life = same.life ∙ says.life;
     entries = rw (same.entries, same.files) says.entries;
@@ -37,7 +37,7 @@ module _ {F : Type 0} (old new : Contents F) (same : SameElse old new) where
 
   -- the tables are a card's where what they say is what a card may have
   pub changed_cards : length new.tables.keys.items ≡ length old.tables.keys.items
-      → ((page : ℕ → List ℕ) (said : Registry) → Says page old.tables said → Well said → (after : Registry) × Says page new.tables after × Well after)
+      → ((page : ℕ → List ℕ) (said : Registry) → Represents page old.tables said → Well said → (after : Registry) × Represents page new.tables after × Well after)
       → AreCards old.tables → AreCards new.tables
   changed_cards count =
       cards_after old.tables new.tables same.entries same.files count (ap (λ (slots : List (Option Object)). length slots) same.objects)

@@ -7,7 +7,7 @@ use Rattle.bertlv.proofs.SpellingLemmas.{elements_more}
 use Rattle.bertlv.specs.Spelling.{AreElements, Spelling}
 use Rattle.card_types.specs.Least.{IsLeast, NoneFits}
 use Rattle.card_types.specs.Registry as registry
-use Rattle.card_types.specs.Says.{Says, domain_aid, key_of}
+use Rattle.card_types.specs.Represents.{Represents, domain_aid, key_of}
 use Rattle.card_types.specs.Slots.{held}
 use Rattle.card_types.specs.Well.{Well}
 use Rattle.card_types.specs.declared.limits.TheConstants.{DOMAIN_KEYS}
@@ -38,7 +38,7 @@ cons_not_nil : {A : Type 0} (xs : List A) (x : A) (ys : List A) → xs ++ x ∷ 
 cons_not_nil [] x ys same = cc
 cons_not_nil (y ∷ xs) x ys same = cc
 
-module _ (page : ℕ → List ℕ) (tables : Tables) (said : registry.Registry) (says : Says page tables said) (well : Well said)
+module _ (page : ℕ → List ℕ) (tables : Tables) (said : registry.Registry) (says : Represents page tables said) (well : Well said)
     (owner : ℕ) (entry : Entry) (at : held tables.entries.items owner ≡ Some entry) where
   abbrev aid : List ℕ
   aid = domain_aid tables.entries.items owner

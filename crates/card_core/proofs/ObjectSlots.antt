@@ -11,7 +11,7 @@ use Rattle.std.proofs.lemmas.List.Sorted.{length_permutation, list_any-IsPermuta
 use Rattle.bertlv.specs.Spelling.{Element}
 use Rattle.card_types.proofs.ChangedSlot.{set_shown}
 use Rattle.card_types.specs.Least.{NoneFits}
-use Rattle.card_types.specs.Says.{used}
+use Rattle.card_types.specs.Represents.{used}
 use Rattle.card_types.specs.Slots.{held}
 use Rattle.card_types.specs.declared.limits.TheConstants.{OBJECTS}
 use Rattle.card_types.specs.declared.tables.Object.{Object}

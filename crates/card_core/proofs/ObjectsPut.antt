@@ -14,7 +14,7 @@ use Rattle.card_types.proofs.ObjectNames.{object_in_slot}
 use Rattle.card_types.specs.Ascending.{object_order}
 use Rattle.card_types.specs.Changed.{IsChanged}
 use Rattle.card_types.specs.Registry as registry
-use Rattle.card_types.specs.Says.{Says, domain_aid, object_of, used}
+use Rattle.card_types.specs.Represents.{Represents, domain_aid, object_of, used}
 use Rattle.card_types.specs.SlotChange.{SetsObject}
 use Rattle.card_types.specs.Slots.{held}
 use Rattle.card_types.specs.Well.{IsDomainNamed, IsObject, IsWellObject, Well}
@@ -61,14 +61,14 @@ pub record SaysPart (page : ℕ → List ℕ) (now : Tables) (said : registry.Re
   pub objects : List registry.Object
   pub arranged : IsArranged object_order things objects
   pub each : All (IsWellObject said) things
-  pub says : Says page now (with_data said objects)
+  pub says : Represents page now (with_data said objects)
   pub rest : with_objects owner things behind ≡ with_objects owner said.objects elements
 
 -- some of the elements are put, and these are behind them
 pub record ArePut (before now : Tables) (domain : ℕ) (elements behind : List Element) : Type 0 where
   pub forms : All (λ element. IsObject element.tag (length element.value)) behind
   pub room : length (used now.objects.items) + new_tags (has_object_in now.objects.items domain) behind ≤ OBJECTS
-  pub shows : (page : ℕ → List ℕ) (said : registry.Registry) → Says page before said → Well said
+  pub shows : (page : ℕ → List ℕ) (said : registry.Registry) → Represents page before said → Well said
       → SaysPart page now said (domain_aid before.entries.items domain) elements behind
 
 -- at first none is
@@ -105,7 +105,7 @@ domain_entry tables domain is = by (held tables.entries.items domain) refl is
     by None at is = cc
     by (Some entry) at is = (entry, at, is)
 
-domain_named : (page : ℕ → List ℕ) (tables : Tables) (said : registry.Registry) → Says page tables said → (domain : ℕ) → is_domain_in tables.entries.items domain ≡ true
+domain_named : (page : ℕ → List ℕ) (tables : Tables) (said : registry.Registry) → Represents page tables said → (domain : ℕ) → is_domain_in tables.entries.items domain ≡ true
     → IsDomainNamed said (domain_aid tables.entries.items domain)
 domain_named page tables said says domain is =
     let entry = domain_entry tables domain is in
@@ -116,7 +116,7 @@ domain_named page tables said says domain is =
 module _ (before now after : Tables) (domain : ℕ) (is_domain : is_domain_in before.entries.items domain ≡ true) (same : SameButObjects before now)
     (all : length before.objects.items ≡ OBJECTS) (element : Element) (puts : PutsObject now after domain element.tag element.value) where
   -- the slot shows the object of that tag, if there is one
-  shown_before : (page : ℕ → List ℕ) (said : registry.Registry) → Says page now said → Well said
+  shown_before : (page : ℕ → List ℕ) (said : registry.Registry) → Represents page now said → Well said
       → option_map (object_of now.entries.items) (held now.objects.items puts.slot) ≡ find (is_object_of (domain_aid now.entries.items domain) element.tag) said.objects
   shown_before page said says well = by (held now.objects.items puts.slot) refl
     where
@@ -143,7 +143,7 @@ module _ (before now after : Tables) (domain : ℕ) (is_domain : is_domain_in be
     few = (let room = put.room in omega (arith, room))
 
     -- the tables say one object more
-    says_after : (page : ℕ → List ℕ) (said : registry.Registry) → Says page before said → Well said
+    says_after : (page : ℕ → List ℕ) (said : registry.Registry) → Represents page before said → Well said
         → SaysPart page after said (domain_aid before.entries.items domain) elements behind
     says_after page said told well =
         let part = put.shows page said told well in

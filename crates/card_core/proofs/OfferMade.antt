@@ -4,7 +4,7 @@ use Rattle.std.specs.Prelude.{IsErrAnd}
 use Rattle.std.proofs.lemmas.List.{append_assoc}
 use Rattle.apdu_core.specs.declared.reply.Status.{Status}
 use Rattle.card_core.specs.Offers.{OffersAs}
-use Rattle.card_core.specs.declared.held.Held.{Held}
+use Rattle.card_core.specs.declared.channel_session.ChannelSession.{ChannelSession}
 use Rattle.card_types.specs.Registry.{Counter, Object, Registry, object_named}
 use Rattle.card_types.specs.declared.tables.Tables.{Tables}
 use Rattle.policy_rules.specs.Admission.{Admitted}
@@ -14,7 +14,7 @@ use Rattle.policy_rules.specs.InitializeUpdate.{AsksForSet, diversification_of, 
 use Rattle.policy_rules.specs.KeySets.{UsesSet}
 use Rattle.policy_rules.specs.Management.{acting}
 use Rattle.policy_rules.specs.declared.rule.Rule.{Rule}
-use Rattle.scp03_card.specs.Kept.{KeptOffer, StandsForOffer}
+use Rattle.scp03_card.specs.Kept.{KeptOffer, RepresentsOffer}
 use Rattle.scp03_card.specs.Offer.{Offer, card_cryptogram, counter_bytes, offered}
 
 -- the key diversification data where there is such a data object
@@ -32,7 +32,7 @@ none_named said owner none = by (object_named said owner 0xCF) refl
         absurd (none object.value (inr (inr ((λ same. omega (arith, same)), (λ same. omega (arith, same)), (object, is, refl)))))
 
 -- a refusal that is handed on
-pub refusal_handed : (admitted : Admitted) (page : ℕ → List ℕ) (tables : Tables) (held : Held) (body : List ℕ) (result : Result Status Rule) (found : Rule)
+pub refusal_handed : (admitted : Admitted) (page : ℕ → List ℕ) (tables : Tables) (held : ChannelSession) (body : List ℕ) (result : Result Status Rule) (found : Rule)
     → IsErrAnd result (λ rule. rule ≡ found) → Judges admitted (Some found) → body ≡ [] → OffersAs admitted page tables tables held held body result
 refusal_handed admitted page tables held body (Ok status) found given judges empty = absurd given
 refusal_handed admitted page tables held body (Err rule) found given judges empty =
@@ -49,11 +49,11 @@ body_is said owner counter made zeroth first second third fourth fifth card cryp
 
 -- an offer for the AID and the host challenge in the code is one for those of the command
 pub offer_stands : (kept : KeptOffer) (enc mac dek : List ℕ) (counter : ℕ) (aid selected host body : List ℕ)
-    → StandsForOffer kept (offered enc mac dek counter aid host) → aid ≡ selected → host ≡ body
-    → StandsForOffer kept (offered enc mac dek counter selected body)
+    → RepresentsOffer kept (offered enc mac dek counter aid host) → aid ≡ selected → host ≡ body
+    → RepresentsOffer kept (offered enc mac dek counter selected body)
 offer_stands kept enc mac dek counter aid selected host body stands same_aid same_host =
-    subst (λ (h : List ℕ). StandsForOffer kept (offered enc mac dek counter selected h)) same_host
-    (subst (λ (a : List ℕ). StandsForOffer kept (offered enc mac dek counter a host)) same_aid stands)
+    subst (λ (h : List ℕ). RepresentsOffer kept (offered enc mac dek counter selected h)) same_host
+    (subst (λ (a : List ℕ). RepresentsOffer kept (offered enc mac dek counter a host)) same_aid stands)
 
 -- the key set of the domain in a slot is the one that the command asks for
 pub set_asked : (admitted : Admitted) (domain : List ℕ) (version : ℕ) (owner : List ℕ) (counter : Counter) → acting admitted ≡ domain

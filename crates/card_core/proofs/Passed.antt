@@ -9,15 +9,15 @@ use Rattle.card_types.specs.declared.tables.Tables.{Tables}
 use Rattle.scp03_card.specs.Opens.{Gives, IsAuthentic, Opens, accepting, field_of}
 use Rattle.scp03_card.specs.Session.{Session}
 use Rattle.policy_rules.proofs.Passing.{admitted_fits, channel_is_low, class_fits, passed_session}
-use Rattle.policy_rules.proofs.StandingSet.{unloaded}
-use Rattle.policy_rules.specs.Admission.{Bars, IsTaken, admitted_as, class_passed, command_rules, placeless, session_for}
+use Rattle.policy_rules.proofs.SecureChannelSet.{unloaded}
+use Rattle.policy_rules.specs.Admission.{GeneralFails, IsTaken, admitted_as, class_passed, command_rules, without_place, session_for}
 use Rattle.policy_rules.specs.Classes.{IsKnown, IsPlainManagement, channel_of, class_of, is_protected, protects}
 use Rattle.policy_rules.specs.FirstFailing.{IsFirst}
 use Rattle.policy_rules.specs.LiveEnds.{live_without_load, live_without_place}
 use Rattle.policy_rules.specs.Rules.{status_of}
 use Rattle.policy_rules.specs.Sound.{IsSound}
 use Rattle.policy_rules.specs.State.{State}
-use Rattle.policy_rules.specs.Volatile.{LoadSession, Nothing, Secured, Volatile, channel_at, session_in, standing_of, with_standing, without_load, without_session}
+use Rattle.policy_rules.specs.Volatile.{LoadSession, Nothing, Secured, Volatile, channel_at, session_in, secure_channel_of, with_secure_channel, without_load, without_session}
 use Rattle.policy_rules.specs.declared.class.Class.{Class}
 use Rattle.policy_rules.specs.declared.instruction.TheConstants.{EXTERNAL_AUTHENTICATE, LOAD}
 use Rattle.policy_rules.specs.declared.live.Live.{Live}
@@ -25,48 +25,48 @@ use Rattle.policy_rules.specs.declared.live.TheConstants.{CHANNELS}
 use Rattle.policy_rules.specs.declared.rule.Rule.TheVariants.{G}
 use Rattle.policy_rules.specs.declared.rule.RuleG.{RuleG}
 use Rattle.policy_rules.specs.declared.rule.RuleG.TheVariants.{G1, G2, G3, G4, G5, G6, G7, G8}
-use Rattle.card_core.specs.Holds.{HoldsAs, IsInSession, held_passed, without_offer_held}
-use Rattle.card_core.specs.Kept.{Shows, StandsOn}
+use Rattle.card_core.specs.SecureChannels.{RepresentsSecureChannel, IsInSession, held_passed, without_offer_held}
+use Rattle.card_core.specs.Kept.{KeptRepresents, RepresentsSoundly}
 use Rattle.card_core.specs.Secured.{OpensAs}
-use Rattle.card_core.specs.Serves.{IsOver, Serves, live_passed}
-use Rattle.card_core.specs.declared.held.Held.{Held}
-use Rattle.card_core.specs.declared.held.Held.TheVariants as held
-use Rattle.card_core.proofs.Serving.{barred, managed_first, no_session_first, over_first, protected_unmanaged, wrong_mac_first, wrong_padding_first}
-use Rattle.card_core.proofs.Standing.{HasFour, held_same, load_ended_shows, passed_shows, session_passed_shows, shows_same, standing_shows}
+use Rattle.card_core.specs.Serves.{IsTerminatedFor, Serves, live_passed}
+use Rattle.card_core.specs.declared.channel_session.ChannelSession.{ChannelSession}
+use Rattle.card_core.specs.declared.channel_session.ChannelSession.TheVariants as held
+use Rattle.card_core.proofs.Serving.{rejected, managed_first, no_session_first, over_first, protected_unmanaged, wrong_mac_first, wrong_padding_first}
+use Rattle.card_core.proofs.ChannelChanges.{HasFour, held_same, load_ended_shows, passed_shows, session_passed_shows, shows_same, secure_channel_shows}
 
-within : (all : List Held) (number : ℕ) → length all ≡ CHANNELS → number < CHANNELS → number < length all
+within : (all : List ChannelSession) (number : ℕ) → length all ≡ CHANNELS → number < CHANNELS → number < length all
 within all number four low = subst (λ (n : ℕ). number < n) (sym four) low
 
 -- what is read of a channel
-pub read_at : (all : List Held) (place number : ℕ) (other : Held) → length all ≡ CHANNELS → number < CHANNELS → place ≡ number
+pub read_at : (all : List ChannelSession) (place number : ℕ) (other : ChannelSession) → length all ≡ CHANNELS → number < CHANNELS → place ≡ number
     → slice_index_or all place other ≡ slice_index_or all number held.Nothing
 read_at all place number other four low is =
     ap (λ (n : ℕ). slice_index_or all n other) is ∙ get_or_default all number other held.Nothing (within all number four low)
 
 -- and when something was written to it
-pub written_at : (all : List Held) (place number : ℕ) (now other : Held) → length all ≡ CHANNELS → number < CHANNELS → place ≡ number
+pub written_at : (all : List ChannelSession) (place number : ℕ) (now other : ChannelSession) → length all ≡ CHANNELS → number < CHANNELS → place ≡ number
     → slice_index_or (slice_set all place now) place other ≡ now
 written_at all place number now other four low is = get_or-set_same all place now other (subst (λ (n : ℕ). n < length all) (sym is) (within all number four low))
 
-session_stays : (now : Held) → IsInSession now → without_offer_held now ≡ now
+session_stays : (now : ChannelSession) → IsInSession now → without_offer_held now ≡ now
 session_stays held.Nothing secured = absurd secured
 session_stays (held.Offered offer) secured = absurd secured
 session_stays (held.Secured session) secured = refl
 
 -- no offer is dropped where there is a session
-pub session_kept : (all : List Held) (place number : ℕ) (now other : Held) → length all ≡ CHANNELS → number < CHANNELS → place ≡ number
+pub session_kept : (all : List ChannelSession) (place number : ℕ) (now other : ChannelSession) → length all ≡ CHANNELS → number < CHANNELS → place ≡ number
     → now ≡ without_offer_held (slice_index_or all place other) → IsInSession (slice_index_or all number held.Nothing) → slice_set all place now ≡ all
 session_kept all place number now other four low is dropped secured =
     let here = dropped ∙ ap without_offer_held (read_at all place number other four low is) ∙ session_stays (slice_index_or all number held.Nothing) secured in
     ap (slice_set all place) here ∙ ap (λ (n : ℕ). slice_set all n (slice_index_or all number held.Nothing)) is ∙ set-get_or all number held.Nothing
 
 -- the place is the channel's number
-pub placed : (page : ℕ → List ℕ) (tables : Tables) (live : Live) (all : List Held) (state : State) (place number : ℕ) (passed other now : Held) → place ≡ number → passed ≡ other
-    → StandsOn page (record { tables = tables; live = live; held = slice_set (slice_set all number other) number now }) state
-    → StandsOn page (record { tables = tables; live = live; held = slice_set (slice_set all place passed) place now }) state
+pub placed : (page : ℕ → List ℕ) (tables : Tables) (live : Live) (all : List ChannelSession) (state : State) (place number : ℕ) (passed other now : ChannelSession) → place ≡ number → passed ≡ other
+    → RepresentsSoundly page (record { tables = tables; live = live; held = slice_set (slice_set all number other) number now }) state
+    → RepresentsSoundly page (record { tables = tables; live = live; held = slice_set (slice_set all place passed) place now }) state
 placed page tables live all state place number passed other now is same stands =
-    subst (λ (n : ℕ). StandsOn page (record { tables = tables; live = live; held = slice_set (slice_set all n passed) n now }) state) (sym is)
-    (subst (λ (h : Held). StandsOn page (record { tables = tables; live = live; held = slice_set (slice_set all number h) number now }) state) (sym same) stands)
+    subst (λ (n : ℕ). RepresentsSoundly page (record { tables = tables; live = live; held = slice_set (slice_set all n passed) n now }) state) (sym is)
+    (subst (λ (h : ChannelSession). RepresentsSoundly page (record { tables = tables; live = live; held = slice_set (slice_set all number h) number now }) state) (sym same) stands)
 
 pub protects_so : (command : Apdu) (class : Class) (answer test : Bool) → class_of command.class ≡ Some class → answer ≡ protects (Some class) command.ins
     → answer ≡ test → is_protected command ≡ test
@@ -84,24 +84,24 @@ pub opened_so : (live : Live) (command : Apdu) (channel selected : ℕ) → chan
     → slice_index_or live.selected (channel_of command.class) None ≡ Some selected
 opened_so live command channel selected is opened = subst (λ (n : ℕ). slice_index_or live.selected n None ≡ Some selected) is opened
 
-module _ (all : List Held) (held_four : length all ≡ CHANNELS) (command : Apdu) where
+module _ (all : List ChannelSession) (held_four : length all ≡ CHANNELS) (command : Apdu) where
   -- what the command's channel holds behind the check of the class
-  abbrev pub passed_held : Held
+  abbrev pub passed_held : ChannelSession
   passed_held = held_passed (command.ins == EXTERNAL_AUTHENTICATE) (slice_index_or all (channel_of command.class) held.Nothing)
 
-  pub passed_as : (place : ℕ) (other now : Held) → place ≡ channel_of command.class
+  pub passed_as : (place : ℕ) (other now : ChannelSession) → place ≡ channel_of command.class
       → now ≡ held_passed (command.ins == EXTERNAL_AUTHENTICATE) (slice_index_or all place other) → now ≡ passed_held
   passed_as place other now is passed =
       passed ∙ ap (held_passed (command.ins == EXTERNAL_AUTHENTICATE)) (read_at all place (channel_of command.class) other held_four (channel_is_low command.class) is)
 
-  pub passed_there : (place : ℕ) (now other : Held) → place ≡ channel_of command.class → now ≡ passed_held
+  pub passed_there : (place : ℕ) (now other : ChannelSession) → place ≡ channel_of command.class → now ≡ passed_held
       → slice_index_or (slice_set all place now) place other ≡ slice_index_or (slice_set all (channel_of command.class) passed_held) (channel_of command.class) held.Nothing
   passed_there place now other is passed =
       written_at all place (channel_of command.class) now other held_four (channel_is_low command.class) is
       ∙ passed
       ∙ sym (written_at all (channel_of command.class) (channel_of command.class) passed_held held.Nothing held_four (channel_is_low command.class) refl)
 
-module _ (page : ℕ → List ℕ) (tables : Tables) (live : Live) (all : List Held) (state : State) (stands : StandsOn page (record { tables = tables; live = live; held = all }) state)
+module _ (page : ℕ → List ℕ) (tables : Tables) (live : Live) (all : List ChannelSession) (state : State) (stands : RepresentsSoundly page (record { tables = tables; live = live; held = all }) state)
     (held_four : length all ≡ CHANNELS) (command : Apdu) where
   abbrev number : ℕ
   number = channel_of command.class
@@ -113,7 +113,7 @@ module _ (page : ℕ → List ℕ) (tables : Tables) (live : Live) (all : List H
   four = record { held = held_four; channels = stands.sound.fits.channels }
 
   -- what is held behind the check of the class
-  abbrev pub all_passed : List Held
+  abbrev pub all_passed : List ChannelSession
   all_passed = slice_set all number (passed_held all held_four command)
 
   abbrev passed : Volatile
@@ -123,7 +123,7 @@ module _ (page : ℕ → List ℕ) (tables : Tables) (live : Live) (all : List H
   abbrev pub passed_live : Live
   passed_live = live_without_place live number
 
-  shows_passed : Shows page (record { tables = tables; live = passed_live; held = all_passed }) (record { registry = state.registry; volatile = passed })
+  shows_passed : KeptRepresents page (record { tables = tables; live = passed_live; held = all_passed }) (record { registry = state.registry; volatile = passed })
   shows_passed = passed_shows page tables live all state stands.shows four number low (command.ins == EXTERNAL_AUTHENTICATE)
 
   four_passed : HasFour (record { tables = tables; live = passed_live; held = all_passed }) (record { registry = state.registry; volatile = passed })
@@ -143,23 +143,23 @@ module _ (page : ℕ → List ℕ) (tables : Tables) (live : Live) (all : List H
   }
 
   -- the card goes on
-  pub goes_on : (class : Class) → (IsOver tables.life class command.ins → ⊥) → IsOver state.registry.life class command.ins → ⊥
-  goes_on class not_over over = not_over (subst (λ (life : CardLife). IsOver life class command.ins) (sym stands.shows.says.registry.life) over)
+  pub goes_on : (class : Class) → (IsTerminatedFor tables.life class command.ins → ⊥) → IsTerminatedFor state.registry.life class command.ins → ⊥
+  goes_on class not_over over = not_over (subst (λ (life : CardLife). IsTerminatedFor life class command.ins) (sym stands.shows.says.registry.life) over)
 
   -- a command in plain
   pub plain_stands : is_protected command ≡ false
-      → StandsOn page (record { tables = tables; live = live_passed command.ins number passed_live; held = all_passed }) (admitted_as state command None command.body).at
+      → RepresentsSoundly page (record { tables = tables; live = live_passed command.ins number passed_live; held = all_passed }) (admitted_as state command None command.body).at
   plain_stands plain = record {
     shows = session_passed_shows page (record { tables = tables; live = passed_live; held = all_passed }) state.registry passed command shows_passed;
     sound = sound_at None command.body (plain, refl);
   }
 
   -- what the channel holds then stands for what it holds in the model
-  pub holds_passed : HoldsAs (slice_index_or all_passed number held.Nothing) (standing_of (channel_at passed number))
+  pub holds_passed : RepresentsSecureChannel (slice_index_or all_passed number held.Nothing) (secure_channel_of (channel_at passed number))
   holds_passed = shows_passed.holds number low
 
   -- the session on the channel
-  pub session_of : (holds : Session → Type 0) → MatchOption (session_in (standing_of (channel_at passed number))) ⊥ holds
+  pub session_of : (holds : Session → Type 0) → MatchOption (session_in (secure_channel_of (channel_at passed number))) ⊥ holds
       → (session : Session) × (session_for state command ≡ Some session) × holds session
   session_of holds found =
       by (session_for state command) refl (subst (λ (o : Option Session). MatchOption o ⊥ holds) (passed_session state command stands.sound.fits) found)
@@ -170,32 +170,32 @@ module _ (page : ℕ → List ℕ) (tables : Tables) (live : Live) (all : List H
 
   module _ (slot : ℕ) (opened : slice_index_or live.selected number None ≡ Some slot) where
     -- its session has ended
-    ended_shows : (now : Held) → now ≡ held.Nothing
-        → Shows page (record { tables = tables; live = live_without_load passed_live number; held = slice_set all_passed number now })
+    ended_shows : (now : ChannelSession) → now ≡ held.Nothing
+        → KeptRepresents page (record { tables = tables; live = live_without_load passed_live number; held = slice_set all_passed number now })
         (record { registry = state.registry; volatile = without_session passed number })
     ended_shows now gone =
-        load_ended_shows page (record { tables = tables; live = passed_live; held = slice_set all_passed number now }) state.registry (with_standing passed number Nothing) number
-        (standing_shows page tables passed_live all_passed (record { registry = state.registry; volatile = passed }) shows_passed four_passed number low slot now Nothing opened
-        (subst (λ (h : Held). HoldsAs h Nothing) (sym gone) tt))
+        load_ended_shows page (record { tables = tables; live = passed_live; held = slice_set all_passed number now }) state.registry (with_secure_channel passed number Nothing) number
+        (secure_channel_shows page tables passed_live all_passed (record { registry = state.registry; volatile = passed }) shows_passed four_passed number low slot now Nothing opened
+        (subst (λ (h : ChannelSession). RepresentsSecureChannel h Nothing) (sym gone) tt))
 
     -- card content management in plain ends it
     pub managed_served : (bytes reply : List ℕ) → Short command bytes → IsKnown command.class command.ins → (class : Class) → class_of command.class ≡ Some class
-        → IsFirst (Bars state bytes) command_rules None → (IsOver state.registry.life class command.ins → ⊥) → IsPlainManagement command
-        → (now : Held) → now ≡ held.Nothing → reply ≡ status_bytes (status_of (G G6))
+        → IsFirst (GeneralFails state bytes) command_rules None → (IsTerminatedFor state.registry.life class command.ins → ⊥) → IsPlainManagement command
+        → (now : ChannelSession) → now ≡ held.Nothing → reply ≡ status_bytes (status_of (G G6))
         → Serves page state bytes (record { tables = tables; live = live_without_load passed_live number; held = slice_set all_passed number now }) reply (Some (G G6))
     managed_served bytes reply short known class is_class front not_over managed now gone is =
-        barred page (record { tables = tables; live = live_without_load passed_live number; held = slice_set all_passed number now }) state bytes reply G6 (without_session passed number) stands.sound
+        rejected page (record { tables = tables; live = live_without_load passed_live number; held = slice_set all_passed number now }) state bytes reply G6 (without_session passed number) stands.sound
         (managed_first state bytes command short known class is_class front not_over managed) (command, short, inl (managed, refl)) (ended_shows now gone) is
 
   module _ (slot : ℕ) (opened : slice_index_or live.selected number None ≡ Some slot) (protected : is_protected command ≡ true) where
     -- a protected command that opens
-    pub opened_stands : (session : Session) → session_for state command ≡ Some session → (now : Held) (plain : List ℕ) → Opens session command plain
-        → HoldsAs now (Secured (accepting session command))
-        → StandsOn page (record { tables = tables; live = live_passed command.ins number passed_live; held = slice_set all_passed number now })
+    pub opened_stands : (session : Session) → session_for state command ≡ Some session → (now : ChannelSession) (plain : List ℕ) → Opens session command plain
+        → RepresentsSecureChannel now (Secured (accepting session command))
+        → RepresentsSoundly page (record { tables = tables; live = live_passed command.ins number passed_live; held = slice_set all_passed number now })
         (admitted_as state command (Some (accepting session command)) plain).at
     opened_stands session is now plain opens holds =
-        let joined = with_standing passed number (Secured (accepting session command)) in
-        let shows = standing_shows page tables passed_live all_passed (record { registry = state.registry; volatile = passed }) shows_passed four_passed number low slot now
+        let joined = with_secure_channel passed number (Secured (accepting session command)) in
+        let shows = secure_channel_shows page tables passed_live all_passed (record { registry = state.registry; volatile = passed }) shows_passed four_passed number low slot now
         (Secured (accepting session command)) opened holds in
         record {
           shows = session_passed_shows page (record { tables = tables; live = passed_live; held = slice_set all_passed number now }) state.registry joined command shows;
@@ -206,8 +206,8 @@ module _ (page : ℕ → List ℕ) (tables : Tables) (live : Live) (all : List H
         }
 
     -- without a session the channel has no load session
-    unloaded_shows : (now : Held) → now ≡ slice_index_or all_passed number held.Nothing → session_for state command ≡ None
-        → Shows page (record { tables = tables; live = live_without_load passed_live number; held = slice_set all_passed number now })
+    unloaded_shows : (now : ChannelSession) → now ≡ slice_index_or all_passed number held.Nothing → session_for state command ≡ None
+        → KeptRepresents page (record { tables = tables; live = live_without_load passed_live number; held = slice_set all_passed number now })
         (record { registry = state.registry; volatile = passed })
     unloaded_shows now same none =
         shows_same page (record { tables = tables; live = live_without_load passed_live number; held = slice_set all_passed number now }) state.registry
@@ -217,26 +217,26 @@ module _ (page : ℕ → List ℕ) (tables : Tables) (live : Live) (all : List H
         (held_same page (record { tables = tables; live = passed_live; held = all_passed }) (record { registry = state.registry; volatile = passed }) number now (sym same) shows_passed))
 
     module _ (bytes : List ℕ) (short : Short command bytes) (known : IsKnown command.class command.ins)
-        (class : Class) (is_class : class_of command.class ≡ Some class) (front : IsFirst (Bars state bytes) command_rules None)
-        (not_over : IsOver state.registry.life class command.ins → ⊥) where
+        (class : Class) (is_class : class_of command.class ≡ Some class) (front : IsFirst (GeneralFails state bytes) command_rules None)
+        (not_over : IsTerminatedFor state.registry.life class command.ins → ⊥) where
       -- a rule on secure messaging refuses it
-      pub refused_served : (now : Held) (plain reply : List ℕ) (rule : RuleG)
-          → OpensAs command (standing_of (channel_at passed number)) (slice_index_or all_passed number held.Nothing) now plain (Err rule)
+      pub refused_served : (now : ChannelSession) (plain reply : List ℕ) (rule : RuleG)
+          → OpensAs command (secure_channel_of (channel_at passed number)) (slice_index_or all_passed number held.Nothing) now plain (Err rule)
           → reply ≡ status_bytes (status_of (G rule))
           → Serves page state bytes (record { tables = tables; live = live_without_load passed_live number; held = slice_set all_passed number now }) reply (Some (G rule))
       refused_served now plain reply G6 (none, same) is =
-          barred page (record { tables = tables; live = live_without_load passed_live number; held = slice_set all_passed number now }) state bytes reply G6 passed stands.sound
+          rejected page (record { tables = tables; live = live_without_load passed_live number; held = slice_set all_passed number now }) state bytes reply G6 passed stands.sound
           (no_session_first state bytes command short known class is_class front not_over protected (sym (passed_session state command stands.sound.fits) ∙ none))
           (command, short, inr (protected_unmanaged command protected, refl))
           (unloaded_shows now same (sym (passed_session state command stands.sound.fits) ∙ none)) is
       refused_served now plain reply G7 (gone, wrong) is =
           let found = session_of (λ session. IsAuthentic session command → ⊥) wrong in
-          barred page (record { tables = tables; live = live_without_load passed_live number; held = slice_set all_passed number now }) state bytes reply G7 (without_session passed number) stands.sound
+          rejected page (record { tables = tables; live = live_without_load passed_live number; held = slice_set all_passed number now }) state bytes reply G7 (without_session passed number) stands.sound
           (wrong_mac_first state bytes command short known class is_class front not_over protected found.0 found.1 found.2)
           (command, short, refl) (ended_shows slot opened now gone) is
       refused_served now plain reply G8 (gone, wrong) is =
           let found = session_of (λ session. IsAuthentic session command × ((b : List ℕ) → Gives (accepting session command) (field_of command) b → ⊥)) wrong in
-          barred page (record { tables = tables; live = live_without_load passed_live number; held = slice_set all_passed number now }) state bytes reply G8 (without_session passed number) stands.sound
+          rejected page (record { tables = tables; live = live_without_load passed_live number; held = slice_set all_passed number now }) state bytes reply G8 (without_session passed number) stands.sound
           (wrong_padding_first state bytes command short known class is_class front not_over protected found.0 found.1 found.2.0 found.2.1)
           (command, short, refl) (ended_shows slot opened now gone) is
       refused_served now plain reply G1 opens is = absurd opens
@@ -247,10 +247,10 @@ module _ (page : ℕ → List ℕ) (tables : Tables) (live : Live) (all : List H
 
   -- the card is terminated
   pub over_served : (bytes reply : List ℕ) → Short command bytes → (class : Class) → class_of command.class ≡ Some class
-      → IsKnown command.class command.ins → IsFirst (Bars state bytes) command_rules None → IsOver state.registry.life class command.ins
+      → IsKnown command.class command.ins → IsFirst (GeneralFails state bytes) command_rules None → IsTerminatedFor state.registry.life class command.ins
       → reply ≡ status_bytes (status_of (G G5))
       → Serves page state bytes (record { tables = tables; live = passed_live; held = slice_set all number (held_passed false (slice_index_or all number held.Nothing)) }) reply (Some (G G5))
   over_served bytes reply short class is_class known front over is =
-      barred page (record { tables = tables; live = passed_live; held = slice_set all number (held_passed false (slice_index_or all number held.Nothing)) }) state bytes reply G5
-      (placeless state.volatile number false) stands.sound (over_first state bytes command short known class is_class front over)
+      rejected page (record { tables = tables; live = passed_live; held = slice_set all number (held_passed false (slice_index_or all number held.Nothing)) }) state bytes reply G5
+      (without_place state.volatile number false) stands.sound (over_first state bytes command short known class is_class front over)
       (command, short, refl) (passed_shows page tables live all state stands.shows four number low false) is

@@ -4,25 +4,25 @@ use Rattle.std.specs.Prelude.{slice_index_or}
 use Rattle.std.specs.Option.{option_map}
 use Rattle.card_types.specs.Layout.{HasIssuer, HasLayout}
 use Rattle.card_types.specs.Registry.{Registry}
-use Rattle.card_types.specs.Says.{Says as SaysRegistry}
+use Rattle.card_types.specs.Represents.{Represents as SaysRegistry}
 use Rattle.card_types.specs.Well.{Well}
 use Rattle.card_types.specs.declared.tables.Entry.{Entry}
 use Rattle.card_types.specs.declared.tables.Tables.{Tables}
 use Rattle.policy_rules.proofs.KeepsSound.{starts_sound}
 use Rattle.policy_rules.specs.LiveEnds.{first_live}
-use Rattle.policy_rules.specs.Means.{IsSelectedIn, SaysState, place_of}
+use Rattle.policy_rules.specs.Requests.{IsSelectedIn, RepresentsState, place_of}
 use Rattle.policy_rules.specs.State.{powered_on}
-use Rattle.policy_rules.specs.Volatile.{channel_at, first_volatile, place_in, standing_of}
+use Rattle.policy_rules.specs.Volatile.{channel_at, first_volatile, place_in, secure_channel_of}
 use Rattle.policy_rules.specs.declared.live.Live.{Live}
 use Rattle.policy_rules.specs.declared.live.TheConstants.{CHANNELS}
-use Rattle.card_core.specs.Holds.{HoldsAs}
-use Rattle.card_core.specs.Kept.{StandsOn}
-use Rattle.card_core.specs.declared.held.Held.{Held}
-use Rattle.card_core.specs.declared.held.Held.TheVariants as held
-use Rattle.card_core.proofs.Standing.{issuer_selected}
+use Rattle.card_core.specs.SecureChannels.{RepresentsSecureChannel}
+use Rattle.card_core.specs.Kept.{RepresentsSoundly}
+use Rattle.card_core.specs.declared.channel_session.ChannelSession.{ChannelSession}
+use Rattle.card_core.specs.declared.channel_session.ChannelSession.TheVariants as held
+use Rattle.card_core.proofs.ChannelChanges.{issuer_selected}
 
 -- nothing is held on four channels
-abbrev pub four_nothing : List Held
+abbrev pub four_nothing : List ChannelSession
 four_nothing = held.Nothing ∷ held.Nothing ∷ held.Nothing ∷ held.Nothing ∷ []
 
 first_selected : (entries : List (Option Entry)) → HasIssuer entries → (number : ℕ) → number < CHANNELS
@@ -40,7 +40,7 @@ first_places (suc (suc zero)) low = refl
 first_places (suc (suc (suc zero))) low = refl
 first_places (suc (suc (suc (suc number)))) low = absurd (omega arith)
 
-first_holds : (number : ℕ) → number < CHANNELS → HoldsAs (slice_index_or four_nothing number held.Nothing) (standing_of (channel_at first_volatile number))
+first_holds : (number : ℕ) → number < CHANNELS → RepresentsSecureChannel (slice_index_or four_nothing number held.Nothing) (secure_channel_of (channel_at first_volatile number))
 first_holds zero low = tt
 first_holds (suc zero) low = tt
 first_holds (suc (suc zero)) low = tt
@@ -48,17 +48,17 @@ first_holds (suc (suc (suc zero))) low = tt
 first_holds (suc (suc (suc (suc number)))) low = absurd (omega arith)
 
 -- power on
-pub powered_on_stands : (page : ℕ → List ℕ) (tables : Tables) (live : Live) (all : List Held) (said : Registry) → HasLayout tables → SaysRegistry page tables said → Well said
-    → live ≡ first_live → all ≡ four_nothing → StandsOn page (record { tables = tables; live = live; held = all }) (powered_on said)
+pub powered_on_stands : (page : ℕ → List ℕ) (tables : Tables) (live : Live) (all : List ChannelSession) (said : Registry) → HasLayout tables → SaysRegistry page tables said → Well said
+    → live ≡ first_live → all ≡ four_nothing → RepresentsSoundly page (record { tables = tables; live = live; held = all }) (powered_on said)
 powered_on_stands page tables live all said layout says well is nothing = record {
   shows = record {
-    says = subst (λ (l : Live). SaysState page tables l (powered_on said)) (sym is) (record {
+    says = subst (λ (l : Live). RepresentsState page tables l (powered_on said)) (sym is) (record {
       registry = says;
       selected = first_selected tables.entries.items layout.issuer;
       places = first_places;
       load = tt;
     });
-    holds = subst (λ (h : List Held). (number : ℕ) → number < CHANNELS → HoldsAs (slice_index_or h number held.Nothing) (standing_of (channel_at first_volatile number)))
+    holds = subst (λ (h : List ChannelSession). (number : ℕ) → number < CHANNELS → RepresentsSecureChannel (slice_index_or h number held.Nothing) (secure_channel_of (channel_at first_volatile number)))
         (sym nothing) first_holds;
   };
   sound = starts_sound said well says.ascending;

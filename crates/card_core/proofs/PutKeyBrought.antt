@@ -4,18 +4,18 @@ use Rattle.std.specs.Prelude.{◌↔◌, IsTrue, MatchOption}
 use Rattle.std.proofs.lemmas.List.Elements.{All-head, All-tail}
 use Rattle.policy_rules.proofs.PutKeyOnce.{brings_once}
 use Rattle.policy_rules.specs.Admission.{Admitted}
-use Rattle.policy_rules.specs.Means.{IsRequestOf, IsWellFormed, sent_key, sent_keys}
+use Rattle.policy_rules.specs.Requests.{IsRequestOf, IsWellFormed, sent_key, sent_keys}
 use Rattle.policy_rules.specs.PutKey.{AreKeysSent, Brings, ChecksFit, HasFieldLengths, IsNewVersion, PutKeyParameters, SaysChecks, SentKey, key_count}
-use Rattle.policy_rules.specs.Volatile.{Nothing, Offered, Secured, Standing, session_in}
+use Rattle.policy_rules.specs.Volatile.{Nothing, Offered, Secured, SecureChannel, session_in}
 use Rattle.policy_rules.specs.declared.put_key.PutKeys.{PutKeys}
 use Rattle.policy_rules.specs.declared.put_key.PutKeys.TheVariants.{One, Three}
 use Rattle.policy_rules.specs.declared.put_key.SealedKey.{SealedKey}
 use Rattle.policy_rules.specs.declared.request.Request.TheVariants.{PutKey}
-use Rattle.scp03_card.specs.Kept.{KeptSession, StandsFor}
+use Rattle.scp03_card.specs.Kept.{KeptSession, RepresentsSession}
 use Rattle.scp03_card.specs.Session.{Session}
-use Rattle.card_core.specs.Holds.{HoldsAs}
-use Rattle.card_core.specs.Offers.{standing_for}
-use Rattle.card_core.specs.declared.held.Held.TheVariants as held
+use Rattle.card_core.specs.SecureChannels.{RepresentsSecureChannel}
+use Rattle.card_core.specs.Offers.{secure_channel_for}
+use Rattle.card_core.specs.declared.channel_session.ChannelSession.TheVariants as held
 
 -- what is so of the fields of a token or receipt key, and of a key set
 pub record IsFormedOne (replaced version : ℕ) (sent : SealedKey) : Type 0 where
@@ -78,17 +78,17 @@ formed_set replaced version enc mac dek formed =
     }
 
 -- the session of the channel is the one that is held
-in_session : (kept : KeptSession) (standing : Standing) → HoldsAs (held.Secured kept) standing → (dek : List ℕ) → ((session : Session) → StandsFor kept session → dek ≡ session.offer.dek)
-    → (sent : List SentKey) (bytes : List (List ℕ)) → AreKeysSent dek sent bytes → MatchOption (session_in standing) ⊥ (λ session. AreKeysSent session.offer.dek sent bytes)
+in_session : (kept : KeptSession) (secure_channel : SecureChannel) → RepresentsSecureChannel (held.Secured kept) secure_channel → (dek : List ℕ) → ((session : Session) → RepresentsSession kept session → dek ≡ session.offer.dek)
+    → (sent : List SentKey) (bytes : List (List ℕ)) → AreKeysSent dek sent bytes → MatchOption (session_in secure_channel) ⊥ (λ session. AreKeysSent session.offer.dek sent bytes)
 in_session kept Nothing holds dek is sent bytes are = absurd holds
 in_session kept (Offered offer) holds dek is sent bytes are = absurd holds
 in_session kept (Secured session) holds dek is sent bytes are = subst (λ (d : List ℕ). AreKeysSent d sent bytes) (is session holds) are
 
 module _ (admitted : Admitted) (replaced version : ℕ) (keys : PutKeys) (request : IsRequestOf (PutKey replaced version keys) admitted.command)
-    (kept : KeptSession) (holds : HoldsAs (held.Secured kept) (standing_for admitted)) (dek : List ℕ) (is : (session : Session) → StandsFor kept session → dek ≡ session.offer.dek)
+    (kept : KeptSession) (holds : RepresentsSecureChannel (held.Secured kept) (secure_channel_for admitted)) (dek : List ℕ) (is : (session : Session) → RepresentsSession kept session → dek ≡ session.offer.dek)
     (bytes : List (List ℕ)) (are : AreKeysSent dek (sent_keys keys) bytes) where
   pub brought : Brings admitted version (sent_keys keys) bytes
-  brought = record { has = request.means.1; opened = in_session kept (standing_for admitted) holds dek is (sent_keys keys) bytes are }
+  brought = record { has = request.means.1; opened = in_session kept (secure_channel_for admitted) holds dek is (sent_keys keys) bytes are }
 
   -- whether the check values fit
   pub checks_said : (fit : Bool) → IsTrue fit ↔ ChecksFit (sent_keys keys) bytes → SaysChecks fit admitted

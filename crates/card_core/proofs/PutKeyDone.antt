@@ -7,7 +7,7 @@ use Rattle.std.proofs.lemmas.List.{append-nil}
 use Rattle.apdu_core.specs.declared.reply.Status.{Status}
 use Rattle.card_types.specs.Ascending.{counter_order, key_order}
 use Rattle.card_types.specs.Registry.{Counter, Key}
-use Rattle.card_types.specs.Says.{domain_aid}
+use Rattle.card_types.specs.Represents.{domain_aid}
 use Rattle.card_types.specs.declared.tables.Tables.{Tables}
 use Rattle.key_sets.specs.PutFails.{NoneHolds, PutFails}
 use Rattle.key_sets.specs.Puts.{Puts}
@@ -20,8 +20,8 @@ use Rattle.policy_rules.specs.Commands.{Judges}
 use Rattle.policy_rules.proofs.Judging.{does_so}
 use Rattle.policy_rules.specs.PutKey.{put_key}
 use Rattle.policy_rules.specs.KeyVersions.{counters_but, keys_but, with_keys}
-use Rattle.policy_rules.specs.Means.{ActsIn, IsRequestOf, sent_keys}
-use Rattle.policy_rules.specs.PutKey.{Brings, ChecksFit, PutKeyDoes, SentKey, check_value, counters_from, keys_from}
+use Rattle.policy_rules.specs.Requests.{ActsIn, IsRequestOf, sent_keys}
+use Rattle.policy_rules.specs.PutKey.{Brings, ChecksFit, PutKeyEffect, SentKey, check_value, counters_from, keys_from}
 use Rattle.policy_rules.specs.State.{Effect}
 use Rattle.policy_rules.specs.declared.put_key.PutKeys.{PutKeys}
 use Rattle.policy_rules.specs.declared.request.Request.TheVariants.{PutKey}
@@ -91,7 +91,7 @@ module _ (old new : Tables) (life : new.life ≡ old.life) (entries : new.entrie
     status = 0x9000;
   }
 
-  does : PutKeyDoes admitted done
+  does : PutKeyEffect admitted done
   does = record {
     version = version;
     sent = sent_keys keys;

@@ -13,7 +13,7 @@ use Rattle.card_types.specs.AidOrder.{same_aid}
 use Rattle.card_types.specs.Ascending.{counter_order, key_order}
 use Rattle.card_types.specs.Privileges.{has, security_domain}
 use Rattle.card_types.specs.Registry as registry
-use Rattle.card_types.specs.Says.{Says, counter_of, domain_aid, entry_of, file_of, keeps_counter, key_of, object_of, used}
+use Rattle.card_types.specs.Represents.{Represents, counter_of, domain_aid, entry_of, file_of, keeps_counter, key_of, object_of, used}
 use Rattle.card_types.specs.Slots.{held}
 use Rattle.card_types.specs.Well.{IsDomainNamed, Well}
 use Rattle.card_types.specs.declared.limits.TheConstants.{DOMAIN_KEYS, KEYS}
@@ -78,7 +78,7 @@ module _ (old new : Tables) (life : new.life ≡ old.life) (entries : new.entrie
     (objects : new.objects.items ≡ old.objects.items) (domain replaced version : ℕ) (bytes : List (List ℕ))
     (puts : Puts domain replaced (slot_keys domain version 1 bytes) old.keys.items new.keys.items) (sizes : HaveLengths bytes) (versioned : AreOfVersion version bytes)
     (none : NoneHolds (PutFails domain replaced version (length bytes) old.keys.items)) (is_domain : is_domain_in old.entries.items domain ≡ true) where
-  module _ (page : ℕ → List ℕ) (said : registry.Registry) (says : Says page old said) (well : Well said) where
+  module _ (page : ℕ → List ℕ) (said : registry.Registry) (says : Represents page old said) (well : Well said) where
     abbrev aid : List ℕ
     aid = domain_aid old.entries.items domain
 
@@ -159,7 +159,7 @@ module _ (old new : Tables) (life : new.life ≡ old.life) (entries : new.entrie
         (subst (λ (cs : List registry.Counter). IsPermutation (map named (filter keeps_counter (used new.keys.items))) cs) parts moved)
         (IsPermutation-trans _ _ put_counters.0 kept put_counters.1.same)
 
-    pub says_after : Says page new after
+    pub says_after : Represents page new after
     says_after = record {
       life = life ∙ says.life;
       entries = same_all (entry_of old.entries.items old.files.items) (entry_of new.entries.items new.files.items) old.entries.items new.entries.items said.entries says.entries entries

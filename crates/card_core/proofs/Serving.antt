@@ -13,7 +13,7 @@ use Rattle.scp03_card.specs.Session.{Session}
 use Rattle.policy_rules.proofs.KeepsSound.{steps_keep_sound}
 use Rattle.policy_rules.proofs.OneOutcome.{of_one}
 use Rattle.policy_rules.proofs.Opened.{is_management, managed_protected}
-use Rattle.policy_rules.specs.Admission.{Admits, Admitted, Bars, InSession, BarredLeaves, Of, admitted_as, command_rules, general_rules, session_for}
+use Rattle.policy_rules.specs.Admission.{Admits, Admitted, GeneralFails, InSession, GeneralRefusalLeaves, Of, admitted_as, command_rules, general_rules, session_for}
 use Rattle.policy_rules.specs.Classes.{IsKnown, IsPlainGetData, IsPlainManagement, class_of, instructions_of, is_protected, is_secure, management, managing, protects}
 use Rattle.policy_rules.specs.FirstFailing.{IsFirst}
 use Rattle.policy_rules.specs.Commands.{IsBuilt}
@@ -30,15 +30,15 @@ use Rattle.policy_rules.specs.declared.rule.Rule.{Rule}
 use Rattle.policy_rules.specs.declared.rule.Rule.TheVariants.{G}
 use Rattle.policy_rules.specs.declared.rule.RuleG.{RuleG}
 use Rattle.policy_rules.specs.declared.rule.RuleG.TheVariants.{G5, G6, G7, G8}
-use Rattle.card_core.specs.Kept.{Kept, Shows}
-use Rattle.card_core.specs.Serves.{CarriesOut, Serves, rule_of, word_of}
+use Rattle.card_core.specs.Kept.{Kept, KeptRepresents}
+use Rattle.card_core.specs.Serves.{CarriesOut, Serves, rule_of, status_word}
 
 -- a general rule bars the bytes
-pub barred : (page : ℕ → List ℕ) (card : Kept) (state : State) (bytes reply : List ℕ) (rule : RuleG) (left : Volatile) → IsSound state
-    → IsFirst (Bars state bytes) general_rules (Some rule) → BarredLeaves state bytes rule left
-    → Shows page card (record { registry = state.registry; volatile = left }) → reply ≡ status_bytes (status_of (G rule))
+pub rejected : (page : ℕ → List ℕ) (card : Kept) (state : State) (bytes reply : List ℕ) (rule : RuleG) (left : Volatile) → IsSound state
+    → IsFirst (GeneralFails state bytes) general_rules (Some rule) → GeneralRefusalLeaves state bytes rule left
+    → KeptRepresents page card (record { registry = state.registry; volatile = left }) → reply ≡ status_bytes (status_of (G rule))
     → Serves page state bytes card reply (Some (G rule))
-barred page card state bytes reply rule left sound first leaves shows is =
+rejected page card state bytes reply rule left sound first leaves shows is =
     let step = inl (record {
       rule = rule;
       left = left;
@@ -54,7 +54,7 @@ barred page card state bytes reply rule left sound first leaves shows is =
 -- a command that was carried out, or refused by a rule of its own
 pub carried_out : (page : ℕ → List ℕ) (state : State) (bytes : List ℕ) (command : Apdu) (session : Option Session) (plain : List ℕ) (card : Kept) (body reply : List ℕ)
     (result : Result Status Rule) → IsSound state → Admits state bytes (admitted_as state command session plain)
-    → CarriesOut page (admitted_as state command session plain) card body result → reply ≡ sent session body (word_of result)
+    → CarriesOut page (admitted_as state command session plain) card body result → reply ≡ sent session body (status_word result)
     → Serves page state bytes card reply (rule_of result)
 carried_out page state bytes command session plain card body reply (Ok status) sound admits (done, shows, judges, does, body_is, word) is =
     let step = inr (inr (record {
@@ -130,38 +130,38 @@ module _ (command : Apdu) (class : Class) (answer : Bool) (is_class : class_of c
       one same = cc
 
 module _ (state : State) (bytes : List ℕ) (command : Apdu) (short : Short command bytes) (known : IsKnown command.class command.ins)
-    (class : Class) (is_class : class_of command.class ≡ Some class) (front : IsFirst (Bars state bytes) command_rules None) where
+    (class : Class) (is_class : class_of command.class ≡ Some class) (front : IsFirst (GeneralFails state bytes) command_rules None) where
   not_of : (holds : Apdu → Type 0) → (holds command → ⊥) → Of bytes holds → ⊥
   not_of holds never of = never (of_one bytes holds command short of)
 
   -- the card is terminated
-  abbrev IsOver : Type 0
-  IsOver = (state.registry.life ≡ Terminated) × ((command.ins ≡ GET_DATA) × (is_secure class ≡ false) → ⊥)
+  abbrev IsTerminatedFor : Type 0
+  IsTerminatedFor = (state.registry.life ≡ Terminated) × ((command.ins ≡ GET_DATA) × (is_secure class ≡ false) → ⊥)
 
-  ended : IsOver → (state.registry.life ≡ Terminated) × (IsPlainGetData command → ⊥)
+  ended : IsTerminatedFor → (state.registry.life ≡ Terminated) × (IsPlainGetData command → ⊥)
   ended over = (over.0, λ plain. over.1 (plain.0, subst (λ (c : Option Class). MatchOption c ⊥ (λ k. is_secure k ≡ false)) is_class plain.1))
 
-  goes_on : (state.registry.life ≡ Terminated) × (IsPlainGetData command → ⊥) → IsOver
+  goes_on : (state.registry.life ≡ Terminated) × (IsPlainGetData command → ⊥) → IsTerminatedFor
   goes_on over = (over.0, λ plain. over.1 (plain.0, subst (λ (c : Option Class). MatchOption c ⊥ (λ k. is_secure k ≡ false)) (sym is_class) plain.1))
 
-  pub over_first : IsOver → IsFirst (Bars state bytes) general_rules (Some G5)
-  over_first over = behind (Bars state bytes) command_rules (G5 ∷ G6 ∷ G7 ∷ G8 ∷ []) (Some G5) front (inl ((command, short, ended over), refl))
+  pub over_first : IsTerminatedFor → IsFirst (GeneralFails state bytes) general_rules (Some G5)
+  over_first over = behind (GeneralFails state bytes) command_rules (G5 ∷ G6 ∷ G7 ∷ G8 ∷ []) (Some G5) front (inl ((command, short, ended over), refl))
 
-  module _ (not_over : IsOver → ⊥) where
-    behind_over : (found : Option RuleG) → IsFirst (Bars state bytes) (G6 ∷ G7 ∷ G8 ∷ []) found → IsFirst (Bars state bytes) general_rules found
+  module _ (not_over : IsTerminatedFor → ⊥) where
+    behind_over : (found : Option RuleG) → IsFirst (GeneralFails state bytes) (G6 ∷ G7 ∷ G8 ∷ []) found → IsFirst (GeneralFails state bytes) general_rules found
     behind_over found first =
-        behind (Bars state bytes) command_rules (G5 ∷ G6 ∷ G7 ∷ G8 ∷ []) found front
+        behind (GeneralFails state bytes) command_rules (G5 ∷ G6 ∷ G7 ∷ G8 ∷ []) found front
         (inr (not_of (λ c. (state.registry.life ≡ Terminated) × (IsPlainGetData c → ⊥)) (λ over. not_over (goes_on over)), first))
 
     -- card content management in plain
-    pub managed_first : IsPlainManagement command → IsFirst (Bars state bytes) general_rules (Some G6)
+    pub managed_first : IsPlainManagement command → IsFirst (GeneralFails state bytes) general_rules (Some G6)
     managed_first managed = behind_over (Some G6) (inl ((command, short, inl managed), refl))
 
-    pub no_session_first : is_protected command ≡ true → session_for state command ≡ None → IsFirst (Bars state bytes) general_rules (Some G6)
+    pub no_session_first : is_protected command ≡ true → session_for state command ≡ None → IsFirst (GeneralFails state bytes) general_rules (Some G6)
     no_session_first protected none = behind_over (Some G6) (inl ((command, short, inr (protected, none)), refl))
 
     -- any other command in plain passes
-    pub plain_passes : (IsPlainManagement command → ⊥) → is_protected command ≡ false → IsFirst (Bars state bytes) general_rules None
+    pub plain_passes : (IsPlainManagement command → ⊥) → is_protected command ≡ false → IsFirst (GeneralFails state bytes) general_rules None
     plain_passes unmanaged plain =
         behind_over None (inr (
           not_of (λ c. IsPlainManagement c ⊎ ((is_protected c ≡ true) × (session_for state c ≡ None))) g6,
@@ -190,14 +190,14 @@ module _ (state : State) (bytes : List ℕ) (command : Apdu) (short : Short comm
       of_session : (holds : Session → Type 0) → InSession state command holds → holds session
       of_session holds is = subst (λ (o : Option Session). MatchOption o ⊥ holds) is_session is.1
 
-      behind_session : (found : Option RuleG) → IsFirst (Bars state bytes) (G7 ∷ G8 ∷ []) found → IsFirst (Bars state bytes) general_rules found
+      behind_session : (found : Option RuleG) → IsFirst (GeneralFails state bytes) (G7 ∷ G8 ∷ []) found → IsFirst (GeneralFails state bytes) general_rules found
       behind_session found first =
           behind_over found (inr (not_of (λ c. IsPlainManagement c ⊎ ((is_protected c ≡ true) × (session_for state c ≡ None))) has_session, first))
 
-      pub wrong_mac_first : (IsAuthentic session command → ⊥) → IsFirst (Bars state bytes) general_rules (Some G7)
+      pub wrong_mac_first : (IsAuthentic session command → ⊥) → IsFirst (GeneralFails state bytes) general_rules (Some G7)
       wrong_mac_first wrong = behind_session (Some G7) (inl ((command, short, in_session (λ s. IsAuthentic s command → ⊥) wrong), refl))
 
-      behind_mac : (found : Option RuleG) → IsAuthentic session command → IsFirst (Bars state bytes) (G8 ∷ []) found → IsFirst (Bars state bytes) general_rules found
+      behind_mac : (found : Option RuleG) → IsAuthentic session command → IsFirst (GeneralFails state bytes) (G8 ∷ []) found → IsFirst (GeneralFails state bytes) general_rules found
       behind_mac found authentic first =
           behind_session found (inr (
             not_of (λ c. InSession state c (λ s. IsAuthentic s c → ⊥)) (λ fails. of_session (λ s. IsAuthentic s command → ⊥) fails authentic),
@@ -205,13 +205,13 @@ module _ (state : State) (bytes : List ℕ) (command : Apdu) (short : Short comm
           ))
 
       pub wrong_padding_first : IsAuthentic session command → ((p : List ℕ) → Gives (accepting session command) (field_of command) p → ⊥)
-          → IsFirst (Bars state bytes) general_rules (Some G8)
+          → IsFirst (GeneralFails state bytes) general_rules (Some G8)
       wrong_padding_first authentic wrong =
           behind_mac (Some G8) authentic
           (inl ((command, short, in_session (λ s. (p : List ℕ) → Gives (accepting s command) (field_of command) p → ⊥) wrong), refl))
 
       -- a command that opens passes
-      pub opened_passes : (plain : List ℕ) → Opens session command plain → IsFirst (Bars state bytes) general_rules None
+      pub opened_passes : (plain : List ℕ) → Opens session command plain → IsFirst (GeneralFails state bytes) general_rules None
       opened_passes plain opens =
           behind_mac None opens.authentic
           (inr (

@@ -11,15 +11,15 @@ use Rattle.policy_rules.specs.Step.{Outcome}
 use Rattle.policy_rules.specs.declared.live.Live.{Live}
 use Rattle.policy_rules.specs.declared.rule.Rule.{Rule}
 use Rattle.rec_store.specs.Reopens.{Keeps, ReopensEither, load_page}
-use Rattle.card_core.specs.Kept.{Kept, StandsOn}
-use Rattle.card_core.specs.declared.held.Held.{Held}
+use Rattle.card_core.specs.Kept.{Kept, RepresentsSoundly}
+use Rattle.card_core.specs.declared.channel_session.ChannelSession.{ChannelSession}
 
 -- the device, the tables, the channels with what they hold, and whether no call on the device has failed
 pub record CardOver (F : Type 0) : Type 0 where
   pub flash : F
   pub tables : Tables
   pub live : Live
-  pub held : List Held
+  pub held : List ChannelSession
   pub up : Bool
 
 abbrev pub kept : {F : Type 0} → CardOver F → Kept
@@ -27,11 +27,11 @@ kept card = record { tables = card.tables; live = card.live; held = card.held }
 
 -- The card stands for this state: it goes on, what it keeps shows the state, and power lost leaves its registry. Where the
 -- device tells its pages, the load pages are its own.
-pub record Stands {F : Type 0} (device : Flash F) (card : CardOver F) (state : State) : Type 0 where
+pub record CardRepresents {F : Type 0} (device : Flash F) (card : CardOver F) (state : State) : Type 0 where
   pub up : card.up ≡ true
   pub page : ℕ → List ℕ
   pub whole : HasPages page
-  pub on : StandsOn page (kept card) state
+  pub on : RepresentsSoundly page (kept card) state
   pub load : device.tells → load_page (device.pages card.flash) ≡ page
   pub keeps : device.tells → Keeps device card.flash state.registry
 
@@ -42,4 +42,4 @@ LeavesEither device old new before after =
 
 -- the card stands behind the outcome, whose reply and rule were answered
 abbrev pub Answers : {F : Type 0} → Flash F → CardOver F → Outcome → List ℕ → Option Rule → Type 0
-Answers device card outcome reply rule = Stands device card outcome.state × (reply ≡ outcome.reply) × (rule ≡ outcome.rule)
+Answers device card outcome reply rule = CardRepresents device card outcome.state × (reply ≡ outcome.reply) × (rule ≡ outcome.rule)

@@ -2,29 +2,29 @@
 use Rattle.std.specs.Prelude.{ℕ, List}
 use Rattle.card_check.specs.IsCard.{HasPages, IsCard}
 use Rattle.card_types.specs.declared.tables.Tables.{Tables}
-use Rattle.policy_rules.specs.Means.{SaysState}
+use Rattle.policy_rules.specs.Requests.{RepresentsState}
 use Rattle.policy_rules.specs.Sound.{IsSound}
 use Rattle.policy_rules.specs.State.{State}
 use Rattle.policy_rules.specs.declared.live.Live.{Live}
-use Rattle.card_core.specs.Holds.{Holds}
-use Rattle.card_core.specs.declared.held.Held.{Held}
+use Rattle.card_core.specs.SecureChannels.{RepresentsChannels}
+use Rattle.card_core.specs.declared.channel_session.ChannelSession.{ChannelSession}
 
 -- its tables, its channels, and what these hold
 pub record Kept : Type 0 where
   pub tables : Tables
   pub live : Live
-  pub held : List Held
+  pub held : List ChannelSession
 
 -- whatever stands in the load pages, the tables are a card's
 abbrev pub AreCards : Tables → Type 0
 AreCards tables = (page : ℕ → List ℕ) → HasPages page → IsCard page tables
 
 -- what is kept shows this state, over these load pages
-pub record Shows (page : ℕ → List ℕ) (card : Kept) (state : State) : Type 0 where
-  pub says : SaysState page card.tables card.live state
-  pub holds : Holds card.held state.volatile
+pub record KeptRepresents (page : ℕ → List ℕ) (card : Kept) (state : State) : Type 0 where
+  pub says : RepresentsState page card.tables card.live state
+  pub holds : RepresentsChannels card.held state.volatile
 
 -- and the state is sound
-pub record StandsOn (page : ℕ → List ℕ) (card : Kept) (state : State) : Type 0 where
-  pub shows : Shows page card state
+pub record RepresentsSoundly (page : ℕ → List ℕ) (card : Kept) (state : State) : Type 0 where
+  pub shows : KeptRepresents page card state
   pub sound : IsSound state

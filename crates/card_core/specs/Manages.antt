@@ -1,10 +1,10 @@
 -- What comes of a command of card content management: the registry changes, and nothing of what the channels hold.
 use Rattle.std.specs.Prelude.{◌≡◌, ℕ, List, [], Result, Ok, Err, None, Some}
 use Rattle.apdu_core.specs.declared.reply.Status.{Status}
-use Rattle.card_types.specs.Says.{Says}
+use Rattle.card_types.specs.Represents.{Represents}
 use Rattle.card_types.specs.declared.tables.Tables.{Tables}
 use Rattle.policy_rules.specs.Admission.{Admitted}
-use Rattle.policy_rules.specs.Commands.{Does, Judges}
+use Rattle.policy_rules.specs.Commands.{HasEffect, Judges}
 use Rattle.policy_rules.specs.State.{Effect}
 use Rattle.policy_rules.specs.declared.rule.Rule.{Rule}
 
@@ -12,9 +12,9 @@ use Rattle.policy_rules.specs.declared.rule.Rule.{Rule}
 pub record IsManaged (admitted : Admitted) (page : ℕ → List ℕ) (tables : Tables) (body : List ℕ) (status : Status) : Type 0 where
   pub judges : Judges admitted None
   pub done : Effect
-  pub does : Does admitted done
+  pub does : HasEffect admitted done
   pub volatile : done.state.volatile ≡ admitted.at.volatile
-  pub says : Says page tables done.state.registry
+  pub says : Represents page tables done.state.registry
   pub body_is : body ≡ done.body
   pub status_is : status.0 ≡ done.status
 

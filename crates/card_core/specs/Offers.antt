@@ -3,7 +3,7 @@ use Rattle.std.specs.Prelude.{◌≡◌, ℕ, List, [], Result, Ok, Err, Some, N
 use Rattle.apdu_core.specs.declared.reply.Status.{Status}
 use Rattle.card_types.specs.Counters.{raised}
 use Rattle.card_types.specs.Registry.{Counter}
-use Rattle.card_types.specs.Says.{Says}
+use Rattle.card_types.specs.Represents.{Represents}
 use Rattle.card_types.specs.Well.{Well}
 use Rattle.card_types.specs.declared.level.Level.{Level}
 use Rattle.card_types.specs.declared.tables.Tables.{Tables}
@@ -13,35 +13,35 @@ use Rattle.policy_rules.specs.Admission.{Admitted}
 use Rattle.policy_rules.specs.Commands.{Judges}
 use Rattle.policy_rules.specs.ExternalAuthenticate.{Answers}
 use Rattle.policy_rules.specs.InitializeUpdate.{AsksForSet, IsOfferOf, offer_body}
-use Rattle.policy_rules.specs.Volatile.{Offered, Secured, Standing, channel_at, standing_of}
+use Rattle.policy_rules.specs.Volatile.{Offered, Secured, SecureChannel, channel_at, secure_channel_of}
 use Rattle.policy_rules.specs.declared.rule.Rule.{Rule}
-use Rattle.card_core.specs.Holds.{HoldsAs, without_offer_held}
-use Rattle.card_core.specs.declared.held.Held.{Held}
+use Rattle.card_core.specs.SecureChannels.{RepresentsSecureChannel, without_offer_held}
+use Rattle.card_core.specs.declared.channel_session.ChannelSession.{ChannelSession}
 
 -- what the command's channel holds
-abbrev pub standing_for : Admitted → Standing
-standing_for admitted = standing_of (channel_at admitted.at.volatile admitted.channel)
+abbrev pub secure_channel_for : Admitted → SecureChannel
+secure_channel_for admitted = secure_channel_of (channel_at admitted.at.volatile admitted.channel)
 
 -- a session was offered: the channel holds the offer, and the tables say the registry with the next counter
-pub record IsMade (admitted : Admitted) (page : ℕ → List ℕ) (tables : Tables) (new : Held) (body : List ℕ) : Type 0 where
+pub record IsMade (admitted : Admitted) (page : ℕ → List ℕ) (tables : Tables) (new : ChannelSession) (body : List ℕ) : Type 0 where
   pub owner : List ℕ
   pub counter : Counter
   pub offer : Offer
   pub asked : AsksForSet admitted owner counter
   pub is_offer : IsOfferOf admitted owner counter offer
-  pub says : Says page tables (raised admitted.at.registry owner counter.version)
+  pub says : Represents page tables (raised admitted.at.registry owner counter.version)
   pub well : Well (raised admitted.at.registry owner counter.version)
-  pub holds : HoldsAs new (Offered offer)
+  pub holds : RepresentsSecureChannel new (Offered offer)
   pub is : body ≡ offer_body admitted.at.registry owner counter offer
 
-abbrev pub OffersAs : Admitted → (ℕ → List ℕ) → Tables → Tables → Held → Held → List ℕ → Result Status Rule → Type 0
+abbrev pub OffersAs : Admitted → (ℕ → List ℕ) → Tables → Tables → ChannelSession → ChannelSession → List ℕ → Result Status Rule → Type 0
 OffersAs admitted page tables tables' old new body (Ok status) = Judges admitted None × IsMade admitted page tables' new body × (status.0 ≡ 0x9000)
 OffersAs admitted page tables tables' old new body (Err rule) =
     Judges admitted (Some rule) × (tables' ≡ tables) × (new ≡ old) × (body ≡ [])
 
 -- the offer became a session, or was lost: but for an offer the channel holds what it held
-abbrev pub AnswersAs : Admitted → Held → Held → Result Status Rule → Type 0
+abbrev pub AnswersAs : Admitted → ChannelSession → ChannelSession → Result Status Rule → Type 0
 AnswersAs admitted old new (Ok status) =
     (offer : Offer) × (level : Level) × Answers admitted offer level × Judges admitted None
-    × HoldsAs new (Secured (answered offer level)) × (status.0 ≡ 0x9000)
+    × RepresentsSecureChannel new (Secured (answered offer level)) × (status.0 ≡ 0x9000)
 AnswersAs admitted old new (Err rule) = Judges admitted (Some rule) × (without_offer_held new ≡ without_offer_held old)

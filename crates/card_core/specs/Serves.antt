@@ -5,7 +5,7 @@ use Rattle.policy_rules.specs.Admission.{Admitted}
 use Rattle.card_types.specs.declared.card_life.CardLife.{CardLife}
 use Rattle.card_types.specs.declared.card_life.CardLife.TheVariants.{Terminated}
 use Rattle.policy_rules.specs.Classes.{is_secure}
-use Rattle.policy_rules.specs.Commands.{Does, Judges}
+use Rattle.policy_rules.specs.Commands.{HasEffect, Judges}
 use Rattle.policy_rules.specs.Rules.{status_of}
 use Rattle.policy_rules.specs.State.{Effect, State}
 use Rattle.policy_rules.specs.LiveEnds.{live_without_load}
@@ -14,23 +14,23 @@ use Rattle.policy_rules.specs.declared.class.Class.{Class}
 use Rattle.policy_rules.specs.declared.instruction.TheConstants.{GET_DATA, LOAD}
 use Rattle.policy_rules.specs.declared.live.Live.{Live}
 use Rattle.policy_rules.specs.declared.rule.Rule.{Rule}
-use Rattle.card_core.specs.Holds.{without_offer_held}
-use Rattle.card_core.specs.Kept.{Kept, Shows, StandsOn}
-use Rattle.card_core.specs.declared.held.Held.TheVariants as held
+use Rattle.card_core.specs.SecureChannels.{without_offer_held}
+use Rattle.card_core.specs.Kept.{Kept, KeptRepresents, RepresentsSoundly}
+use Rattle.card_core.specs.declared.channel_session.ChannelSession.TheVariants as held
 
 -- one step of the policy machine was made, over these load pages
 abbrev pub Serves : (ℕ → List ℕ) → State → List ℕ → Kept → List ℕ → Option Rule → Type 0
-Serves page state bytes card reply rule = (next : State) × StandsOn page card next × Step state bytes (record { state = next; reply = reply; rule = rule })
+Serves page state bytes card reply rule = (next : State) × RepresentsSoundly page card next × Step state bytes (record { state = next; reply = reply; rule = rule })
 
 -- no rule of its own refused an admitted command, and it did what it does
 abbrev pub IsDone : (ℕ → List ℕ) → Admitted → Kept → List ℕ → Status → Type 0
 IsDone page admitted card body status =
-    (done : Effect) × Shows page card done.state × Judges admitted None × Does admitted done × (body ≡ done.body) × (status.0 ≡ done.status)
+    (done : Effect) × KeptRepresents page card done.state × Judges admitted None × HasEffect admitted done × (body ≡ done.body) × (status.0 ≡ done.status)
 
 -- such a rule refused it, and the card shows what the refusal leaves
 abbrev pub IsRefusedBy : (ℕ → List ℕ) → Admitted → Kept → List ℕ → Rule → Type 0
 IsRefusedBy page admitted card body rule =
-    Shows page card (record { registry = admitted.at.registry; volatile = refusal_leaves admitted rule }) × Judges admitted (Some rule) × (body ≡ [])
+    KeptRepresents page card (record { registry = admitted.at.registry; volatile = refusal_leaves admitted rule }) × Judges admitted (Some rule) × (body ≡ [])
 
 -- behind secure messaging the channel's load session has ended, unless the command goes on with it
 abbrev pub live_passed : (ins number : ℕ) → Live → Live
@@ -59,14 +59,14 @@ CarriesOutBut page admitted card body (Ok status) = IsDone page admitted card bo
 CarriesOutBut page admitted card body (Err rule) = IsRefusedBy page admitted (refused_at card admitted.channel rule) body rule
 
 -- the status word of the reply, and the rule that refused the command
-abbrev pub word_of : Result Status Rule → ℕ
-word_of (Ok status) = status.0
-word_of (Err rule) = status_of rule
+abbrev pub status_word : Result Status Rule → ℕ
+status_word (Ok status) = status.0
+status_word (Err rule) = status_of rule
 
 abbrev pub rule_of : Result Status Rule → Option Rule
 rule_of (Ok status) = None
 rule_of (Err rule) = Some rule
 
 -- a terminated card answers GET DATA in plain alone
-abbrev pub IsOver : CardLife → Class → ℕ → Type 0
-IsOver life class ins = (life ≡ Terminated) × ((ins ≡ GET_DATA) × (is_secure class ≡ false) → ⊥)
+abbrev pub IsTerminatedFor : CardLife → Class → ℕ → Type 0
+IsTerminatedFor life class ins = (life ≡ Terminated) × ((ins ≡ GET_DATA) × (is_secure class ≡ false) → ⊥)

@@ -3,11 +3,11 @@
 ghost use Rattle.std.specs.Prelude.{◌≡◌, ◌≢◌, ◌↔◌, IsTrue, false, true, IfOk, IfErr, ℕ, List, None, Some, slice_index_or};
 ghost use Rattle.apdu_core.specs.Apdu.{Short, apdu_of};
 ghost use Rattle.card_core.specs.Domains.{is_domain_in};
-ghost use Rattle.card_core.specs.Serves.{IsOver};
-ghost use Rattle.policy_rules.specs.Admission.{Bars, BarredLeaves, command_rules, general_rules};
+ghost use Rattle.card_core.specs.Serves.{IsTerminatedFor};
+ghost use Rattle.policy_rules.specs.Admission.{GeneralFails, GeneralRefusalLeaves, command_rules, general_rules};
 ghost use Rattle.policy_rules.specs.Classes.{IsKnown, channel_of as channel_of_byte, class_of};
 ghost use Rattle.policy_rules.specs.FirstFailing.{IsFirst};
-ghost use Rattle.policy_rules.specs.Means.{SaysState};
+ghost use Rattle.policy_rules.specs.Requests.{RepresentsState};
 ghost use Rattle.policy_rules.specs.State.{State};
 
 use apdu_core::Command;
@@ -34,7 +34,7 @@ fn is_not_for(tables: &Tables, slot: u8, ins: u8) -> bool
 
 /// Whether the card is terminated, which answers GET DATA in plain alone.
 pub fn is_over(card_life: CardLife, class: Class, ins: u8) -> bool
-    ensures { IsTrue result ↔ IsOver card_life class ins }
+    ensures { IsTrue result ↔ IsTerminatedFor card_life class ins }
 {
     card_life == CardLife::Terminated && (ins != GET_DATA || class == Class::Secure)
 }
@@ -61,11 +61,11 @@ pub fn admit<'a>(tables: &Tables, live: &Live, bytes: &'a [u8]) -> Result<Receiv
     ensures selected { IfOk result (λ received. slice_index_or live.now.selected received.channel None ≡ Some received.selected) }
     ensures domain { IfOk result (λ received. received.command.ins ≢ SELECT → received.command.ins ≢ MANAGE_CHANNEL
         → is_domain_in tables.now.entries.items received.selected ≡ true) }
-    ensures passed { (page : ℕ → List ℕ) (state : State) → SaysState page tables.now live.now state
-        → IfOk result (λ received. IsFirst (Bars state bytes.now) command_rules None) }
-    ensures refused { (page : ℕ → List ℕ) (state : State) → SaysState page tables.now live.now state
-        → IfErr result (λ rule. IsFirst (Bars state bytes.now) general_rules (Some rule)) }
-    ensures leaves { (state : State) → IfErr result (λ rule. BarredLeaves state bytes.now rule state.volatile) }
+    ensures passed { (page : ℕ → List ℕ) (state : State) → RepresentsState page tables.now live.now state
+        → IfOk result (λ received. IsFirst (GeneralFails state bytes.now) command_rules None) }
+    ensures refused { (page : ℕ → List ℕ) (state : State) → RepresentsState page tables.now live.now state
+        → IfErr result (λ rule. IsFirst (GeneralFails state bytes.now) general_rules (Some rule)) }
+    ensures leaves { (state : State) → IfErr result (λ rule. GeneralRefusalLeaves state bytes.now rule state.volatile) }
 {
     let Ok(command) = Command::read(bytes) else {
         return Err(RuleG::G1);

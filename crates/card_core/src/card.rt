@@ -2,11 +2,11 @@
 
 ghost use Rattle.std.specs.Prelude.{◌≡◌, ◌≤◌, ◌↔◌, ℕ, List, [], ◌∷◌, false, true, None, IfOk, IfErr, IsSome, IsTrue, OnErr, OnOk};
 ghost use Rattle.apdu_core.specs.Reply.{status_bytes};
-ghost use Rattle.card_core.specs.Card.{Answers, LeavesEither, Stands};
+ghost use Rattle.card_core.specs.Card.{Answers, LeavesEither, CardRepresents};
 ghost use Rattle.card_core.specs.Commits.{MayCommit};
 ghost use Rattle.card_core.specs.Kept.{AreCards};
 ghost use Rattle.card_core.specs.PowerOn.{PowerFails};
-ghost use Rattle.card_core.specs.declared.held.Held.TheVariants as holding;
+ghost use Rattle.card_core.specs.declared.channel_session.ChannelSession.TheVariants as holding;
 ghost use Rattle.card_types.specs.InOrder.{IsInOrder};
 ghost use Rattle.card_types.specs.Registry.{Registry};
 ghost use Rattle.faults.specs.Faults.{HasCause};
@@ -16,7 +16,7 @@ ghost use Rattle.policy_rules.specs.State.{State, powered_on};
 ghost use Rattle.policy_rules.specs.Step.{Outcome, Step};
 ghost use Rattle.rec_store.specs.Reopens.{Reopens, ReopensAsOne};
 
-use crate::held::Held;
+use crate::channel_session::ChannelSession;
 use crate::power::{PowerCause, PowerError};
 use crate::reply::{REPLY_LIMIT, write_failure};
 use crate::serve::serve;
@@ -33,7 +33,7 @@ use std::marker::Model;
 pub struct Card<F: Flash> {
     pub(crate) records: Records<F>,
     pub(crate) live: Live,
-    pub(crate) held: [Held; CHANNELS],
+    pub(crate) held: [ChannelSession; CHANNELS],
     pub(crate) up: bool,
 }
 
@@ -51,10 +51,15 @@ impl<F: Flash> Model for Card<F> {
 }
 
 // What the channels hold after power on.
-fn nothing_held() -> [Held; CHANNELS]
+fn nothing_held() -> [ChannelSession; CHANNELS]
     ensures { result ≡ holding.Nothing ∷ holding.Nothing ∷ holding.Nothing ∷ holding.Nothing ∷ [] }
 {
-    [Held::Nothing, Held::Nothing, Held::Nothing, Held::Nothing]
+    [
+        ChannelSession::Nothing,
+        ChannelSession::Nothing,
+        ChannelSession::Nothing,
+        ChannelSession::Nothing,
+    ]
 }
 
 impl<F: Flash> Card<F> {
@@ -63,7 +68,7 @@ impl<F: Flash> Card<F> {
     /// staged pages, before any call on the device.
     pub fn power_on(alloc: Global, flash: F) -> Result<Card<F>, PowerError<F>>
         ensures stands { IfOk result (λ card. (registry : Registry) × (F.tells → Reopens (F.pages flash) registry)
-            × Stands F.Flash card (powered_on registry)) }
+            × CardRepresents F.Flash card (powered_on registry)) }
         // Power lost at any moment leaves no registry that it could not leave before.
         ensures moments { F.tells → (registries : List Registry) → Always (F.may_leave flash) (ReopensAsOne registries)
             → IfOk result (λ card. LeavesOnly F.Flash flash card.flash (ReopensAsOne registries)) }
@@ -97,12 +102,12 @@ impl<F: Flash> Card<F> {
         requires up { self.old.up ≡ true }
         // What comes of the command is one outcome of the policy machine, also where the device fails. Power lost at any
         // moment leaves the registry from before or that of the outcome, and after an answer the latter.
-        ensures step { (state : State) → Stands F.Flash self.old state → (outcome : Outcome) × Step state command.now outcome
+        ensures step { (state : State) → CardRepresents F.Flash self.old state → (outcome : Outcome) × Step state command.now outcome
             × LeavesEither F.Flash self.old.flash self.new.flash state.registry outcome.state.registry
             × IfOk result (Answers F.Flash self.new outcome reply.new.items) }
         // More than a sequence counter is changed by a command alone that no rule refuses, and that opens in the session of its
         // channel: its C-MAC is the next of the chain.
-        ensures changes { (state next : State) → Stands F.Flash self.old state → Stands F.Flash self.new next
+        ensures changes { (state next : State) → CardRepresents F.Flash self.old state → CardRepresents F.Flash self.new next
             → IfOk result (λ rule. F.tells → Changes state.registry next.registry → (rule ≡ None) × OpensInSession state command.now) }
         // A command that a rule refuses makes no call on the device, and no other but INITIALIZE UPDATE and those of card
         // content management makes one.
@@ -133,7 +138,7 @@ impl<F: Flash> Card<F> {
     /// Takes the power away and gives it back: channel 0 alone is open then, with the Issuer Security Domain selected.
     pub fn reset(&mut self)
         requires up { self.old.up ≡ true }
-        ensures stands { (state : State) → Stands F.Flash self.old state → Stands F.Flash self.new (powered_on state.registry) }
+        ensures stands { (state : State) → CardRepresents F.Flash self.old state → CardRepresents F.Flash self.new (powered_on state.registry) }
         ensures same { (self.new.flash ≡ self.old.flash) × (self.new.tables ≡ self.old.tables) × (self.new.up ≡ true) }
     {
         self.live = Live::powered_on();

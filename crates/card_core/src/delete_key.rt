@@ -5,7 +5,7 @@ ghost use Rattle.card_core.specs.Kept.{AreCards};
 ghost use Rattle.card_core.specs.Manages.{Manages};
 ghost use Rattle.card_types.specs.Ascending.{IsAscending};
 ghost use Rattle.policy_rules.specs.Admission.{Admitted};
-ghost use Rattle.policy_rules.specs.Means.{ActsIn, IsRequestOf};
+ghost use Rattle.policy_rules.specs.Requests.{ActsIn, IsRequestOf};
 ghost use Rattle.policy_rules.specs.declared.request.Request.TheVariants.{DeleteKey};
 
 use crate::reply::REPLY_LIMIT;

@@ -3,9 +3,9 @@
 ghost use Rattle.std.specs.Prelude.{◌≡◌, ◌<◌, ◌≤◌, ◌++◌, ◌+◌, ◌/◌, ℕ, List, false, true, map, take, IfOk, IfSome, IsSome, OnErr, OnOk};
 ghost use Rattle.std.specs.List.{concat};
 ghost use Rattle.card_check.specs.IsCard.{IsInLoadPages};
-ghost use Rattle.card_core.specs.Card.{Stands};
+ghost use Rattle.card_core.specs.Card.{CardRepresents};
 ghost use Rattle.card_core.specs.LoadRead.{IsLoadRead};
-ghost use Rattle.card_types.specs.Says.{file_of};
+ghost use Rattle.card_types.specs.Represents.{file_of};
 ghost use Rattle.card_types.specs.Slots.{held};
 ghost use Rattle.faults.specs.Faults.{HasCause};
 ghost use Rattle.page_journal.specs.Moments.{LeavesOnly};
@@ -69,9 +69,9 @@ impl<F: Flash> Card<F> {
         ensures same { (self.new.tables ≡ self.old.tables) × (self.new.live ≡ self.old.live) × (self.new.held ≡ self.old.held) }
         ensures pages { F.tells → F.pages self.new.flash ≡ F.pages self.old.flash }
         // Power lost at any moment leaves the registry.
-        ensures moments { F.tells → (state : State) → Stands F.Flash self.old state
+        ensures moments { F.tells → (state : State) → CardRepresents F.Flash self.old state
             → LeavesOnly F.Flash self.old.flash self.new.flash (λ outcome. Reopens outcome state.registry) }
-        ensures stands { (state : State) → Stands F.Flash self.old state → OnOk result (Stands F.Flash self.new state) }
+        ensures stands { (state : State) → CardRepresents F.Flash self.old state → OnOk result (CardRepresents F.Flash self.new state) }
         ensures ok { OnOk result (self.new.up ≡ true) }
         ensures failed { OnErr result (self.new.up ≡ false) }
         ensures cause { HasCause (F.faults self.old.flash) (F.faults self.new.flash) result }

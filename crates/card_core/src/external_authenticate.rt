@@ -1,16 +1,16 @@
 //! EXTERNAL AUTHENTICATE: an offer becomes a session.
 
 ghost use Rattle.std.specs.Prelude.{◌≡◌, IfErr, OnOk};
-ghost use Rattle.card_core.specs.Holds.{HoldsAs, IsOffered};
-ghost use Rattle.card_core.specs.Offers.{AnswersAs, standing_for};
+ghost use Rattle.card_core.specs.SecureChannels.{RepresentsSecureChannel, IsOffered};
+ghost use Rattle.card_core.specs.Offers.{AnswersAs, secure_channel_for};
 ghost use Rattle.policy_rules.specs.Admission.{Admitted};
-ghost use Rattle.policy_rules.specs.Means.{IsRequestOf, IsWellFormed};
+ghost use Rattle.policy_rules.specs.Requests.{IsRequestOf, IsWellFormed};
 ghost use Rattle.policy_rules.specs.declared.external_authenticate.RuleEA.TheVariants.{EA1};
 ghost use Rattle.policy_rules.specs.declared.instruction.TheConstants.{EXTERNAL_AUTHENTICATE};
 ghost use Rattle.policy_rules.specs.declared.request.Request.TheVariants.{Authenticate};
 ghost use Rattle.policy_rules.specs.declared.rule.Rule.TheVariants.{EA};
 
-use crate::held::Held;
+use crate::channel_session::ChannelSession;
 use apdu_core::Status;
 use card_types::Level;
 use policy_rules::{EXTERNAL_AUTHENTICATE, Rule, RuleEA};
@@ -18,7 +18,7 @@ use scp03_card::AuthRefusal;
 use std::mem;
 
 /// Judges the rule of EXTERNAL AUTHENTICATE that stands before those on its form: the channel has an offer.
-pub fn judge_offer(held: &Held, ins: u8) -> Result<(), Rule>
+pub fn judge_offer(held: &ChannelSession, ins: u8) -> Result<(), Rule>
     ensures offered { OnOk result (ins ≡ EXTERNAL_AUTHENTICATE → IsOffered held.now) }
     ensures refused { IfErr result (λ rule. (rule ≡ EA EA1) × (ins ≡ EXTERNAL_AUTHENTICATE) × (IsOffered held.now → ⊥)) }
 {
@@ -29,20 +29,24 @@ pub fn judge_offer(held: &Held, ins: u8) -> Result<(), Rule>
 }
 
 /// Makes the offer that the channel holds a session. A refused answer loses the offer.
-pub fn external_authenticate(held: &mut Held, level: Level, proof: &[u8]) -> Result<Status, Rule>
+pub fn external_authenticate(
+    held: &mut ChannelSession,
+    level: Level,
+    proof: &[u8],
+) -> Result<Status, Rule>
     requires offered { IsOffered held.old }
     requires formed { IsWellFormed (Authenticate level proof) }
-    ensures { (admitted : Admitted) → IsRequestOf (Authenticate level proof.entry) admitted.command → HoldsAs held.old (standing_for admitted)
+    ensures { (admitted : Admitted) → IsRequestOf (Authenticate level proof.entry) admitted.command → RepresentsSecureChannel held.old (secure_channel_for admitted)
         → AnswersAs admitted held.old held.new result }
 {
-    let Held::Offered(offer) = mem::replace(held, Held::Nothing) else {
+    let ChannelSession::Offered(offer) = mem::replace(held, ChannelSession::Nothing) else {
         unreachable!()
     };
     let mut body = [0; 16];
     body.copy_from_slice(proof);
     match offer.authenticate(level, &body) {
         Ok(session) => {
-            *held = Held::Secured(session);
+            *held = ChannelSession::Secured(session);
             Ok(Status(0x9000))
         }
         Err(AuthRefusal::Cryptogram) => Err(Rule::EA(RuleEA::EA2)),

@@ -7,7 +7,7 @@ ghost use Rattle.card_types.specs.Ascending.{IsAscending};
 ghost use Rattle.card_types.specs.InOrder.{IsInOrder};
 ghost use Rattle.card_types.specs.NamedKeys.{HaveKeyLength};
 ghost use Rattle.card_types.specs.Registry.{Registry, object_named};
-ghost use Rattle.card_types.specs.Says.{Says, counter_of, domain_aid};
+ghost use Rattle.card_types.specs.Represents.{Represents, counter_of, domain_aid};
 ghost use Rattle.card_types.specs.Slots.{held as held_in};
 ghost use Rattle.card_types.specs.Well.{Well};
 ghost use Rattle.card_types.specs.declared.limits.TheConstants.{COUNTER_LIMIT};
@@ -15,13 +15,13 @@ ghost use Rattle.card_types.specs.declared.tables.Entry.{Entry};
 ghost use Rattle.policy_rules.specs.Admission.{Admitted};
 ghost use Rattle.policy_rules.specs.GetData.{IsDataObject};
 ghost use Rattle.policy_rules.specs.InitializeUpdate.{diversification_of, offer_body};
-ghost use Rattle.policy_rules.specs.Means.{ActsIn, IsRequestOf};
+ghost use Rattle.policy_rules.specs.Requests.{ActsIn, IsRequestOf};
 ghost use Rattle.policy_rules.specs.declared.request.Request.TheVariants.{Initialize};
-ghost use Rattle.scp03_card.specs.Kept.{StandsForOffer};
+ghost use Rattle.scp03_card.specs.Kept.{RepresentsOffer};
 ghost use Rattle.scp03_card.specs.Offer as model;
 ghost use Rattle.scp03_card.specs.Offer.{offered};
 
-use crate::held::Held;
+use crate::channel_session::ChannelSession;
 use crate::reply::REPLY_LIMIT;
 use aes_block::{Aes128, BlockKey};
 use apdu_core::Status;
@@ -43,7 +43,7 @@ const PROTOCOL: [u8; 2] = [0x03, 0x70];
 fn offer_of(set: &KeySet<'_>, aid: &Aid, host: &[u8; 8]) -> Offer<Aes128>
     requires lengths { HaveKeyLength set.now }
     requires counter { set.now.enc.now.counter ≤ COUNTER_LIMIT }
-    ensures made { StandsForOffer result
+    ensures made { RepresentsOffer result
         (offered set.now.enc.now.bytes.items set.now.mac.now.bytes.items set.now.dek.now.bytes.items set.now.enc.now.counter aid.now host.now) }
 {
     let keys = StaticKeys {
@@ -57,10 +57,10 @@ fn offer_of(set: &KeySet<'_>, aid: &Aid, host: &[u8; 8]) -> Offer<Aes128>
 // The key diversification data of a domain, where it has such a data object.
 fn diversification(tables: &Tables, owner: u8) -> Option<&Object>
     requires in_order { IsInOrder tables.now }
-    ensures some { (page : ℕ → List ℕ) (said : Registry) (entry : Entry) → Says page tables.now said → Well said
+    ensures some { (page : ℕ → List ℕ) (said : Registry) (entry : Entry) → Represents page tables.now said → Well said
         → held_in tables.now.entries.items owner ≡ Some entry
         → IfSome result (λ object. IsDataObject said (domain_aid tables.now.entries.items owner) 0xCF object.now.value.items) }
-    ensures none { (page : ℕ → List ℕ) (said : Registry) (entry : Entry) → Says page tables.now said → Well said
+    ensures none { (page : ℕ → List ℕ) (said : Registry) (entry : Entry) → Represents page tables.now said → Well said
         → held_in tables.now.entries.items owner ≡ Some entry
         → IfNone result (object_named said (domain_aid tables.now.entries.items owner) 0xCF ≡ None) }
 {
@@ -76,7 +76,7 @@ fn diversification(tables: &Tables, owner: u8) -> Option<&Object>
 fn write_diversification(tables: &Tables, owner: u8, reply: &mut ArrayVec<u8, REPLY_LIMIT>)
     requires in_order { IsInOrder tables.now }
     requires empty { reply.old.items ≡ [] }
-    ensures written { (page : ℕ → List ℕ) (said : Registry) (entry : Entry) → Says page tables.now said → Well said
+    ensures written { (page : ℕ → List ℕ) (said : Registry) (entry : Entry) → Represents page tables.now said → Well said
         → held_in tables.now.entries.items owner ≡ Some entry
         → reply.new.items ≡ diversification_of (object_named said (domain_aid tables.now.entries.items owner) 0xCF) }
     ensures size { length reply.new.items ≤ 120 }
@@ -97,8 +97,8 @@ fn write_offer(
     requires in_order { IsInOrder tables.now }
     requires counter { enc.now.counter ≤ COUNTER_LIMIT }
     requires empty { reply.old.items ≡ [] }
-    ensures written { (page : ℕ → List ℕ) (said : Registry) (entry : Entry) (made : model.Offer) → Says page tables.now said → Well said
-        → held_in tables.now.entries.items enc.now.owner ≡ Some entry → StandsForOffer offer.now made
+    ensures written { (page : ℕ → List ℕ) (said : Registry) (entry : Entry) (made : model.Offer) → Represents page tables.now said → Well said
+        → held_in tables.now.entries.items enc.now.owner ≡ Some entry → RepresentsOffer offer.now made
         → reply.new.items ≡ offer_body said (domain_aid tables.now.entries.items enc.now.owner) (counter_of tables.now.entries.items enc.now) made }
     ensures size { length reply.new.items ≤ 142 }
 {
@@ -115,7 +115,7 @@ fn write_offer(
 #[inline(never)]
 pub fn initialize_update<F: Flash>(
     records: &mut Records<F>,
-    held: &mut Held,
+    held: &mut ChannelSession,
     domain: u8,
     version: u8,
     challenge: &[u8],
@@ -143,6 +143,6 @@ pub fn initialize_update<F: Flash>(
     let offer = offer_of(&found.keys, found.aid, &host);
     write_offer(tables, found.keys.enc, &offer, reply);
     raise_counter(records, slot);
-    *held = Held::Offered(offer);
+    *held = ChannelSession::Offered(offer);
     Ok(Status(0x9000))
 }

@@ -5,16 +5,16 @@
 
 mod admit;
 mod card;
+mod channel_session;
 mod delete_key;
 mod digest;
 mod external_authenticate;
 mod formatting;
 mod get_data;
-mod held;
 mod initialize_update;
+mod literals;
 mod manage_channel;
 mod management;
-mod pinned;
 mod power;
 mod put_key;
 mod reply;
@@ -25,6 +25,6 @@ mod store_data;
 
 pub use card::Card;
 pub use formatting::format;
-pub use pinned::constants;
+pub use literals::constants;
 pub use power::{PowerCause, PowerError};
 pub use reply::REPLY_LIMIT;

@@ -1,16 +1,16 @@
 //! MANAGE CHANNEL: a channel is opened or closed.
 
 ghost use Rattle.std.specs.Prelude.{◌≡◌, ◌≤◌, ◌<◌, ℕ, List, [], length};
-ghost use Rattle.card_core.specs.Kept.{StandsOn};
+ghost use Rattle.card_core.specs.Kept.{RepresentsSoundly};
 ghost use Rattle.card_core.specs.Serves.{CarriesOutBut};
-ghost use Rattle.card_core.specs.declared.held.Held.{Held};
+ghost use Rattle.card_core.specs.declared.channel_session.ChannelSession.{ChannelSession};
 ghost use Rattle.card_types.specs.Layout.{HasLayout};
 ghost use Rattle.card_types.specs.declared.tables.Tables.{Tables};
 ghost use Rattle.policy_rules.specs.Admission.{Admitted};
-ghost use Rattle.policy_rules.specs.Means.{IsRequestOf};
+ghost use Rattle.policy_rules.specs.Requests.{IsRequestOf};
 ghost use Rattle.policy_rules.specs.declared.request.Request.TheVariants.{MoreChannel, LessChannel};
 
-use crate::held::Held;
+use crate::channel_session::ChannelSession;
 use crate::reply::REPLY_LIMIT;
 use apdu_core::Status;
 use arrayvec::ArrayVec;
@@ -20,8 +20,8 @@ use policy_rules::{CHANNELS, Live, Rule, judge_more_channel};
 /// Opens the lowest closed channel, with the Issuer Security Domain selected, and answers its number.
 pub fn open_channel(live: &mut Live, reply: &mut ArrayVec<u8, REPLY_LIMIT>) -> Result<Status, Rule>
     requires empty { reply.old.items ≡ [] }
-    ensures done { (page : ℕ → List ℕ) (tables : Tables) (all : List Held) (admitted : Admitted) → HasLayout tables
-        → StandsOn page (record { tables = tables; live = live.old; held = all }) admitted.at → length all ≡ CHANNELS → admitted.channel < CHANNELS
+    ensures done { (page : ℕ → List ℕ) (tables : Tables) (all : List ChannelSession) (admitted : Admitted) → HasLayout tables
+        → RepresentsSoundly page (record { tables = tables; live = live.old; held = all }) admitted.at → length all ≡ CHANNELS → admitted.channel < CHANNELS
         → IsRequestOf MoreChannel admitted.command
         → CarriesOutBut page admitted (record { tables = tables; live = live.new; held = all }) reply.new.items result }
     ensures room { length reply.new.items ≤ 239 }
@@ -39,12 +39,12 @@ pub fn open_channel(live: &mut Live, reply: &mut ArrayVec<u8, REPLY_LIMIT>) -> R
 /// Closes a channel. A warning says that it was closed already.
 pub fn close_channel(
     live: &mut Live,
-    held: &mut [Held; CHANNELS],
+    held: &mut [ChannelSession; CHANNELS],
     number: u8,
 ) -> Result<Status, Rule>
     requires low { 1 ≤ number }
     requires high { number < CHANNELS }
-    ensures done { (page : ℕ → List ℕ) (tables : Tables) (admitted : Admitted) → StandsOn page (record { tables = tables; live = live.old; held = held.old }) admitted.at
+    ensures done { (page : ℕ → List ℕ) (tables : Tables) (admitted : Admitted) → RepresentsSoundly page (record { tables = tables; live = live.old; held = held.old }) admitted.at
         → IsRequestOf (LessChannel number) admitted.command
         → CarriesOutBut page admitted (record { tables = tables; live = live.new; held = held.new }) [] result }
 {

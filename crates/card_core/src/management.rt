@@ -2,17 +2,17 @@
 
 ghost use Rattle.std.specs.Prelude.{◌≡◌, ◌≤◌, ℕ, List, [], Contains, OnErr, length, true};
 ghost use Rattle.card_core.specs.Domains.{is_domain_in};
-ghost use Rattle.card_core.specs.Holds.{HoldsAs, IsInSession};
+ghost use Rattle.card_core.specs.SecureChannels.{RepresentsSecureChannel, IsInSession};
 ghost use Rattle.card_core.specs.Kept.{AreCards};
 ghost use Rattle.card_core.specs.Manages.{Manages};
-ghost use Rattle.card_core.specs.Offers.{standing_for};
+ghost use Rattle.card_core.specs.Offers.{secure_channel_for};
 ghost use Rattle.card_types.specs.Ascending.{IsAscending};
 ghost use Rattle.policy_rules.specs.Admission.{Admitted};
 ghost use Rattle.policy_rules.specs.Classes.{managing};
-ghost use Rattle.policy_rules.specs.Means.{ActsIn, IsRequestOf, IsWellFormed, form_in};
+ghost use Rattle.policy_rules.specs.Requests.{ActsIn, IsRequestOf, IsWellFormed, form_in};
 
+use crate::channel_session::ChannelSession;
 use crate::delete_key::delete_key;
-use crate::held::Held;
 use crate::put_key::put_key;
 use crate::reply::REPLY_LIMIT;
 use crate::store_data::store_data;
@@ -26,7 +26,7 @@ use rec_store::Records;
 /// in. It commits nothing.
 pub fn manage<F: Flash>(
     records: &mut Records<F>,
-    held: &Held,
+    held: &ChannelSession,
     domain: u8,
     request: &Request<'_>,
     reply: &mut ArrayVec<u8, REPLY_LIMIT>,
@@ -40,7 +40,7 @@ pub fn manage<F: Flash>(
     requires formed { IsWellFormed request.now }
     requires empty { reply.old.items ≡ [] }
     ensures done { (page : ℕ → List ℕ) (admitted : Admitted) → ActsIn page records.old.tables domain admitted → IsAscending admitted.at.registry
-        → IsRequestOf request.now admitted.command → HoldsAs held.now (standing_for admitted)
+        → IsRequestOf request.now admitted.command → RepresentsSecureChannel held.now (secure_channel_for admitted)
         → Manages admitted page records.old.tables records.new.tables reply.new.items result }
     ensures entries { records.new.tables.entries.items ≡ records.old.tables.entries.items }
     ensures cards { AreCards records.new.tables }

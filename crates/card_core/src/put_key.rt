@@ -5,15 +5,15 @@ ghost use Rattle.cmac_kdf.specs.Blocks.{IsBytes};
 ghost use Rattle.card_core.specs.Domains.{is_domain_in};
 ghost use Rattle.card_core.specs.Kept.{AreCards};
 ghost use Rattle.card_core.specs.Manages.{Manages};
-ghost use Rattle.card_core.specs.Holds.{HoldsAs, IsInSession};
-ghost use Rattle.card_core.specs.Offers.{standing_for};
+ghost use Rattle.card_core.specs.SecureChannels.{RepresentsSecureChannel, IsInSession};
+ghost use Rattle.card_core.specs.Offers.{secure_channel_for};
 ghost use Rattle.card_types.specs.Ascending.{IsAscending};
 ghost use Rattle.policy_rules.specs.Admission.{Admitted};
-ghost use Rattle.policy_rules.specs.Means.{ActsIn, IsRequestOf, IsWellFormed, sent_key};
+ghost use Rattle.policy_rules.specs.Requests.{ActsIn, IsRequestOf, IsWellFormed, sent_key};
 ghost use Rattle.policy_rules.specs.PutKey.{IsKeySent, check_value};
 ghost use Rattle.policy_rules.specs.declared.request.Request.TheVariants.{PutKey};
 
-use crate::held::Held;
+use crate::channel_session::ChannelSession;
 use crate::reply::REPLY_LIMIT;
 use aes_block::{Aes128, BlockKey};
 use apdu_core::Status;
@@ -74,7 +74,7 @@ fn write_check(sent: &SealedKey<'_>, reply: &mut ArrayVec<u8, REPLY_LIMIT>)
 #[inline(never)]
 pub fn put_key<F: Flash>(
     records: &mut Records<F>,
-    held: &Held,
+    held: &ChannelSession,
     domain: u8,
     replaced: u8,
     version: u8,
@@ -89,7 +89,7 @@ pub fn put_key<F: Flash>(
     requires formed { IsWellFormed (PutKey replaced version keys.now) }
     requires empty { reply.old.items ≡ [] }
     ensures done { (page : ℕ → List ℕ) (admitted : Admitted) → ActsIn page records.old.tables domain admitted → IsAscending admitted.at.registry
-        → IsRequestOf (PutKey replaced version keys.now) admitted.command → HoldsAs held.now (standing_for admitted)
+        → IsRequestOf (PutKey replaced version keys.now) admitted.command → RepresentsSecureChannel held.now (secure_channel_for admitted)
         → Manages admitted page records.old.tables records.new.tables reply.new.items result }
     ensures entries { records.new.tables.entries.items ≡ records.old.tables.entries.items }
     ensures cards { AreCards records.new.tables }
@@ -97,7 +97,7 @@ pub fn put_key<F: Flash>(
     ensures refused { OnErr result (records.new ≡ records.old) }
     ensures room { length reply.new.items ≤ 239 }
 {
-    let Held::Secured(session) = held else {
+    let ChannelSession::Secured(session) = held else {
         unreachable!()
     };
     judge_put_versions(records.tables(), domain, replaced, version)?;

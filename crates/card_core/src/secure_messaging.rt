@@ -3,13 +3,13 @@
 ghost use Rattle.std.specs.Prelude.{◌≡◌, ◌≤◌, length, IfOk, OnOk};
 ghost use Rattle.arrayvec.specs.ArrayVec.{array_vec_len};
 ghost use Rattle.apdu_core.specs.Apdu.{apdu_of};
-ghost use Rattle.card_core.specs.Holds.{HoldsAs, IsInSession};
+ghost use Rattle.card_core.specs.SecureChannels.{RepresentsSecureChannel, IsInSession};
 ghost use Rattle.card_core.specs.Secured.{OpensAs};
-ghost use Rattle.policy_rules.specs.Volatile.{Secured, Standing};
+ghost use Rattle.policy_rules.specs.Volatile.{Secured, SecureChannel};
 ghost use Rattle.scp03_card.specs.Protected.{protected};
 ghost use Rattle.scp03_card.specs.Session.{Session};
 
-use crate::held::Held;
+use crate::channel_session::ChannelSession;
 use crate::reply::{REPLY_LIMIT, write_status};
 use apdu_core::{Command, Status};
 use arrayvec::ArrayVec;
@@ -19,39 +19,39 @@ use scp03_card::OpenRefusal;
 /// Opens a protected command: its plain data field is in the front of `plain` then, and its length is answered. A wrong
 /// C-MAC or padding ends the session.
 pub fn open_command(
-    held: &mut Held,
+    held: &mut ChannelSession,
     command: &Command<'_>,
     plain: &mut [u8; 255],
 ) -> Result<usize, RuleG>
     requires { length command.now.body.now ≤ 255 }
-    ensures opens { (standing : Standing) → HoldsAs held.old standing → OpensAs (apdu_of command.now) standing held.old held.new plain.new result }
+    ensures opens { (secure_channel : SecureChannel) → RepresentsSecureChannel held.old secure_channel → OpensAs (apdu_of command.now) secure_channel held.old held.new plain.new result }
     ensures short { IfOk result (λ count. count ≤ 255) }
     ensures secured { OnOk result (IsInSession held.new) }
 {
-    let Held::Secured(session) = held else {
+    let ChannelSession::Secured(session) = held else {
         return Err(RuleG::G6);
     };
     match session.open_command(command, plain) {
         Ok(count) => Ok(count),
         Err(OpenRefusal::Mac) => {
-            *held = Held::Nothing;
+            *held = ChannelSession::Nothing;
             Err(RuleG::G7)
         }
         Err(OpenRefusal::Padding) => {
-            *held = Held::Nothing;
+            *held = ChannelSession::Nothing;
             Err(RuleG::G8)
         }
     }
 }
 
 /// Closes the reply to a protected command.
-pub fn close_reply(held: &mut Held, status: Status, reply: &mut ArrayVec<u8, REPLY_LIMIT>)
+pub fn close_reply(held: &mut ChannelSession, status: Status, reply: &mut ArrayVec<u8, REPLY_LIMIT>)
     requires { array_vec_len reply.old ≤ 239 }
-    ensures closed { (session : Session) → HoldsAs held.old (Secured session) → reply.new.items ≡ protected session reply.old.items status.0 }
+    ensures closed { (session : Session) → RepresentsSecureChannel held.old (Secured session) → reply.new.items ≡ protected session reply.old.items status.0 }
     ensures same { held.new ≡ held.old }
 {
     match held {
-        Held::Secured(session) => session.close_reply(reply, status),
+        ChannelSession::Secured(session) => session.close_reply(reply, status),
         _ => write_status(status, reply),
     }
 }

@@ -2,16 +2,16 @@
 
 ghost use Rattle.std.specs.Prelude.{◌≡◌, ◌≤◌, ◌<◌, ℕ, List, [], length, slice_index_or, slice_set};
 ghost use Rattle.card_types.specs.InOrder.{IsInOrder};
-ghost use Rattle.card_core.specs.Kept.{StandsOn};
+ghost use Rattle.card_core.specs.Kept.{RepresentsSoundly};
 ghost use Rattle.card_core.specs.Serves.{CarriesOutBut};
-ghost use Rattle.card_core.specs.declared.held.Held.{Held};
-ghost use Rattle.card_core.specs.declared.held.Held.TheVariants as holding;
+ghost use Rattle.card_core.specs.declared.channel_session.ChannelSession.{ChannelSession};
+ghost use Rattle.card_core.specs.declared.channel_session.ChannelSession.TheVariants as holding;
 ghost use Rattle.policy_rules.specs.Admission.{Admitted};
-ghost use Rattle.policy_rules.specs.Means.{IsRequestOf};
+ghost use Rattle.policy_rules.specs.Requests.{IsRequestOf};
 ghost use Rattle.policy_rules.specs.Select.{IsControlInformation, selected_status as status_by};
 ghost use Rattle.policy_rules.specs.declared.request.Request.TheVariants.{Select};
 
-use crate::held::Held;
+use crate::channel_session::ChannelSession;
 use crate::reply::REPLY_LIMIT;
 use apdu_core::Status;
 use arrayvec::ArrayVec;
@@ -84,7 +84,7 @@ fn selected_status(card_life: CardLife) -> Status
 pub fn select(
     tables: &Tables,
     live: &mut Live,
-    held: &mut Held,
+    held: &mut ChannelSession,
     channel: u8,
     partial: &[u8],
     reply: &mut ArrayVec<u8, REPLY_LIMIT>,
@@ -92,7 +92,7 @@ pub fn select(
     requires in_order { IsInOrder tables.now }
     requires channel { channel < CHANNELS }
     requires empty { reply.old.items ≡ [] }
-    ensures done { (page : ℕ → List ℕ) (all : List Held) (admitted : Admitted) → StandsOn page (record { tables = tables.now; live = live.old; held = all }) admitted.at
+    ensures done { (page : ℕ → List ℕ) (all : List ChannelSession) (admitted : Admitted) → RepresentsSoundly page (record { tables = tables.now; live = live.old; held = all }) admitted.at
         → length all ≡ CHANNELS → channel ≡ admitted.channel → slice_index_or all channel holding.Nothing ≡ held.old
         → IsRequestOf (Select partial.entry) admitted.command
         → CarriesOutBut page admitted (record { tables = tables.now; live = live.new; held = slice_set all channel held.new }) reply.new.items result }

@@ -5,11 +5,11 @@ ghost use Rattle.apdu_core.specs.Apdu.{apdu_of};
 ghost use Rattle.apdu_core.specs.Reply.{status_bytes};
 ghost use Rattle.card_core.specs.Commits.{MayCommit};
 ghost use Rattle.card_core.specs.Domains.{is_domain_in};
-ghost use Rattle.card_core.specs.Holds.{HoldsAs, IsInSession, held_passed, without_offer_held};
-ghost use Rattle.card_core.specs.Kept.{AreCards, StandsOn};
-ghost use Rattle.card_core.specs.Serves.{CarriesOut, CarriesOutBut, IsOver, Serves, live_passed, live_refused, rule_of, word_of};
+ghost use Rattle.card_core.specs.SecureChannels.{RepresentsSecureChannel, IsInSession, held_passed, without_offer_held};
+ghost use Rattle.card_core.specs.Kept.{AreCards, RepresentsSoundly};
+ghost use Rattle.card_core.specs.Serves.{CarriesOut, CarriesOutBut, IsTerminatedFor, Serves, live_passed, live_refused, rule_of, status_word};
 ghost use Rattle.policy_rules.specs.Admission.{Admitted};
-ghost use Rattle.card_core.specs.declared.held.Held.TheVariants as holding;
+ghost use Rattle.card_core.specs.declared.channel_session.ChannelSession.TheVariants as holding;
 ghost use Rattle.policy_rules.specs.Classes.{managing};
 ghost use Rattle.policy_rules.specs.Commands.{IsBuilt};
 ghost use Rattle.policy_rules.specs.State.{State};
@@ -19,9 +19,9 @@ ghost use Rattle.scp03_card.specs.Protected.{protected};
 ghost use Rattle.scp03_card.specs.Session.{Session};
 
 use crate::admit::{Received, admit, is_over};
+use crate::channel_session::ChannelSession;
 use crate::external_authenticate::{external_authenticate, judge_offer};
 use crate::get_data::get_data;
-use crate::held::Held;
 use crate::initialize_update::initialize_update;
 use crate::manage_channel::{close_channel, open_channel};
 use crate::management::manage;
@@ -39,10 +39,14 @@ use policy_rules::{
 use rec_store::Records;
 
 // Checks the life cycle state of the card, and drops an offer that the command doesn't answer.
-fn pass_class(card_life: CardLife, received: &Received<'_>, held: &mut Held) -> Result<(), RuleG>
-    ensures ok { OnOk result (IsOver card_life received.now.class received.now.command.ins → ⊥) }
+fn check_class(
+    card_life: CardLife,
+    received: &Received<'_>,
+    held: &mut ChannelSession,
+) -> Result<(), RuleG>
+    ensures ok { OnOk result (IsTerminatedFor card_life received.now.class received.now.command.ins → ⊥) }
     ensures kept { OnOk result (held.new ≡ held_passed (received.now.command.ins == EXTERNAL_AUTHENTICATE) held.old) }
-    ensures over { IfErr result (λ rule. (rule ≡ RuleG.G5) × IsOver card_life received.now.class received.now.command.ins) }
+    ensures over { IfErr result (λ rule. (rule ≡ RuleG.G5) × IsTerminatedFor card_life received.now.class received.now.command.ins) }
     ensures lost { OnErr result (held.new ≡ held_passed false held.old) }
 {
     let ins = received.command.ins;
@@ -63,7 +67,7 @@ fn pass_session(received: &Received<'_>, live: &mut Live)
 }
 
 // What a refusal ends: an offer on the channel, and a load session that the rule does not keep.
-fn refuse(rule: Rule, channel: u8, live: &mut Live, held: &mut Held)
+fn refuse(rule: Rule, channel: u8, live: &mut Live, held: &mut ChannelSession)
     ensures live { live.new ≡ live_refused rule channel live.old }
     ensures held { held.new ≡ without_offer_held held.old }
 {
@@ -78,7 +82,7 @@ fn refuse(rule: Rule, channel: u8, live: &mut Live, held: &mut Held)
 fn carry_out<F: Flash>(
     records: &mut Records<F>,
     live: &mut Live,
-    held: &mut [Held; CHANNELS],
+    held: &mut [ChannelSession; CHANNELS],
     received: &Received<'_>,
     command: &Command<'_>,
     reply: &mut ArrayVec<u8, REPLY_LIMIT>,
@@ -93,7 +97,7 @@ fn carry_out<F: Flash>(
     requires secured { Contains managing command.now.ins → IsInSession (slice_index_or held.old received.now.channel holding.Nothing) }
     requires short { length command.now.body.now ≤ 255 }
     requires empty { reply.old.items ≡ [] }
-    ensures done { (page : ℕ → List ℕ) (judged : Admitted) → StandsOn page (record { tables = records.old.tables; live = live.old; held = held.old }) judged.at
+    ensures done { (page : ℕ → List ℕ) (judged : Admitted) → RepresentsSoundly page (record { tables = records.old.tables; live = live.old; held = held.old }) judged.at
         → received.now.channel ≡ judged.channel → judged.command ≡ apdu_of command.now
         → CarriesOutBut page judged (record { tables = records.new.tables; live = live.new; held = held.new }) reply.new.items result }
     ensures cards { AreCards records.new.tables }
@@ -149,7 +153,7 @@ fn carry_out<F: Flash>(
 fn act<F: Flash>(
     records: &mut Records<F>,
     live: &mut Live,
-    held: &mut [Held; CHANNELS],
+    held: &mut [ChannelSession; CHANNELS],
     received: &Received<'_>,
     command: &Command<'_>,
     reply: &mut ArrayVec<u8, REPLY_LIMIT>,
@@ -164,7 +168,7 @@ fn act<F: Flash>(
     requires secured { Contains managing command.now.ins → IsInSession (slice_index_or held.old received.now.channel holding.Nothing) }
     requires short { length command.now.body.now ≤ 255 }
     requires empty { reply.old.items ≡ [] }
-    ensures done { (page : ℕ → List ℕ) (judged : Admitted) → StandsOn page (record { tables = records.old.tables; live = live.old; held = held.old }) judged.at
+    ensures done { (page : ℕ → List ℕ) (judged : Admitted) → RepresentsSoundly page (record { tables = records.old.tables; live = live.old; held = held.old }) judged.at
         → received.now.channel ≡ judged.channel → judged.command ≡ apdu_of command.now
         → CarriesOut page judged (record { tables = records.new.tables; live = live.new; held = held.new }) reply.new.items result }
     ensures cards { AreCards records.new.tables }
@@ -185,7 +189,7 @@ fn act<F: Flash>(
 // Closes a reply in plain, and answers the rule.
 fn close_plain(served: Result<Status, Rule>, reply: &mut ArrayVec<u8, REPLY_LIMIT>) -> Option<Rule>
     requires { length reply.old.items ≤ 239 }
-    ensures closed { reply.new.items ≡ reply.old.items ++ status_bytes (word_of served) }
+    ensures closed { reply.new.items ≡ reply.old.items ++ status_bytes (status_word served) }
     ensures rule { result ≡ rule_of served }
 {
     match served {
@@ -203,11 +207,11 @@ fn close_plain(served: Result<Status, Rule>, reply: &mut ArrayVec<u8, REPLY_LIMI
 // The same of a reply to a protected command.
 fn close_protected(
     served: Result<Status, Rule>,
-    held: &mut Held,
+    held: &mut ChannelSession,
     reply: &mut ArrayVec<u8, REPLY_LIMIT>,
 ) -> Option<Rule>
     requires { length reply.old.items ≤ 239 }
-    ensures closed { (session : Session) → HoldsAs held.old (Secured session) → reply.new.items ≡ protected session reply.old.items (word_of served) }
+    ensures closed { (session : Session) → RepresentsSecureChannel held.old (Secured session) → reply.new.items ≡ protected session reply.old.items (status_word served) }
     ensures rule { result ≡ rule_of served }
     ensures same { held.new ≡ held.old }
 {
@@ -228,7 +232,7 @@ fn close_protected(
 pub fn serve<F: Flash>(
     records: &mut Records<F>,
     live: &mut Live,
-    held: &mut [Held; CHANNELS],
+    held: &mut [ChannelSession; CHANNELS],
     bytes: &[u8],
     reply: &mut ArrayVec<u8, REPLY_LIMIT>,
 ) -> Option<Rule>
@@ -236,7 +240,7 @@ pub fn serve<F: Flash>(
     requires clean { records.old.staged ≡ [] }
     requires cards { AreCards records.old.tables }
     requires empty { reply.old.items ≡ [] }
-    ensures served { (page : ℕ → List ℕ) (state : State) → StandsOn page (record { tables = records.old.tables; live = live.old; held = held.old }) state
+    ensures served { (page : ℕ → List ℕ) (state : State) → RepresentsSoundly page (record { tables = records.old.tables; live = live.old; held = held.old }) state
         → Serves page state bytes.now (record { tables = records.new.tables; live = live.new; held = held.new }) reply.new.items result }
     ensures cards { AreCards records.new.tables }
     ensures same { (records.new.flash ≡ records.old.flash) × (records.new.live ≡ true) }
@@ -249,7 +253,7 @@ pub fn serve<F: Flash>(
     };
     let channel = usize::from(received.channel);
     live.forget_place(received.channel);
-    if let Err(rule) = pass_class(records.tables().life, &received, &mut held[channel]) {
+    if let Err(rule) = check_class(records.tables().life, &received, &mut held[channel]) {
         return close_plain(Err(Rule::G(rule)), reply);
     }
     if is_plain_management(received.class, received.command.ins) {

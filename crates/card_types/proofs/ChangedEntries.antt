@@ -8,7 +8,7 @@ use Rattle.std.proofs.lemmas.List.{get_or-set_other, get_or-set_same}
 use Rattle.card_types.specs.AidOrder.{aid_order}
 use Rattle.card_types.specs.Changed.{IsChanged}
 use Rattle.card_types.specs.Registry as registry
-use Rattle.card_types.specs.Says.{Says, counter_of, domain_aid, entry_of, file_of, keeps_counter, key_of, object_of}
+use Rattle.card_types.specs.Represents.{Represents, counter_of, domain_aid, entry_of, file_of, keeps_counter, key_of, object_of}
 use Rattle.card_types.specs.SlotChange.{SetsEntry}
 use Rattle.card_types.specs.Slots.{held}
 use Rattle.card_types.specs.Well.{Well}
@@ -35,13 +35,13 @@ pub record NoneNames (tables : Tables) (domain : ℕ) : Type 0 where
   pub keys : (slot : ℕ) (key : KeyRec) → held tables.keys.items slot ≡ Some key → key.owner ≢ domain
   pub objects : (slot : ℕ) (object : Object) → held tables.objects.items slot ≡ Some object → object.owner ≢ domain
 
-module _ (page : ℕ → List ℕ) (before after : Tables) (said : registry.Registry) (says : Says page before said) (slot : ℕ) where
+module _ (page : ℕ → List ℕ) (before after : Tables) (said : registry.Registry) (says : Represents page before said) (slot : ℕ) where
   -- the entries are those with that one change
   pub entry_changed : (entry : Option Entry) (entries : List registry.Entry)
       → slot < length before.entries.items → SetsEntry before after slot entry → KeepsDomains before after
       → IsChanged (λ x y. aid_order x.aid y.aid) (option_map (entry_of before.entries.items before.files.items) (held before.entries.items slot))
       (option_map (entry_of before.entries.items before.files.items) entry) said.entries entries
-      → Says page after (record said { entries = entries })
+      → Represents page after (record said { entries = entries })
   entry_changed entry entries within set keeps changed = record {
     life = set.life ∙ says.life;
     entries = changed_all (entry_of before.entries.items before.files.items) (entry_of after.entries.items after.files.items) before.entries.items after.entries.items slot entry

@@ -8,7 +8,7 @@ use Rattle.std.proofs.lemmas.List.{get_or-set_other, get_or-set_same}
 use Rattle.card_types.specs.AidOrder.{aid_order}
 use Rattle.card_types.specs.Changed.{IsChanged}
 use Rattle.card_types.specs.Registry as registry
-use Rattle.card_types.specs.Says.{Says, counter_of, entry_of, file_aid, file_of, keeps_counter, key_of, object_of}
+use Rattle.card_types.specs.Represents.{Represents, counter_of, entry_of, file_aid, file_of, keeps_counter, key_of, object_of}
 use Rattle.card_types.specs.SlotChange.{SetsFile}
 use Rattle.card_types.specs.Slots.{held}
 use Rattle.card_types.specs.Well.{Well}
@@ -28,13 +28,13 @@ abbrev pub KeepsPages : (ℕ → List ℕ) → (ℕ → List ℕ) → Tables →
 KeepsPages page page' before =
     (slot : ℕ) (file : LoadFile) → held before.files.items slot ≡ Some file → file_of page' before.entries.items file ≡ file_of page before.entries.items file
 
-module _ (page page' : ℕ → List ℕ) (before after : Tables) (said : registry.Registry) (says : Says page before said) (slot : ℕ) where
+module _ (page page' : ℕ → List ℕ) (before after : Tables) (said : registry.Registry) (says : Represents page before said) (slot : ℕ) where
   -- the load files are those with that one change
   pub file_changed : (file : Option LoadFile) (files : List registry.LoadFile)
       → slot < length before.files.items → SetsFile before after slot file → KeepsFiles before after → KeepsPages page page' before
       → IsChanged (λ x y. aid_order x.aid y.aid) (option_map (file_of page' before.entries.items) (held before.files.items slot))
       (option_map (file_of page' before.entries.items) file) said.files files
-      → Says page' after (record said { files = files })
+      → Represents page' after (record said { files = files })
   file_changed file files within set keeps pages changed = record {
     life = set.life ∙ says.life;
     entries = same_all (entry_of before.entries.items before.files.items) (entry_of after.entries.items after.files.items) before.entries.items after.entries.items said.entries says.entries set.entries

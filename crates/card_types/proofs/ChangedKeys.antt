@@ -4,7 +4,7 @@ use Rattle.std.specs.Option.{option_map}
 use Rattle.card_types.specs.Ascending.{counter_order, key_order, object_order}
 use Rattle.card_types.specs.Changed.{IsChanged}
 use Rattle.card_types.specs.Registry as registry
-use Rattle.card_types.specs.Says.{Says, counter_of, entry_of, file_of, keeps_counter, key_of, object_of}
+use Rattle.card_types.specs.Represents.{Represents, counter_of, entry_of, file_of, keeps_counter, key_of, object_of}
 use Rattle.card_types.specs.SlotChange.{SetsKey, SetsObject}
 use Rattle.card_types.specs.Slots.{held}
 use Rattle.card_types.specs.declared.tables.KeyRec.{KeyRec}
@@ -14,13 +14,13 @@ use Rattle.card_types.proofs.ChangedSlot.{changed_all, changed_slot, same_all, s
 use Rattle.card_types.proofs.KeyNames.{counter_order_total, key_order_total}
 use Rattle.card_types.proofs.ObjectNames.{object_order_total}
 
-module _ (page : ℕ → List ℕ) (before after : Tables) (said : registry.Registry) (says : Says page before said) (slot : ℕ) where
+module _ (page : ℕ → List ℕ) (before after : Tables) (said : registry.Registry) (says : Represents page before said) (slot : ℕ) where
   -- the keys and counters are those with that one change
   pub key_changed : (key : Option KeyRec) (keys : List registry.Key) (counters : List registry.Counter)
       → slot < length before.keys.items → SetsKey before after slot key
       → IsChanged key_order (option_map (key_of before.entries.items) (held before.keys.items slot)) (option_map (key_of before.entries.items) key) said.keys keys
       → IsChanged counter_order (shown (counter_of before.entries.items) keeps_counter (held before.keys.items slot)) (shown (counter_of before.entries.items) keeps_counter key) said.counters counters
-      → Says page after (record said { keys = keys; counters = counters })
+      → Represents page after (record said { keys = keys; counters = counters })
   key_changed key keys counters within set changed_keys changed_counters = record {
     life = set.life ∙ says.life;
     entries = same_all (entry_of before.entries.items before.files.items) (entry_of after.entries.items after.files.items) before.entries.items after.entries.items said.entries says.entries set.entries
@@ -46,7 +46,7 @@ module _ (page : ℕ → List ℕ) (before after : Tables) (said : registry.Regi
   pub object_changed : (object : Option Object) (objects : List registry.Object)
       → slot < length before.objects.items → SetsObject before after slot object
       → IsChanged object_order (option_map (object_of before.entries.items) (held before.objects.items slot)) (option_map (object_of before.entries.items) object) said.objects objects
-      → Says page after (record said { objects = objects })
+      → Represents page after (record said { objects = objects })
   object_changed object objects within set changed = record {
     life = set.life ∙ says.life;
     entries = same_all (entry_of before.entries.items before.files.items) (entry_of after.entries.items after.files.items) before.entries.items after.entries.items said.entries says.entries set.entries

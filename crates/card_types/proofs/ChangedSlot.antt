@@ -10,7 +10,7 @@ use Rattle.std.specs.Cmp.{IsTotalOrder}
 use Rattle.std.specs.declared.cmp.Ordering.{Ordering}
 use Rattle.card_types.proofs.AtMostOnce.{AtMostOnce, once_from_sorted, without_first}
 use Rattle.card_types.specs.Changed.{IsChanged}
-use Rattle.card_types.specs.Says.{used}
+use Rattle.card_types.specs.Represents.{used}
 use Rattle.card_types.specs.Slots.{held}
 
 -- what a slot shows: a view of what it holds, if that is kept

@@ -4,7 +4,7 @@ use Rattle.std.specs.Prelude.{map}
 use Rattle.card_types.specs.Hierarchy.{IsLine}
 use Rattle.card_types.specs.Registry as registry
 use Rattle.card_types.specs.Registry.{domain_of}
-use Rattle.card_types.specs.Says.{Says, domain_aid, domain_slot}
+use Rattle.card_types.specs.Represents.{Represents, domain_aid, domain_slot}
 use Rattle.card_types.specs.Slots.{held}
 use Rattle.card_types.specs.Well.{Well}
 use Rattle.card_types.specs.declared.tables.Entry.{Entry}
@@ -12,7 +12,7 @@ use Rattle.card_types.specs.declared.tables.Tables.{Tables}
 use Rattle.card_types.proofs.Domains.{domain_aid_is, domain_is_used, same_domain, step_from_used, step_named, used_from_step, well_entry}
 use Rattle.card_types.proofs.Lines.{line_more, line_steps}
 
-module _ (page : ℕ → List ℕ) (tables : Tables) (said : registry.Registry) (says : Says page tables said) where
+module _ (page : ℕ → List ℕ) (tables : Tables) (said : registry.Registry) (says : Represents page tables said) where
   -- a line by slots is a line by names
   pub line_named : (slot : ℕ) (line : List ℕ) → IsLine (domain_slot tables.entries.items) slot line
       → IsLine (domain_of said) (domain_aid tables.entries.items slot) (map (domain_aid tables.entries.items) line)

@@ -9,7 +9,7 @@ use Rattle.card_types.specs.AidOrder.{same_aid}
 use Rattle.card_types.specs.Privileges.{has, security_domain}
 use Rattle.card_types.specs.Registry as registry
 use Rattle.card_types.specs.Registry.{domain_of, entry_named, file_named, is_domain}
-use Rattle.card_types.specs.Says.{Says, domain_aid, domain_slot, entry_of, file_aid, file_of, key_of, object_of}
+use Rattle.card_types.specs.Represents.{Represents, domain_aid, domain_slot, entry_of, file_aid, file_of, key_of, object_of}
 use Rattle.card_types.specs.Slots.{held}
 use Rattle.card_types.specs.Well.{IsDomainNamed, IsWellEntry, IsWellFile, IsWellKey, IsWellObject, Well}
 use Rattle.card_types.specs.declared.tables.Entry.{Entry}
@@ -39,7 +39,7 @@ used_from_step entries slot next steps = by (held entries slot) refl steps
 pub step_from_used : (entries : List (Option Entry)) (slot : ℕ) (entry : Entry) → held entries slot ≡ Some entry → domain_slot entries slot ≡ Some entry.domain
 step_from_used entries slot entry at = ap (option_map (λ e. e.domain)) at
 
-module _ (page : ℕ → List ℕ) (tables : Tables) (said : registry.Registry) (says : Says page tables said) where
+module _ (page : ℕ → List ℕ) (tables : Tables) (said : registry.Registry) (says : Represents page tables said) where
   -- two used slots with one AID are one
   pub same_domain : (a b : ℕ) (x y : Entry) → held tables.entries.items a ≡ Some x → held tables.entries.items b ≡ Some y
       → domain_aid tables.entries.items a ≡ domain_aid tables.entries.items b → a ≡ b

@@ -7,7 +7,7 @@ use Rattle.card_types.specs.Ascending.{counter_order, key_order}
 use Rattle.card_types.specs.Changed.{IsChanged}
 use Rattle.card_types.specs.Counters.{HasNextCounter, raised, raised_key}
 use Rattle.card_types.specs.Registry as registry
-use Rattle.card_types.specs.Says.{Says, counter_of, domain_aid, keeps_counter, key_of}
+use Rattle.card_types.specs.Represents.{Represents, counter_of, domain_aid, keeps_counter, key_of}
 use Rattle.card_types.specs.SlotChange.{SetsKey}
 use Rattle.card_types.specs.Slots.{held}
 use Rattle.card_types.specs.Well.{Well}
@@ -33,8 +33,8 @@ held_within (s ∷ slots) (suc slot) thing at = (let rest = held_within slots sl
 
 module _ (before after : Tables) (slot : ℕ) (key : KeyRec) (at : held before.keys.items slot ≡ Some key)
     (keeps : keeps_counter key ≡ true) (set : SetsKey before after slot (Some (raised_key key))) where
-  module _ (page : ℕ → List ℕ) (said : registry.Registry) (says : Says page before said) where
-    pub drawn_says : Says page after (raised said (domain_aid before.entries.items key.owner) key.version)
+  module _ (page : ℕ → List ℕ) (said : registry.Registry) (says : Represents page before said) where
+    pub drawn_says : Represents page after (raised said (domain_aid before.entries.items key.owner) key.version)
     drawn_says =
         let owner = domain_aid before.entries.items key.owner in
         let counter = counter_of before.entries.items key in

@@ -3,7 +3,7 @@ use Rattle.std.proofs.Common.{ℕ, List, Option, ap, length, refl}
 use Rattle.std.specs.List.Sorted.{IsStrictlySortedBy}
 use Rattle.std.proofs.lemmas.List.Sorted.{IsPermutation-refl}
 use Rattle.card_types.specs.Factory.{IsFactory, factory_registry}
-use Rattle.card_types.specs.Says.{Says}
+use Rattle.card_types.specs.Represents.{Represents}
 use Rattle.card_types.specs.Layout.{HasLayout}
 use Rattle.card_types.specs.declared.tables.Entry.{Entry}
 use Rattle.card_types.specs.declared.tables.KeyRec.{KeyRec}
@@ -11,7 +11,7 @@ use Rattle.card_types.specs.declared.tables.LoadFile.{LoadFile}
 use Rattle.card_types.specs.declared.tables.Object.{Object}
 use Rattle.card_types.specs.declared.tables.Tables.{Tables}
 
-pub factory_says : (page : ℕ → List ℕ) (tables : Tables) → IsFactory tables → Says page tables factory_registry
+pub factory_says : (page : ℕ → List ℕ) (tables : Tables) → IsFactory tables → Represents page tables factory_registry
 unfolding IsStrictlySortedBy
 factory_says page tables is =
     let a = is.first_key in

@@ -5,13 +5,13 @@ use Rattle.card_types.specs.AidOrder.{same_aid, aid_order}
 use Rattle.card_types.specs.Least.{IsLeast, NoneFits}
 use Rattle.card_types.specs.Registry as registry
 use Rattle.card_types.specs.Registry.{file_named}
-use Rattle.card_types.specs.Says.{Says, file_of}
+use Rattle.card_types.specs.Represents.{Represents, file_of}
 use Rattle.card_types.specs.Slots.{held}
 use Rattle.card_types.specs.declared.tables.LoadFile.{LoadFile}
 use Rattle.card_types.specs.declared.tables.Tables.{Tables}
 use Rattle.card_types.proofs.NamesByAid.{aid_in_slot, slot_of_aid, one_slot_of_aid, least_aid, no_aid}
 
-module _ (page : ℕ → List ℕ) (tables : Tables) (said : registry.Registry) (says : Says page tables said) where
+module _ (page : ℕ → List ℕ) (tables : Tables) (said : registry.Registry) (says : Represents page tables said) where
   abbrev view : LoadFile → registry.LoadFile
   view file = file_of page tables.entries.items file
 

@@ -9,7 +9,7 @@ use Rattle.card_types.specs.Following.{is_above}
 use Rattle.card_types.specs.Found.{IsNext, NoneFollows, aid_of}
 use Rattle.card_types.specs.Registry as registry
 use Rattle.card_types.specs.Registry.{entry_named, file_named}
-use Rattle.card_types.specs.Says.{Says, entry_of, file_of}
+use Rattle.card_types.specs.Represents.{Represents, entry_of, file_of}
 use Rattle.card_types.specs.Slots.{held}
 use Rattle.card_types.specs.declared.factory.TheConstants.{ISSUER}
 use Rattle.card_types.specs.declared.found.Found.{Found}
@@ -23,7 +23,7 @@ use Rattle.card_types.proofs.FileNames.{file_in_slot, file_unnamed, least_file, 
 use Rattle.card_types.proofs.Next.{above_from, held_from_name, to_above}
 use Rattle.card_types.proofs.SameAid.{same_aid_decides}
 
-module _ (page : ℕ → List ℕ) (tables : Tables) (said : registry.Registry) (says : Says page tables said) where
+module _ (page : ℕ → List ℕ) (tables : Tables) (said : registry.Registry) (says : Represents page tables said) where
   -- what is found by its AID is what has that name
   pub found_entry_named : (slot : ℕ) (aid : List ℕ) → aid_of tables (found.Entry slot) ≡ Some aid
       → (entry : Entry) × (held tables.entries.items slot ≡ Some entry) × (entry_named said aid ≡ Some (entry_of tables.entries.items tables.files.items entry))

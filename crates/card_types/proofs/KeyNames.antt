@@ -8,7 +8,7 @@ use Rattle.card_types.specs.Least.{IsLeast, NoneFits}
 use Rattle.card_types.specs.Registry as registry
 use Rattle.card_types.specs.Slots.{held}
 use Rattle.card_types.proofs.SameAid.{aid_same_equal}
-use Rattle.card_types.specs.Says.{Says, counter_of, domain_aid, keeps_counter, key_of}
+use Rattle.card_types.specs.Represents.{Represents, counter_of, domain_aid, keeps_counter, key_of}
 use Rattle.card_types.specs.declared.tables.KeyRec.{KeyRec}
 use Rattle.card_types.specs.declared.tables.Tables.{Tables}
 use Rattle.card_types.proofs.Shows.{Shows, least_shown, none_shown, one_slot, shows_kept, shows_used}
@@ -22,7 +22,7 @@ pub counter_order_total : IsTotalOrder counter_order
 counter_order_total =
     then_total (on_total (λ (counter : registry.Counter). counter.owner) nat_list_cmp_total) (on_total (λ (counter : registry.Counter). counter.version) nat_cmp_total)
 
-module _ (page : ℕ → List ℕ) (tables : Tables) (said : registry.Registry) (says : Says page tables said) where
+module _ (page : ℕ → List ℕ) (tables : Tables) (said : registry.Registry) (says : Represents page tables said) where
   pub keys_shown : Shows (key_of tables.entries.items) (λ _. true) tables.keys.items said.keys
   keys_shown = shows_used (key_of tables.entries.items) tables.keys.items said.keys says.keys
 

@@ -7,7 +7,7 @@ use Rattle.std.specs.Ordering.{on}
 use Rattle.std.proofs.lemmas.Cmp.{nat_list_cmp_total, on_total}
 use Rattle.card_types.specs.AidOrder.{same_aid, aid_order}
 use Rattle.card_types.specs.Least.{IsLeast, NoneFits}
-use Rattle.card_types.specs.Says.{used}
+use Rattle.card_types.specs.Represents.{used}
 use Rattle.card_types.specs.Slots.{held}
 use Rattle.card_types.proofs.LeastOfList.{sorted_by_name}
 use Rattle.card_types.proofs.SameAid.{same_aid_decides, aid_same_itself, aid_same_equal}

@@ -11,7 +11,7 @@ use Rattle.card_types.specs.Ascending.{object_order}
 use Rattle.card_types.specs.Least.{IsLeast, NoneFits}
 use Rattle.card_types.specs.Registry as registry
 use Rattle.card_types.specs.Registry.{object_named}
-use Rattle.card_types.specs.Says.{Says, domain_aid, object_of}
+use Rattle.card_types.specs.Represents.{Represents, domain_aid, object_of}
 use Rattle.card_types.specs.Slots.{held}
 use Rattle.card_types.specs.Well.{Well}
 use Rattle.card_types.specs.declared.tables.Entry.{Entry}
@@ -28,7 +28,7 @@ object_order_total =
 same_number : (a b : ℕ) → a ≡ b → nat_cmp a b ≡ Equal
 same_number a b same = ap (nat_cmp a) (sym same) ∙ tied_itself nat_cmp_total a
 
-module _ (page : ℕ → List ℕ) (tables : Tables) (said : registry.Registry) (says : Says page tables said) where
+module _ (page : ℕ → List ℕ) (tables : Tables) (said : registry.Registry) (says : Represents page tables said) where
   pub objects_shown : Shows (object_of tables.entries.items) (λ _. true) tables.objects.items said.objects
   objects_shown = shows_used (object_of tables.entries.items) tables.objects.items said.objects says.objects
 

@@ -3,7 +3,7 @@ use Rattle.std.proofs.Common.{◌≡◌, ℕ, ◌+◌, ◌*◌, ◌/◌, ◌%◌
 use Rattle.std.proofs.lemmas.Nat.{and_le_r}
 use Rattle.bitflags.specs.Sets.{known_bits, known_from}
 use Rattle.card_types.specs.declared.privileges.Privileges.{Privileges}
-use Rattle.card_types.specs.Privileges.{IsNamed, Spells, bits_of, named_bits, privilege_bytes, privilege_table}
+use Rattle.card_types.specs.Privileges.{IsNamed, ArePrivilegeBytes, bits_of, named_bits, privilege_bytes, privilege_table}
 
 -- the table names the bits that have names
 pub known_bits-privilege_table : known_bits privilege_table ≡ named_bits
@@ -48,9 +48,9 @@ answer-named (Some other) bits first second third number value known privileges 
     value ∙ number ∙ sym (bits_of-bytes privileges first second third named spelled) in
     ap Some (λ i. record { 0 = same i })
 
-pub length-Spells : (privileges : Privileges) (bytes : List ℕ) → Spells privileges bytes
+pub length-ArePrivilegeBytes : (privileges : Privileges) (bytes : List ℕ) → ArePrivilegeBytes privileges bytes
     → (length bytes ≡ 1) ⊎ (length bytes ≡ 3)
-length-Spells privileges bytes s =
+length-ArePrivilegeBytes privileges bytes s =
     elim s.spelling [
       | inl whole ↦ inr (ap length whole)
       | inr front ↦ inl (omega (arith, ap length front, length-append bytes (0 ∷ 0 ∷ [])))

@@ -6,7 +6,7 @@ use Rattle.std.proofs.lemmas.List.{length-map}
 use Rattle.std.proofs.lemmas.List.Sorted.{length_permutation}
 use Rattle.card_types.specs.First.{NoneFree}
 use Rattle.card_types.specs.Registry as registry
-use Rattle.card_types.specs.Says.{Says, entry_of, file_of, key_of, object_of, used}
+use Rattle.card_types.specs.Represents.{Represents, entry_of, file_of, key_of, object_of, used}
 use Rattle.card_types.specs.Slots.{held}
 use Rattle.card_types.specs.declared.tables.Tables.{Tables}
 
@@ -47,7 +47,7 @@ module _ {T : Type 0} where
       → ((slot : ℕ) → slot < length slots → held slots slot ≢ None) → length shown ≡ length slots
   no_room view slots shown same full = counted view slots shown same ∙ used_all slots full
 
-module _ (page : ℕ → List ℕ) (tables : Tables) (said : registry.Registry) (says : Says page tables said) where
+module _ (page : ℕ → List ℕ) (tables : Tables) (said : registry.Registry) (says : Represents page tables said) where
   pub entry_room : (slot : ℕ) → slot < length tables.entries.items → held tables.entries.items slot ≡ None → length said.entries < length tables.entries.items
   entry_room slot within free = room (entry_of tables.entries.items tables.files.items) tables.entries.items said.entries says.entries slot within free
 

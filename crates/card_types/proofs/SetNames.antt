@@ -12,7 +12,7 @@ use Rattle.card_types.specs.Ascending.{counter_order, key_order}
 use Rattle.card_types.specs.KeySets.{HasKey, HasKeys, IsKeyOf, IsSetOf}
 use Rattle.card_types.specs.Registry as registry
 use Rattle.card_types.specs.Registry.{counter_named, key_named}
-use Rattle.card_types.specs.Says.{Says, counter_of, domain_aid, keeps_counter, key_of}
+use Rattle.card_types.specs.Represents.{Represents, counter_of, domain_aid, keeps_counter, key_of}
 use Rattle.card_types.specs.Slots.{held}
 use Rattle.card_types.specs.Well.{HasKeyNamed, IsKeyLength, IsWellCounter, IsWellKey, Well}
 use Rattle.card_types.specs.declared.tables.Entry.{Entry}
@@ -61,7 +61,7 @@ first_keeps_counter keys owner given slots key is at =
     let named = is_key_held keys owner is.version 1 (slice_index_or slots 0 0) key at first in
     and_from (key.identifier == 1) (nat_lt key.version 0x70) (eq-eqb key.identifier 1 named.same_identifier) (lt-ltb key.version 0x70 (omega (arith, named.same_version, is.asked.most)))
 
-module _ (page : ℕ → List ℕ) (tables : Tables) (said : registry.Registry) (says : Says page tables said) where
+module _ (page : ℕ → List ℕ) (tables : Tables) (said : registry.Registry) (says : Represents page tables said) where
   -- the key in a slot is the one with its name
   pub key_in_slot : (slot : ℕ) (key : KeyRec) → held tables.keys.items slot ≡ Some key
       → key_named said (domain_aid tables.entries.items key.owner) key.version key.identifier ≡ Some (key_of tables.entries.items key)

@@ -2,7 +2,7 @@
 use Rattle.std.specs.Prelude.{ℕ, List}
 use Rattle.card_types.specs.Layout.{HasLayout}
 use Rattle.card_types.specs.Registry.{Registry}
-use Rattle.card_types.specs.Says.{Says}
+use Rattle.card_types.specs.Represents.{Represents}
 use Rattle.card_types.specs.Well.{Well}
 use Rattle.card_types.specs.declared.tables.Tables.{Tables}
 
@@ -10,5 +10,5 @@ pub record IsInOrder (tables : Tables) : Type 0 where
   pub layout : HasLayout tables
   pub page : ℕ → List ℕ
   pub said : Registry
-  pub says : Says page tables said
+  pub says : Represents page tables said
   pub well : Well said

@@ -22,7 +22,7 @@ pub mod Following
 pub mod KeySets
 pub mod NamedKeys
 pub mod Counters
-pub mod Says
+pub mod Represents
 pub mod Changed
 pub mod SlotChange
 pub mod RegistryChange

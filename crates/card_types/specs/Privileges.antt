@@ -66,6 +66,6 @@ abbrev pub IsNamed : Privileges → Type 0
 IsNamed privileges = bit_and (bits_of privileges) named_bits ≡ bits_of privileges
 
 -- the bytes spell privileges that have names: their three bytes, or the first where the others are 0
-pub record Spells (privileges : Privileges) (bytes : List ℕ) : Type 0 where
+pub record ArePrivilegeBytes (privileges : Privileges) (bytes : List ℕ) : Type 0 where
   pub named : IsNamed privileges
   pub spelling : (bytes ≡ privilege_bytes privileges) ⊎ (bytes ++ 0 ∷ 0 ∷ [] ≡ privilege_bytes privileges)

@@ -3,7 +3,7 @@
 ghost use Rattle.std.specs.Prelude.{◌≡◌, ℕ, List, ◌++◌, None, replicate, IfOk};
 ghost use Rattle.card_types.specs.Factory.{IsFactory, IsFactoryKey, factory_entry, factory_file, factory_registry};
 ghost use Rattle.card_types.specs.InOrder.{IsInOrder};
-ghost use Rattle.card_types.specs.Says.{Says};
+ghost use Rattle.card_types.specs.Represents.{Represents};
 ghost use Rattle.card_types.specs.Well.{Well};
 
 use crate::aid::Aid;
@@ -96,7 +96,7 @@ impl Tables {
     pub fn factory(alloc: Global) -> Result<Tables, AllocError>
         ensures slots { IfOk result IsFactory }
         ensures in_order { IfOk result IsInOrder }
-        ensures names { IfOk result (λ tables. (page : ℕ → List ℕ) → Says page tables factory_registry) }
+        ensures names { IfOk result (λ tables. (page : ℕ → List ℕ) → Represents page tables factory_registry) }
         ensures well { IfOk result (λ _. Well factory_registry) }
     {
         let mut entries = Vec::new(alloc);

@@ -5,7 +5,7 @@ ghost use Rattle.card_types.specs.InOrder.{IsInOrder};
 ghost use Rattle.card_types.specs.KeySets.{HasKey, HasKeys, HoldsKeyOf, IsKeyOf, IsSetOf, NoSetOf, is_key};
 ghost use Rattle.card_types.specs.NamedKeys.{AreKeysOf, HaveKeyLength, NoCounterOf};
 ghost use Rattle.card_types.specs.Registry.{Counter, Registry};
-ghost use Rattle.card_types.specs.Says.{Says, domain_aid, keeps_counter};
+ghost use Rattle.card_types.specs.Represents.{Represents, domain_aid, keeps_counter};
 ghost use Rattle.card_types.specs.Slots.{held};
 ghost use Rattle.card_types.specs.Well.{Well};
 ghost use Rattle.card_types.specs.declared.limits.TheConstants.{KEYS};
@@ -127,7 +127,7 @@ pub fn set_with<'a>(tables: &'a Tables, enc: &'a KeyRec) -> KeySet<'a>
     requires counts { keeps_counter enc.now ≡ true }
     ensures enc { result.enc.now ≡ enc.now }
     ensures lengths { HaveKeyLength result }
-    ensures keys { (page : ℕ → List ℕ) (said : Registry) → Says page tables.now said
+    ensures keys { (page : ℕ → List ℕ) (said : Registry) → Represents page tables.now said
         → AreKeysOf tables.now.entries.items said (domain_aid tables.now.entries.items enc.now.owner) enc.now.version result }
 {
     KeySet {
@@ -142,9 +142,9 @@ pub fn keys_of_set(tables: &Tables, owner: u8, version: u8) -> Option<KeySet<'_>
     requires in_order { IsInOrder tables.now }
     requires version { 1 ≤ version }
     ensures lengths { IfSome result HaveKeyLength }
-    ensures some { (page : ℕ → List ℕ) (said : Registry) → Says page tables.now said
+    ensures some { (page : ℕ → List ℕ) (said : Registry) → Represents page tables.now said
         → IfSome result (AreKeysOf tables.now.entries.items said (domain_aid tables.now.entries.items owner) version) }
-    ensures none { (page : ℕ → List ℕ) (said : Registry) (entry : Entry) → Says page tables.now said → Well said → held tables.now.entries.items owner ≡ Some entry
+    ensures none { (page : ℕ → List ℕ) (said : Registry) (entry : Entry) → Represents page tables.now said → Well said → held tables.now.entries.items owner ≡ Some entry
         → IfNone result (NoCounterOf said (domain_aid tables.now.entries.items owner) version) }
 {
     let [first, second, third] = set_of(&tables.keys, owner, version)?;

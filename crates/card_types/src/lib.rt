@@ -10,7 +10,7 @@ mod laws;
 mod level;
 mod life;
 mod limits;
-mod pinned;
+mod literals;
 mod privileges;
 mod search;
 mod tables;
@@ -30,7 +30,7 @@ pub use limits::{
     COUNTER_LIMIT, DOMAIN_KEYS, ENTRIES, FILE_LIMIT, FILES, KEYS, LOAD_PAGES, OBJECTS,
     RECEIPT_LIMIT,
 };
-pub use pinned::constants;
+pub use literals::constants;
 pub use privileges::Privileges;
 pub use search::{InSlot, Search, Wants, first_free, first_that, least};
 pub use tables::{Entry, ISSUER_SLOT, KeyRec, LoadFile, Object, Tables, in_slot};

@@ -1,6 +1,6 @@
 //! Privileges (GlobalPlatform Card Specification 2.3.1, 11.1.2).
 ghost use Rattle.std.specs.Prelude.{⊤, ◌≡◌, [], ◌∷◌, IfSome, IfNone};
-ghost use Rattle.card_types.specs.Privileges.{IsNamed, Spells, bits_of, privilege_bytes, privilege_table};
+ghost use Rattle.card_types.specs.Privileges.{IsNamed, ArePrivilegeBytes, bits_of, privilege_bytes, privilege_table};
 
 use bitflags::{Flag, Flags, bitflag_items};
 
@@ -60,9 +60,9 @@ impl Flags for Privileges {
 impl Privileges {
     /// Reads one byte, which stands for itself and two bytes 00, or three.
     pub fn from_bytes(bytes: &[u8]) -> Option<Privileges>
-        ensures some { IfSome result (λ privileges. Spells privileges bytes.now) }
-        ensures none { IfNone result ((privileges : Privileges) → Spells privileges bytes.now → ⊥) }
-        ensures back { (privileges : Privileges) → Spells privileges bytes.now → result ≡ Some privileges }
+        ensures some { IfSome result (λ privileges. ArePrivilegeBytes privileges bytes.now) }
+        ensures none { IfNone result ((privileges : Privileges) → ArePrivilegeBytes privileges bytes.now → ⊥) }
+        ensures back { (privileges : Privileges) → ArePrivilegeBytes privileges bytes.now → result ≡ Some privileges }
     {
         match *bytes {
             [first] => from_three(first, 0, 0),

@@ -4,7 +4,7 @@ use Rattle.std.specs.Prelude.{map}
 use Rattle.card_types.specs.Hierarchy.{IsPath}
 use Rattle.card_types.specs.Registry as registry
 use Rattle.card_types.specs.Registry.{domain_of}
-use Rattle.card_types.specs.Says.{Says, domain_aid, domain_slot}
+use Rattle.card_types.specs.Represents.{Represents, domain_aid, domain_slot}
 use Rattle.card_types.specs.Slots.{held}
 use Rattle.card_types.specs.Well.{Well}
 use Rattle.card_types.specs.declared.tables.Entry.{Entry}
@@ -14,7 +14,7 @@ use Rattle.card_types.proofs.Domains.{domain_is_used, same_domain, step_from_use
 use Rattle.domain_tree.specs.Above.{Above, IsFirstAbove, NoneAbove}
 use Rattle.domain_tree.specs.Slots.{IsFreeOfLoops}
 
-module _ (page : ℕ → List ℕ) (tables : Tables) (said : registry.Registry) (says : Says page tables said) where
+module _ (page : ℕ → List ℕ) (tables : Tables) (said : registry.Registry) (says : Represents page tables said) where
   abbrev entries : List (Option Entry)
   entries = tables.entries.items
 

@@ -6,7 +6,7 @@ use Rattle.std.proofs.lemmas.Bool.{eqb-true, ne_eqb, or_cases}
 use Rattle.std.proofs.lemmas.List.Elements.{All-contains_itself, All-weaker, recursion_from_All}
 use Rattle.std.proofs.lemmas.Map.Steps.{length-le_from_distinct_below}
 use Rattle.card_types.specs.Hierarchy.{IsLine}
-use Rattle.card_types.specs.Says.{domain_slot}
+use Rattle.card_types.specs.Represents.{domain_slot}
 use Rattle.card_types.specs.declared.tables.Entry.{Entry}
 use Rattle.card_types.proofs.Domains.{used_from_step}
 use Rattle.card_types.proofs.LeastSoFar.{within_slots}

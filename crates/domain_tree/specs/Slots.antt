@@ -1,7 +1,7 @@
 -- Lines of domains by slots.
 use Rattle.std.specs.Prelude.{◌≡◌, ℕ, List, Option, Some}
 use Rattle.card_types.specs.Hierarchy.{IsLine}
-use Rattle.card_types.specs.Says.{domain_slot}
+use Rattle.card_types.specs.Represents.{domain_slot}
 use Rattle.card_types.specs.Slots.{held}
 use Rattle.card_types.specs.declared.tables.Entry.{Entry}
 

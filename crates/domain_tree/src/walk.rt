@@ -1,7 +1,7 @@
 //! A walk from a slot up to its root.
 
 ghost use Rattle.std.specs.Prelude.{◌≡◌, ◌↔◌, ℕ, ◌<◌, ◌==◌, Bool, IsTrue, IfSome, IfNone, length};
-ghost use Rattle.card_types.specs.Says.{domain_slot};
+ghost use Rattle.card_types.specs.Represents.{domain_slot};
 ghost use Rattle.domain_tree.specs.Above.{Above, IsFirstAbove, NoneAbove};
 ghost use Rattle.domain_tree.specs.Slots.{IsFreeOfLoops};
 

@@ -10,15 +10,15 @@
 mod file;
 mod flash;
 mod fuse;
+mod literals;
 mod memory;
 mod once;
 mod page;
-mod pinned;
 
 pub use file::FileFlash;
 pub use flash::{Flash, FlashFailed};
 pub use fuse::FuseFlash;
+pub use literals::constants;
 pub use memory::MemFlash;
 pub use once::OnceFlash;
 pub use page::{PAGES, Page};
-pub use pinned::constants;

@@ -9,21 +9,21 @@ use Rattle.policy_rules.specs.State.{State}
 use Rattle.policy_rules.specs.Step.{Outcome}
 use Rattle.gp_tool.proofs.ComeFirst.{lines_come, shrinks}
 use Rattle.gp_tool.specs.Ends.{Outside, Reached, Ends, EndCause, Faults, IsBad, room_ahead}
-use Rattle.gp_tool.specs.Good.{AreGood, IsGood}
+use Rattle.gp_tool.specs.Servable.{AreServable, IsServable}
 use Rattle.gp_tool.specs.declared.ending.Ending.{Ending}
 use Rattle.gp_tool.specs.declared.ending.Ending.TheVariants.{Finished, BadLine, FlashFault, ReadFault, WriteFault, InputTooLong}
 
-good_after : (given : List (List ℕ)) (line : List ℕ) (more : List (List ℕ)) → AreGood (given ++ line ∷ more) → IsGood line
+good_after : (given : List (List ℕ)) (line : List ℕ) (more : List (List ℕ)) → AreServable (given ++ line ∷ more) → IsServable line
 good_after [] line more good = good.0
 good_after (first ∷ given) line more good = good_after given line more good.1
 
 -- a line that comes next is good
 good_next : (input : List ℕ) (given : List (List ℕ)) (ahead : List ℕ) (room : ℕ) (line after : List ℕ)
-    → Reached input given ahead → AreGood (lines input) → IsNextLine room ahead line after → IsGood line
+    → Reached input given ahead → AreServable (lines input) → IsNextLine room ahead line after → IsServable line
 good_next input given ahead room line after reached good next =
     let all : lines input ≡ given ++ line ∷ lines after
     = lines_come INPUT_LIMIT input given ahead reached ∙ ap (λ rest. given ++ rest) (lines_ahead room ahead line after next) in
-    good_after given line (lines after) (subst AreGood all good)
+    good_after given line (lines after) (subst AreServable all good)
 
 -- the limit does not come within a short input
 pub never_cut : (input : List ℕ) (given : List (List ℕ)) (ahead cut : List ℕ)
@@ -35,7 +35,7 @@ never_cut input given ahead cut reached short is_cut =
     omega arith
 
 pub never_bad : (input : List ℕ) (given : List (List ℕ)) (ahead : List ℕ)
-    → Reached input given ahead → AreGood (lines input) → length input < INPUT_LIMIT → IsBad (room_ahead input ahead) ahead → ⊥
+    → Reached input given ahead → AreServable (lines input) → length input < INPUT_LIMIT → IsBad (room_ahead input ahead) ahead → ⊥
 never_bad input given ahead reached good short (line, inl none) =
     let spelled = good_next input given ahead (room_ahead input ahead) line none.0 reached good none.1 in
     none.2 spelled.0.0 spelled.0.1
@@ -51,7 +51,7 @@ never_bad input given ahead reached good short (line, inr long) =
 
 module _ (reads writes : Type 0) (Rests : List Outcome → State → Type 0) (Fails : List Outcome → State → Outcome → Type 0) (first : State) (before later : Outside) (old new : Faults) where
   pub finishes : (ending : Ending) → EndCause ending old new → Ends reads writes Rests Fails first ending before later → reads
-      → AreGood (lines before.source.left) → length before.source.left < INPUT_LIMIT
+      → AreServable (lines before.source.left) → length before.source.left < INPUT_LIMIT
       → (Rose old.source new.source → ⊥) → (Rose old.sink new.sink → ⊥) → (Rose old.device new.device → ⊥) → ending ≡ Finished
   finishes Finished cause ends told good short no_read no_write no_flash = refl
   finishes BadLine cause ends told good short no_read no_write no_flash =

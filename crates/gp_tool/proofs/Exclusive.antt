@@ -9,20 +9,20 @@ use Rattle.policy_rules.specs.Step.{Outcome}
 use Rattle.gp_tool.proofs.ComeFirst.{room_further, room_left, room_whole}
 use Rattle.gp_tool.proofs.Complete.{never_bad, never_cut}
 use Rattle.gp_tool.proofs.OneText.{plays_once}
-use Rattle.gp_tool.specs.Ends.{AreShort, ComeFirst, Course, IsBad, Outside}
+use Rattle.gp_tool.specs.Ends.{AreShort, ComeFirst, RunSoFar, IsBad, Outside}
 use Rattle.gp_tool.specs.Form.{AreSpelled, SpellsInputs}
-use Rattle.gp_tool.specs.Good.{AreGood, IsGood}
+use Rattle.gp_tool.specs.Servable.{AreServable, IsServable}
 use Rattle.gp_tool.specs.Laws.{EndsTold, IsFaultless}
-use Rattle.gp_tool.specs.Plays.{Plays, bad_line, text_of}
+use Rattle.gp_tool.specs.RunsLines.{RunsLines, bad_line, text_of}
 use Rattle.gp_tool.specs.declared.ending.Ending.{Ending}
 use Rattle.gp_tool.specs.declared.ending.Ending.TheVariants.{Finished, BadLine, FlashFault, ReadFault, WriteFault, InputTooLong}
 
-good_spelled : (given : List (List ℕ)) (inputs : List Input) → AreSpelled given inputs → AreShort given → AreGood given
+good_spelled : (given : List (List ℕ)) (inputs : List Input) → AreSpelled given inputs → AreShort given → AreServable given
 good_spelled [] inputs spelled short = tt
 good_spelled (line ∷ given) inputs spelled short = (((spelled.0, spelled.2), short.0), good_spelled given spelled.1 spelled.3 short.1)
 
 -- lines that were given are good
-are_good : (first : State) (given : List (List ℕ)) (outcomes : List Outcome) (state : State) → Course first given outcomes state → AreGood given
+are_good : (first : State) (given : List (List ℕ)) (outcomes : List Outcome) (state : State) → RunSoFar first given outcomes state → AreServable given
 are_good first given outcomes state course = good_spelled given course.plays.inputs course.plays.spelled course.fits
 
 -- the limit comes within a line that is not too long
@@ -33,7 +33,7 @@ IsShortCut room ahead = (text : List ℕ) × IsCut room ahead text × (length te
 abbrev Halts : ℕ → List ℕ → Type 0
 Halts room ahead = IsBad room ahead ⊎ IsShortCut room ahead
 
-not_good : (room : ℕ) (ahead line after : List ℕ) → Halts room ahead → IsNextLine room ahead line after → IsGood line → ⊥
+not_good : (room : ℕ) (ahead line after : List ℕ) → Halts room ahead → IsNextLine room ahead line after → IsServable line → ⊥
 not_good room ahead line after (inl (text, inl none)) next good =
     let same = one_line room ahead line text after none.0 next none.1 in
     none.2 good.0.0 (subst (λ (l : List ℕ). SpellsInputs l good.0.0) same.0 good.0.1)
@@ -54,7 +54,7 @@ bad_not_cut room ahead (text, inr (inr other, long)) (cut, is_cut, short) =
 
 -- where no line can be given
 abbrev HaltsBehind : ℕ → List ℕ → List (List ℕ) → List ℕ → Type 0
-HaltsBehind room input given ahead = ComeFirst room input given ahead × AreGood given × Halts (room_left room input ahead) ahead
+HaltsBehind room input given ahead = ComeFirst room input given ahead × AreServable given × Halts (room_left room input ahead) ahead
 
 halts_here : (room : ℕ) (input ahead : List ℕ) → HaltsBehind room input [] ahead → Halts room input
 halts_here room input ahead halts =
@@ -96,9 +96,9 @@ halts_cut first old new ends = (ends.reached tt, are_good first ends.given ends.
 
 -- the same lines, the same outcomes
 outcomes_once : (first : State) (given others : List (List ℕ)) (some more : List Outcome) (last another : State)
-    → Course first given some last → Course first others more another → given ≡ others → some ≡ more
+    → RunSoFar first given some last → RunSoFar first others more another → given ≡ others → some ≡ more
 outcomes_once first given others some more last another course other same =
-    let played = plays_once first others some more last another (subst (λ (ls : List (List ℕ)). Plays first ls some last) same course.plays) other.plays in
+    let played = plays_once first others some more last another (subst (λ (ls : List (List ℕ)). RunsLines first ls some last) same course.plays) other.plays in
     played.0
 
 no_bad_end : (first : State) (old new other : Outside) → EndsTold first Finished old new → EndsTold first BadLine old other → ⊥

@@ -12,7 +12,7 @@ use Rattle.card_types.proofs.LeastOfList.{sorted_by_name}
 use Rattle.card_types.specs.AidOrder.{aid_order}
 use Rattle.card_types.specs.Least.{IsLeast, NoneFits}
 use Rattle.card_types.specs.Registry as registry
-use Rattle.card_types.specs.Says.{Says, file_of}
+use Rattle.card_types.specs.Represents.{Represents, file_of}
 use Rattle.card_types.specs.declared.tables.LoadFile.{LoadFile}
 use Rattle.card_types.specs.declared.tables.Tables.{Tables}
 use Rattle.gp_tool.specs.Listing.{is_next_file, is_past_last}
@@ -23,7 +23,7 @@ file_order = on (λ (file : registry.LoadFile). file.aid) aid_order
 pub file_order_total : IsTotalOrder file_order
 file_order_total = on_total (λ (file : registry.LoadFile). file.aid) nat_list_cmp_total
 
-module _ (page : ℕ → List ℕ) (tables : Tables) (said : registry.Registry) (says : Says page tables said) where
+module _ (page : ℕ → List ℕ) (tables : Tables) (said : registry.Registry) (says : Represents page tables said) where
   abbrev view : LoadFile → registry.LoadFile
   view file = file_of page tables.entries.items file
 

@@ -7,10 +7,10 @@ use Rattle.io_edge.specs.Streams.{SinkState}
 use Rattle.io_edge.specs.declared.line.TheConstants.{INPUT_LIMIT}
 use Rattle.policy_rules.specs.State.{State}
 use Rattle.policy_rules.specs.Step.{Outcome}
-use Rattle.gp_tool.proofs.PlaysMore.{text_more}
+use Rattle.gp_tool.proofs.RunsMore.{text_more}
 use Rattle.gp_tool.specs.Ends.{Ends, Flushes, IsText, Outside, TakesNoMore}
 use Rattle.gp_tool.specs.Flush.{AfterFlush, IsFlushed}
-use Rattle.gp_tool.specs.Plays.{bad_line, reply_line, text_of}
+use Rattle.gp_tool.specs.RunsLines.{bad_line, reply_line, text_of}
 use Rattle.gp_tool.specs.declared.ending.Ending.{Ending}
 use Rattle.gp_tool.specs.declared.ending.Ending.TheVariants.{Finished, BadLine, FlashFault, ReadFault, WriteFault, InputTooLong}
 

@@ -1,6 +1,6 @@
 pub mod ComeFirst
 pub mod Complete
-pub mod Course
+pub mod RunSoFar
 pub mod Exclusive
 pub mod FileLine
 pub mod FilesInOrder
@@ -12,11 +12,11 @@ pub mod One
 pub mod OneText
 pub mod Moments
 pub mod Parts
-pub mod PlaysMore
+pub mod RunsMore
 pub mod Powered
 pub mod SaidElse
 pub mod ShownCard
 pub mod ShownText
-pub mod StandsOn
+pub mod RepresentsSoundly
 pub mod Turns
 pub mod Written

@@ -10,7 +10,7 @@ use Rattle.std.proofs.lemmas.List.{length-map}
 use Rattle.std.proofs.lemmas.List.Sorted.{length_permutation}
 use Rattle.card_types.proofs.Shows.{least_shown, none_shown, shows_kept}
 use Rattle.card_types.specs.Least.{IsLeast, NoneFits}
-use Rattle.card_types.specs.Says.{used}
+use Rattle.card_types.specs.Represents.{used}
 use Rattle.gp_tool.specs.Listing.{comes_past, is_past_last}
 
 module _ {T X : Type 0} (named : T → X) (listed : T → Bool) (slots : List (Option T)) (xs : List X) (same : IsPermutation (map named (filter listed (used slots))) xs) where

@@ -3,7 +3,7 @@ use Rattle.std.proofs.Common.{◌≡◌, ◌⊎◌, ◌≤◌, ℕ, List, [], �
 use Rattle.std.specs.Prelude.{Contains, map}
 use Rattle.std.proofs.lemmas.List.{map-append}
 use Rattle.std.proofs.lemmas.List.Elements.{Contains-append_left, Contains-append_right}
-use Rattle.card_core.specs.Card.{CardOver, Stands}
+use Rattle.card_core.specs.Card.{CardOver, CardRepresents}
 use Rattle.card_types.proofs.Members.{contains_cases, contains_first, contains_later}
 use Rattle.card_types.specs.Registry.{Registry}
 use Rattle.flash_core.specs.declared.flash.Flash.{Ghosts as Flash}
@@ -15,7 +15,7 @@ use Rattle.policy_rules.specs.Step.{Outcome}
 use Rattle.rec_store.proofs.Leaving.{joined, unmoved, weaker}
 use Rattle.rec_store.specs.Reopens.{Reopens, ReopensAsOne}
 use Rattle.gp_tool.specs.Device.{HasFailed, HasRun, LeavesOneOf, registries}
-use Rattle.gp_tool.specs.Plays.{Plays}
+use Rattle.gp_tool.specs.RunsLines.{RunsLines}
 
 -- each of some registries is one of all
 abbrev pub Among : List Registry → List Registry → Type 0
@@ -34,7 +34,7 @@ run_ends state (Command bytes ∷ inputs) (outcome ∷ outcomes) last run =
     contains_later state.registry (registries outcome.state outcomes) last.registry (run_ends outcome.state inputs outcomes last run.1)
 run_ends state (Reset ∷ inputs) outcomes last run = run_ends (powered_on state.registry) inputs outcomes last run
 
-pub plays_ends : (first : State) (given : List (List ℕ)) (outcomes : List Outcome) (last : State) → Plays first given outcomes last → Contains (registries first outcomes) last.registry
+pub plays_ends : (first : State) (given : List (List ℕ)) (outcomes : List Outcome) (last : State) → RunsLines first given outcomes last → Contains (registries first outcomes) last.registry
 plays_ends first given outcomes last plays = run_ends first plays.inputs outcomes last plays.run
 
 module _ (first : State) (some more : List Outcome) where
@@ -69,7 +69,7 @@ module _ {F : Type 0} (device : Flash F) where
 
   -- where nothing was done power lost leaves the registry of the card
   pub nothing_done : ((f : F) (c : List Page) → device.tells → device.left_since f (device.moment f) c → device.may_leave f c)
-      → (card : CardOver F) (state : State) → Stands device card state → LeavesOneOf device card.flash card.flash (state.registry ∷ [])
+      → (card : CardOver F) (state : State) → CardRepresents device card state → LeavesOneOf device card.flash card.flash (state.registry ∷ [])
   nothing_done only card state stands told =
       let keeps = stands.keeps told in
       unmoved device (device.may_leave card.flash) card.flash (ReopensAsOne (state.registry ∷ [])) (λ c. only card.flash c told)
@@ -85,16 +85,16 @@ module _ {F : Type 0} (device : Flash F) where
 
   -- a card that was not touched stands as before
   pub stays : (first : F) (card card' : CardOver F) (count count' : ℕ) → (card' ≡ card) × (count' ≡ count)
-      → (count' ≡ count) × ((state : State) → Stands device card state → Stands device card' state)
+      → (count' ≡ count) × ((state : State) → CardRepresents device card state → CardRepresents device card' state)
       × ((all : List Registry) → LeavesOneOf device first card.flash all → LeavesOneOf device first card'.flash all)
   stays first card card' count count' same = (
     same.1,
-    λ state stands. subst (λ (c : CardOver F). Stands device c state) (sym same.0) stands,
+    λ state stands. subst (λ (c : CardOver F). CardRepresents device c state) (sym same.0) stands,
     λ all leaves. subst (λ (c : CardOver F). LeavesOneOf device first c.flash all) (sym same.0) leaves,
   )
 
   pub has_run : (old : F) (card : CardOver F) (first : State) (count : ℕ) (outcomes : List Outcome) (last : State) → count ≡ length outcomes
-      → Stands device card last → LeavesOneOf device old card.flash (registries first outcomes)
+      → CardRepresents device card last → LeavesOneOf device old card.flash (registries first outcomes)
       → HasRun device old card.flash first count outcomes last
   has_run old card first count outcomes last done stands leaves = record { done = done; keeps = stands.keeps; moments = λ told before. leaves told }
 

@@ -5,16 +5,16 @@ use Rattle.policy_rules.specs.Run.{Command, Reset}
 use Rattle.policy_rules.specs.State.{State, powered_on}
 use Rattle.policy_rules.specs.Step.{Outcome, Step}
 use Rattle.gp_tool.specs.Form.{SpellsInputs}
-use Rattle.gp_tool.specs.Plays.{Plays, reply_line, text_of}
+use Rattle.gp_tool.specs.RunsLines.{RunsLines, reply_line, text_of}
 
-pub plays_nothing : (state : State) (line : List ℕ) → SpellsInputs line [] → Plays state (line ∷ []) [] state
+pub plays_nothing : (state : State) (line : List ℕ) → SpellsInputs line [] → RunsLines state (line ∷ []) [] state
 plays_nothing state line spells = record { inputs = []; spelled = ([], [], spells, refl, refl); run = (refl, refl) }
 
-pub plays_reset : (state : State) (line : List ℕ) → SpellsInputs line (Reset ∷ []) → Plays state (line ∷ []) [] (powered_on state.registry)
+pub plays_reset : (state : State) (line : List ℕ) → SpellsInputs line (Reset ∷ []) → RunsLines state (line ∷ []) [] (powered_on state.registry)
 plays_reset state line spells = record { inputs = Reset ∷ []; spelled = (Reset ∷ [], [], spells, refl, refl); run = (refl, refl) }
 
 pub plays_command : (state : State) (line bytes : List ℕ) (outcome : Outcome)
-    → SpellsInputs line (Command bytes ∷ []) → Step state bytes outcome → Plays state (line ∷ []) (outcome ∷ []) outcome.state
+    → SpellsInputs line (Command bytes ∷ []) → Step state bytes outcome → RunsLines state (line ∷ []) (outcome ∷ []) outcome.state
 plays_command state line bytes outcome spells step = record {
   inputs = Command bytes ∷ [];
   spelled = (Command bytes ∷ [], [], spells, refl, refl);

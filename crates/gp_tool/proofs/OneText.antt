@@ -9,7 +9,7 @@ use Rattle.policy_rules.specs.Run.{Command, Input, Run}
 use Rattle.policy_rules.specs.State.{State}
 use Rattle.policy_rules.specs.Step.{Outcome}
 use Rattle.gp_tool.specs.Form.{AreSpelled, IsBlank, IsComment, IsHex, SpellsInputs}
-use Rattle.gp_tool.specs.Plays.{Plays}
+use Rattle.gp_tool.specs.RunsLines.{RunsLines}
 
 -- the first byte of a line in digits
 first_digit : (line bytes : List ℕ) → IsHex line bytes → (b : ℕ) × (rest : List ℕ) × (line ≡ b ∷ rest) × (is_hex_digit b ≡ true)
@@ -73,7 +73,7 @@ spelled_once (line ∷ lines) a b some again =
 
 -- lines are played in one way
 pub plays_once : (first : State) (lines : List (List ℕ)) (some others : List Outcome) (last another : State)
-    → Plays first lines some last → Plays first lines others another → (some ≡ others) × (last ≡ another)
+    → RunsLines first lines some last → RunsLines first lines others another → (some ≡ others) × (last ≡ another)
 plays_once first lines some others last another one other =
     one_run first one.inputs some others last another one.run
     (subst (λ (inputs : List Input). Run first inputs others another) (spelled_once lines other.inputs one.inputs other.spelled one.spelled) other.run)

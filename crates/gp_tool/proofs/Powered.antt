@@ -1,6 +1,6 @@
 -- A run on a card that was powered on, from the device before.
 use Rattle.std.proofs.Common.{◌≡◌, ◌⊎◌, ◌≤◌, ℕ, List, [], ◌∷◌, ◌++◌, inr, arith}
-use Rattle.card_core.specs.Card.{CardOver, Stands}
+use Rattle.card_core.specs.Card.{CardOver, CardRepresents}
 use Rattle.card_core.specs.PowerOn.{PowerFails}
 use Rattle.card_core.specs.declared.power.PowerCause.{PowerCause}
 use Rattle.card_core.specs.declared.power.PowerCause.TheVariants.{Memory, FlashFailed, NotACard}
@@ -28,7 +28,7 @@ cause_since ReadFault source sink before device new less cause = cause
 cause_since WriteFault source sink before device new less cause = cause
 cause_since InputTooLong source sink before device new less cause = cause
 
-module _ {F : Type 0} (device : Flash F) (old : F) (card : CardOver F) (first : State) (stands : Stands device card first)
+module _ {F : Type 0} (device : Flash F) (old : F) (card : CardOver F) (first : State) (stands : CardRepresents device card first)
     (powered : device.tells → (all : List Registry) → Always (device.may_leave old) (ReopensAsOne all) → LeavesOnly device old card.flash (ReopensAsOne all)) where
   since : (new : F) (outcomes : List Outcome)
       → (device.tells → Always (device.may_leave card.flash) (λ outcome. Reopens outcome first.registry) → LeavesOnly device card.flash new (ReopensAsOne (registries first outcomes)))

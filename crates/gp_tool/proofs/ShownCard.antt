@@ -1,7 +1,7 @@
 -- How the verb `show` ends behind its flush, and what it leaves on the device.
 use Rattle.std.proofs.Common.{◌≡◌, ◌≤◌, ◌++◌, ℕ, List, [], ◌∷◌, length, take, refl, sym, ap, subst, ◌∙◌, inl, inr, arith}
 use Rattle.std.proofs.Math.Seq.{take-length}
-use Rattle.card_core.specs.Card.{CardOver, Stands}
+use Rattle.card_core.specs.Card.{CardOver, CardRepresents}
 use Rattle.card_types.proofs.Members.{contains_cases, contains_first}
 use Rattle.card_types.specs.Registry.{Registry}
 use Rattle.faults.specs.Faults.{Rose}
@@ -57,7 +57,7 @@ alone registry outcome (other, there, reopens) = elim (contains_cases registry [
 -- what was shown of a card that was powered on is left by the device
 pub has_shown : {F : Type 0} (device : Flash F)
     → ((f : F) (t : ℕ) (c : List Page) → device.tells → t ≤ device.moment f → device.may_leave f c → device.left_since f t c)
-    → (old new : F) (card : CardOver F) (state : State) → Stands device card state
+    → (old new : F) (card : CardOver F) (state : State) → CardRepresents device card state
     → (device.tells → (all : List Registry) → Always (device.may_leave old) (ReopensAsOne all) → LeavesOnly device old card.flash (ReopensAsOne all))
     → (device.tells → LeavesOnly device card.flash new (λ outcome. Reopens outcome state.registry)) → (device.tells → device.pages new ≡ device.pages card.flash)
     → HasShown device old new state.registry

@@ -9,8 +9,8 @@ use Rattle.io_edge.specs.declared.line.TheConstants.{LINE_LIMIT}
 use Rattle.policy_rules.specs.State.{State}
 use Rattle.gp_tool.specs.Form.{HasNoForm}
 use Rattle.gp_tool.specs.Ends.{Outside, IsBad, TakesNoMore}
-use Rattle.gp_tool.specs.Plays.{bad_line}
-use Rattle.gp_tool.specs.Serve.{FailsLine, PlaysLine}
+use Rattle.gp_tool.specs.RunsLines.{bad_line}
+use Rattle.gp_tool.specs.Serve.{FailsLine, RunsLine}
 use Rattle.gp_tool.specs.Turn.{EndsWith, FailsNext, Refuses, TakesLine, TakesNext}
 use Rattle.gp_tool.specs.declared.ending.Ending.{Ending}
 use Rattle.gp_tool.specs.declared.ending.Ending.TheVariants.{Finished, BadLine, FlashFault, ReadFault, WriteFault, InputTooLong}
@@ -40,7 +40,7 @@ refuses_from writes number before mid now InputTooLong same refuses = absurd ref
 -- the line that was given is the next one ahead
 unfoldable pub given_line : (reads : Type 0) (old new : Reading) (left left' : List ℕ) (line : Line) (After : State → Type 0) (Leaving : List Registry → Type 0) (count count' : ℕ) (state : State)
     → GivesLine reads old new left left' line → length line.text.now ≤ LINE_LIMIT
-    → PlaysLine line.text.now After Leaving count count' state → TakesLine reads After Leaving count count' state (room old) (ahead old left) (ahead new left')
+    → RunsLine line.text.now After Leaving count count' state → TakesLine reads After Leaving count count' state (room old) (ahead old left) (ahead new left')
 given_line reads old new left left' line After Leaving count count' state gives fits played = record { line = line.text.now; next = gives.line; fits = fits; played = played }
 
 -- the device failed in its command

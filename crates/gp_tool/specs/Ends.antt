@@ -11,7 +11,7 @@ use Rattle.policy_rules.specs.State.{State}
 use Rattle.policy_rules.specs.Step.{Outcome, Step}
 use Rattle.gp_tool.specs.Flush.{FlushesLast, IsHandedOn}
 use Rattle.gp_tool.specs.Form.{HasNoForm, SpellsInputs}
-use Rattle.gp_tool.specs.Plays.{Plays, bad_line, reply_line, text_of}
+use Rattle.gp_tool.specs.RunsLines.{RunsLines, bad_line, reply_line, text_of}
 use Rattle.gp_tool.specs.declared.ending.Ending.{Ending}
 use Rattle.gp_tool.specs.declared.ending.Ending.TheVariants.{Finished, BadLine, FlashFault, ReadFault, WriteFault, InputTooLong}
 
@@ -28,9 +28,9 @@ abbrev pub AreShort : List (List ℕ) → Type 0
 AreShort lines = AllByRecursion (λ line. length line ≤ LINE_LIMIT) lines
 
 -- The lines that were given to a card, from a first state on: each has a form and is not too long.
-pub record Course (first : State) (given : List (List ℕ)) (outcomes : List Outcome) (state : State) : Type 0 where
+pub record RunSoFar (first : State) (given : List (List ℕ)) (outcomes : List Outcome) (state : State) : Type 0 where
   pub fits : AreShort given
-  pub plays : Plays first given outcomes state
+  pub plays : RunsLines first given outcomes state
 
 -- how many bytes may be taken of what stands ahead
 abbrev pub room_ahead : List ℕ → List ℕ → ℕ
@@ -74,7 +74,7 @@ pub record IsFinished (reads writes : Type 0) (Rests : List Outcome → State �
   pub given : List (List ℕ)
   pub outcomes : List Outcome
   pub state : State
-  pub course : Course first given outcomes state
+  pub course : RunSoFar first given outcomes state
   pub reached : reads → Reached old.source.left given []
   pub all : reads → lines old.source.left ≡ given
   pub short : reads → length old.source.left < INPUT_LIMIT
@@ -88,7 +88,7 @@ pub record IsAtBadLine (reads writes : Type 0) (Rests : List Outcome → State �
   pub outcomes : List Outcome
   pub state : State
   pub ahead : List ℕ
-  pub course : Course first given outcomes state
+  pub course : RunSoFar first given outcomes state
   pub reached : reads → Reached old.source.left given ahead
   pub taken : reads → TakesNoMore (length old.source.left) ahead new.source.left
   pub bad : reads → IsBad (room_ahead old.source.left ahead) ahead
@@ -102,7 +102,7 @@ pub record IsAtReadFault (reads writes : Type 0) (Rests : List Outcome → State
   pub outcomes : List Outcome
   pub state : State
   pub held : List ℕ
-  pub course : Course first given outcomes state
+  pub course : RunSoFar first given outcomes state
   pub reached : reads → Reached old.source.left given (held ++ new.source.left)
   pub no_line : reads → NoNewline held
   pub short : reads → length (strip_carriage_return held) ≤ LINE_LIMIT
@@ -117,7 +117,7 @@ pub record IsAtLimit (reads writes : Type 0) (Rests : List Outcome → State →
   pub outcomes : List Outcome
   pub state : State
   pub ahead : List ℕ
-  pub course : Course first given outcomes state
+  pub course : RunSoFar first given outcomes state
   pub reached : reads → Reached old.source.left given ahead
   pub taken : reads → TakesNoMore (length old.source.left) ahead new.source.left
   pub cut : reads → (text : List ℕ) × IsCut (room_ahead old.source.left ahead) ahead text × (length text ≤ LINE_LIMIT)
@@ -133,7 +133,7 @@ pub record IsAtFlashFault (reads writes : Type 0) (Fails : List Outcome → Stat
   pub line : List ℕ
   pub bytes : List ℕ
   pub next : Outcome
-  pub course : Course first given outcomes state
+  pub course : RunSoFar first given outcomes state
   pub reached : reads → Reached old.source.left given ahead
   pub taken : reads → TakesNoMore (length old.source.left) ahead new.source.left
   pub comes : reads → (after : List ℕ) × IsNextLine (room_ahead old.source.left ahead) ahead line after
@@ -152,7 +152,7 @@ pub record IsAtWriteFault (reads writes : Type 0) (Rests : List Outcome → Stat
   pub ahead : List ℕ
   pub before : List ℕ
   pub line : List ℕ
-  pub course : Course first given outcomes state
+  pub course : RunSoFar first given outcomes state
   pub reached : reads → Reached old.source.left given ahead
   pub taken : reads → TakesNoMore (length old.source.left) ahead new.source.left
   pub is_text : IsText outcomes before line

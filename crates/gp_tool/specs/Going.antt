@@ -5,8 +5,8 @@ use Rattle.card_types.specs.Registry.{Registry}
 use Rattle.policy_rules.specs.State.{State}
 use Rattle.policy_rules.specs.Step.{Outcome}
 use Rattle.gp_tool.specs.Device.{registries}
-use Rattle.gp_tool.specs.Ends.{Course, Outside, Reached}
-use Rattle.gp_tool.specs.Plays.{text_of}
+use Rattle.gp_tool.specs.Ends.{RunSoFar, Outside, Reached}
+use Rattle.gp_tool.specs.RunsLines.{text_of}
 
 -- The lines that were given have their text written, and the reading and the card stand behind them. `Now` says which states the
 -- card stands for, and `Leaving` which registries power lost since the first line may leave.
@@ -16,7 +16,7 @@ pub record Going (reads writes : Type 0) (first : State) (Now : State → Type 0
   pub state : State
   pub number : reading.number ≡ length given
   pub passed : reads → reading.passed + length (ahead reading now.source.left) ≡ length before.source.left
-  pub course : Course first given outcomes state
+  pub course : RunSoFar first given outcomes state
   pub reached : reads → Reached before.source.left given (ahead reading now.source.left)
   pub stands : Now state
   pub leaves : Leaving (registries first outcomes)

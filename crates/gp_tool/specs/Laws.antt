@@ -3,7 +3,7 @@ use Rattle.std.specs.Prelude.{◌≡◌, ℕ, List}
 use Rattle.policy_rules.specs.State.{State}
 use Rattle.policy_rules.specs.Step.{Outcome}
 use Rattle.gp_tool.specs.Ends.{Ends, Outside}
-use Rattle.gp_tool.specs.Plays.{Plays, text_of}
+use Rattle.gp_tool.specs.RunsLines.{RunsLines, text_of}
 use Rattle.gp_tool.specs.declared.ending.Ending.{Ending}
 use Rattle.gp_tool.specs.declared.ending.Ending.TheVariants.{Finished, BadLine, FlashFault, ReadFault, WriteFault, InputTooLong}
 
@@ -11,13 +11,13 @@ use Rattle.gp_tool.specs.declared.ending.Ending.TheVariants.{Finished, BadLine, 
 abbrev pub OneText : Type 0
 OneText =
     (first : State) (lines : List (List ℕ)) (some others : List Outcome) (last another : State)
-    → Plays first lines some last → Plays first lines others another → text_of some ≡ text_of others
+    → RunsLines first lines some last → RunsLines first lines others another → text_of some ≡ text_of others
 
 -- and lead to one state
 abbrev pub OneLast : Type 0
 OneLast =
     (first : State) (lines : List (List ℕ)) (some others : List Outcome) (last another : State)
-    → Plays first lines some last → Plays first lines others another → last ≡ another
+    → RunsLines first lines some last → RunsLines first lines others another → last ≡ another
 
 -- nothing was refused by source, sink or device
 abbrev pub IsFaultless : Ending → Type 0

@@ -4,10 +4,10 @@ pub mod Flush
 pub mod Form
 pub mod Formatted
 pub mod Going
-pub mod Good
+pub mod Servable
 pub mod Laws
 pub mod Listing
-pub mod Plays
+pub mod RunsLines
 pub mod Read
 pub mod Serve
 pub mod Show

@@ -7,7 +7,7 @@ use Rattle.policy_rules.specs.State.{State}
 use Rattle.policy_rules.specs.Step.{Outcome, Step}
 use Rattle.gp_tool.specs.Device.{registries}
 use Rattle.gp_tool.specs.Form.{HasNoForm, SpellsInputs}
-use Rattle.gp_tool.specs.Plays.{Plays, reply_line, text_of}
+use Rattle.gp_tool.specs.RunsLines.{RunsLines, reply_line, text_of}
 use Rattle.gp_tool.specs.declared.serve.Served.{Served}
 use Rattle.gp_tool.specs.declared.serve.Served.TheVariants.{Done, NoForm, WriteFault, FlashFault}
 
@@ -15,10 +15,10 @@ use Rattle.gp_tool.specs.declared.serve.Served.TheVariants.{Done, NoForm, WriteF
 -- may leave on its device, and `count` and `count'` are how many commands were processed.
 
 -- The card plays the line: it stands for the state behind it.
-pub record PlaysLine (line : List ℕ) (After : State → Type 0) (Leaving : List Registry → Type 0) (count count' : ℕ) (state : State) : Type 0 where
+pub record RunsLine (line : List ℕ) (After : State → Type 0) (Leaving : List Registry → Type 0) (count count' : ℕ) (state : State) : Type 0 where
   pub outcomes : List Outcome
   pub last : State
-  pub plays : Plays state (line ∷ []) outcomes last
+  pub plays : RunsLines state (line ∷ []) outcomes last
   pub stands : After last
   pub leaves : Leaving (registries state outcomes)
   pub done : count' ≡ count + length outcomes
@@ -36,11 +36,11 @@ pub record FailsLine (line : List ℕ) (Leaving : List Registry → Type 0) (sta
 abbrev pub ServesLine : Type 0 → List ℕ → Type 0 → (State → Type 0) → (State → Type 0) → (List Registry → Type 0) → ℕ → ℕ → List ℕ → List ℕ → Served → Type 0
 ServesLine writes line Same Before After Leaving count count' old new Done =
     (state : State) → Before state
-    → (played : PlaysLine line After Leaving count count' state) × (writes → new ≡ old ++ text_of played.outcomes)
+    → (played : RunsLine line After Leaving count count' state) × (writes → new ≡ old ++ text_of played.outcomes)
 ServesLine writes line Same Before After Leaving count count' old new NoForm = HasNoForm line × Same × (writes → new ≡ old)
 ServesLine writes line Same Before After Leaving count count' old new WriteFault =
     (state : State) → Before state
-    → (played : PlaysLine line After Leaving count count' state) × (outcome : Outcome) × (played.outcomes ≡ outcome ∷ [])
+    → (played : RunsLine line After Leaving count count' state) × (outcome : Outcome) × (played.outcomes ≡ outcome ∷ [])
     × (writes → (n : ℕ) × (new ≡ old ++ take n (reply_line outcome)))
 ServesLine writes line Same Before After Leaving count count' old new FlashFault =
     (count' ≡ count) × (writes → new ≡ old) × ((state : State) → Before state → FailsLine line Leaving state)
@@ -53,8 +53,8 @@ ServeCause sink sink' device device' WriteFault = Rose sink sink'
 ServeCause sink sink' device device' FlashFault = (sink' ≡ sink) × Rose device device'
 
 -- the run goes on with the next line only where this holds
-abbrev pub GoesAhead : Served → Type 0 → Type 0
-GoesAhead Done holds = holds
-GoesAhead NoForm holds = Unit {0}
-GoesAhead WriteFault holds = Unit {0}
-GoesAhead FlashFault holds = Unit {0}
+abbrev pub IfServed : Served → Type 0 → Type 0
+IfServed Done holds = holds
+IfServed NoForm holds = Unit {0}
+IfServed WriteFault holds = Unit {0}
+IfServed FlashFault holds = Unit {0}

@@ -8,8 +8,8 @@ use Rattle.card_types.specs.Registry.{Registry}
 use Rattle.policy_rules.specs.State.{State}
 use Rattle.policy_rules.specs.Step.{Outcome}
 use Rattle.gp_tool.specs.Ends.{Outside, IsBad, TakesNoMore}
-use Rattle.gp_tool.specs.Plays.{bad_line, reply_line, text_of}
-use Rattle.gp_tool.specs.Serve.{FailsLine, PlaysLine}
+use Rattle.gp_tool.specs.RunsLines.{bad_line, reply_line, text_of}
+use Rattle.gp_tool.specs.Serve.{FailsLine, RunsLine}
 use Rattle.gp_tool.specs.declared.ending.Ending.{Ending}
 use Rattle.gp_tool.specs.declared.ending.Ending.TheVariants.{Finished, BadLine, FlashFault, ReadFault, WriteFault, InputTooLong}
 
@@ -18,7 +18,7 @@ pub record TakesLine (reads : Type 0) (After : State → Type 0) (Leaving : List
   pub line : List ℕ
   pub next : reads → IsNextLine room ahead line after
   pub fits : length line ≤ LINE_LIMIT
-  pub played : PlaysLine line After Leaving count count' state
+  pub played : RunsLine line After Leaving count count' state
 
 -- The device failed in the command of the next line.
 pub record FailsNext (reads : Type 0) (Leaving : List Registry → Type 0) (state : State) (room : ℕ) (ahead : List ℕ) : Type 0 where

@@ -13,7 +13,7 @@ use Rattle.rec_store.specs.Reopens.{Reopens}
 use Rattle.gp_tool.specs.Device.{HasFailed, HasRun, IsNotPowered}
 use Rattle.gp_tool.specs.Ends.{EndCause, Ends, Flushes, exit_status, faults_of, outside}
 use Rattle.gp_tool.specs.Formatted.{FormatEnds}
-use Rattle.gp_tool.specs.Good.{AreGood}
+use Rattle.gp_tool.specs.Servable.{AreServable}
 use Rattle.gp_tool.specs.Shown.{HasShown, ShowEnds}
 use Rattle.gp_tool.specs.declared.ending.Ending.{Ending}
 
@@ -62,7 +62,7 @@ pub record NoFault {S K F : Type 0} (source : Source S) (sink : Sink K) (device 
 
 -- each line of an input has a form and is not too long, and the input is short enough
 abbrev pub IsGoodInput : List ℕ → Type 0
-IsGoodInput input = AreGood (lines input) × (length input < INPUT_LIMIT)
+IsGoodInput input = AreServable (lines input) × (length input < INPUT_LIMIT)
 
 -- What `format` and `show` are given: they read nothing.
 pub record Beside (K F : Type 0) : Type 0 where

@@ -3,7 +3,7 @@
 ghost use Rattle.std.specs.Prelude.{◌≡◌, ◌≤◌, ◌<◌, ◌*◌, ◌+◌, ◌++◌, [], ◌∷◌, ℕ, length, take, OnOk, OnErr};
 ghost use Rattle.faults.specs.Faults.{HasCause};
 ghost use Rattle.hex.specs.Hex.{encode_lower};
-ghost use Rattle.gp_tool.specs.Plays.{bad_line};
+ghost use Rattle.gp_tool.specs.RunsLines.{bad_line};
 
 use arrayvec::ArrayVec;
 use card_core::REPLY_LIMIT;

@@ -1,7 +1,7 @@
 //! A run over the lines of a source.
 
 ghost use Rattle.std.specs.Prelude.{◌≡◌, ◌≤◌, ◌+◌, ℕ, None, true, IfNone, IfSome};
-ghost use Rattle.card_core.specs.Card.{Stands};
+ghost use Rattle.card_core.specs.Card.{CardRepresents};
 ghost use Rattle.policy_rules.specs.State.{State};
 ghost use Rattle.gp_tool.specs.Device.{LeavesOneOf};
 ghost use Rattle.gp_tool.specs.Ends.{EndCause, Faults, Flushes, faults_of, outside};
@@ -52,12 +52,12 @@ fn take_turn<S: Source, K: Sink, F: Flash>(
     requires up { card.old.up ≡ true }
     requires few { done.old ≤ lines.old.passed }
     ensures goes_on { IfNone result (GoesOn S.tells K.tells
-        (Stands F.Flash card.old) (Stands F.Flash card.new)
+        (CardRepresents F.Flash card.old) (CardRepresents F.Flash card.new)
         (LeavesOneOf F.Flash card.old.flash card.new.flash)
         done.old done.new lines.old lines.new
         (outside (S.state source.old) (K.state sink.old)) (outside (S.state source.new) (K.state sink.new))) }
     ensures ends { IfSome result (EndsWith S.tells K.tells ((card.new ≡ card.old) × (done.new ≡ done.old))
-        (Stands F.Flash card.old) (Stands F.Flash card.new)
+        (CardRepresents F.Flash card.old) (CardRepresents F.Flash card.new)
         (LeavesOneOf F.Flash card.old.flash card.new.flash)
         done.old done.new lines.old
         (outside (S.state source.old) (K.state sink.old)) (outside (S.state source.new) (K.state sink.new))) }
@@ -91,7 +91,7 @@ fn take_lines<S: Source, K: Sink, F: Flash>(
 ) -> RunEnd
     requires up { card.old.up ≡ true }
     ensures flushes { (K.state sink.new).flushes ≡ (K.state sink.old).flushes }
-    ensures ends { (first : State) → Stands F.Flash card.old first
+    ensures ends { (first : State) → CardRepresents F.Flash card.old first
         → RunEnds S.Source K.Sink F.Flash first result.ending result.done (around source.old sink.old card.old.flash) (around source.new sink.new card.new.flash) }
     ensures later { F.faults card.old.flash ≤ F.faults card.new.flash }
     ensures cause { RunCause S.Source K.Sink F.Flash result.ending (around source.old sink.old card.old.flash) (around source.new sink.new card.new.flash) }
@@ -134,7 +134,7 @@ pub fn flush_at_end<K: Sink>(ending: Ending, sink: &mut K) -> Ending
 pub fn run<S: Source, K: Sink, F: Flash>(card: &mut Card<F>, source: &mut S, sink: &mut K) -> RunEnd
     requires up { card.old.up ≡ true }
     ensures flushes { Flushes K.tells result.ending (K.state sink.old) (K.state sink.new) }
-    ensures ends { (first : State) → Stands F.Flash card.old first
+    ensures ends { (first : State) → CardRepresents F.Flash card.old first
         → RunEnds S.Source K.Sink F.Flash first result.ending result.done (around source.old sink.old card.old.flash) (around source.new sink.new card.new.flash) }
     ensures later { F.faults card.old.flash ≤ F.faults card.new.flash }
     ensures cause { RunCause S.Source K.Sink F.Flash result.ending (around source.old sink.old card.old.flash) (around source.new sink.new card.new.flash) }

@@ -1,10 +1,10 @@
 //! What is done with one line.
 
 ghost use Rattle.std.specs.Prelude.{◌≡◌, ◌≤◌, ◌<◌, ◌+◌, true, length};
-ghost use Rattle.card_core.specs.Card.{Stands};
+ghost use Rattle.card_core.specs.Card.{CardRepresents};
 ghost use Rattle.io_edge.specs.declared.line.TheConstants.{INPUT_LIMIT};
 ghost use Rattle.gp_tool.specs.Device.{LeavesOneOf};
-ghost use Rattle.gp_tool.specs.Serve.{GoesAhead, ServesLine, ServeCause};
+ghost use Rattle.gp_tool.specs.Serve.{IfServed, ServesLine, ServeCause};
 
 use crate::form::{COMMAND_LIMIT, Form, read_form};
 use crate::reply::{REPLY_LINE_LIMIT, write_reply};
@@ -46,10 +46,10 @@ pub fn serve_line<K: Sink, F: Flash>(
     requires up { card.old.up ≡ true }
     requires few { done.old < INPUT_LIMIT }
     ensures served { ServesLine K.tells line.now ((card.new ≡ card.old) × (done.new ≡ done.old))
-        (Stands F.Flash card.old) (Stands F.Flash card.new)
+        (CardRepresents F.Flash card.old) (CardRepresents F.Flash card.new)
         (LeavesOneOf F.Flash card.old.flash card.new.flash)
         done.old done.new (K.state sink.old).written (K.state sink.new).written result }
-    ensures up { GoesAhead result (card.new.up ≡ true) }
+    ensures up { IfServed result (card.new.up ≡ true) }
     ensures few { done.new ≤ done.old + 1 }
     ensures flushes { (K.state sink.new).flushes ≡ (K.state sink.old).flushes }
     ensures later { F.faults card.old.flash ≤ F.faults card.new.flash }

@@ -5,10 +5,10 @@
 
 ghost use Rattle.std.specs.Prelude.{◌≡◌, ◌≤◌, ◌++◌, ℕ, List, take, true, OnOk, OnErr, IfErr};
 ghost use Rattle.std.specs.List.{flat_map};
-ghost use Rattle.card_core.specs.Card.{Stands};
+ghost use Rattle.card_core.specs.Card.{CardRepresents};
 ghost use Rattle.card_types.specs.InOrder.{IsInOrder};
 ghost use Rattle.card_types.specs.Registry.{Registry};
-ghost use Rattle.card_types.specs.Says.{Says};
+ghost use Rattle.card_types.specs.Represents.{Represents};
 ghost use Rattle.faults.specs.Faults.{HasCause};
 ghost use Rattle.page_journal.specs.Moments.{LeavesOnly};
 ghost use Rattle.policy_rules.specs.State.{State};
@@ -56,7 +56,7 @@ fn show_life<K: Sink>(life: CardLife, sink: &mut K) -> Result<(), WriteFailed>
 // Writes the lines that stand before those of Executable Load Files.
 fn show_front<K: Sink>(tables: &Tables, sink: &mut K) -> Result<(), WriteFailed>
     requires in_order { IsInOrder tables.now }
-    ensures written { (page : ℕ → List ℕ) (said : Registry) → Says page tables.now said
+    ensures written { (page : ℕ → List ℕ) (said : Registry) → Represents page tables.now said
         → Writes K.tells (K.state sink.old).written (K.state sink.new).written (card_line said.life ++ flat_map entry_line said.entries) result }
     ensures flushes { (K.state sink.new).flushes ≡ (K.state sink.old).flushes }
     ensures cause { HasCause (K.state sink.old).faults (K.state sink.new).faults result }
@@ -68,7 +68,7 @@ fn show_front<K: Sink>(tables: &Tables, sink: &mut K) -> Result<(), WriteFailed>
 // Writes the lines of what domains own: keys, sequence counters and data objects.
 fn show_owned<K: Sink>(tables: &Tables, sink: &mut K) -> Result<(), WriteFailed>
     requires in_order { IsInOrder tables.now }
-    ensures written { (page : ℕ → List ℕ) (said : Registry) → Says page tables.now said
+    ensures written { (page : ℕ → List ℕ) (said : Registry) → Represents page tables.now said
         → Writes K.tells (K.state sink.old).written (K.state sink.new).written
         (flat_map key_line said.keys ++ (flat_map counter_line said.counters ++ flat_map object_line said.objects)) result }
     ensures flushes { (K.state sink.new).flushes ≡ (K.state sink.old).flushes }
@@ -81,7 +81,7 @@ fn show_owned<K: Sink>(tables: &Tables, sink: &mut K) -> Result<(), WriteFailed>
 // Writes the lines of sequence counters and data objects.
 fn show_data<K: Sink>(tables: &Tables, sink: &mut K) -> Result<(), WriteFailed>
     requires in_order { IsInOrder tables.now }
-    ensures written { (page : ℕ → List ℕ) (said : Registry) → Says page tables.now said
+    ensures written { (page : ℕ → List ℕ) (said : Registry) → Represents page tables.now said
         → Writes K.tells (K.state sink.old).written (K.state sink.new).written (flat_map counter_line said.counters ++ flat_map object_line said.objects) result }
     ensures flushes { (K.state sink.new).flushes ≡ (K.state sink.old).flushes }
     ensures cause { HasCause (K.state sink.old).faults (K.state sink.new).faults result }
@@ -93,16 +93,16 @@ fn show_data<K: Sink>(tables: &Tables, sink: &mut K) -> Result<(), WriteFailed>
 /// Writes the registry of a card as text, a line at a time. Only the digests of Executable Load Files make calls on the device.
 pub fn show<F: Flash, K: Sink>(card: &mut Card<F>, sink: &mut K) -> Result<(), ShowFault>
     requires up { card.old.up ≡ true }
-    ensures written { (state : State) → Stands F.Flash card.old state → F.tells → K.tells
+    ensures written { (state : State) → CardRepresents F.Flash card.old state → F.tells → K.tells
         → OnOk result ((K.state sink.new).written ≡ (K.state sink.old).written ++ shown state.registry) }
-    ensures part { (state : State) → Stands F.Flash card.old state → F.tells → K.tells
+    ensures part { (state : State) → CardRepresents F.Flash card.old state → F.tells → K.tells
         → OnErr result ((n : ℕ) × ((K.state sink.new).written ≡ (K.state sink.old).written ++ take n (shown state.registry))) }
     // Power lost at any moment leaves the registry.
-    ensures moments { F.tells → (state : State) → Stands F.Flash card.old state
+    ensures moments { F.tells → (state : State) → CardRepresents F.Flash card.old state
         → LeavesOnly F.Flash card.old.flash card.new.flash (λ outcome. Reopens outcome state.registry) }
-    ensures stands { (state : State) → Stands F.Flash card.old state → OnOk result (Stands F.Flash card.new state) }
-    ensures refused { (state : State) → Stands F.Flash card.old state
-        → IfErr result (λ fault. fault ≡ Write → Stands F.Flash card.new state) }
+    ensures stands { (state : State) → CardRepresents F.Flash card.old state → OnOk result (CardRepresents F.Flash card.new state) }
+    ensures refused { (state : State) → CardRepresents F.Flash card.old state
+        → IfErr result (λ fault. fault ≡ Write → CardRepresents F.Flash card.new state) }
     ensures pages { F.tells → F.pages card.new.flash ≡ F.pages card.old.flash }
     ensures flushes { (K.state sink.new).flushes ≡ (K.state sink.old).flushes }
     ensures later { F.faults card.old.flash ≤ F.faults card.new.flash }

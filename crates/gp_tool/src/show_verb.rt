@@ -1,7 +1,7 @@
 //! The verb `show`.
 
 ghost use Rattle.std.specs.Prelude.{◌≡◌, ◌≢◌, ◌⊎◌, ◌≤◌, true};
-ghost use Rattle.card_core.specs.Card.{Stands};
+ghost use Rattle.card_core.specs.Card.{CardRepresents};
 ghost use Rattle.faults.specs.Faults.{Rose};
 ghost use Rattle.page_journal.specs.Moments.{LeavesOnly};
 ghost use Rattle.policy_rules.specs.State.{State};
@@ -26,9 +26,9 @@ fn show_card<K: Sink, F: Flash>(card: &mut Card<F>, sink: &mut K) -> Ending
     requires up { card.old.up ≡ true }
     ensures cause { EndCause result (faults_of unread (K.state sink.old) (F.faults card.old.flash)) (faults_of unread (K.state sink.new) (F.faults card.new.flash)) }
     ensures flushes { Flushes K.tells result (K.state sink.old) (K.state sink.new) }
-    ensures ends { (state : State) → Stands F.Flash card.old state
+    ensures ends { (state : State) → CardRepresents F.Flash card.old state
         → ShowEnds (F.tells × K.tells) state.registry result (K.state sink.old) (K.state sink.new) }
-    ensures moments { F.tells → (state : State) → Stands F.Flash card.old state
+    ensures moments { F.tells → (state : State) → CardRepresents F.Flash card.old state
         → LeavesOnly F.Flash card.old.flash card.new.flash (λ outcome. Reopens outcome state.registry) }
     ensures pages { F.tells → F.pages card.new.flash ≡ F.pages card.old.flash }
     ensures later { F.faults card.old.flash ≤ F.faults card.new.flash }

@@ -1,7 +1,7 @@
 -- The last sequence counter.
 use Rattle.std.proofs.Common.{◌≡◌, inl, inr, ◌≤◌, arith}
 use Rattle.std.proofs.lemmas.Bool.{cases_Bool}
-use Rattle.card_types.specs.Says.{keeps_counter}
+use Rattle.card_types.specs.Represents.{keeps_counter}
 use Rattle.card_types.specs.declared.limits.TheConstants.{COUNTER_LIMIT}
 use Rattle.card_types.specs.declared.tables.KeyRec.{KeyRec}
 use Rattle.rec_store.specs.KeySlot.{IsRoomyKey}

@@ -2,7 +2,7 @@
 -- Card Specification 2.3.1, 11.2 and 11.8).
 use Rattle.std.specs.Prelude.{◌≡◌, ℕ, ◌++◌, ◌==◌, ◌&&◌, List, [], ◌∷◌, Bool, Option, filter, length, not}
 use Rattle.std.specs.List.Sorted.{IsPermutation}
-use Rattle.card_types.specs.Says.{used}
+use Rattle.card_types.specs.Represents.{used}
 use Rattle.card_types.specs.declared.tables.KeyRec.{KeyRec}
 
 -- the key is one of this domain with this key version number; no key is one of key version number 00

@@ -3,7 +3,7 @@ use Rattle.std.proofs.Common.{◌≡◌, ◌≢◌, ℕ, List, [], ◌∷◌, �
 use Rattle.std.specs.Prelude.{map}
 use Rattle.bertlv.specs.Spelling.{AreElements, Spelling}
 use Rattle.card_types.specs.Registry as registry
-use Rattle.card_types.specs.Says.{Says, domain_aid, key_of}
+use Rattle.card_types.specs.Represents.{Represents, domain_aid, key_of}
 use Rattle.card_types.specs.Slots.{held}
 use Rattle.card_types.specs.Well.{Well}
 use Rattle.card_types.specs.declared.tables.Entry.{Entry}
@@ -38,7 +38,7 @@ keys_spelled (key ∷ keys) =
 cons_not_nil : (x : registry.Key) (xs : List registry.Key) → x ∷ xs ≢ []
 cons_not_nil x xs same = cc
 
-module _ (page : ℕ → List ℕ) (tables : Tables) (said : registry.Registry) (says : Says page tables said) (well : Well said)
+module _ (page : ℕ → List ℕ) (tables : Tables) (said : registry.Registry) (says : Represents page tables said) (well : Well said)
     (domain : ℕ) (entry : Entry) (at : held tables.entries.items domain ≡ Some entry) where
   abbrev aid : List ℕ
   aid = domain_aid tables.entries.items domain

@@ -9,7 +9,7 @@ use Rattle.card_types.proofs.ObjectNames.{object_in_slot, object_unnamed, object
 use Rattle.card_types.specs.AidOrder.{same_aid}
 use Rattle.card_types.specs.Least.{NoneFits}
 use Rattle.card_types.specs.Registry as registry
-use Rattle.card_types.specs.Says.{Says, counter_of, domain_aid, object_of}
+use Rattle.card_types.specs.Represents.{Represents, counter_of, domain_aid, object_of}
 use Rattle.card_types.specs.Slots.{held}
 use Rattle.card_types.specs.Well.{IsObject, IsWellCounter, IsWellObject, Well}
 use Rattle.card_types.specs.declared.tables.Entry.{Entry}
@@ -47,7 +47,7 @@ both : (a b : Bool) → (a && b) ≡ true → (a ≡ true) × (b ≡ true)
 both true b is = (refl, is)
 both false b is = cc
 
-module _ (page : ℕ → List ℕ) (tables : Tables) (said : registry.Registry) (says : Says page tables said) (well : Well said) where
+module _ (page : ℕ → List ℕ) (tables : Tables) (said : registry.Registry) (says : Represents page tables said) (well : Well said) where
   pub object_form : (slot : ℕ) (object : Object) → held tables.objects.items slot ≡ Some object → IsTag object.tag
   object_form slot object here =
       let there = (objects_shown page tables said says).there slot object here refl in
@@ -59,7 +59,7 @@ module _ (page : ℕ → List ℕ) (tables : Tables) (said : registry.Registry) 
   object_tag domain tag slot object here fits =
       subst IsTag (equal_is object.tag tag (both (object.owner == domain) (object.tag == tag) fits).1) (object_form slot object here)
 
-module _ (page : ℕ → List ℕ) (tables : Tables) (said : registry.Registry) (says : Says page tables said) (well : Well said)
+module _ (page : ℕ → List ℕ) (tables : Tables) (said : registry.Registry) (says : Represents page tables said) (well : Well said)
     (domain : ℕ) (entry : Entry) (at : held tables.entries.items domain ≡ Some entry) where
   abbrev aid : List ℕ
   aid = domain_aid tables.entries.items domain

@@ -7,7 +7,7 @@ use Rattle.policy_rules.specs.Admission.{Admitted}
 use Rattle.policy_rules.specs.DeleteKey.{Chooses, DeleteFails, IsLastSet, NamesPart}
 use Rattle.policy_rules.specs.KeyVersions.{has_key_version}
 use Rattle.policy_rules.specs.Management.{acting}
-use Rattle.policy_rules.specs.Means.{ActsIn, IsRequestOf}
+use Rattle.policy_rules.specs.Requests.{ActsIn, IsRequestOf}
 use Rattle.policy_rules.specs.declared.delete_key.RuleDK.TheVariants.{DK1, DK2}
 use Rattle.policy_rules.specs.declared.request.Request.TheVariants.{DeleteKey}
 use Rattle.policy_rules.specs.declared.rule.Rule.TheVariants.{DK}

@@ -7,7 +7,7 @@ use Rattle.card_types.specs.Ascending.{IsAscending, counter_order, key_order}
 use Rattle.card_types.specs.Registry.{Registry}
 use Rattle.card_types.specs.Well.{Well}
 use Rattle.policy_rules.specs.Admission.{Admitted}
-use Rattle.policy_rules.specs.DeleteKey.{DeleteDoes}
+use Rattle.policy_rules.specs.DeleteKey.{DeleteEffect}
 use Rattle.policy_rules.specs.KeyVersions.{counters_but, is_counter_numbered, is_key_numbered, keys_but, with_keys}
 use Rattle.policy_rules.specs.Management.{acting}
 use Rattle.policy_rules.specs.State.{Effect}
@@ -36,7 +36,7 @@ module _ (registry : Registry) (owner : List ℕ) (version : ℕ) where
     objects = ascending.objects;
   }
 
-pub delete_keeps : (admitted : Admitted) (done : Effect) → Well admitted.at.registry → IsAscending admitted.at.registry → DeleteDoes admitted done
+pub delete_keeps : (admitted : Admitted) (done : Effect) → Well admitted.at.registry → IsAscending admitted.at.registry → DeleteEffect admitted done
     → Well done.state.registry × IsAscending done.state.registry
 delete_keeps admitted done well ascending does = (
   subst Well (sym does.registry) (without_version_well admitted.at.registry (acting admitted) does.version well),

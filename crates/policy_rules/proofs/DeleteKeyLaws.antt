@@ -1,7 +1,7 @@
 -- The laws of DELETE of a key.
 use Rattle.std.proofs.Common.{refl, sym, arith, inl}
 use Rattle.policy_rules.specs.Admission.{Admitted}
-use Rattle.policy_rules.specs.DeleteKey.{DeleteDoes, delete_key}
+use Rattle.policy_rules.specs.DeleteKey.{DeleteEffect, delete_key}
 use Rattle.policy_rules.specs.KeyVersions.{counters_but, keys_but}
 use Rattle.policy_rules.specs.Management.{acting}
 use Rattle.policy_rules.specs.Sound.{IsSound}
@@ -18,7 +18,7 @@ use Rattle.policy_rules.specs.DeleteKey.{DeleteFails, deletion_rules}
 use Rattle.std.proofs.Common.{Option}
 
 -- keys and counters go
-deletion_keeps : (admitted : Admitted) (done : Effect) → IsReady admitted → DeleteDoes admitted done → IsSound done.state
+deletion_keeps : (admitted : Admitted) (done : Effect) → IsReady admitted → DeleteEffect admitted done → IsSound done.state
 deletion_keeps admitted done ready does =
     let registry = admitted.at.registry in
     let kept = delete_keeps admitted done ready.sound.well ready.sound.ascending does in
@@ -31,7 +31,7 @@ delete_key_lawful = record {
   keeps = λ admitted done ready judges does. deletion_keeps admitted done ready does;
   one = delete_one;
   quiet = λ unmanaged. absurd (unmanaged (2, omega arith, refl));
-  placeless = λ other admitted done none does. placeless_same admitted.at.volatile done.state.volatile admitted.channel does.volatile none;
+  without_place = λ other admitted done none does. placeless_same admitted.at.volatile done.state.volatile admitted.channel does.volatile none;
 }
 
 pub deletion_judged : (admitted : Admitted) (found : Option Rule) → TakesCommand delete_key admitted.command → IsFirst (DeleteFails admitted) deletion_rules found → Judges admitted found

@@ -1,14 +1,14 @@
 -- A DELETE of a key does one thing.
 use Rattle.std.proofs.Common.{◌≡◌, ap, sym, ◌∙◌}
 use Rattle.policy_rules.specs.Admission.{Admitted}
-use Rattle.policy_rules.specs.DeleteKey.{DeleteDoes}
+use Rattle.policy_rules.specs.DeleteKey.{DeleteEffect}
 use Rattle.policy_rules.specs.KeyVersions.{counters_but, keys_but, with_keys}
 use Rattle.policy_rules.specs.Management.{acting}
 use Rattle.policy_rules.specs.State.{Effect}
 use Rattle.policy_rules.proofs.Chosen.{chosen_once}
 use Rattle.policy_rules.proofs.SameEffect.{effect_same, state_same}
 
-pub delete_one : (admitted : Admitted) (a b : Effect) → DeleteDoes admitted a → DeleteDoes admitted b → a ≡ b
+pub delete_one : (admitted : Admitted) (a b : Effect) → DeleteEffect admitted a → DeleteEffect admitted b → a ≡ b
 delete_one admitted a b one other =
     let registry = admitted.at.registry in
     let same = chosen_once admitted.command.body one.version other.version one.identifier other.identifier one.chooses other.chooses in

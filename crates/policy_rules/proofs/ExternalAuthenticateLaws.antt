@@ -2,18 +2,18 @@
 use Rattle.std.proofs.Common.{◌≡◌, ℕ, refl, sym, ap, subst, ◌∙◌}
 use Rattle.std.specs.Prelude.{◌==◌, if◌then◌else◌}
 use Rattle.policy_rules.specs.Admission.{Admitted}
-use Rattle.policy_rules.specs.ExternalAuthenticate.{ExternalAuthenticateDoes, external_authenticate}
+use Rattle.policy_rules.specs.ExternalAuthenticate.{ExternalAuthenticateEffect, external_authenticate}
 use Rattle.policy_rules.specs.Sound.{Fits, IsSound}
 use Rattle.policy_rules.specs.State.{Effect}
-use Rattle.policy_rules.specs.Volatile.{with_standing, Secured}
+use Rattle.policy_rules.specs.Volatile.{with_secure_channel, Secured}
 use Rattle.scp03_card.specs.Offer.{Offer}
 use Rattle.scp03_card.specs.Session.{HasCryptogram, HasMac, answered}
-use Rattle.policy_rules.proofs.StandingSet.{offer_stands, secured_fits}
+use Rattle.policy_rules.proofs.SecureChannelSet.{offer_stands, secured_fits}
 use Rattle.card_types.specs.Level.{code_of}
 use Rattle.card_types.specs.declared.level.Level.{Level}
 use Rattle.card_types.specs.declared.level.Level.TheVariants.{Mac, EncMac, MacR, EncMacR, Full}
 use Rattle.policy_rules.proofs.SameEffect.{effect_same, state_same}
-use Rattle.policy_rules.proofs.Lawful.{IsLawful, IsReady, placeless_standing, same_as, some_same, sound_with}
+use Rattle.policy_rules.proofs.Lawful.{IsLawful, IsReady, place_leaves_secure_channel, same_as, some_same, sound_with}
 use Rattle.std.proofs.Common.{Bool, true, false, List, [], ◌∷◌, ◌++◌, Option, None, Some, inl, inr}
 use Rattle.std.specs.Prelude.{if◌then◌else◌, ◌==◌}
 use Rattle.std.proofs.lemmas.Bool.{eqb-true}
@@ -27,7 +27,7 @@ use Rattle.policy_rules.specs.declared.rule.RulePS.TheVariants.{P, S}
 use Rattle.policy_rules.specs.declared.rule.Rule.{Rule}
 use Rattle.policy_rules.specs.declared.rule.Rule.TheVariants.{EA, PS}
 
-external_authenticate_keeps : (admitted : Admitted) (done : Effect) → IsReady admitted → ExternalAuthenticateDoes admitted done → IsSound done.state
+external_authenticate_keeps : (admitted : Admitted) (done : Effect) → IsReady admitted → ExternalAuthenticateEffect admitted done → IsSound done.state
 external_authenticate_keeps admitted done ready does =
     let registry = admitted.at.registry in
     let volatile = admitted.at.volatile in
@@ -51,13 +51,13 @@ coded_back Full = refl
 level_one : (a b : Level) → code_of a ≡ code_of b → a ≡ b
 level_one a b same = sym (coded_back a) ∙ ap level_coded same ∙ coded_back b
 
-external_authenticate_one : (admitted : Admitted) (a b : Effect) → ExternalAuthenticateDoes admitted a → ExternalAuthenticateDoes admitted b → a ≡ b
+external_authenticate_one : (admitted : Admitted) (a b : Effect) → ExternalAuthenticateEffect admitted a → ExternalAuthenticateEffect admitted b → a ≡ b
 external_authenticate_one admitted a b one other =
     let offers = some_same one.offer other.offer (sym one.answers.0 ∙ other.answers.0) in
     let levels = level_one one.level other.level (one.answers.1 ∙ sym other.answers.1) in
     effect_same a b
     (state_same a.state b.state (one.registry ∙ sym other.registry)
-    (one.volatile ∙ (λ i. with_standing admitted.at.volatile admitted.channel (Secured (answered (offers i) (levels i)))) ∙ sym other.volatile))
+    (one.volatile ∙ (λ i. with_secure_channel admitted.at.volatile admitted.channel (Secured (answered (offers i) (levels i)))) ∙ sym other.volatile))
     (one.body ∙ sym other.body)
     (one.status ∙ sym other.status)
 
@@ -66,7 +66,7 @@ external_authenticate_lawful = record {
   keeps = λ admitted done ready judges does. external_authenticate_keeps admitted done ready does;
   one = external_authenticate_one;
   quiet = λ unmanaged admitted done does. same_as admitted.at.registry done.state.registry does.registry;
-  placeless = λ other admitted done none does. placeless_standing admitted.at.volatile done.state.volatile admitted.channel _ does.volatile none;
+  without_place = λ other admitted done none does. place_leaves_secure_channel admitted.at.volatile done.state.volatile admitted.channel _ does.volatile none;
 }
 
 -- that there is an offer stands before the rules on the form, of this command alone

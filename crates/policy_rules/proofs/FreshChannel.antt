@@ -13,7 +13,7 @@ issuer_is_named registry (Some entry) issuer = refl
 
 -- a channel on which an entry of the registry was just selected
 pub fresh_is_well : (registry : Registry) (aid : List ℕ) → IsSome (entry_named registry aid) → IsWellChannel registry (fresh aid)
-fresh_is_well registry aid named = record { selected = named; standing = tt }
+fresh_is_well registry aid named = record { selected = named; secure_channel = tt }
 
 pub issuer_is_well : (registry : Registry) → Well registry → IsWellChannel registry (fresh ISSUER)
 issuer_is_well registry well = fresh_is_well registry ISSUER (issuer_is_named registry (entry_named registry ISSUER) well.issuer)

@@ -6,7 +6,7 @@ use Rattle.policy_rules.specs.Sound.{IsSound}
 use Rattle.policy_rules.specs.State.{Effect, State}
 use Rattle.bertlv.proofs.SpellingLemmas.{one_spelling, one_spelling_each}
 use Rattle.bertlv.specs.Spelling.{Spelling}
-use Rattle.policy_rules.specs.GetData.{GetDataDoes, HasData, IsDataObject, IsSequenceCounter, key_information, tag_of, get_data}
+use Rattle.policy_rules.specs.GetData.{GetDataEffect, HasData, IsDataObject, IsSequenceCounter, key_information, tag_of, get_data}
 use Rattle.policy_rules.proofs.SameEffect.{effect_same}
 use Rattle.scp03_card.specs.Offer.{counter_bytes}
 use Rattle.policy_rules.proofs.Lawful.{IsLawful, placeless_same, same_as, some_same}
@@ -42,7 +42,7 @@ data_one said domain tag a b (inr (inr one)) (inl other) = absurd (one.0 other.0
 data_one said domain tag a b (inr (inr one)) (inr (inl other)) = absurd (one.1 other.0)
 data_one said domain tag a b (inr (inr one)) (inr (inr other)) = object_one said domain tag a b one.2 other.2
 
-get_data_one : (admitted : Admitted) (a b : Effect) → GetDataDoes admitted a → GetDataDoes admitted b → a ≡ b
+get_data_one : (admitted : Admitted) (a b : Effect) → GetDataEffect admitted a → GetDataEffect admitted b → a ≡ b
 get_data_one admitted a b one other =
     let tag = tag_of admitted.command.p1 admitted.command.p2 in
     let values = data_one _ _ tag one.value other.value one.asked other.asked in
@@ -55,7 +55,7 @@ get_data_lawful = record {
   keeps = λ admitted done ready judges does. subst IsSound (sym does.state) ready.sound;
   one = get_data_one;
   quiet = λ unmanaged admitted done does. same_as admitted.at.registry done.state.registry (ap (λ (s : State). s.registry) does.state);
-  placeless = λ other admitted done none does.
+  without_place = λ other admitted done none does.
       placeless_same admitted.at.volatile done.state.volatile admitted.channel (ap (λ (s : State). s.volatile) does.state) none;
 }
 

@@ -10,7 +10,7 @@ use Rattle.card_types.specs.AidOrder.{same_aid}
 use Rattle.card_types.specs.Counters.{HasNextCounter}
 use Rattle.card_types.specs.InOrder.{IsInOrder}
 use Rattle.card_types.specs.Registry as registry
-use Rattle.card_types.specs.Says.{Says, counter_of, domain_aid, entry_of, keeps_counter}
+use Rattle.card_types.specs.Represents.{Represents, counter_of, domain_aid, entry_of, keeps_counter}
 use Rattle.card_types.specs.Slots.{held}
 use Rattle.card_types.specs.Well.{IsWellCounter, Well}
 use Rattle.card_types.specs.declared.factory.TheConstants.{ISSUER}
@@ -49,7 +49,7 @@ has_next tables order slot key here keeps other =
     let bound = (All-contains (IsWellCounter order.said) order.said.counters (counter_of tables.entries.items key) order.well.counters among).number in
     rw here (keeps, omega (arith, bound, other))
 
-module _ (page : ℕ → List ℕ) (tables : Tables) (admitted : Admitted) (says : Says page tables admitted.at.registry) (well : Well admitted.at.registry)
+module _ (page : ℕ → List ℕ) (tables : Tables) (admitted : Admitted) (says : Represents page tables admitted.at.registry) (well : Well admitted.at.registry)
     (domain : ℕ) (entry : Entry) (at : held tables.entries.items domain ≡ Some entry) (on : acting admitted ≡ domain_aid tables.entries.items domain)
     (version : ℕ) (asked : version ≡ admitted.command.p1) where
   named : registry.entry_named admitted.at.registry (acting admitted) ≡ Some (entry_of tables.entries.items tables.files.items entry)

@@ -7,22 +7,22 @@ use Rattle.card_types.specs.declared.limits.TheConstants.{COUNTER_LIMIT}
 use Rattle.policy_rules.specs.Admission.{Admitted}
 use Rattle.policy_rules.specs.Commands.{JudgesAs}
 use Rattle.policy_rules.specs.FirstFailing.{IsFirst}
-use Rattle.policy_rules.specs.InitializeUpdate.{AsksForSet, InitializeUpdateDoes, InitializeUpdateFails, IsOfferOf, offer_body, initialize_update, offer_rules}
+use Rattle.policy_rules.specs.InitializeUpdate.{AsksForSet, InitializeUpdateEffect, InitializeUpdateFails, IsOfferOf, offer_body, initialize_update, offer_rules}
 use Rattle.policy_rules.specs.Management.{acting}
 use Rattle.policy_rules.specs.Sound.{IsSound}
 use Rattle.policy_rules.specs.State.{Effect}
-use Rattle.policy_rules.specs.Volatile.{Offered, with_standing}
+use Rattle.policy_rules.specs.Volatile.{Offered, with_secure_channel}
 use Rattle.policy_rules.specs.declared.initialize_update.RuleIU.TheVariants.{IU3}
 use Rattle.policy_rules.specs.declared.instruction.TheConstants.{SELECT, MANAGE_CHANNEL, INITIALIZE_UPDATE, LOAD}
 use Rattle.policy_rules.specs.declared.rule.Rule.TheVariants.{IU}
 use Rattle.policy_rules.proofs.FirstUnique.{none_fails}
 use Rattle.policy_rules.proofs.InitializeUpdateOffer.{raised_ascending, raised_fits, set_raised_well, well_offer}
-use Rattle.policy_rules.proofs.StandingSet.{unloaded_fits}
+use Rattle.policy_rules.proofs.SecureChannelSet.{unloaded_fits}
 use Rattle.policy_rules.specs.KeySets.{UsesSet, set_counter}
 use Rattle.policy_rules.proofs.SameEffect.{effect_same, state_same}
 use Rattle.scp03_card.specs.Offer.{Offer, offered}
-use Rattle.policy_rules.specs.Changes.{IsSameButCounters, begun}
-use Rattle.policy_rules.proofs.Lawful.{IsLawful, IsReady, placeless_standing, some_same}
+use Rattle.policy_rules.specs.Changes.{IsSameButCounters, without_number}
+use Rattle.policy_rules.proofs.Lawful.{IsLawful, IsReady, place_leaves_secure_channel, some_same}
 use Rattle.policy_rules.proofs.OneSet.{owner_one}
 use Rattle.card_types.specs.Registry as registry
 use Rattle.policy_rules.proofs.Judging.{judged}
@@ -41,10 +41,10 @@ initialize_update_apart ins is = ((λ same. absurd (omega arith)), (λ same. abs
 
 -- the channel has the offer then, and the counter is one higher
 initialize_update_keeps : (admitted : Admitted) (done : Effect) → IsReady admitted → JudgesAs initialize_update admitted None
-    → InitializeUpdateDoes admitted done → IsSound done.state
+    → InitializeUpdateEffect admitted done → IsSound done.state
 initialize_update_keeps admitted done ready (takes, first) does =
     let registry = admitted.at.registry in
-    let after = with_standing admitted.at.volatile admitted.channel (Offered does.offer) in
+    let after = with_secure_channel admitted.at.volatile admitted.channel (Offered does.offer) in
     let apart = initialize_update_apart admitted.command.ins takes.0 in
     let offered = well_offer admitted does.owner does.counter does.offer ready.sound.well takes.2 does.is_offer in
     let fits = unloaded_fits registry admitted.at.volatile admitted.channel ready.sound.fits ready.low (Offered does.offer) (ready.loads apart.2)
@@ -72,7 +72,7 @@ set_one said domain version o p a b one other =
     let owners = owner_one said domain o p one.0 other.0 in
     (owners, some_same a b (sym one.1 ∙ ap (λ (owner : List ℕ). set_counter said owner version) owners ∙ other.1))
 
-initialize_update_one : (admitted : Admitted) (a b : Effect) → InitializeUpdateDoes admitted a → InitializeUpdateDoes admitted b → a ≡ b
+initialize_update_one : (admitted : Admitted) (a b : Effect) → InitializeUpdateEffect admitted a → InitializeUpdateEffect admitted b → a ≡ b
 initialize_update_one admitted a b one other =
     let said = admitted.at.registry in
     let sets = set_one said (acting admitted) admitted.command.p1 one.owner other.owner one.counter other.counter one.asked other.asked in
@@ -85,15 +85,15 @@ initialize_update_one admitted a b one other =
     effect_same a b
     (state_same a.state b.state
     (one.registry ∙ (λ i. raised said (owners i) (versions i)) ∙ sym other.registry)
-    (one.volatile ∙ ap (λ (o : Offer). with_standing admitted.at.volatile admitted.channel (Offered o)) offers ∙ sym other.volatile))
+    (one.volatile ∙ ap (λ (o : Offer). with_secure_channel admitted.at.volatile admitted.channel (Offered o)) offers ∙ sym other.volatile))
     (one.body ∙ (λ i. offer_body said (owners i) (counters i) (offers i)) ∙ sym other.body)
     (one.status ∙ sym other.status)
 
-begun_raised : (owner : List ℕ) (version : ℕ) (counters : List Counter) → map begun (map (raised_counter owner version) counters) ≡ map begun counters
+begun_raised : (owner : List ℕ) (version : ℕ) (counters : List Counter) → map without_number (map (raised_counter owner version) counters) ≡ map without_number counters
 begun_raised owner version [] = refl
-begun_raised owner version (counter ∷ counters) = ap (λ (rest : List Counter). begun counter ∷ rest) (begun_raised owner version counters)
+begun_raised owner version (counter ∷ counters) = ap (λ (rest : List Counter). without_number counter ∷ rest) (begun_raised owner version counters)
 
-counters_raised : (admitted : Admitted) (done : Effect) → InitializeUpdateDoes admitted done → IsSameButCounters admitted.at.registry done.state.registry
+counters_raised : (admitted : Admitted) (done : Effect) → InitializeUpdateEffect admitted done → IsSameButCounters admitted.at.registry done.state.registry
 counters_raised admitted done does = subst (IsSameButCounters admitted.at.registry) (sym does.registry) (record {
   life = refl;
   entries = refl;
@@ -108,7 +108,7 @@ initialize_update_lawful = record {
   keeps = initialize_update_keeps;
   one = initialize_update_one;
   quiet = λ unmanaged. counters_raised;
-  placeless = λ other admitted done none does. placeless_standing admitted.at.volatile done.state.volatile admitted.channel _ does.volatile none;
+  without_place = λ other admitted done none does. place_leaves_secure_channel admitted.at.volatile done.state.volatile admitted.channel _ does.volatile none;
 }
 
 pub offer_judged : (admitted : Admitted) (found : Option Rule) → TakesCommand initialize_update admitted.command → IsFirst (InitializeUpdateFails admitted) offer_rules found → Judges admitted found

@@ -4,10 +4,10 @@ use Rattle.std.specs.Prelude.{IfErr, OnOk}
 use Rattle.std.specs.Result.{result_err}
 use Rattle.policy_rules.specs.Admission.{Admitted}
 use Rattle.policy_rules.specs.CommandForm.{CommandForm}
-use Rattle.policy_rules.specs.Commands.{Does, FormFails, TakesCommand, Judges, OneOf, forms_of}
+use Rattle.policy_rules.specs.Commands.{HasEffect, FormFails, TakesCommand, Judges, OneOf, forms_of}
 use Rattle.policy_rules.specs.ExternalAuthenticate.{rules_before_form}
 use Rattle.policy_rules.specs.FirstFailing.{IsFirst}
-use Rattle.policy_rules.specs.Means.{IsMalformed}
+use Rattle.policy_rules.specs.Requests.{IsMalformed}
 use Rattle.policy_rules.specs.State.{Effect}
 use Rattle.policy_rules.specs.declared.rule.Rule.{Rule}
 use Rattle.policy_rules.specs.declared.rule.Rule.TheVariants.{PS}
@@ -45,7 +45,7 @@ module _ (form : CommandForm) (listed : IsListed form) (admitted : Admitted) (ta
   judged none found first =
       judged_behind (subst (λ (rules : List Rule). IsFirst (FormFails admitted) rules None) (sym (ap rules_before_form takes.0 ∙ none)) refl) found first
 
-  pub does_so : (done : Effect) → form.does admitted done → Does admitted done
+  pub does_so : (done : Effect) → form.does admitted done → HasEffect admitted done
   does_so done does = one_here (λ f. TakesCommand f admitted.command × f.does admitted done) (takes, does)
 
   -- a refusal by a rule of the form's own

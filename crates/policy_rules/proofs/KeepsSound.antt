@@ -4,7 +4,7 @@ use Rattle.std.specs.Prelude.{MatchOption}
 use Rattle.apdu_core.specs.Apdu.{Apdu}
 use Rattle.card_types.specs.Registry.{Registry}
 use Rattle.card_types.specs.Well.{IsDomainNamed, Well}
-use Rattle.policy_rules.specs.Admission.{Admits, Admitted, BarredLeaves, class_passed}
+use Rattle.policy_rules.specs.Admission.{Admits, Admitted, GeneralRefusalLeaves, class_passed}
 use Rattle.policy_rules.specs.Classes.{channel_of}
 use Rattle.policy_rules.specs.Laws.{StartsSound, StepsKeepSound}
 use Rattle.policy_rules.specs.Sound.{Fits, IsSound, IsWellChannel}
@@ -15,7 +15,7 @@ use Rattle.policy_rules.specs.declared.rule.RuleG.{RuleG}
 use Rattle.policy_rules.specs.declared.rule.RuleG.TheVariants.{G1, G2, G3, G4, G5, G6, G7, G8}
 use Rattle.policy_rules.proofs.Passing.{admitted_fits, admitted_loads, admitted_selected, channel_is_low, class_fits, domain_selected, either, placeless_fits}
 use Rattle.policy_rules.proofs.SetChannel.{without_load_fits}
-use Rattle.policy_rules.proofs.StandingSet.{dropped_fits, standing_fits}
+use Rattle.policy_rules.proofs.SecureChannelSet.{dropped_fits, secure_channel_fits}
 use Rattle.policy_rules.specs.CommandForm.{CommandForm}
 use Rattle.policy_rules.specs.Commands.{AtMostOne, DoesAs, JudgesAs, OneOf, TakesCommand, forms_of}
 use Rattle.policy_rules.proofs.AllLawful.{AllOf, all_lawful}
@@ -63,9 +63,9 @@ does_keeps admitted done ready (form ∷ forms) lawful (inr judges) (inr does) o
 ends_fits : (registry : Registry) (volatile : Volatile) (command : Apdu) → Fits registry volatile
     → Fits registry (without_session (class_passed volatile command) (channel_of command.class))
 ends_fits registry volatile command fits =
-    standing_fits registry (class_passed volatile command) (channel_of command.class) (class_fits registry volatile command fits) (channel_is_low command.class) Nothing tt
+    secure_channel_fits registry (class_passed volatile command) (channel_of command.class) (class_fits registry volatile command fits) (channel_is_low command.class) Nothing tt
 
-leaves_fits : (state : State) (bytes : List ℕ) (rule : RuleG) (left : Volatile) → Fits state.registry state.volatile → BarredLeaves state bytes rule left
+leaves_fits : (state : State) (bytes : List ℕ) (rule : RuleG) (left : Volatile) → Fits state.registry state.volatile → GeneralRefusalLeaves state bytes rule left
     → Fits state.registry left
 leaves_fits state bytes G1 left fits leaves = subst (Fits state.registry) (sym leaves) fits
 leaves_fits state bytes G2 left fits leaves = subst (Fits state.registry) (sym leaves) fits
@@ -89,9 +89,9 @@ refusal_fits admitted rule ready =
     (without_load_fits admitted.at.registry left admitted.channel fits)
 
 pub steps_keep_sound : StepsKeepSound
-steps_keep_sound state bytes outcome sound (inl barred) =
-    subst (λ (o : Outcome). IsSound o.state) (sym barred.outcome_is)
-    (sound_with state _ sound refl (leaves_fits state bytes barred.rule barred.left sound.fits barred.leaves))
+steps_keep_sound state bytes outcome sound (inl rejected) =
+    subst (λ (o : Outcome). IsSound o.state) (sym rejected.outcome_is)
+    (sound_with state _ sound refl (leaves_fits state bytes rejected.rule rejected.left sound.fits rejected.leaves))
 steps_keep_sound state bytes outcome sound (inr (inl refuses)) =
     let ready = admitted_is_ready state bytes refuses.admitted sound refuses.admits in
     let same : refuses.admitted.at.registry ≡ state.registry = (let taken = refuses.admits.1.2 in ap (λ (a : Admitted). a.at.registry) taken.3) in

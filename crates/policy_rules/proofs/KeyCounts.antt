@@ -7,7 +7,7 @@ use Rattle.card_types.proofs.Members.{filtered}
 use Rattle.card_types.proofs.Shows.{held_from_used}
 use Rattle.card_types.specs.AidOrder.{same_aid}
 use Rattle.card_types.specs.Registry as registry
-use Rattle.card_types.specs.Says.{Says, domain_aid, key_of, used}
+use Rattle.card_types.specs.Represents.{Represents, domain_aid, key_of, used}
 use Rattle.card_types.specs.Slots.{held}
 use Rattle.card_types.specs.Well.{Well}
 use Rattle.card_types.specs.declared.tables.Entry.{Entry}
@@ -20,7 +20,7 @@ use Rattle.policy_rules.proofs.Filtered.{as_many_pass, map_kept}
 use Rattle.policy_rules.proofs.KeysByName.{keys_staying}
 use Rattle.policy_rules.proofs.OwnKeys.{own_is}
 
-module _ (page : ℕ → List ℕ) (tables : Tables) (said : registry.Registry) (says : Says page tables said) (well : Well said)
+module _ (page : ℕ → List ℕ) (tables : Tables) (said : registry.Registry) (says : Represents page tables said) (well : Well said)
     (domain : ℕ) (entry : Entry) (at : held tables.entries.items domain ≡ Some entry) (replaced : ℕ) where
   abbrev named : KeyRec → registry.Key
   named key = key_of tables.entries.items key

@@ -10,7 +10,7 @@ use Rattle.card_types.proofs.Members.{filtered}
 use Rattle.card_types.proofs.Shows.{held_from_used, used_from_held}
 use Rattle.card_types.specs.AidOrder.{same_aid}
 use Rattle.card_types.specs.Registry as registry
-use Rattle.card_types.specs.Says.{Says, counter_of, domain_aid, keeps_counter, key_of, used}
+use Rattle.card_types.specs.Represents.{Represents, counter_of, domain_aid, keeps_counter, key_of, used}
 use Rattle.card_types.specs.Slots.{held}
 use Rattle.card_types.specs.Well.{IsKeyName, IsWellKey, Well}
 use Rattle.card_types.specs.declared.tables.Entry.{Entry}
@@ -28,13 +28,13 @@ least_version version identifier (inl set) = set.0
 least_version version identifier (inr (inl token, first)) = omega arith
 least_version version identifier (inr (inr receipt, first)) = omega arith
 
-pub least_in_slot : (page : ℕ → List ℕ) (tables : Tables) (said : registry.Registry) → Says page tables said → Well said
+pub least_in_slot : (page : ℕ → List ℕ) (tables : Tables) (said : registry.Registry) → Represents page tables said → Well said
     → (slot : ℕ) (key : KeyRec) → held tables.keys.items slot ≡ Some key → 1 ≤ key.version
 least_in_slot page tables said says well slot key here =
     let among = (keys_shown page tables said says).there slot key here refl in
     least_version key.version key.identifier (All-contains (IsWellKey said) said.keys (key_of tables.entries.items key) well.keys among).name
 
-module _ (page : ℕ → List ℕ) (tables : Tables) (said : registry.Registry) (says : Says page tables said) (well : Well said)
+module _ (page : ℕ → List ℕ) (tables : Tables) (said : registry.Registry) (says : Represents page tables said) (well : Well said)
     (domain : ℕ) (entry : Entry) (at : held tables.entries.items domain ≡ Some entry) (version : ℕ) where
   abbrev aid : List ℕ
   aid = domain_aid tables.entries.items domain

@@ -9,7 +9,7 @@ use Rattle.card_types.proofs.LeastOfList.{none_fits, none_found}
 use Rattle.card_types.proofs.Members.{contains_filter, filtered}
 use Rattle.card_types.specs.AidOrder.{same_aid}
 use Rattle.card_types.specs.Registry.{Counter}
-use Rattle.card_types.specs.Says.{counter_of, domain_aid, domain_slot, keeps_counter}
+use Rattle.card_types.specs.Represents.{counter_of, domain_aid, domain_slot, keeps_counter}
 use Rattle.card_types.specs.Slots.{held}
 use Rattle.card_types.specs.Well.{IsRoot}
 use Rattle.card_types.specs.declared.tables.KeyRec.{KeyRec}
@@ -19,7 +19,7 @@ use Rattle.policy_rules.specs.DeleteKey.{IsLastSet}
 use Rattle.policy_rules.specs.KeyOrder.{holds_counter_but, keeps_counter_of}
 use Rattle.policy_rules.specs.KeyVersions.{counters_but, is_counter_numbered}
 use Rattle.policy_rules.specs.Management.{acting}
-use Rattle.policy_rules.specs.Means.{ActsIn}
+use Rattle.policy_rules.specs.Requests.{ActsIn}
 use Rattle.policy_rules.proofs.AnySlot.{passing_slot, slot_passes}
 use Rattle.policy_rules.proofs.OwnKeys.{own_is}
 

@@ -10,7 +10,7 @@ use Rattle.policy_rules.specs.Commands.{JudgesAs}
 use Rattle.policy_rules.specs.Management.{acting}
 use Rattle.policy_rules.specs.Sound.{Fits, IsSound}
 use Rattle.policy_rules.specs.State.{Effect, State}
-use Rattle.policy_rules.specs.Volatile.{Channel, Standing, Volatile, channel_at, load_of_others, place_in, standing_so, with_channel, with_standing}
+use Rattle.policy_rules.specs.Volatile.{Channel, SecureChannel, Volatile, channel_at, load_without_channel, place_in, channel_with, with_channel, with_secure_channel}
 use Rattle.policy_rules.specs.declared.instruction.TheConstants.{GET_STATUS, SELECT, MANAGE_CHANNEL, LOAD}
 use Rattle.policy_rules.specs.Changes.{IsSameButCounters}
 use Rattle.policy_rules.specs.CommandForm.{CommandForm}
@@ -21,7 +21,7 @@ use Rattle.policy_rules.proofs.SetChannel.{set_other, set_there}
 pub record IsReady (admitted : Admitted) : Type 0 where
   pub sound : IsSound admitted.at
   pub low : admitted.channel < 4
-  pub loads : (admitted.command.ins == LOAD) ≡ false → load_of_others admitted.channel admitted.at.volatile.load ≡ admitted.at.volatile.load
+  pub loads : (admitted.command.ins == LOAD) ≡ false → load_without_channel admitted.channel admitted.at.volatile.load ≡ admitted.at.volatile.load
   pub domain : admitted.command.ins ≢ SELECT → admitted.command.ins ≢ MANAGE_CHANNEL → IsDomainNamed admitted.at.registry (acting admitted)
 
 -- the channel has no place in a listing
@@ -35,7 +35,7 @@ pub record IsLawful (form : CommandForm) : Type 0 where
   pub one : (admitted : Admitted) (a b : Effect) → form.does admitted a → form.does admitted b → a ≡ b
   pub quiet : (Contains managing form.instruction → ⊥) → (admitted : Admitted) (done : Effect) → form.does admitted done
       → IsSameButCounters admitted.at.registry done.state.registry
-  pub placeless : form.instruction ≢ GET_STATUS → (admitted : Admitted) (done : Effect) → HasNoPlaceOn admitted.at.volatile admitted.channel → form.does admitted done
+  pub without_place : form.instruction ≢ GET_STATUS → (admitted : Admitted) (done : Effect) → HasNoPlaceOn admitted.at.volatile admitted.channel → form.does admitted done
       → HasNoPlaceOn done.state.volatile admitted.channel
 
 -- a sound card with other channels
@@ -57,13 +57,13 @@ managed_apart ins byte is high = ((λ same. absurd (omega arith)), (λ same. abs
 pub placeless_same : (before after : Volatile) (number : ℕ) → after ≡ before → HasNoPlaceOn before number → HasNoPlaceOn after number
 placeless_same before after number same none = subst (λ (v : Volatile). HasNoPlaceOn v number) (sym same) none
 
-pub placeless_standing : (volatile after : Volatile) (number : ℕ) (standing : Standing) → after ≡ with_standing volatile number standing → HasNoPlaceOn volatile number
+pub place_leaves_secure_channel : (volatile after : Volatile) (number : ℕ) (secure_channel : SecureChannel) → after ≡ with_secure_channel volatile number secure_channel → HasNoPlaceOn volatile number
     → HasNoPlaceOn after number
-placeless_standing volatile after number standing same none =
-    placeless_same (with_standing volatile number standing) after number same
-    (set_there (λ c. place_in c ≡ None) refl volatile.channels number (standing_so standing (channel_at volatile number)) (so (channel_at volatile number) none))
+place_leaves_secure_channel volatile after number secure_channel same none =
+    placeless_same (with_secure_channel volatile number secure_channel) after number same
+    (set_there (λ c. place_in c ≡ None) refl volatile.channels number (channel_with secure_channel (channel_at volatile number)) (so (channel_at volatile number) none))
   where
-    so : (channel : Option Channel) → place_in channel ≡ None → place_in (standing_so standing channel) ≡ None
+    so : (channel : Option Channel) → place_in channel ≡ None → place_in (channel_with secure_channel channel) ≡ None
     so None none = refl
     so (Some channel) none = none
 

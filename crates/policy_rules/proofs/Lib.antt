@@ -52,7 +52,7 @@ pub mod SelectLaws
 pub mod Selected
 pub mod SessionSets
 pub mod SetChannel
-pub mod StandingSet
+pub mod SecureChannelSet
 pub mod StoreDataElements
 pub mod StoreDataLaws
 pub mod StoredCount

@@ -3,12 +3,12 @@ use Rattle.std.proofs.Common.{◌≡◌, ℕ, ◌≤◌, Option, None, Some, ref
 use Rattle.std.specs.Prelude.{MatchOption}
 use Rattle.card_types.specs.declared.factory.TheConstants.{ISSUER}
 use Rattle.policy_rules.specs.Admission.{Admitted}
-use Rattle.policy_rules.specs.ManageChannel.{IsClosed, IsClosedAlready, IsOpened, ManageChannelDoes, ManageChannelParameters, lowest_closed, IsOpened as IsChannelOpened, manage_channel}
+use Rattle.policy_rules.specs.ManageChannel.{IsClosed, IsClosedAlready, IsOpened, ManageChannelEffect, ManageChannelParameters, lowest_closed, IsOpened as IsChannelOpened, manage_channel}
 use Rattle.policy_rules.specs.Sound.{IsSecured, IsSound}
 use Rattle.policy_rules.specs.State.{Effect}
 use Rattle.policy_rules.specs.Volatile.{Channel, fresh, with_channel, without_channel}
 use Rattle.policy_rules.proofs.SetChannel.{ended_fits, lowest_is_closed, set_fits}
-use Rattle.policy_rules.proofs.StandingSet.{within}
+use Rattle.policy_rules.proofs.SecureChannelSet.{within}
 use Rattle.policy_rules.specs.Changes.{IsSameButCounters}
 use Rattle.policy_rules.proofs.Lawful.{HasNoPlaceOn, IsLawful, placeless_same, placeless_set, same_as, sound_with}
 use Rattle.policy_rules.proofs.FreshChannel.{issuer_is_well}
@@ -25,7 +25,7 @@ opens_keeps admitted done (Some number) sound is does =
     let closed = lowest_is_closed admitted.at.volatile.channels number is in
     let fits = set_fits admitted.at.registry admitted.at.volatile number (Some (fresh ISSUER)) sound.fits closed.0
     (issuer_is_well admitted.at.registry sound.well) (λ first. refl)
-    (λ session. absurd (subst (λ (c : Option Channel). MatchOption c ⊥ (λ opened. IsSecured opened.standing)) closed.1 session)) in
+    (λ session. absurd (subst (λ (c : Option Channel). MatchOption c ⊥ (λ opened. IsSecured opened.secure_channel)) closed.1 session)) in
     subst (λ (e : Effect). IsSound e.state) (sym does) (sound_with admitted.at _ sound refl fits)
 
 -- channel 0 is not closed
@@ -45,7 +45,7 @@ close_bounds p1 p2 (inl opens) closes = (let other = opens.0 in absurd (omega ar
 close_bounds p1 p2 (inr bounds) closes = (bounds.1, bounds.2)
 
 manage_channel_keeps : (admitted : Admitted) (done : Effect) → IsSound admitted.at
-    → ManageChannelParameters admitted.command.p1 admitted.command.p2 → ManageChannelDoes admitted done → IsSound done.state
+    → ManageChannelParameters admitted.command.p1 admitted.command.p2 → ManageChannelEffect admitted done → IsSound done.state
 manage_channel_keeps admitted done sound parameters (inl opens) = opens_keeps admitted done _ sound refl opens.1
 manage_channel_keeps admitted done sound parameters (inr closes) =
     let bounds = close_bounds admitted.command.p1 admitted.command.p2 parameters closes.0 in
@@ -65,7 +65,7 @@ closes_one admitted a b (Some channel) one other = one ∙ sym other
 open_not_close : {P : Type 0} (p1 : ℕ) → p1 ≡ 0x00 → p1 ≡ 0x80 → P
 open_not_close p1 opens closes = absurd (omega arith)
 
-manage_channel_one : (admitted : Admitted) (a b : Effect) → ManageChannelDoes admitted a → ManageChannelDoes admitted b → a ≡ b
+manage_channel_one : (admitted : Admitted) (a b : Effect) → ManageChannelEffect admitted a → ManageChannelEffect admitted b → a ≡ b
 manage_channel_one admitted a b (inl one) (inl other) = channel_opens_one admitted a b _ one.1 other.1
 manage_channel_one admitted a b (inl one) (inr other) = open_not_close admitted.command.p1 one.0 other.0
 manage_channel_one admitted a b (inr one) (inl other) = open_not_close admitted.command.p1 other.0 one.0
@@ -81,7 +81,7 @@ closes_same : (admitted : Admitted) (done : Effect) (channel : Option Channel)
 closes_same admitted done None does = same_as admitted.at.registry done.state.registry (ap (λ (e : Effect). e.state.registry) does)
 closes_same admitted done (Some channel) does = same_as admitted.at.registry done.state.registry (ap (λ (e : Effect). e.state.registry) does)
 
-channel_same : (admitted : Admitted) (done : Effect) → ManageChannelDoes admitted done → IsSameButCounters admitted.at.registry done.state.registry
+channel_same : (admitted : Admitted) (done : Effect) → ManageChannelEffect admitted done → IsSameButCounters admitted.at.registry done.state.registry
 channel_same admitted done (inl opens) = opens_same admitted done _ opens.1
 channel_same admitted done (inr closes) = closes_same admitted done _ closes.1
 
@@ -100,7 +100,7 @@ closes_placeless admitted done (Some channel) none does =
     placeless_same (without_channel admitted.at.volatile admitted.command.p2) done.state.volatile admitted.channel (ap (λ (e : Effect). e.state.volatile) does)
     (placeless_set admitted.at.volatile admitted.command.p2 admitted.channel None refl none)
 
-channel_placeless : (admitted : Admitted) (done : Effect) → HasNoPlaceOn admitted.at.volatile admitted.channel → ManageChannelDoes admitted done
+channel_placeless : (admitted : Admitted) (done : Effect) → HasNoPlaceOn admitted.at.volatile admitted.channel → ManageChannelEffect admitted done
     → HasNoPlaceOn done.state.volatile admitted.channel
 channel_placeless admitted done none (inl opens) = opens_placeless admitted done _ none opens.1
 channel_placeless admitted done none (inr closes) = closes_placeless admitted done _ none closes.1
@@ -110,7 +110,7 @@ manage_channel_lawful = record {
   keeps = λ admitted done ready judges does. manage_channel_keeps admitted done ready.sound judges.0.1 does;
   one = manage_channel_one;
   quiet = λ unmanaged. channel_same;
-  placeless = λ other. channel_placeless;
+  without_place = λ other. channel_placeless;
 }
 
 -- how it is judged, by what was found

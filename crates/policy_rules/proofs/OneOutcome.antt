@@ -4,11 +4,11 @@ use Rattle.std.specs.Prelude.{MatchOption}
 use Rattle.std.proofs.lemmas.Bool.{true≢false}
 use Rattle.apdu_core.proofs.OneSpelling.{one_command}
 use Rattle.apdu_core.specs.Apdu.{Apdu, Short}
-use Rattle.policy_rules.specs.Admission.{Admits, Admitted, Bars, IsTaken, BarredLeaves, Of, SessionEnds, admitted_as, class_passed, general_rules, placeless, session_for}
+use Rattle.policy_rules.specs.Admission.{Admits, Admitted, GeneralFails, IsTaken, GeneralRefusalLeaves, Of, SessionEnds, admitted_as, class_passed, general_rules, without_place, session_for}
 use Rattle.policy_rules.specs.Classes.{IsPlainManagement, channel_of}
 use Rattle.policy_rules.specs.Laws.{OneOutcome, OneRun}
 use Rattle.policy_rules.specs.State.{Effect, State, powered_on}
-use Rattle.policy_rules.specs.Step.{IsAccepted, IsBarred, IsRefused, Outcome, accepted, refusal_leaves, refused}
+use Rattle.policy_rules.specs.Step.{IsAccepted, IsRejected, IsRefused, Outcome, accepted, refusal_leaves, refused}
 use Rattle.policy_rules.specs.Volatile.{Volatile, without_session}
 use Rattle.policy_rules.specs.declared.rule.Rule.{Rule}
 use Rattle.policy_rules.specs.declared.rule.Rule.TheVariants.{G}
@@ -19,7 +19,7 @@ use Rattle.scp03_card.proofs.GivesLemmas.{opens_one}
 use Rattle.scp03_card.specs.Opens.{Opens, accepting}
 use Rattle.scp03_card.specs.Session.{Session}
 use Rattle.policy_rules.specs.CommandForm.{CommandForm}
-use Rattle.policy_rules.specs.Commands.{AtMostOne, Does, DoesAs, FormFails, Judges, JudgesAs, OneOf, TakesCommand, form_rules, forms_of}
+use Rattle.policy_rules.specs.Commands.{AtMostOne, HasEffect, DoesAs, FormFails, Judges, JudgesAs, OneOf, TakesCommand, form_rules, forms_of}
 use Rattle.policy_rules.proofs.AllLawful.{AllOf, all_lawful}
 use Rattle.policy_rules.proofs.FormTaken.{judged_of, takes_of}
 use Rattle.policy_rules.proofs.Lawful.{IsLawful, some_same}
@@ -46,13 +46,13 @@ session_ends_one state bytes a b one other =
     one.2
     ∙ sym (of_one bytes (λ command. b ≡ without_session (class_passed state.volatile command) (channel_of command.class)) one.0 one.1 other)
 
-leaves_one : (state : State) (bytes : List ℕ) (rule : RuleG) (a b : Volatile) → BarredLeaves state bytes rule a → BarredLeaves state bytes rule b → a ≡ b
+leaves_one : (state : State) (bytes : List ℕ) (rule : RuleG) (a b : Volatile) → GeneralRefusalLeaves state bytes rule a → GeneralRefusalLeaves state bytes rule b → a ≡ b
 leaves_one state bytes G1 a b one other = one ∙ sym other
 leaves_one state bytes G2 a b one other = one ∙ sym other
 leaves_one state bytes G3 a b one other = one ∙ sym other
 leaves_one state bytes G4 a b one other = one ∙ sym other
 leaves_one state bytes G5 a b one other =
-    one.2 ∙ sym (of_one bytes (λ command. b ≡ placeless state.volatile (channel_of command.class) false) one.0 one.1 other)
+    one.2 ∙ sym (of_one bytes (λ command. b ≡ without_place state.volatile (channel_of command.class) false) one.0 one.1 other)
 leaves_one state bytes G6 a b one other = refused_session_one one.0 state.volatile a b one.2 (of_one bytes _ one.0 one.1 other)
 leaves_one state bytes G7 a b one other = session_ends_one state bytes a b one other
 leaves_one state bytes G8 a b one other = session_ends_one state bytes a b one other
@@ -111,21 +111,21 @@ done_one admitted a b (form ∷ forms) lawful (inl one) (inr other) alone = absu
 done_one admitted a b (form ∷ forms) lawful (inr one) (inl other) alone = absurd (alone.0 other.0 (takes_of admitted a forms one))
 done_one admitted a b (form ∷ forms) lawful (inr one) (inr other) alone = done_one admitted a b forms lawful.1 one other alone.1
 
-does_one : (admitted : Admitted) (a b : Effect) → Does admitted a → Does admitted b → a ≡ b
+does_one : (admitted : Admitted) (a b : Effect) → HasEffect admitted a → HasEffect admitted b → a ≡ b
 does_one admitted a b one other =
     let all = all_lawful admitted.command.ins in
     done_one admitted a b (forms_of admitted.command.ins) all.each one other
     (all.one admitted.command.ins admitted.command.p1 admitted.command.p2 admitted.command.body)
 
 -- what is barred is not admitted
-barred_or_admitted : {P : Type 0} (state : State) (bytes : List ℕ) (a : Outcome) (admitted : Admitted) → IsBarred state bytes a → Admits state bytes admitted → P
-barred_or_admitted state bytes a admitted barred admits =
-    (let clash = one_first (Bars state bytes) general_rules (Some barred.rule) None barred.first admits.0 in cc)
+rejected_or_admitted : {P : Type 0} (state : State) (bytes : List ℕ) (a : Outcome) (admitted : Admitted) → IsRejected state bytes a → Admits state bytes admitted → P
+rejected_or_admitted state bytes a admitted rejected admits =
+    (let clash = one_first (GeneralFails state bytes) general_rules (Some rejected.rule) None rejected.first admits.0 in cc)
 
-barred_one : (state : State) (bytes : List ℕ) (a b : Outcome) → IsBarred state bytes a → IsBarred state bytes b → a ≡ b
-barred_one state bytes a b one other =
-    let rules = some_same one.rule other.rule (one_first (Bars state bytes) general_rules (Some one.rule) (Some other.rule) one.first other.first) in
-    let left = leaves_one state bytes other.rule one.left other.left (subst (λ (r : RuleG). BarredLeaves state bytes r one.left) rules one.leaves) other.leaves in
+rejected_one : (state : State) (bytes : List ℕ) (a b : Outcome) → IsRejected state bytes a → IsRejected state bytes b → a ≡ b
+rejected_one state bytes a b one other =
+    let rules = some_same one.rule other.rule (one_first (GeneralFails state bytes) general_rules (Some one.rule) (Some other.rule) one.first other.first) in
+    let left = leaves_one state bytes other.rule one.left other.left (subst (λ (r : RuleG). GeneralRefusalLeaves state bytes r one.left) rules one.leaves) other.leaves in
     one.outcome_is ∙ (λ i. refused state (left i) None (G (rules i))) ∙ sym other.outcome_is
 
 refused_one : (state : State) (bytes : List ℕ) (a b : Outcome) → IsRefused state bytes a → IsRefused state bytes b → a ≡ b
@@ -144,17 +144,17 @@ refused_or_accepted state bytes a b one other =
 accepted_one : (state : State) (bytes : List ℕ) (a b : Outcome) → IsAccepted state bytes a → IsAccepted state bytes b → a ≡ b
 accepted_one state bytes a b one other =
     let same = admits_one state bytes one.admitted other.admitted one.admits other.admits in
-    let done = does_one other.admitted one.done other.done (subst (λ (x : Admitted). Does x one.done) same one.does) other.does in
+    let done = does_one other.admitted one.done other.done (subst (λ (x : Admitted). HasEffect x one.done) same one.does) other.does in
     one.outcome_is ∙ (λ i. accepted (same i) (done i)) ∙ sym other.outcome_is
 
 pub one_outcome : OneOutcome
-one_outcome state bytes a b (inl one) (inl other) = barred_one state bytes a b one other
-one_outcome state bytes a b (inl one) (inr (inl other)) = barred_or_admitted state bytes a other.admitted one other.admits
-one_outcome state bytes a b (inl one) (inr (inr other)) = barred_or_admitted state bytes a other.admitted one other.admits
-one_outcome state bytes a b (inr (inl one)) (inl other) = barred_or_admitted state bytes b one.admitted other one.admits
+one_outcome state bytes a b (inl one) (inl other) = rejected_one state bytes a b one other
+one_outcome state bytes a b (inl one) (inr (inl other)) = rejected_or_admitted state bytes a other.admitted one other.admits
+one_outcome state bytes a b (inl one) (inr (inr other)) = rejected_or_admitted state bytes a other.admitted one other.admits
+one_outcome state bytes a b (inr (inl one)) (inl other) = rejected_or_admitted state bytes b one.admitted other one.admits
 one_outcome state bytes a b (inr (inl one)) (inr (inl other)) = refused_one state bytes a b one other
 one_outcome state bytes a b (inr (inl one)) (inr (inr other)) = refused_or_accepted state bytes a b one other
-one_outcome state bytes a b (inr (inr one)) (inl other) = barred_or_admitted state bytes b one.admitted other one.admits
+one_outcome state bytes a b (inr (inr one)) (inl other) = rejected_or_admitted state bytes b one.admitted other one.admits
 one_outcome state bytes a b (inr (inr one)) (inr (inl other)) = refused_or_accepted state bytes b a other one
 one_outcome state bytes a b (inr (inr one)) (inr (inr other)) = accepted_one state bytes a b one other
 

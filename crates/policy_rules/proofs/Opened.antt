@@ -3,7 +3,7 @@ use Rattle.std.proofs.Common.{◌≡◌, ℕ, List, [], ◌∷◌, true, false, 
 use Rattle.std.specs.Prelude.{not, ◌==◌, Contains, MatchOption}
 use Rattle.apdu_core.specs.Apdu.{Apdu}
 use Rattle.card_types.specs.Registry.{Registry}
-use Rattle.policy_rules.specs.Admission.{Admits, Admitted, Bars, IsTaken, general_rules, session_for}
+use Rattle.policy_rules.specs.Admission.{Admits, Admitted, GeneralFails, IsTaken, general_rules, session_for}
 use Rattle.policy_rules.specs.Changes.{Changes, OpensInSession, IsSameButCounters}
 use Rattle.policy_rules.specs.Classes.{class_of, instructions_of, is_protected, management, managing, protects}
 use Rattle.policy_rules.specs.Laws.{ChangesAreOpened}
@@ -18,7 +18,7 @@ use Rattle.scp03_card.specs.Session.{Session}
 use Rattle.std.proofs.lemmas.Bool.{true≢false}
 use Rattle.std.specs.List.{list_any}
 use Rattle.policy_rules.specs.CommandForm.{CommandForm}
-use Rattle.policy_rules.specs.Commands.{Does, DoesAs, OneOf, forms_of}
+use Rattle.policy_rules.specs.Commands.{HasEffect, DoesAs, OneOf, forms_of}
 use Rattle.policy_rules.proofs.AllLawful.{AllOf, all_lawful}
 use Rattle.policy_rules.proofs.Instructed.{all_among, each_byte, found_among}
 use Rattle.policy_rules.proofs.Lawful.{IsLawful, same_as}
@@ -52,7 +52,7 @@ managed_protected (Some Interindustry) ins known other managed = absurd (never_i
 managed_protected (Some Plain) ins known other managed = absurd (other refl)
 managed_protected (Some Secure) ins known other managed = always_protected ins managed
 
-module _ (state : State) (bytes : List ℕ) (admitted : Admitted) (done : Effect) (admits : Admits state bytes admitted) (does : Does admitted done)
+module _ (state : State) (bytes : List ℕ) (admitted : Admitted) (done : Effect) (admits : Admits state bytes admitted) (does : HasEffect admitted done)
     (changes : Changes state.registry done.state.registry) where
   abbrev command : Apdu
   command = admits.1.0
@@ -64,12 +64,12 @@ module _ (state : State) (bytes : List ℕ) (admitted : Admitted) (done : Effect
       let at : admitted.at.registry ≡ state.registry = ap (λ (a : Admitted). a.at.registry) taken.3 in
       let managed_not : Contains managing admitted.command.ins → ⊥ = λ managed.
       (let there = subst (Contains managing) ins managed in
-      none_fails (Bars state bytes) general_rules G4 (3, omega arith, refl) admits.0 (
+      none_fails (GeneralFails state bytes) general_rules G4 (3, omega arith, refl) admits.0 (
         command,
         admits.1.1,
         inl (λ known.
             (let protected = managed_protected (class_of command.class) command.ins known
-            (λ class. none_fails (Bars state bytes) general_rules G6 (5, omega arith, refl) admits.0
+            (λ class. none_fails (GeneralFails state bytes) general_rules G6 (5, omega arith, refl) admits.0
             (command, admits.1.1, inl (class, is_management command.ins there))) there in
             let clash = sym protected ∙ plain in cc)),
       )) in
@@ -90,8 +90,8 @@ module _ (state : State) (bytes : List ℕ) (admitted : Admitted) (done : Effect
       by (Some accepted) plain taken = (command, admits.1.1, (taken.0, some plain accepted (session_for state command) taken.1))
 
 pub changes_are_opened : ChangesAreOpened
-changes_are_opened state bytes outcome (inl barred) changes =
-    absurd (changes (same_as state.registry outcome.state.registry (ap (λ (o : Outcome). o.state.registry) barred.outcome_is)))
+changes_are_opened state bytes outcome (inl rejected) changes =
+    absurd (changes (same_as state.registry outcome.state.registry (ap (λ (o : Outcome). o.state.registry) rejected.outcome_is)))
 changes_are_opened state bytes outcome (inr (inl refuses)) changes =
     absurd (changes (same_as state.registry outcome.state.registry (ap (λ (o : Outcome). o.state.registry) refuses.outcome_is)))
 changes_are_opened state bytes outcome (inr (inr accepts)) changes = (

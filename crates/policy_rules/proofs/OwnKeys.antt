@@ -14,7 +14,7 @@ use Rattle.card_types.specs.AidOrder.{aid_order, same_aid}
 use Rattle.card_types.specs.Ascending.{key_order}
 use Rattle.card_types.specs.Least.{IsLeast, NoneFits}
 use Rattle.card_types.specs.Registry as registry
-use Rattle.card_types.specs.Says.{Says, counter_of, domain_aid, keeps_counter, key_of}
+use Rattle.card_types.specs.Represents.{Represents, counter_of, domain_aid, keeps_counter, key_of}
 use Rattle.card_types.specs.Slots.{held}
 use Rattle.card_types.specs.Well.{Well}
 use Rattle.card_types.specs.declared.tables.Entry.{Entry}
@@ -87,7 +87,7 @@ found_passes test (first ∷ ks) key found = by (test first) refl found (λ late
     by true is here later = (let same : first ≡ key = cc in subst (λ (k : registry.Key). test k ≡ true) same is)
     by false is here later = later here
 
-module _ (page : ℕ → List ℕ) (tables : Tables) (said : registry.Registry) (says : Says page tables said) (well : Well said)
+module _ (page : ℕ → List ℕ) (tables : Tables) (said : registry.Registry) (says : Represents page tables said) (well : Well said)
     (owner : ℕ) (domain : Entry) (at : held tables.entries.items owner ≡ Some domain) where
   abbrev aid : List ℕ
   aid = domain_aid tables.entries.items owner

@@ -5,49 +5,49 @@ use Rattle.std.proofs.lemmas.Bool.{cases_Bool, true≢false}
 use Rattle.apdu_core.specs.Apdu.{Apdu, Short}
 use Rattle.card_types.specs.Registry.{Entry, Registry, entry_named, is_domain}
 use Rattle.card_types.specs.Well.{IsDomainNamed}
-use Rattle.policy_rules.specs.Admission.{Bars, IsTaken, admitted_as, channel_passed, class_passed, general_rules, message_joined, offer_passed, placeless, session_for}
+use Rattle.policy_rules.specs.Admission.{GeneralFails, IsTaken, admitted_as, channel_passed, class_passed, general_rules, message_joined, offer_passed, without_place, session_for}
 use Rattle.policy_rules.specs.Classes.{channel_of}
 use Rattle.policy_rules.specs.FirstFailing.{IsFirst}
-use Rattle.policy_rules.specs.Sound.{Fits, IsSecured, IsWellChannel, StandsWell}
+use Rattle.policy_rules.specs.Sound.{Fits, IsSecured, IsWellChannel, FitsSecureChannel}
 use Rattle.policy_rules.specs.State.{State}
-use Rattle.policy_rules.specs.Volatile.{Channel, LoadSession, Nothing, Offered, Secured, Standing, Volatile, channel_at, load_of_others, selected_of, selected_on, session_in, session_on, standing_of, standing_so, with_channel, without_load}
+use Rattle.policy_rules.specs.Volatile.{Channel, LoadSession, Nothing, Offered, Secured, SecureChannel, Volatile, channel_at, load_without_channel, selected_of, selected_on, session_in, session_on, secure_channel_of, channel_with, with_channel, without_load}
 use Rattle.policy_rules.specs.declared.instruction.TheConstants.{SELECT, MANAGE_CHANNEL, EXTERNAL_AUTHENTICATE, LOAD}
 use Rattle.policy_rules.specs.declared.rule.RuleG.TheVariants.{G3, G4}
 use Rattle.scp03_card.specs.Opens.{Opens, accepting}
 use Rattle.scp03_card.specs.Session.{Session}
 use Rattle.policy_rules.proofs.FirstUnique.{none_fails}
 use Rattle.policy_rules.proofs.SetChannel.{set_fits, set_same, without_load_fits}
-use Rattle.policy_rules.proofs.StandingSet.{secured_dropped, secured_fits, session_stands, well_dropped, within}
+use Rattle.policy_rules.proofs.SecureChannelSet.{secured_dropped, secured_fits, session_stands, well_dropped, within}
 
 -- behind the check of the class
-secured_passed : (keeps : Bool) (standing : Standing) → IsSecured standing → IsSecured (offer_passed keeps standing)
-secured_passed true standing secured = secured
-secured_passed false standing secured = secured_dropped standing secured
+secured_passed : (keeps : Bool) (secure_channel : SecureChannel) → IsSecured secure_channel → IsSecured (offer_passed keeps secure_channel)
+secured_passed true secure_channel secured = secured
+secured_passed false secure_channel secured = secured_dropped secure_channel secured
 
-standing_passed : (registry : Registry) (aid : List ℕ) (keeps : Bool) (standing : Standing) → StandsWell registry aid standing
-    → StandsWell registry aid (offer_passed keeps standing)
-standing_passed registry aid true standing well = well
-standing_passed registry aid false standing well = well_dropped registry aid standing well
+secure_channel_passed : (registry : Registry) (aid : List ℕ) (keeps : Bool) (secure_channel : SecureChannel) → FitsSecureChannel registry aid secure_channel
+    → FitsSecureChannel registry aid (offer_passed keeps secure_channel)
+secure_channel_passed registry aid true secure_channel well = well
+secure_channel_passed registry aid false secure_channel well = well_dropped registry aid secure_channel well
 
 well_passed : (registry : Registry) (keeps : Bool) (channel : Option Channel) → MatchOption channel (Unit {0}) (IsWellChannel registry)
     → MatchOption (channel_passed keeps channel) (Unit {0}) (IsWellChannel registry)
 well_passed registry keeps None well = tt
 well_passed registry keeps (Some channel) well = record {
   selected = well.selected;
-  standing = standing_passed registry channel.selected keeps channel.standing well.standing;
+  secure_channel = secure_channel_passed registry channel.selected keeps channel.secure_channel well.secure_channel;
 }
 
 open_passed : (keeps : Bool) (channel : Option Channel) → IsSome channel → IsSome (channel_passed keeps channel)
 open_passed keeps None opened = opened
 open_passed keeps (Some channel) opened = refl
 
-session_kept : (keeps : Bool) (channel : Option Channel) → MatchOption channel ⊥ (λ opened. IsSecured opened.standing)
-    → MatchOption (channel_passed keeps channel) ⊥ (λ opened. IsSecured opened.standing)
+session_kept : (keeps : Bool) (channel : Option Channel) → MatchOption channel ⊥ (λ opened. IsSecured opened.secure_channel)
+    → MatchOption (channel_passed keeps channel) ⊥ (λ opened. IsSecured opened.secure_channel)
 session_kept keeps None session = session
-session_kept keeps (Some channel) session = secured_passed keeps channel.standing session
+session_kept keeps (Some channel) session = secured_passed keeps channel.secure_channel session
 
 pub placeless_fits : (registry : Registry) (volatile : Volatile) (number : ℕ) (keeps : Bool) → Fits registry volatile → number < 4
-    → Fits registry (placeless volatile number keeps)
+    → Fits registry (without_place volatile number keeps)
 placeless_fits registry volatile number keeps fits low =
     set_fits registry volatile number (channel_passed keeps (channel_at volatile number)) fits (within registry volatile number fits low)
     (well_passed registry keeps (channel_at volatile number) (fits.each number))
@@ -66,12 +66,12 @@ stays : {A : Type 0} (of : Option Channel → A) (volatile : Volatile) (number :
     → of channel ≡ of (channel_at volatile number) → of (channel_at (with_channel volatile number channel) number) ≡ of (channel_at volatile number)
 stays of volatile number channel low same = ap of (set_same volatile number channel low) ∙ same
 
-same_session : (keeps : Bool) (channel : Option Channel) → session_in (standing_of (channel_passed keeps channel)) ≡ session_in (standing_of channel)
+same_session : (keeps : Bool) (channel : Option Channel) → session_in (secure_channel_of (channel_passed keeps channel)) ≡ session_in (secure_channel_of channel)
 same_session keeps None = refl
-same_session keeps (Some channel) = by keeps channel.standing
+same_session keeps (Some channel) = by keeps channel.secure_channel
   where
-    by : (keeps : Bool) (standing : Standing) → session_in (offer_passed keeps standing) ≡ session_in standing
-    by true standing = refl
+    by : (keeps : Bool) (secure_channel : SecureChannel) → session_in (offer_passed keeps secure_channel) ≡ session_in secure_channel
+    by true secure_channel = refl
     by false Nothing = refl
     by false (Offered offer) = refl
     by false (Secured session) = refl
@@ -80,20 +80,20 @@ passed_selected : (keeps : Bool) (channel : Option Channel) → selected_of (cha
 passed_selected keeps None = refl
 passed_selected keeps (Some channel) = refl
 
-so_selected : (standing : Standing) (channel : Option Channel) → selected_of (standing_so standing channel) ≡ selected_of channel
-so_selected standing None = refl
-so_selected standing (Some channel) = refl
+so_selected : (secure_channel : SecureChannel) (channel : Option Channel) → selected_of (channel_with secure_channel channel) ≡ selected_of channel
+so_selected secure_channel None = refl
+so_selected secure_channel (Some channel) = refl
 
 pub either : (holds : Volatile → Type 0) (test : Bool) (a b : Volatile) → holds a → holds b → holds (if test then a else b)
 either holds true a b one other = one
 either holds false a b one other = other
 
 -- the load session of another channel is left at that
-others_left : (number : ℕ) (load : Option LoadSession) → load_of_others number (load_of_others number load) ≡ load_of_others number load
+others_left : (number : ℕ) (load : Option LoadSession) → load_without_channel number (load_without_channel number load) ≡ load_without_channel number load
 others_left number None = refl
 others_left number (Some load) = by (load.channel == number) refl
   where
-    by : (test : Bool) → (load.channel == number) ≡ test → load_of_others number (if test then None else Some load) ≡ (if test then None else Some load)
+    by : (test : Bool) → (load.channel == number) ≡ test → load_without_channel number (if test then None else Some load) ≡ (if test then None else Some load)
     by true is = refl
     by false is = rw is refl
 
@@ -111,15 +111,15 @@ selected_named registry None opened well = absurd (opened refl)
 selected_named registry (Some channel) opened well = well.selected
 
 -- commands other than SELECT and MANAGE CHANNEL are for a domain
-pub domain_selected : (state : State) (bytes : List ℕ) (command : Apdu) → Short command bytes → IsFirst (Bars state bytes) general_rules None
+pub domain_selected : (state : State) (bytes : List ℕ) (command : Apdu) → Short command bytes → IsFirst (GeneralFails state bytes) general_rules None
     → Fits state.registry state.volatile → command.ins ≢ SELECT → command.ins ≢ MANAGE_CHANNEL
     → IsDomainNamed state.registry (selected_on state.volatile (channel_of command.class))
 domain_selected state bytes command short first fits selects manages =
     let number = channel_of command.class in
     let opened = selected_named state.registry (channel_at state.volatile number)
-    (λ closed. none_fails (Bars state bytes) general_rules G3 (2, omega arith, refl) first (command, short, closed)) (fits.each number) in
+    (λ closed. none_fails (GeneralFails state bytes) general_rules G3 (2, omega arith, refl) first (command, short, closed)) (fits.each number) in
     domain_from (entry_named state.registry (selected_on state.volatile number)) opened
-    (λ application. none_fails (Bars state bytes) general_rules G4 (3, omega arith, refl) first (command, short, inr (application, selects, manages)))
+    (λ application. none_fails (GeneralFails state bytes) general_rules G4 (3, omega arith, refl) first (command, short, inr (application, selects, manages)))
 
 module _ (state : State) (command : Apdu) (fits : Fits state.registry state.volatile) where
   abbrev number : ℕ
@@ -143,7 +143,7 @@ module _ (state : State) (command : Apdu) (fits : Fits state.registry state.vola
   -- the session on the channel is the same behind the check of the class
   pub passed_session : session_on passed number ≡ session_for state command
   passed_session =
-      stays (λ c. session_in (standing_of c)) state.volatile number after low (same_session (command.ins == EXTERNAL_AUTHENTICATE) (channel_at state.volatile number))
+      stays (λ c. session_in (secure_channel_of c)) state.volatile number after low (same_session (command.ins == EXTERNAL_AUTHENTICATE) (channel_at state.volatile number))
 
   -- the session of a protected command has its message
   joined_fits : (session : Option Session) (plain : List ℕ) → IsTaken state command session plain → Fits state.registry (message_joined passed number session)
@@ -158,12 +158,12 @@ module _ (state : State) (command : Apdu) (fits : Fits state.registry state.vola
           let stood : session_on passed number ≡ Some session = passed_session ∙ is in
           let stands = session_stands state.registry passed number passed_fits (channel_is_low command.class) session stood in
           secured_fits state.registry passed number passed_fits (channel_is_low command.class) accepted
-          (subst (λ (s : Session). StandsWell state.registry (selected_on passed number) (Secured s)) (sym opens.1) stands)
+          (subst (λ (s : Session). FitsSecureChannel state.registry (selected_on passed number) (Secured s)) (sym opens.1) stands)
 
   joined_selected : (session : Option Session) → selected_on (message_joined passed number session) number ≡ selected_on passed number
   joined_selected None = refl
   joined_selected (Some session) =
-      stays selected_of passed number (standing_so (Secured session) (channel_at passed number)) low_after (so_selected (Secured session) (channel_at passed number))
+      stays selected_of passed number (channel_with (Secured session) (channel_at passed number)) low_after (so_selected (Secured session) (channel_at passed number))
 
   module _ (session : Option Session) (plain : List ℕ) where
     abbrev joined : Volatile
@@ -183,10 +183,10 @@ module _ (state : State) (command : Apdu) (fits : Fits state.registry state.vola
 
     -- the channel's load session has ended, but for the command that goes on with it
     pub admitted_loads : (command.ins == LOAD) ≡ false
-        → load_of_others number (admitted_as state command session plain).at.volatile.load ≡ (admitted_as state command session plain).at.volatile.load
+        → load_without_channel number (admitted_as state command session plain).at.volatile.load ≡ (admitted_as state command session plain).at.volatile.load
     admitted_loads other = by (command.ins == LOAD) other
       where
         by : (goes : Bool) → goes ≡ false
-            → load_of_others number (if goes then joined else without_load joined number).load ≡ (if goes then joined else without_load joined number).load
+            → load_without_channel number (if goes then joined else without_load joined number).load ≡ (if goes then joined else without_load joined number).load
         by true is = absurd (true≢false is)
         by false is = others_left number joined.load

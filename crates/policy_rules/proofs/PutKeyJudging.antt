@@ -12,7 +12,7 @@ use Rattle.policy_rules.specs.Admission.{Admitted}
 use Rattle.policy_rules.specs.FirstFailing.{IsFirst}
 use Rattle.policy_rules.specs.KeyVersions.{has_key_version, keys_but}
 use Rattle.policy_rules.specs.Management.{ManagementFails, acting}
-use Rattle.policy_rules.specs.Means.{ActsIn, IsRequestOf, sent_keys}
+use Rattle.policy_rules.specs.Requests.{ActsIn, IsRequestOf, sent_keys}
 use Rattle.policy_rules.specs.PutKey.{PutKeyFails, SaysChecks, key_count, new_version, keys_left, own_keys_left}
 use Rattle.policy_rules.specs.PutRules.{key_rules, version_rules}
 use Rattle.policy_rules.specs.declared.management.RuleM.TheVariants.{M1, M2}

@@ -2,7 +2,7 @@
 use Rattle.std.proofs.Common.{None, refl, sym, arith, inl}
 use Rattle.policy_rules.specs.Admission.{Admitted}
 use Rattle.policy_rules.specs.Commands.{JudgesAs}
-use Rattle.policy_rules.specs.PutKey.{PutKeyDoes, PutKeyFails, put_key, put_rules}
+use Rattle.policy_rules.specs.PutKey.{PutKeyEffect, PutKeyFails, put_key, put_rules}
 use Rattle.policy_rules.specs.Sound.{IsSound}
 use Rattle.policy_rules.specs.State.{Effect}
 use Rattle.policy_rules.specs.declared.put_key.RulePK.TheVariants.{PK4}
@@ -19,7 +19,7 @@ use Rattle.policy_rules.specs.declared.rule.Rule.{Rule}
 use Rattle.std.proofs.Common.{Option}
 
 -- it changes neither entries nor Executable Load Files, and nothing that the channels hold
-put_key_keeps : (admitted : Admitted) (done : Effect) → IsReady admitted → JudgesAs put_key admitted None → PutKeyDoes admitted done → IsSound done.state
+put_key_keeps : (admitted : Admitted) (done : Effect) → IsReady admitted → JudgesAs put_key admitted None → PutKeyEffect admitted done → IsSound done.state
 put_key_keeps admitted done ready (takes, first) does =
     let apart = managed_apart admitted.command.ins put_key.instruction takes.0 (omega arith) in
     let registry = admitted.at.registry in
@@ -33,7 +33,7 @@ put_key_lawful = record {
   keeps = put_key_keeps;
   one = put_key_one;
   quiet = λ unmanaged. absurd (unmanaged (0, omega arith, refl));
-  placeless = λ other admitted done none does. placeless_same admitted.at.volatile done.state.volatile admitted.channel does.volatile none;
+  without_place = λ other admitted done none does. placeless_same admitted.at.volatile done.state.volatile admitted.channel does.volatile none;
 }
 
 pub put_judged : (admitted : Admitted) (found : Option Rule) → TakesCommand put_key admitted.command → IsFirst (PutKeyFails admitted) put_rules found → Judges admitted found

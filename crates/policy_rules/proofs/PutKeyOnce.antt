@@ -18,7 +18,7 @@ use Rattle.policy_rules.specs.Admission.{Admitted}
 use Rattle.policy_rules.specs.Arranged.{IsArranged}
 use Rattle.policy_rules.specs.KeyVersions.{counters_but, with_keys}
 use Rattle.policy_rules.specs.Management.{acting}
-use Rattle.policy_rules.specs.PutKey.{AreKeysSent, Brings, HasKeyFields, IsKeySent, PutKeyDoes, SentKey, counters_from, key_count, key_field, keys_from, keys_left}
+use Rattle.policy_rules.specs.PutKey.{AreKeysSent, Brings, HasKeyFields, IsKeySent, PutKeyEffect, SentKey, counters_from, key_count, key_field, keys_from, keys_left}
 use Rattle.policy_rules.specs.State.{Effect}
 use Rattle.policy_rules.specs.Volatile.{session_on}
 use Rattle.scp03_card.specs.Session.{Session}
@@ -84,17 +84,17 @@ one_arranged order total things others a b same one other =
     one_order order total a b one.ascending other.ascending
     (IsPermutation-trans a things b (IsPermutation-sym things a one.same) (subst (λ (xs : List _). IsPermutation xs b) (sym same) other.same))
 
-pub put_key_one : (admitted : Admitted) (a b : Effect) → PutKeyDoes admitted a → PutKeyDoes admitted b → a ≡ b
+pub put_key_one : (admitted : Admitted) (a b : Effect) → PutKeyEffect admitted a → PutKeyEffect admitted b → a ≡ b
 put_key_one admitted a b one other =
     let brings = brings_once admitted one.version other.version one.sent other.sent one.bytes other.bytes one.brings other.brings in
     let owner = acting admitted in
     let new : keys_from owner one.version 1 one.bytes ++ keys_left admitted ≡ keys_from owner other.version 1 other.bytes ++ keys_left admitted =
     (λ i. keys_from owner (brings.0 i) 1 (brings.2 i) ++ keys_left admitted) in
-    let begun : counters_from owner one.version ++ counters_but owner admitted.command.p1 admitted.at.registry.counters
+    let without_number : counters_from owner one.version ++ counters_but owner admitted.command.p1 admitted.at.registry.counters
     ≡ counters_from owner other.version ++ counters_but owner admitted.command.p1 admitted.at.registry.counters =
     (λ i. counters_from owner (brings.0 i) ++ counters_but owner admitted.command.p1 admitted.at.registry.counters) in
     let keys = one_arranged key_order key_order_total _ _ one.keys other.keys new one.keys_put other.keys_put in
-    let counters = one_arranged counter_order counter_order_total _ _ one.counters other.counters begun one.counters_put other.counters_put in
+    let counters = one_arranged counter_order counter_order_total _ _ one.counters other.counters without_number one.counters_put other.counters_put in
     effect_same a b
     (state_same a.state b.state (one.registry ∙ (λ i. with_keys admitted.at.registry (keys i) (counters i)) ∙ sym other.registry) (one.volatile ∙ sym other.volatile))
     (one.body ∙ (λ i. brings.0 i ∷ concat (map (λ (s : SentKey). s.check) (brings.1 i))) ∙ sym other.body)

@@ -12,7 +12,7 @@ module _ (registry : Registry) (life : CardLife) (keys : List Key) (counters : L
 
   channel_still : (channel : Option Channel) → MatchOption channel (Unit {0}) (IsWellChannel registry) → MatchOption channel (Unit {0}) (IsWellChannel after)
   channel_still None well = tt
-  channel_still (Some channel) well = record { selected = well.selected; standing = well.standing }
+  channel_still (Some channel) well = record { selected = well.selected; secure_channel = well.secure_channel }
 
   load_still : (volatile : Volatile) (load : Option LoadSession) → MatchOption load (Unit {0}) (IsWellLoad registry volatile)
       → MatchOption load (Unit {0}) (IsWellLoad after volatile)

@@ -10,7 +10,7 @@ use Rattle.policy_rules.specs.Sound.{Fits, IsSound}
 use Rattle.policy_rules.specs.State.{Effect}
 use Rattle.policy_rules.specs.Volatile.{fresh, with_selected}
 use Rattle.policy_rules.proofs.SetChannel.{ended_fits}
-use Rattle.policy_rules.proofs.StandingSet.{within}
+use Rattle.policy_rules.proofs.SecureChannelSet.{within}
 use Rattle.bertlv.proofs.SpellingLemmas.{one_spelling, one_spelling_each}
 use Rattle.bertlv.specs.Spelling.{AreElements, Spelling}
 use Rattle.policy_rules.proofs.SameEffect.{effect_same, state_same}
@@ -85,7 +85,7 @@ select_lawful = record {
   keeps = λ admitted done ready judges does. select_keeps admitted done admitted.command.body _ ready refl does;
   one = λ admitted a b one other. select_one admitted a b _ one other;
   quiet = λ unmanaged admitted done does. selects_same admitted done _ does;
-  placeless = λ other admitted done none does. selects_placeless admitted done _ none does;
+  without_place = λ other admitted done none does. selects_placeless admitted done _ none does;
 }
 
 -- how it is judged, by what was found

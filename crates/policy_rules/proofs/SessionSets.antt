@@ -14,7 +14,7 @@ use Rattle.card_types.specs.AidOrder.{same_aid}
 use Rattle.card_types.specs.Hierarchy.{IsLine}
 use Rattle.card_types.specs.Least.{IsLeast, NoneFits}
 use Rattle.card_types.specs.Registry as registry
-use Rattle.card_types.specs.Says.{Says, counter_of, domain_aid, domain_slot, keeps_counter}
+use Rattle.card_types.specs.Represents.{Represents, counter_of, domain_aid, domain_slot, keeps_counter}
 use Rattle.card_types.specs.Slots.{held}
 use Rattle.card_types.specs.Well.{Well}
 use Rattle.card_types.specs.declared.tables.Entry.{Entry}
@@ -73,7 +73,7 @@ set_is said owner version some = elim (eqb_tells version 0) [
   | inr other ↦ (let is = other.0 in rw is refl)
 ]
 
-module _ (page : ℕ → List ℕ) (tables : Tables) (said : registry.Registry) (says : Says page tables said) (well : Well said) where
+module _ (page : ℕ → List ℕ) (tables : Tables) (said : registry.Registry) (says : Represents page tables said) (well : Well said) where
   abbrev aid : ℕ → List ℕ
   aid slot = domain_aid tables.entries.items slot
 

@@ -7,11 +7,11 @@ use Rattle.std.proofs.lemmas.List.{length-set, get_or-set_same, get_or-set_other
 use Rattle.card_types.specs.Registry.{Registry}
 use Rattle.policy_rules.specs.ManageChannel.{is_closed, lowest_closed}
 use Rattle.policy_rules.specs.Sound.{Fits, IsSecured, IsWellChannel, IsWellLoad}
-use Rattle.policy_rules.specs.Volatile.{Channel, LoadSession, Volatile, channel_at, load_of_others, with_channel, without_load}
+use Rattle.policy_rules.specs.Volatile.{Channel, LoadSession, Volatile, channel_at, load_without_channel, with_channel, without_load}
 
 -- a session is opened on the channel
 abbrev pub HasSession : Volatile → ℕ → Type 0
-HasSession volatile number = MatchOption (channel_at volatile number) ⊥ (λ channel. IsSecured channel.standing)
+HasSession volatile number = MatchOption (channel_at volatile number) ⊥ (λ channel. IsSecured channel.secure_channel)
 
 pub set_same : (volatile : Volatile) (number : ℕ) (channel : Option Channel) → number < length volatile.channels
     → channel_at (with_channel volatile number channel) number ≡ channel
@@ -61,7 +61,7 @@ load_goes_on registry before after (Some opened) well kept = record {
 others_kept : (registry : Registry) (before after : Volatile) (number : ℕ) (load : Option LoadSession)
     → MatchOption load (Unit {0}) (IsWellLoad registry before)
     → ((other : ℕ) → other ≢ number → HasSession before other → HasSession after other)
-    → MatchOption (load_of_others number load) (Unit {0}) (IsWellLoad registry after)
+    → MatchOption (load_without_channel number load) (Unit {0}) (IsWellLoad registry after)
 others_kept registry before after number None well kept = tt
 others_kept registry before after number (Some opened) well kept = elim (eqb_tells opened.channel number) [
   | inl same ↦ rw same.0 tt
@@ -85,13 +85,13 @@ ended_fits registry volatile number channel fits low well first = record {
   ];
   each = λ other. by_number (λ c. MatchOption c (Unit {0}) (IsWellChannel registry)) volatile number channel low well other (fits.each other);
   load = others_kept registry volatile (without_load (with_channel volatile number channel) number) number volatile.load fits.load
-      (λ other differs has. subst (λ (c : Option Channel). MatchOption c ⊥ (λ opened. IsSecured opened.standing)) (sym (set_other volatile number other channel differs)) has);
+      (λ other differs has. subst (λ (c : Option Channel). MatchOption c ⊥ (λ opened. IsSecured opened.secure_channel)) (sym (set_other volatile number other channel differs)) has);
 }
 
 -- a channel is set that has a session still, if it had one
 pub set_fits : (registry : Registry) (volatile : Volatile) (number : ℕ) (channel : Option Channel) → Fits registry volatile
     → number < length volatile.channels → MatchOption channel (Unit {0}) (IsWellChannel registry) → (number ≡ 0 → IsSome channel)
-    → (HasSession volatile number → MatchOption channel ⊥ (λ opened. IsSecured opened.standing))
+    → (HasSession volatile number → MatchOption channel ⊥ (λ opened. IsSecured opened.secure_channel))
     → Fits registry (with_channel volatile number channel)
 set_fits registry volatile number channel fits low well first session = record {
   channels = length-set volatile.channels number channel ∙ fits.channels;
@@ -102,10 +102,10 @@ set_fits registry volatile number channel fits low well first session = record {
   each = λ other. by_number (λ c. MatchOption c (Unit {0}) (IsWellChannel registry)) volatile number channel low well other (fits.each other);
   load = load_goes_on registry volatile (with_channel volatile number channel) volatile.load fits.load
       (λ opened is has. elim (eqb_tells opened.channel number) [
-        | inl same ↦ subst (λ (c : Option Channel). MatchOption c ⊥ (λ opened. IsSecured opened.standing))
+        | inl same ↦ subst (λ (c : Option Channel). MatchOption c ⊥ (λ opened. IsSecured opened.secure_channel))
             (sym (ap (channel_at (with_channel volatile number channel)) same.1 ∙ set_same volatile number channel low))
             (session (subst (HasSession volatile) same.1 has))
-        | inr differs ↦ subst (λ (c : Option Channel). MatchOption c ⊥ (λ opened. IsSecured opened.standing))
+        | inr differs ↦ subst (λ (c : Option Channel). MatchOption c ⊥ (λ opened. IsSecured opened.secure_channel))
             (sym (set_other volatile number opened.channel channel differs.1)) has
       ]);
 }

@@ -14,7 +14,7 @@ use Rattle.policy_rules.specs.Arranged.{IsArranged}
 use Rattle.policy_rules.specs.Management.{acting, ManagementFails}
 use Rattle.policy_rules.specs.State.{Effect}
 use Rattle.policy_rules.specs.DataObjects.{is_object_of, with_data, with_object, with_objects}
-use Rattle.policy_rules.specs.StoreData.{StoreDataDoes, StoreDataFails, objects_stored, HasObjects, StoreDataField, store_rules, store_data}
+use Rattle.policy_rules.specs.StoreData.{StoreDataEffect, StoreDataFails, objects_stored, HasObjects, StoreDataField, store_rules, store_data}
 use Rattle.policy_rules.specs.declared.rule.Rule.TheVariants.{SD}
 use Rattle.policy_rules.specs.declared.store_data.RuleSD.TheVariants.{SD1}
 use Rattle.card_types.proofs.ChangeExists.{one_order}
@@ -23,12 +23,12 @@ use Rattle.policy_rules.proofs.StoreDataElements.{one_list}
 use Rattle.policy_rules.proofs.SameEffect.{effect_same, state_same}
 use Rattle.std.specs.List.{list_any}
 use Rattle.std.proofs.lemmas.List.{length-map}
-use Rattle.card_types.specs.Says.{object_of, used}
+use Rattle.card_types.specs.Represents.{object_of, used}
 use Rattle.card_types.specs.declared.tables.Tables.{Tables}
 use Rattle.policy_rules.proofs.ManagementFirst.{behind_management}
 use Rattle.policy_rules.proofs.StoredCount.{has_alike, stored_count}
 use Rattle.policy_rules.specs.FirstFailing.{IsFirst}
-use Rattle.policy_rules.specs.Means.{ActsIn}
+use Rattle.policy_rules.specs.Requests.{ActsIn}
 use Rattle.policy_rules.specs.ObjectsFound.{has_object_in, new_tags}
 use Rattle.policy_rules.specs.declared.management.RuleM.TheVariants.{M1, M2}
 use Rattle.policy_rules.specs.Commands.{JudgesAs, TakesCommand, Judges}
@@ -82,7 +82,7 @@ few_stored number fits = elim (cases_lt OBJECTS number) [
 
 -- STORE DATA leaves a registry that a card may have
 pub store_keeps : (admitted : Admitted) (done : Effect) → Well admitted.at.registry → IsAscending admitted.at.registry
-    → IsDomainNamed admitted.at.registry (acting admitted) → (StoreDataFails admitted (SD SD1) → ⊥) → StoreDataDoes admitted done
+    → IsDomainNamed admitted.at.registry (acting admitted) → (StoreDataFails admitted (SD SD1) → ⊥) → StoreDataEffect admitted done
     → Well done.state.registry × IsAscending done.state.registry
 store_keeps admitted done well ascending domain fits does =
     let registry = admitted.at.registry in
@@ -91,7 +91,7 @@ store_keeps admitted done well ascending domain fits does =
       subst IsAscending (sym does.registry) (data_ascending registry (objects_stored admitted does.elements) does.objects ascending does.arranged),
     )
 
-pub store_data_one : (admitted : Admitted) (a b : Effect) → StoreDataDoes admitted a → StoreDataDoes admitted b → a ≡ b
+pub store_data_one : (admitted : Admitted) (a b : Effect) → StoreDataEffect admitted a → StoreDataEffect admitted b → a ≡ b
 store_data_one admitted a b one other =
     let elements = one_list one.elements other.elements admitted.command.body one.has.spelled other.has.spelled in
     let arranged = subst (λ (es : List Element). IsArranged object_order (objects_stored admitted es) one.objects) elements one.arranged in
@@ -140,7 +140,7 @@ module _ (page : ℕ → List ℕ) (tables : Tables) (domain : ℕ) (admitted : 
     none_first managed below = behind_management (StoreDataFails admitted) (SD SD1 ∷ []) None managed.0 managed.1 (inr (few_enough below, refl))
 
 -- it changes data objects alone
-store_data_keeps : (admitted : Admitted) (done : Effect) → IsReady admitted → JudgesAs store_data admitted None → StoreDataDoes admitted done
+store_data_keeps : (admitted : Admitted) (done : Effect) → IsReady admitted → JudgesAs store_data admitted None → StoreDataEffect admitted done
     → IsSound done.state
 store_data_keeps admitted done ready (takes, first) does =
     let apart = managed_apart admitted.command.ins store_data.instruction takes.0 (omega arith) in
@@ -155,7 +155,7 @@ store_data_lawful = record {
   keeps = store_data_keeps;
   one = store_data_one;
   quiet = λ unmanaged. absurd (unmanaged (1, omega arith, refl));
-  placeless = λ other admitted done none does. placeless_same admitted.at.volatile done.state.volatile admitted.channel does.volatile none;
+  without_place = λ other admitted done none does. placeless_same admitted.at.volatile done.state.volatile admitted.channel does.volatile none;
 }
 
 pub store_judged : (admitted : Admitted) (found : Option Rule) → TakesCommand store_data admitted.command → IsFirst (StoreDataFails admitted) store_rules found → Judges admitted found

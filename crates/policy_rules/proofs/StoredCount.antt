@@ -10,7 +10,7 @@ use Rattle.bertlv.specs.Spelling.{Element}
 use Rattle.card_types.proofs.Domains.{object_owner_is_used, same_domain}
 use Rattle.card_types.specs.Ascending.{object_order}
 use Rattle.card_types.specs.Registry as registry
-use Rattle.card_types.specs.Says.{Says, domain_aid, object_of, used}
+use Rattle.card_types.specs.Represents.{Represents, domain_aid, object_of, used}
 use Rattle.card_types.specs.Slots.{held}
 use Rattle.card_types.specs.Well.{Well}
 use Rattle.card_types.specs.declared.tables.Entry.{Entry}
@@ -30,7 +30,7 @@ any_shown q view p free (Some thing ∷ slots) same =
     (λ i. same 0 thing refl i || any_shown q view p free slots (λ slot. same (suc slot)) i)
 
 -- whether the domain in a slot has an object with a tag, by its slot and by its name
-pub has_alike : (page : ℕ → List ℕ) (tables : Tables) (said : registry.Registry) → Says page tables said → Well said → (domain : ℕ) (entry : Entry)
+pub has_alike : (page : ℕ → List ℕ) (tables : Tables) (said : registry.Registry) → Represents page tables said → Well said → (domain : ℕ) (entry : Entry)
     → held tables.entries.items domain ≡ Some entry → (tag : ℕ)
     → list_any (is_object_of (domain_aid tables.entries.items domain) tag) said.objects ≡ has_object_in tables.objects.items domain tag
 has_alike page tables said says well domain entry at tag =

@@ -8,7 +8,7 @@ use Rattle.card_types.specs.declared.card_life.CardLife.TheVariants.{Terminated}
 use Rattle.policy_rules.specs.Classes.{class_of, channel_of, is_protected, IsKnown, IsPlainGetData, IsPlainManagement}
 use Rattle.policy_rules.specs.FirstFailing.{IsFirst}
 use Rattle.policy_rules.specs.State.{State}
-use Rattle.policy_rules.specs.Volatile.{Channel, Secured, Standing, Volatile, channel_at, selected_on, session_on, with_channel, with_standing, without_load, without_offer, without_session}
+use Rattle.policy_rules.specs.Volatile.{Channel, Secured, SecureChannel, Volatile, channel_at, selected_on, session_on, with_channel, with_secure_channel, without_load, without_offer, without_session}
 use Rattle.policy_rules.specs.declared.instruction.TheConstants.{SELECT, MANAGE_CHANNEL, EXTERNAL_AUTHENTICATE, LOAD}
 use Rattle.policy_rules.specs.declared.rule.RuleG.{RuleG}
 use Rattle.policy_rules.specs.declared.rule.RuleG.TheVariants.{G1, G2, G3, G4, G5, G6, G7, G8}
@@ -37,24 +37,24 @@ abbrev pub InSession : State → Apdu → (Session → Type 0) → Type 0
 InSession state command holds = (is_protected command ≡ true) × MatchOption (session_for state command) ⊥ holds
 
 -- where a general rule fails
-abbrev pub Bars : State → List ℕ → RuleG → Type 0
+abbrev pub GeneralFails : State → List ℕ → RuleG → Type 0
 -- the bytes are no short command
-Bars state bytes G1 = IsNoCommand bytes
+GeneralFails state bytes G1 = IsNoCommand bytes
 -- the class byte is none of 00 to 03 and 80 to 87
-Bars state bytes G2 = Of bytes (λ command. class_of command.class ≡ None)
+GeneralFails state bytes G2 = Of bytes (λ command. class_of command.class ≡ None)
 -- the channel is closed
-Bars state bytes G3 = Of bytes (λ command. channel_at state.volatile (channel_of command.class) ≡ None)
+GeneralFails state bytes G3 = Of bytes (λ command. channel_at state.volatile (channel_of command.class) ≡ None)
 -- the class has no such instruction, or an application is selected, which takes SELECT and MANAGE CHANNEL alone
-Bars state bytes G4 = Of bytes (λ command.
+GeneralFails state bytes G4 = Of bytes (λ command.
     (IsKnown command.class command.ins → ⊥) ⊎ (IsToApplication state command × (command.ins ≢ SELECT) × (command.ins ≢ MANAGE_CHANNEL)))
 -- a terminated card answers GET DATA alone
-Bars state bytes G5 = Of bytes (λ command. (state.registry.life ≡ Terminated) × (IsPlainGetData command → ⊥))
+GeneralFails state bytes G5 = Of bytes (λ command. (state.registry.life ≡ Terminated) × (IsPlainGetData command → ⊥))
 -- a command of card content management has no secure messaging, or secure messaging has no session
-Bars state bytes G6 = Of bytes (λ command. IsPlainManagement command ⊎ ((is_protected command ≡ true) × (session_for state command ≡ None)))
+GeneralFails state bytes G6 = Of bytes (λ command. IsPlainManagement command ⊎ ((is_protected command ≡ true) × (session_for state command ≡ None)))
 -- the C-MAC is missing or wrong
-Bars state bytes G7 = Of bytes (λ command. InSession state command (λ session. IsAuthentic session command → ⊥))
+GeneralFails state bytes G7 = Of bytes (λ command. InSession state command (λ session. IsAuthentic session command → ⊥))
 -- the data field can't be deciphered
-Bars state bytes G8 = Of bytes (λ command. InSession state command (λ session.
+GeneralFails state bytes G8 = Of bytes (λ command. InSession state command (λ session.
     (plain : List ℕ) → Gives (accepting session command) (field_of command) plain → ⊥))
 
 -- in the order in which they are judged: those of the bytes, the class, the channel and the instruction, and then all
@@ -64,27 +64,27 @@ command_rules = G1 ∷ G2 ∷ G3 ∷ G4 ∷ []
 abbrev pub general_rules : List RuleG
 general_rules = G1 ∷ G2 ∷ G3 ∷ G4 ∷ G5 ∷ G6 ∷ G7 ∷ G8 ∷ []
 
-abbrev pub offer_passed : Bool → Standing → Standing
-offer_passed true standing = standing
-offer_passed false standing = without_offer standing
+abbrev pub offer_passed : Bool → SecureChannel → SecureChannel
+offer_passed true secure_channel = secure_channel
+offer_passed false secure_channel = without_offer secure_channel
 
 abbrev pub channel_passed : Bool → Option Channel → Option Channel
 channel_passed keeps None = None
 channel_passed keeps (Some channel) =
-    Some (record { selected = channel.selected; standing = offer_passed keeps channel.standing; place = None })
+    Some (record { selected = channel.selected; secure_channel = offer_passed keeps channel.secure_channel; place = None })
 
 -- the channel's place in a listing is cleared, and its offer is kept or dropped
-abbrev pub placeless : Volatile → ℕ → Bool → Volatile
-placeless volatile number keeps = with_channel volatile number (channel_passed keeps (channel_at volatile number))
+abbrev pub without_place : Volatile → ℕ → Bool → Volatile
+without_place volatile number keeps = with_channel volatile number (channel_passed keeps (channel_at volatile number))
 
 -- Behind the checks of class, channel and instruction the offer is dropped, but for EXTERNAL AUTHENTICATE, which answers it.
 abbrev pub class_passed : Volatile → Apdu → Volatile
-class_passed volatile command = placeless volatile (channel_of command.class) (command.ins == EXTERNAL_AUTHENTICATE)
+class_passed volatile command = without_place volatile (channel_of command.class) (command.ins == EXTERNAL_AUTHENTICATE)
 
 -- the session of a protected command has its message then
 abbrev pub message_joined : Volatile → ℕ → Option Session → Volatile
 message_joined volatile number None = volatile
-message_joined volatile number (Some session) = with_standing volatile number (Secured session)
+message_joined volatile number (Some session) = with_secure_channel volatile number (Secured session)
 
 -- Behind the session's check the channel's load session ends, unless the command goes on with it.
 abbrev pub session_passed : Volatile → Apdu → Volatile
@@ -96,17 +96,17 @@ SessionEnds state bytes left = Of bytes (λ command. left ≡ without_session (c
 
 -- what a refusal by a general rule leaves: nothing changes up to G4, at G5 any offer is dropped, and from G6 on a session ends,
 -- unless there is none
-abbrev pub BarredLeaves : State → List ℕ → RuleG → Volatile → Type 0
-BarredLeaves state bytes G1 left = left ≡ state.volatile
-BarredLeaves state bytes G2 left = left ≡ state.volatile
-BarredLeaves state bytes G3 left = left ≡ state.volatile
-BarredLeaves state bytes G4 left = left ≡ state.volatile
-BarredLeaves state bytes G5 left = Of bytes (λ command. left ≡ placeless state.volatile (channel_of command.class) false)
-BarredLeaves state bytes G6 left = Of bytes (λ command.
+abbrev pub GeneralRefusalLeaves : State → List ℕ → RuleG → Volatile → Type 0
+GeneralRefusalLeaves state bytes G1 left = left ≡ state.volatile
+GeneralRefusalLeaves state bytes G2 left = left ≡ state.volatile
+GeneralRefusalLeaves state bytes G3 left = left ≡ state.volatile
+GeneralRefusalLeaves state bytes G4 left = left ≡ state.volatile
+GeneralRefusalLeaves state bytes G5 left = Of bytes (λ command. left ≡ without_place state.volatile (channel_of command.class) false)
+GeneralRefusalLeaves state bytes G6 left = Of bytes (λ command.
     (IsPlainManagement command × (left ≡ without_session (class_passed state.volatile command) (channel_of command.class)))
     ⊎ ((IsPlainManagement command → ⊥) × (left ≡ class_passed state.volatile command)))
-BarredLeaves state bytes G7 left = SessionEnds state bytes left
-BarredLeaves state bytes G8 left = SessionEnds state bytes left
+GeneralRefusalLeaves state bytes G7 left = SessionEnds state bytes left
+GeneralRefusalLeaves state bytes G8 left = SessionEnds state bytes left
 
 -- a command that has passed: the card before it and the card as its own rules judge it, the channel, the command in plain, and
 -- the session that protects its reply, with its message, where it is protected
@@ -140,5 +140,5 @@ admitted_as state command session plain =
 -- the bytes pass as this command
 abbrev pub Admits : State → List ℕ → Admitted → Type 0
 Admits state bytes admitted =
-    IsFirst (Bars state bytes) general_rules None
+    IsFirst (GeneralFails state bytes) general_rules None
     × Of bytes (λ command. (session : Option Session) × (plain : List ℕ) × IsTaken state command session plain × (admitted ≡ admitted_as state command session plain))

@@ -6,8 +6,8 @@ use Rattle.policy_rules.specs.State.{State}
 use Rattle.scp03_card.specs.Opens.{Opens}
 
 -- a sequence counter but for its number
-abbrev pub begun : Counter → Counter
-begun counter = record { owner = counter.owner; version = counter.version; number = 0 }
+abbrev pub without_number : Counter → Counter
+without_number counter = record { owner = counter.owner; version = counter.version; number = 0 }
 
 -- they are the same but for the numbers of sequence counters
 pub record IsSameButCounters (before after : Registry) : Type 0 where
@@ -15,7 +15,7 @@ pub record IsSameButCounters (before after : Registry) : Type 0 where
   pub entries : after.entries ≡ before.entries
   pub files : after.files ≡ before.files
   pub keys : after.keys ≡ before.keys
-  pub counters : map begun after.counters ≡ map begun before.counters
+  pub counters : map without_number after.counters ≡ map without_number before.counters
   pub objects : after.objects ≡ before.objects
 
 abbrev pub Changes : Registry → Registry → Type 0

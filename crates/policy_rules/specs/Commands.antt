@@ -101,5 +101,5 @@ Judges admitted found =
     ⊎ (JudgesForm admitted None × OneOf (λ form. JudgesAs form admitted found) (forms_of admitted.command.ins))
 
 -- what it does, where none of them fails
-abbrev pub Does : Admitted → Effect → Type 0
-Does admitted done = OneOf (λ form. DoesAs form admitted done) (forms_of admitted.command.ins)
+abbrev pub HasEffect : Admitted → Effect → Type 0
+HasEffect admitted done = OneOf (λ form. DoesAs form admitted done) (forms_of admitted.command.ins)

@@ -58,7 +58,7 @@ DeleteFails admitted (DK DK2) =
 DeleteFails admitted rule = ⊥
 
 -- The keys go, and the sequence counter of a key set with them. The reply is 00: no receipt.
-pub record DeleteDoes (admitted : Admitted) (done : Effect) : Type 0 where
+pub record DeleteEffect (admitted : Admitted) (done : Effect) : Type 0 where
   pub version : ℕ
   pub identifier : Option ℕ
   pub chooses : Chooses admitted.command.body version identifier
@@ -77,5 +77,5 @@ delete_key = record {
   takes_field = λ p1 p2. DeleteField;
   rules = deletion_rules;
   fails = DeleteFails;
-  does = DeleteDoes;
+  does = DeleteEffect;
 }

@@ -7,7 +7,7 @@ use Rattle.scp03_card.specs.Session.{HasCryptogram, HasMac, answered}
 use Rattle.policy_rules.specs.Admission.{Admitted}
 use Rattle.policy_rules.specs.CommandForm.{CommandForm}
 use Rattle.policy_rules.specs.State.{Effect}
-use Rattle.policy_rules.specs.Volatile.{Secured, offer_on, with_standing}
+use Rattle.policy_rules.specs.Volatile.{Secured, offer_on, with_secure_channel}
 use Rattle.policy_rules.specs.declared.external_authenticate.RuleEA.{RuleEA}
 use Rattle.policy_rules.specs.declared.external_authenticate.RuleEA.TheVariants.{EA1, EA2, EA3}
 use Rattle.policy_rules.specs.declared.rule.Rule.{Rule}
@@ -54,12 +54,12 @@ ExternalAuthenticateFails admitted (EA EA3) =
 ExternalAuthenticateFails admitted rule = ⊥
 
 -- The offer becomes a session at that level.
-pub record ExternalAuthenticateDoes (admitted : Admitted) (done : Effect) : Type 0 where
+pub record ExternalAuthenticateEffect (admitted : Admitted) (done : Effect) : Type 0 where
   pub offer : Offer
   pub level : Level
   pub answers : Answers admitted offer level
   pub registry : done.state.registry ≡ admitted.at.registry
-  pub volatile : done.state.volatile ≡ with_standing admitted.at.volatile admitted.channel (Secured (answered offer level))
+  pub volatile : done.state.volatile ≡ with_secure_channel admitted.at.volatile admitted.channel (Secured (answered offer level))
   pub body : done.body ≡ []
   pub status : done.status ≡ 0x9000
 
@@ -71,5 +71,5 @@ external_authenticate = record {
   takes_field = λ p1 p2. ExternalAuthenticateField;
   rules = external_authenticate_rules;
   fails = ExternalAuthenticateFails;
-  does = ExternalAuthenticateDoes;
+  does = ExternalAuthenticateEffect;
 }

@@ -3,7 +3,7 @@ use Rattle.std.specs.Prelude.{◌≡◌, ◌≢◌, ℕ, ◌<◌, None}
 use Rattle.bertlv.specs.Tag.{IsTag}
 use Rattle.card_types.specs.Least.{IsLeast}
 use Rattle.card_types.specs.Registry.{Registry}
-use Rattle.card_types.specs.Says.{domain_aid}
+use Rattle.card_types.specs.Represents.{domain_aid}
 use Rattle.card_types.specs.declared.tables.Tables.{Tables}
 use Rattle.scp03_card.specs.Offer.{counter_bytes}
 use Rattle.policy_rules.specs.GetData.{IsDataObject, IsSequenceCounter}

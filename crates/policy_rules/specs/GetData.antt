@@ -65,7 +65,7 @@ GetDataFails admitted (GD GD1) = (value : List ℕ) → AsksFor admitted value �
 GetDataFails admitted rule = ⊥
 
 -- GET DATA answers the data as an element, and changes nothing
-pub record GetDataDoes (admitted : Admitted) (done : Effect) : Type 0 where
+pub record GetDataEffect (admitted : Admitted) (done : Effect) : Type 0 where
   pub value : List ℕ
   pub asked : AsksFor admitted value
   pub state : done.state ≡ admitted.at
@@ -80,5 +80,5 @@ get_data = record {
   takes_field = λ p1 p2. GetDataField;
   rules = get_data_rules;
   fails = GetDataFails;
-  does = GetDataDoes;
+  does = GetDataEffect;
 }

@@ -11,7 +11,7 @@ use Rattle.policy_rules.specs.KeySets.{UsesSet}
 use Rattle.policy_rules.specs.Management.{ManagementFails, acting}
 use Rattle.policy_rules.specs.Select.{is_card_locked}
 use Rattle.policy_rules.specs.State.{Effect}
-use Rattle.policy_rules.specs.Volatile.{Offered, with_standing}
+use Rattle.policy_rules.specs.Volatile.{Offered, with_secure_channel}
 use Rattle.policy_rules.specs.declared.initialize_update.RuleIU.{RuleIU}
 use Rattle.policy_rules.specs.declared.initialize_update.RuleIU.TheVariants.{IU1, IU2, IU3}
 use Rattle.policy_rules.specs.declared.management.RuleM.TheVariants.{M2}
@@ -75,14 +75,14 @@ offer_body registry owner counter offer =
     ++ card_cryptogram offer ++ counter_bytes counter.number
 
 -- The channel has the offer then, in place of any session, and the counter is one higher.
-pub record InitializeUpdateDoes (admitted : Admitted) (done : Effect) : Type 0 where
+pub record InitializeUpdateEffect (admitted : Admitted) (done : Effect) : Type 0 where
   pub owner : List ℕ
   pub counter : Counter
   pub offer : Offer
   pub asked : AsksForSet admitted owner counter
   pub is_offer : IsOfferOf admitted owner counter offer
   pub registry : done.state.registry ≡ raised admitted.at.registry owner counter.version
-  pub volatile : done.state.volatile ≡ with_standing admitted.at.volatile admitted.channel (Offered offer)
+  pub volatile : done.state.volatile ≡ with_secure_channel admitted.at.volatile admitted.channel (Offered offer)
   pub body : done.body ≡ offer_body admitted.at.registry owner counter offer
   pub status : done.status ≡ 0x9000
 
@@ -94,5 +94,5 @@ initialize_update = record {
   takes_field = λ p1 p2. InitializeUpdateField;
   rules = offer_rules;
   fails = InitializeUpdateFails;
-  does = InitializeUpdateDoes;
+  does = InitializeUpdateEffect;
 }

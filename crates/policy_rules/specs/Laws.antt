@@ -4,7 +4,7 @@ use Rattle.card_types.specs.Ascending.{IsAscending}
 use Rattle.card_types.specs.Registry.{Registry}
 use Rattle.card_types.specs.Well.{Well}
 use Rattle.policy_rules.specs.Admission.{Of}
-use Rattle.policy_rules.specs.Changes.{Changes, OpensInSession, begun}
+use Rattle.policy_rules.specs.Changes.{Changes, OpensInSession, without_number}
 use Rattle.policy_rules.specs.Classes.{channel_of}
 use Rattle.policy_rules.specs.Commands.{AtMostOne, Takes, forms_of}
 use Rattle.policy_rules.specs.Run.{Input, Run}
@@ -52,7 +52,7 @@ pub record OthersAreChanges (before after : Registry) : Type 0 where
   pub entries : after.entries ≢ before.entries → Changes before after
   pub files : after.files ≢ before.files → Changes before after
   pub keys : after.keys ≢ before.keys → Changes before after
-  pub counters : map begun after.counters ≢ map begun before.counters → Changes before after
+  pub counters : map without_number after.counters ≢ map without_number before.counters → Changes before after
   pub objects : after.objects ≢ before.objects → Changes before after
 
 -- the rules behind the checks of class, channel and instruction

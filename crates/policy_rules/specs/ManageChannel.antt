@@ -60,8 +60,8 @@ IsClosed admitted done = done ≡ record {
 }
 
 -- MANAGE CHANNEL opens the lowest closed channel, or closes the one named
-abbrev pub ManageChannelDoes : Admitted → Effect → Type 0
-ManageChannelDoes admitted done =
+abbrev pub ManageChannelEffect : Admitted → Effect → Type 0
+ManageChannelEffect admitted done =
     ((admitted.command.p1 ≡ 0x00) × MatchOption (lowest_closed admitted.at.volatile.channels) ⊥ (IsOpened admitted done))
     ⊎ ((admitted.command.p1 ≡ 0x80)
     × MatchOption (channel_at admitted.at.volatile admitted.command.p2) (IsClosedAlready admitted done) (λ channel. IsClosed admitted done))
@@ -74,5 +74,5 @@ manage_channel = record {
   takes_field = λ p1 p2. ManageChannelField;
   rules = manage_channel_rules;
   fails = ManageChannelFails;
-  does = ManageChannelDoes;
+  does = ManageChannelEffect;
 }

@@ -149,7 +149,7 @@ abbrev pub counters_from : List ℕ → ℕ → List Counter
 counters_from owner version = if nat_lt version 0x70 then record { owner = owner; version = version; number = 0 } ∷ [] else []
 
 -- The keys are put, with a new sequence counter for a key set. The reply is the new key version number and the check values.
-pub record PutKeyDoes (admitted : Admitted) (done : Effect) : Type 0 where
+pub record PutKeyEffect (admitted : Admitted) (done : Effect) : Type 0 where
   pub version : ℕ
   pub sent : List SentKey
   pub bytes : List (List ℕ)
@@ -172,5 +172,5 @@ put_key = record {
   takes_field = λ p1. PutKeyField;
   rules = put_rules;
   fails = PutKeyFails;
-  does = PutKeyDoes;
+  does = PutKeyEffect;
 }

@@ -93,8 +93,8 @@ pub record IsSelected (admitted : Admitted) (done : Effect) (entry : Entry) : Ty
   pub status : done.status ≡ selected_status admitted.at.registry.life
 
 -- SELECT selects the least fitting entry
-abbrev pub SelectDoes : Admitted → Effect → Type 0
-SelectDoes admitted done = MatchOption (least_fitting admitted.at.registry admitted.command.body) ⊥ (IsSelected admitted done)
+abbrev pub SelectEffect : Admitted → Effect → Type 0
+SelectEffect admitted done = MatchOption (least_fitting admitted.at.registry admitted.command.body) ⊥ (IsSelected admitted done)
 
 -- SELECT
 abbrev pub select : CommandForm
@@ -104,5 +104,5 @@ select = record {
   takes_field = λ p1 p2. SelectField;
   rules = select_rules;
   fails = SelectFails;
-  does = SelectDoes;
+  does = SelectEffect;
 }

@@ -8,7 +8,7 @@ use Rattle.card_types.specs.Well.{IsDomainNamed, IsKeyLength, Well, pages_of}
 use Rattle.card_types.specs.declared.limits.TheConstants.{FILES, FILE_LIMIT, LOAD_PAGES}
 use Rattle.policy_rules.specs.State.{State}
 use Rattle.scp03_card.specs.Offer.{Offer}
-use Rattle.policy_rules.specs.Volatile.{Channel, LoadSession, Standing, Nothing, Offered, Secured, Volatile, channel_at}
+use Rattle.policy_rules.specs.Volatile.{Channel, LoadSession, SecureChannel, Nothing, Offered, Secured, Volatile, channel_at}
 use Rattle.policy_rules.specs.declared.live.TheConstants.{CHANNELS}
 
 -- three static keys of one length, and challenges of 8 bytes
@@ -20,17 +20,17 @@ pub record IsWellOffer (offer : Offer) : Type 0 where
   pub card : length offer.card ≡ 8
 
 -- a channel that has an offer or a session has a domain selected
-abbrev pub StandsWell : Registry → List ℕ → Standing → Type 0
-StandsWell registry selected Nothing = Unit {0}
-StandsWell registry selected (Offered offer) = IsDomainNamed registry selected × IsWellOffer offer
-StandsWell registry selected (Secured session) = IsDomainNamed registry selected × IsWellOffer session.offer
+abbrev pub FitsSecureChannel : Registry → List ℕ → SecureChannel → Type 0
+FitsSecureChannel registry selected Nothing = Unit {0}
+FitsSecureChannel registry selected (Offered offer) = IsDomainNamed registry selected × IsWellOffer offer
+FitsSecureChannel registry selected (Secured session) = IsDomainNamed registry selected × IsWellOffer session.offer
 
 -- an open channel has an entry selected
 pub record IsWellChannel (registry : Registry) (channel : Channel) : Type 0 where
   pub selected : IsSome (entry_named registry channel.selected)
-  pub standing : StandsWell registry channel.selected channel.standing
+  pub secure_channel : FitsSecureChannel registry channel.selected channel.secure_channel
 
-abbrev pub IsSecured : Standing → Type 0
+abbrev pub IsSecured : SecureChannel → Type 0
 IsSecured Nothing = ⊥
 IsSecured (Offered offer) = ⊥
 IsSecured (Secured session) = Unit {0}
@@ -46,7 +46,7 @@ IsAnnounced blocks None = blocks ≡ 0
 IsAnnounced blocks (Some size) = (blocks ≢ 0) × (1 ≤ size) × (size ≤ FILE_LIMIT)
 
 pub record IsWellLoad (registry : Registry) (volatile : Volatile) (load : LoadSession) : Type 0 where
-  pub session : MatchOption (channel_at volatile load.channel) ⊥ (λ channel. IsSecured channel.standing)
+  pub session : MatchOption (channel_at volatile load.channel) ⊥ (λ channel. IsSecured channel.secure_channel)
   pub no_entry : entry_named registry load.aid ≡ None
   pub no_file : file_named registry load.aid ≡ None
   pub domain : IsDomainNamed registry load.domain

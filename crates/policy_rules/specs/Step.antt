@@ -3,8 +3,8 @@ use Rattle.std.specs.Prelude.{◌≡◌, ◌⊎◌, ℕ, List, [], ◌++◌, Boo
 use Rattle.apdu_core.specs.Reply.{status_bytes}
 use Rattle.scp03_card.specs.Protected.{protected}
 use Rattle.scp03_card.specs.Session.{Session}
-use Rattle.policy_rules.specs.Admission.{Admits, Admitted, BarredLeaves, Bars, general_rules}
-use Rattle.policy_rules.specs.Commands.{Does, Judges}
+use Rattle.policy_rules.specs.Admission.{Admits, Admitted, GeneralRefusalLeaves, GeneralFails, general_rules}
+use Rattle.policy_rules.specs.Commands.{HasEffect, Judges}
 use Rattle.policy_rules.specs.FirstFailing.{IsFirst}
 use Rattle.policy_rules.specs.Rules.{status_of}
 use Rattle.policy_rules.specs.State.{Effect, State}
@@ -49,11 +49,11 @@ abbrev pub accepted : Admitted → Effect → Outcome
 accepted admitted done = record { state = done.state; reply = sent admitted.session done.body done.status; rule = None }
 
 -- a general rule bars the bytes
-pub record IsBarred (state : State) (bytes : List ℕ) (outcome : Outcome) : Type 0 where
+pub record IsRejected (state : State) (bytes : List ℕ) (outcome : Outcome) : Type 0 where
   pub rule : RuleG
   pub left : Volatile
-  pub first : IsFirst (Bars state bytes) general_rules (Some rule)
-  pub leaves : BarredLeaves state bytes rule left
+  pub first : IsFirst (GeneralFails state bytes) general_rules (Some rule)
+  pub leaves : GeneralRefusalLeaves state bytes rule left
   pub outcome_is : outcome ≡ refused state left None (G rule)
 
 -- the bytes are a command that passes, and a rule of its own refuses it
@@ -70,9 +70,9 @@ pub record IsAccepted (state : State) (bytes : List ℕ) (outcome : Outcome) : T
   pub done : Effect
   pub admits : Admits state bytes admitted
   pub judges : Judges admitted None
-  pub does : Does admitted done
+  pub does : HasEffect admitted done
   pub outcome_is : outcome ≡ accepted admitted done
 
 -- The card makes this outcome of these bytes.
 abbrev pub Step : State → List ℕ → Outcome → Type 0
-Step state bytes outcome = IsBarred state bytes outcome ⊎ IsRefused state bytes outcome ⊎ IsAccepted state bytes outcome
+Step state bytes outcome = IsRejected state bytes outcome ⊎ IsRefused state bytes outcome ⊎ IsAccepted state bytes outcome

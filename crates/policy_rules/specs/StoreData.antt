@@ -51,7 +51,7 @@ StoreDataFails admitted (SD SD1) = (elements : List Element) × HasObjects admit
 StoreDataFails admitted rule = ⊥
 
 -- The objects are put. The reply is empty.
-pub record StoreDataDoes (admitted : Admitted) (done : Effect) : Type 0 where
+pub record StoreDataEffect (admitted : Admitted) (done : Effect) : Type 0 where
   pub elements : List Element
   pub objects : List Object
   pub has : HasObjects admitted.command.body elements
@@ -69,5 +69,5 @@ store_data = record {
   takes_field = λ p1 p2. StoreDataField;
   rules = store_rules;
   fails = StoreDataFails;
-  does = StoreDataDoes;
+  does = StoreDataEffect;
 }

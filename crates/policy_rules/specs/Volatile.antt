@@ -7,10 +7,10 @@ use Rattle.scp03_card.specs.Offer.{Offer}
 use Rattle.scp03_card.specs.Session.{Session}
 
 -- what an open channel holds besides its selection
-pub data Standing : Type 0 where
-  Nothing : Standing
-  Offered : Offer → Standing
-  Secured : Session → Standing
+pub data SecureChannel : Type 0 where
+  Nothing : SecureChannel
+  Offered : Offer → SecureChannel
+  Secured : Session → SecureChannel
 
 -- where a listing of the registry goes on: its P1, its data field, and the last AID shown
 pub record Place : Type 0 where
@@ -21,7 +21,7 @@ pub record Place : Type 0 where
 -- an open channel
 pub record Channel : Type 0 where
   pub selected : List ℕ
-  pub standing : Standing
+  pub secure_channel : SecureChannel
   pub place : Option Place
 
 -- an Executable Load File that comes in blocks, on one channel
@@ -41,7 +41,7 @@ pub record Volatile : Type 0 where
 
 -- a channel on which an entry was just selected
 abbrev pub fresh : List ℕ → Channel
-fresh aid = record { selected = aid; standing = Nothing; place = None }
+fresh aid = record { selected = aid; secure_channel = Nothing; place = None }
 
 -- after power on or reset channel 0 alone is open, with the Issuer Security Domain selected
 abbrev pub first_volatile : Volatile
@@ -62,19 +62,19 @@ abbrev pub selected_on : Volatile → ℕ → List ℕ
 selected_on volatile number = selected_of (channel_at volatile number)
 
 -- the offer and the session that a channel has
-abbrev pub offer_in : Standing → Option Offer
+abbrev pub offer_in : SecureChannel → Option Offer
 offer_in Nothing = None
 offer_in (Offered offer) = Some offer
 offer_in (Secured session) = None
 
-abbrev pub session_in : Standing → Option Session
+abbrev pub session_in : SecureChannel → Option Session
 session_in Nothing = None
 session_in (Offered offer) = None
 session_in (Secured session) = Some session
 
-abbrev pub standing_of : Option Channel → Standing
-standing_of None = Nothing
-standing_of (Some channel) = channel.standing
+abbrev pub secure_channel_of : Option Channel → SecureChannel
+secure_channel_of None = Nothing
+secure_channel_of (Some channel) = channel.secure_channel
 
 -- the place in a listing that a channel has
 abbrev pub place_in : Option Channel → Option Place
@@ -82,41 +82,41 @@ place_in None = None
 place_in (Some channel) = channel.place
 
 abbrev pub offer_on : Volatile → ℕ → Option Offer
-offer_on volatile number = offer_in (standing_of (channel_at volatile number))
+offer_on volatile number = offer_in (secure_channel_of (channel_at volatile number))
 
 abbrev pub session_on : Volatile → ℕ → Option Session
-session_on volatile number = session_in (standing_of (channel_at volatile number))
+session_on volatile number = session_in (secure_channel_of (channel_at volatile number))
 
 -- an open channel holds this then
-abbrev pub standing_so : Standing → Option Channel → Option Channel
-standing_so standing None = None
-standing_so standing (Some channel) = Some (record { selected = channel.selected; standing = standing; place = channel.place })
+abbrev pub channel_with : SecureChannel → Option Channel → Option Channel
+channel_with secure_channel None = None
+channel_with secure_channel (Some channel) = Some (record { selected = channel.selected; secure_channel = secure_channel; place = channel.place })
 
-abbrev pub with_standing : Volatile → ℕ → Standing → Volatile
-with_standing volatile number standing = with_channel volatile number (standing_so standing (channel_at volatile number))
+abbrev pub with_secure_channel : Volatile → ℕ → SecureChannel → Volatile
+with_secure_channel volatile number secure_channel = with_channel volatile number (channel_with secure_channel (channel_at volatile number))
 
 -- an offer is dropped, and anything else stays
-abbrev pub without_offer : Standing → Standing
+abbrev pub without_offer : SecureChannel → SecureChannel
 without_offer Nothing = Nothing
 without_offer (Offered offer) = Nothing
 without_offer (Secured session) = Secured session
 
 -- the channel's offer is dropped, if it has one
 abbrev pub with_offer_dropped : Volatile → ℕ → Volatile
-with_offer_dropped volatile number = with_standing volatile number (without_offer (standing_of (channel_at volatile number)))
+with_offer_dropped volatile number = with_secure_channel volatile number (without_offer (secure_channel_of (channel_at volatile number)))
 
 -- the load session without that of a channel
-abbrev pub load_of_others : ℕ → Option LoadSession → Option LoadSession
-load_of_others number None = None
-load_of_others number (Some load) = if load.channel == number then None else Some load
+abbrev pub load_without_channel : ℕ → Option LoadSession → Option LoadSession
+load_without_channel number None = None
+load_without_channel number (Some load) = if load.channel == number then None else Some load
 
 -- the channel's load session ends
 abbrev pub without_load : Volatile → ℕ → Volatile
-without_load volatile number = record { channels = volatile.channels; load = load_of_others number volatile.load }
+without_load volatile number = record { channels = volatile.channels; load = load_without_channel number volatile.load }
 
 -- the channel's session ends, and its load session with it
 abbrev pub without_session : Volatile → ℕ → Volatile
-without_session volatile number = without_load (with_standing volatile number Nothing) number
+without_session volatile number = without_load (with_secure_channel volatile number Nothing) number
 
 -- an entry is selected, and all that the channel had ends
 abbrev pub with_selected : Volatile → ℕ → List ℕ → Volatile

@@ -3,12 +3,12 @@
 ghost use Rattle.std.specs.Prelude.{◌≡◌, ◌↔◌, ℕ, List, None, Some, IfErr, IfNone, IfSome, IsTrue, OnOk};
 ghost use Rattle.std.specs.List.{list_any};
 ghost use Rattle.card_types.specs.InOrder.{IsInOrder};
-ghost use Rattle.card_types.specs.Says.{domain_slot};
+ghost use Rattle.card_types.specs.Represents.{domain_slot};
 ghost use Rattle.policy_rules.specs.Admission.{Admitted};
 ghost use Rattle.policy_rules.specs.DeleteKey.{Chooses, DeleteField, IsLastSet, NamesPart, delete_key_rule_name, delete_key_rule_status};
 ghost use Rattle.policy_rules.specs.Commands.{Judges};
 ghost use Rattle.policy_rules.specs.KeyOrder.{holds_counter_but as holds_counter_but_by};
-ghost use Rattle.policy_rules.specs.Means.{ActsIn, IsRequestOf, Parses};
+ghost use Rattle.policy_rules.specs.Requests.{ActsIn, IsRequestOf, Parses};
 ghost use Rattle.policy_rules.specs.declared.instruction.TheConstants.{DELETE};
 ghost use Rattle.policy_rules.specs.declared.request.Request.TheVariants.{DeleteKey};
 

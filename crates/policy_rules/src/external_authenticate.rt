@@ -2,7 +2,7 @@
 
 ghost use Rattle.std.specs.Prelude.{◌≡◌};
 ghost use Rattle.policy_rules.specs.ExternalAuthenticate.{external_authenticate_rule_name, external_authenticate_rule_status};
-ghost use Rattle.policy_rules.specs.Means.{Parses};
+ghost use Rattle.policy_rules.specs.Requests.{Parses};
 ghost use Rattle.policy_rules.specs.declared.instruction.TheConstants.{EXTERNAL_AUTHENTICATE};
 
 use crate::request::Request;

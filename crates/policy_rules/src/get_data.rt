@@ -6,13 +6,13 @@ ghost use Rattle.std.proofs.lemmas.Cmp.{nat_cmp_total, on_total};
 ghost use Rattle.bertlv.specs.Tag.{IsTag};
 ghost use Rattle.card_types.specs.InOrder.{IsInOrder};
 ghost use Rattle.card_types.specs.Registry.{Registry};
-ghost use Rattle.card_types.specs.Says.{Says, domain_aid};
+ghost use Rattle.card_types.specs.Represents.{Represents, domain_aid};
 ghost use Rattle.card_types.specs.Slots.{held};
 ghost use Rattle.card_types.specs.Well.{Well};
 ghost use Rattle.card_types.specs.declared.tables.Entry.{Entry};
 ghost use Rattle.policy_rules.specs.Found.{IsFor};
 ghost use Rattle.policy_rules.specs.GetData.{HasData, get_data_rule_name, get_data_rule_status};
-ghost use Rattle.policy_rules.specs.Means.{Parses};
+ghost use Rattle.policy_rules.specs.Requests.{Parses};
 ghost use Rattle.policy_rules.specs.declared.instruction.TheConstants.{GET_DATA};
 
 use crate::key_order::next_key;
@@ -107,9 +107,9 @@ impl Search<Object> for Tagged {
 fn find_datum<'a>(tables: &'a Tables, domain: u8, tag: u16) -> Option<Datum<'a>>
     requires in_order { IsInOrder tables.now }
     ensures tagged { IfSome result (λ found. IsTag tag) }
-    ensures some { (page : ℕ → List ℕ) (said : Registry) (entry : Entry) → Says page tables.now said → Well said
+    ensures some { (page : ℕ → List ℕ) (said : Registry) (entry : Entry) → Represents page tables.now said → Well said
         → held tables.now.entries.items domain ≡ Some entry → IfSome result (IsFor tables.now said domain tag) }
-    ensures none { (page : ℕ → List ℕ) (said : Registry) (entry : Entry) → Says page tables.now said → Well said
+    ensures none { (page : ℕ → List ℕ) (said : Registry) (entry : Entry) → Represents page tables.now said → Well said
         → held tables.now.entries.items domain ≡ Some entry
         → IfNone result ((value : List ℕ) → HasData said (domain_aid tables.now.entries.items domain) tag value → ⊥) }
 {
@@ -132,9 +132,9 @@ fn find_datum<'a>(tables: &'a Tables, domain: u8, tag: u16) -> Option<Datum<'a>>
 pub fn judge_get_data<'a>(tables: &'a Tables, domain: u8, tag: u16) -> Result<Datum<'a>, RuleGD>
     requires in_order { IsInOrder tables.now }
     ensures tagged { IfOk result (λ found. IsTag tag) }
-    ensures found { (page : ℕ → List ℕ) (said : Registry) (entry : Entry) → Says page tables.now said → Well said
+    ensures found { (page : ℕ → List ℕ) (said : Registry) (entry : Entry) → Represents page tables.now said → Well said
         → held tables.now.entries.items domain ≡ Some entry → IfOk result (IsFor tables.now said domain tag) }
-    ensures none { (page : ℕ → List ℕ) (said : Registry) (entry : Entry) → Says page tables.now said → Well said
+    ensures none { (page : ℕ → List ℕ) (said : Registry) (entry : Entry) → Represents page tables.now said → Well said
         → held tables.now.entries.items domain ≡ Some entry
         → IfErr result (λ rule. (value : List ℕ) → HasData said (domain_aid tables.now.entries.items domain) tag value → ⊥) }
 {

@@ -6,7 +6,7 @@ ghost use Rattle.card_types.specs.Counters.{HasNextCounter};
 ghost use Rattle.card_types.specs.InOrder.{IsInOrder};
 ghost use Rattle.card_types.specs.NamedKeys.{AreKeysOf, HaveKeyLength};
 ghost use Rattle.card_types.specs.Registry.{Registry};
-ghost use Rattle.card_types.specs.Says.{Says, domain_aid};
+ghost use Rattle.card_types.specs.Represents.{Represents, domain_aid};
 ghost use Rattle.card_types.specs.Slots.{held};
 ghost use Rattle.card_types.specs.Well.{Well};
 ghost use Rattle.card_types.specs.declared.factory.TheConstants.{ISSUER};
@@ -15,7 +15,7 @@ ghost use Rattle.policy_rules.specs.Admission.{Admitted};
 ghost use Rattle.policy_rules.specs.FirstFailing.{IsFirst};
 ghost use Rattle.policy_rules.specs.InitializeUpdate.{InitializeUpdateFails, offer_rules, initialize_update_rule_name, initialize_update_rule_status};
 ghost use Rattle.policy_rules.specs.KeySets.{UsesSetOfKey};
-ghost use Rattle.policy_rules.specs.Means.{ActsIn, Parses};
+ghost use Rattle.policy_rules.specs.Requests.{ActsIn, Parses};
 ghost use Rattle.policy_rules.specs.Select.{is_card_locked};
 ghost use Rattle.policy_rules.specs.declared.instruction.TheConstants.{INITIALIZE_UPDATE};
 
@@ -110,9 +110,9 @@ pub fn judge_initialize_update(
     ensures next { IfOk result (λ found. HasNextCounter tables.now.keys.items found.slot) }
     ensures version { IfOk result (λ found. 1 ≤ found.keys.enc.now.version) }
     ensures lengths { IfOk result (λ found. HaveKeyLength found.keys) }
-    ensures keys { (page : ℕ → List ℕ) (said : Registry) → Says page tables.now said
+    ensures keys { (page : ℕ → List ℕ) (said : Registry) → Represents page tables.now said
         → IfOk result (λ found. AreKeysOf tables.now.entries.items said (domain_aid tables.now.entries.items found.keys.enc.now.owner) found.keys.enc.now.version found.keys) }
-    ensures found { (page : ℕ → List ℕ) (said : Registry) (entry : Entry) → Says page tables.now said → Well said
+    ensures found { (page : ℕ → List ℕ) (said : Registry) (entry : Entry) → Represents page tables.now said → Well said
         → held tables.now.entries.items domain ≡ Some entry
         → IfOk result (λ found. UsesSetOfKey tables.now.entries.items said domain version found.keys.enc.now) }
     ensures passed { (page : ℕ → List ℕ) (admitted : Admitted) → ActsIn page tables.now domain admitted → version ≡ admitted.command.p1

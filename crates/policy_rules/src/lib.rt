@@ -9,11 +9,11 @@ mod initialize_update;
 mod instruction;
 mod key_order;
 mod laws;
+mod literals;
 mod live;
 mod manage_channel;
 mod management;
 mod own_rules;
-mod pinned;
 mod put_key;
 mod request;
 mod rule;
@@ -35,11 +35,11 @@ pub use laws::{
     changes_are_opened, one_form, one_outcome, others_are_changes, places_are_forgotten,
     refusals_drop_offers, steps_keep_sound,
 };
+pub use literals::{classes, constants, status_words};
 pub use live::{CHANNELS, Live, LoadName, Place};
 pub use manage_channel::{RuleMC, judge_more_channel};
 pub use management::RuleM;
 pub use own_rules::judge;
-pub use pinned::{classes, constants, status_words};
 pub use put_key::{PutKeys, RulePK, SealedKey, judge_put_key, judge_put_keys, judge_put_versions};
 pub use request::{Request, parse};
 pub use rule::{Rule, RuleG, RulePS};

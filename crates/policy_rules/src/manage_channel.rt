@@ -3,7 +3,7 @@
 ghost use Rattle.std.specs.Prelude.{◌≡◌, ◌<◌, ℕ, List, None, Some, IfOk, IfErr, length};
 ghost use Rattle.card_types.specs.declared.tables.Tables.{Tables};
 ghost use Rattle.policy_rules.specs.ManageChannel.{lowest_closed, manage_channel_rule_name, manage_channel_rule_status};
-ghost use Rattle.policy_rules.specs.Means.{Parses, SaysState};
+ghost use Rattle.policy_rules.specs.Requests.{Parses, RepresentsState};
 ghost use Rattle.policy_rules.specs.State.{State};
 ghost use Rattle.policy_rules.specs.declared.instruction.TheConstants.{MANAGE_CHANNEL};
 
@@ -57,9 +57,9 @@ pub(crate) fn parse_manage_channel(p1: u8, p2: u8, body: &[u8]) -> Result<Reques
 /// The channel that MANAGE CHANNEL opens: the lowest closed one.
 pub fn judge_more_channel(live: &Live) -> Result<u8, RuleMC>
     ensures below { IfOk result (λ number. number < CHANNELS) }
-    ensures found { (page : ℕ → List ℕ) (tables : Tables) (state : State) → SaysState page tables live.now state → length state.volatile.channels ≡ CHANNELS
+    ensures found { (page : ℕ → List ℕ) (tables : Tables) (state : State) → RepresentsState page tables live.now state → length state.volatile.channels ≡ CHANNELS
         → IfOk result (λ number. lowest_closed state.volatile.channels ≡ Some number) }
-    ensures none { (page : ℕ → List ℕ) (tables : Tables) (state : State) → SaysState page tables live.now state → length state.volatile.channels ≡ CHANNELS
+    ensures none { (page : ℕ → List ℕ) (tables : Tables) (state : State) → RepresentsState page tables live.now state → length state.volatile.channels ≡ CHANNELS
         → IfErr result (λ rule. lowest_closed state.volatile.channels ≡ None) }
 {
     match live.first_closed() {

@@ -5,7 +5,7 @@ ghost use Rattle.card_types.specs.Slots.{held};
 ghost use Rattle.card_types.specs.declared.tables.Entry.{Entry};
 ghost use Rattle.policy_rules.specs.Admission.{Admitted};
 ghost use Rattle.policy_rules.specs.Management.{ManagementFails, management_rule_name, management_rule_status};
-ghost use Rattle.policy_rules.specs.Means.{ActsIn};
+ghost use Rattle.policy_rules.specs.Requests.{ActsIn};
 ghost use Rattle.policy_rules.specs.declared.management.RuleM.TheVariants.{M1, M2};
 ghost use Rattle.policy_rules.specs.declared.rule.Rule.TheVariants.{M};
 

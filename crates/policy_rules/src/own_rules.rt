@@ -5,7 +5,7 @@ ghost use Rattle.apdu_core.specs.Apdu.{Apdu};
 ghost use Rattle.card_types.specs.InOrder.{IsInOrder};
 ghost use Rattle.policy_rules.specs.Admission.{Admitted};
 ghost use Rattle.policy_rules.specs.Commands.{Judges};
-ghost use Rattle.policy_rules.specs.Means.{IsMeant, IsRequestOf, SaysState};
+ghost use Rattle.policy_rules.specs.Requests.{IsMeant, IsRequestOf, RepresentsState};
 ghost use Rattle.policy_rules.specs.PutKey.{TellsChecks};
 ghost use Rattle.policy_rules.specs.Sound.{IsSound};
 ghost use Rattle.policy_rules.specs.declared.instruction.TheConstants.{EXTERNAL_AUTHENTICATE};
@@ -36,7 +36,7 @@ pub fn judge(
     requires channel { channel < CHANNELS }
     requires opened { IsSome (slice_index_or live.now.selected channel None) }
     requires meant { IsMeant request.now }
-    ensures judged { (page : ℕ → List ℕ) (passed : Admitted) → SaysState page tables.now live.now passed.at → IsSound passed.at → channel ≡ passed.channel
+    ensures judged { (page : ℕ → List ℕ) (passed : Admitted) → RepresentsState page tables.now live.now passed.at → IsSound passed.at → channel ≡ passed.channel
         → IsRequestOf request.now passed.command → passed.command.ins ≢ EXTERNAL_AUTHENTICATE
         → TellsChecks checks_fit passed → Judges passed result }
     ensures elsewhere { (command : Apdu) → IsRequestOf request.now command → command.ins ≡ EXTERNAL_AUTHENTICATE → result ≡ None }

@@ -7,7 +7,7 @@ ghost use Rattle.key_sets.specs.declared.refusal.PutRefusal.TheVariants.{Unknown
 ghost use Rattle.policy_rules.specs.Admission.{Admitted};
 ghost use Rattle.policy_rules.specs.FirstFailing.{IsFirst};
 ghost use Rattle.policy_rules.specs.KeyFields.{AreFields, BeginsWithKey, NoFields};
-ghost use Rattle.policy_rules.specs.Means.{ActsIn, AreOfAes128, IsRequestOf, Parses, sent_key, sent_keys};
+ghost use Rattle.policy_rules.specs.Requests.{ActsIn, AreOfAes128, IsRequestOf, Parses, sent_key, sent_keys};
 ghost use Rattle.policy_rules.specs.PutKey.{HasKeyFields, IsNewVersion, PutKeyFails, PutKeyField, PutKeyParameters, SaysChecks, SentKey, key_count, put_key_rule_name, put_key_rule_status, put_rules};
 ghost use Rattle.policy_rules.specs.PutRules.{key_rules, version_rules};
 ghost use Rattle.policy_rules.specs.declared.instruction.TheConstants.{PUT_KEY};

@@ -2,7 +2,7 @@
 
 ghost use Rattle.std.specs.Prelude.{IfOk, IfErr};
 ghost use Rattle.policy_rules.specs.Commands.{IsBuilt, Takes};
-ghost use Rattle.policy_rules.specs.Means.{IsMalformed, Means, form_in};
+ghost use Rattle.policy_rules.specs.Requests.{IsMalformed, Decodes, form_in};
 
 use crate::put_key::PutKeys;
 use crate::rule::Rule;
@@ -60,7 +60,7 @@ pub enum Request<'a> {
 pub fn parse(ins: u8, p1: u8, p2: u8, body: &[u8]) -> Result<Request<'_>, Rule>
     requires { IsBuilt ins }
     ensures form { IfOk result (λ request. Takes (form_in request) ins p1 p2 body.now) }
-    ensures means { IfOk result (λ request. Means request p1 p2 body.now) }
+    ensures means { IfOk result (λ request. Decodes request p1 p2 body.now) }
     ensures refused { IfErr result (IsMalformed ins p1 p2 body.now) }
 {
     match ins {

@@ -5,10 +5,10 @@ ghost use Rattle.std.proofs.lemmas.Cmp.{nat_list_cmp_total, on_total};
 ghost use Rattle.card_types.specs.AidOrder.{aid_order, same_aid};
 ghost use Rattle.card_types.specs.InOrder.{IsInOrder};
 ghost use Rattle.card_types.specs.Registry.{Registry};
-ghost use Rattle.card_types.specs.Says.{Says, entry_of};
+ghost use Rattle.card_types.specs.Represents.{Represents, entry_of};
 ghost use Rattle.card_types.specs.Slots.{held};
 ghost use Rattle.card_types.specs.declared.factory.TheConstants.{ISSUER};
-ghost use Rattle.policy_rules.specs.Means.{Parses};
+ghost use Rattle.policy_rules.specs.Requests.{Parses};
 ghost use Rattle.policy_rules.specs.Select.{fits_as, least_fitting, select_rule_name, select_rule_status};
 ghost use Rattle.policy_rules.specs.declared.instruction.TheConstants.{SELECT};
 
@@ -97,9 +97,9 @@ impl Search<Entry> for Fitting<'_> {
 pub fn judge_select<'a>(tables: &'a Tables, partial: &[u8]) -> Result<InSlot<'a, Entry>, RuleSE>
     requires in_order { IsInOrder tables.now }
     ensures at { IfOk result (λ found. held tables.now.entries.items found.slot ≡ Some found.thing.now) }
-    ensures found { (page : ℕ → List ℕ) (said : Registry) → Says page tables.now said → IfOk result (λ found.
+    ensures found { (page : ℕ → List ℕ) (said : Registry) → Represents page tables.now said → IfOk result (λ found.
         least_fitting said partial.now ≡ Some (entry_of tables.now.entries.items tables.now.files.items found.thing.now)) }
-    ensures none { (page : ℕ → List ℕ) (said : Registry) → Says page tables.now said → IfErr result (λ rule. least_fitting said partial.now ≡ None) }
+    ensures none { (page : ℕ → List ℕ) (said : Registry) → Represents page tables.now said → IfErr result (λ rule. least_fitting said partial.now ≡ None) }
 {
     let fitting = Fitting {
         card_life: tables.life,

@@ -3,7 +3,7 @@
 ghost use Rattle.std.specs.Prelude.{◌≡◌, ℕ, List, Some, true, IfSome, IfNone};
 ghost use Rattle.card_types.specs.InOrder.{IsInOrder};
 ghost use Rattle.card_types.specs.Registry.{Registry};
-ghost use Rattle.card_types.specs.Says.{Says, domain_aid, keeps_counter as keeps_counter_by};
+ghost use Rattle.card_types.specs.Represents.{Represents, domain_aid, keeps_counter as keeps_counter_by};
 ghost use Rattle.card_types.specs.Slots.{held};
 ghost use Rattle.card_types.specs.Well.{Well};
 ghost use Rattle.card_types.specs.declared.tables.Entry.{Entry};
@@ -48,10 +48,10 @@ fn holds_counter(owner: u8, held: &Option<KeyRec>) -> bool
 /// the nearest domain above it that has one.
 fn set_owner(tables: &Tables, domain: u8) -> Option<u8>
     requires in_order { IsInOrder tables.now }
-    ensures some { (page : ℕ → List ℕ) (said : Registry) (entry : Entry) → Says page tables.now said → Well said
+    ensures some { (page : ℕ → List ℕ) (said : Registry) (entry : Entry) → Represents page tables.now said → Well said
         → held tables.now.entries.items domain ≡ Some entry
         → IfSome result (λ owner. OwnsSets said (domain_aid tables.now.entries.items domain) (domain_aid tables.now.entries.items owner)) }
-    ensures none { (page : ℕ → List ℕ) (said : Registry) (entry : Entry) → Says page tables.now said → Well said
+    ensures none { (page : ℕ → List ℕ) (said : Registry) (entry : Entry) → Represents page tables.now said → Well said
         → held tables.now.entries.items domain ≡ Some entry
         → IfNone result ((owner : List ℕ) → OwnsSets said (domain_aid tables.now.entries.items domain) owner → ⊥) }
     ensures has_set { IfSome result (λ owner. has_set_in tables.now.keys.items owner ≡ true) }
@@ -69,10 +69,10 @@ pub fn session_set(tables: &Tables, domain: u8, version: u8) -> Option<InSlot<'_
     requires in_order { IsInOrder tables.now }
     ensures held { IfSome result (λ found. held tables.now.keys.items found.slot ≡ Some found.thing.now) }
     ensures counts { IfSome result (λ found. keeps_counter_by found.thing.now ≡ true) }
-    ensures some { (page : ℕ → List ℕ) (said : Registry) (entry : Entry) → Says page tables.now said → Well said
+    ensures some { (page : ℕ → List ℕ) (said : Registry) (entry : Entry) → Represents page tables.now said → Well said
         → held tables.now.entries.items domain ≡ Some entry
         → IfSome result (λ found. UsesSetOfKey tables.now.entries.items said domain version found.thing.now) }
-    ensures none { (page : ℕ → List ℕ) (said : Registry) (entry : Entry) → Says page tables.now said → Well said
+    ensures none { (page : ℕ → List ℕ) (said : Registry) (entry : Entry) → Represents page tables.now said → Well said
         → held tables.now.entries.items domain ≡ Some entry
         → IfNone result (NoSetToUse said (domain_aid tables.now.entries.items domain) version) }
 {

@@ -3,12 +3,12 @@
 ghost use Rattle.std.specs.Prelude.{◌≡◌, ◌↔◌, ◌+◌, ◌≤◌, ℕ, List, None, Some, IfErr, IsTrue, OnOk, length};
 ghost use Rattle.bertlv.specs.Spelling.{AreElements, Element};
 ghost use Rattle.card_types.specs.InOrder.{IsInOrder};
-ghost use Rattle.card_types.specs.Says.{used};
+ghost use Rattle.card_types.specs.Represents.{used};
 ghost use Rattle.card_types.specs.Well.{IsObject};
 ghost use Rattle.card_types.specs.declared.limits.TheConstants.{OBJECTS};
 ghost use Rattle.policy_rules.specs.Admission.{Admitted};
 ghost use Rattle.policy_rules.specs.Commands.{Judges};
-ghost use Rattle.policy_rules.specs.Means.{ActsIn, IsRequestOf, Parses};
+ghost use Rattle.policy_rules.specs.Requests.{ActsIn, IsRequestOf, Parses};
 ghost use Rattle.policy_rules.specs.ObjectsFound.{AreObjects, has_object_in, has_tag_in, is_tagged_in, new_tags};
 ghost use Rattle.policy_rules.specs.StoreData.{StoreDataField, StoreDataParameters, store_data_rule_name, store_data_rule_status};
 ghost use Rattle.policy_rules.specs.declared.instruction.TheConstants.{STORE_DATA};

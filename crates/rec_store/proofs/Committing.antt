@@ -4,7 +4,7 @@ use Rattle.flash_core.specs.Device.{Only}
 use Rattle.flash_core.specs.declared.page.Page.{Page}
 use Rattle.card_check.specs.IsCard.{IsCard}
 use Rattle.card_types.specs.Registry.{Registry}
-use Rattle.card_types.specs.Says.{Says}
+use Rattle.card_types.specs.Represents.{Represents}
 use Rattle.card_types.specs.declared.tables.Tables.{Tables}
 use Rattle.page_journal.specs.Journal.{stored}
 use Rattle.page_journal.specs.Moments.{Leaves, current}
@@ -24,12 +24,12 @@ some_or_none [] = inl refl
 some_or_none (first ∷ rest) = inr (omega arith)
 
 module _ (pool : List (ℕ × Page)) (pages : List Page) (may_leave : List Page → Type 0) (t : Tables) (before after : Registry) (none : NoLoadPage pool) (held : HoldsTables (current_page pool pages) t)
-    (card : IsCard (load_page pages) t) (says : Says (load_page pages) t after) (was : KeepsPages pages may_leave before) where
+    (card : IsCard (load_page pages) t) (says : Represents (load_page pages) t after) (was : KeepsPages pages may_leave before) where
   list_card : IsCard (load_in (current pool pages)) t
   list_card = subst (λ load. IsCard load t) (sym (load_now pool pages none)) card
 
-  list_says : Says (load_in (current pool pages)) t after
-  list_says = subst (λ load. Says load t after) (sym (load_now pool pages none)) says
+  list_says : Represents (load_in (current pool pages)) t after
+  list_says = subst (λ load. Represents load t after) (sym (load_now pool pages none)) says
 
   -- a commit's pages
   abbrev pub Either : List Page → Type 0

@@ -3,7 +3,7 @@ use Rattle.std.proofs.Common.{◌≡◌, ℕ, zero, suc, ◌/◌, ◌<◌, List,
 use Rattle.std.specs.Prelude.{All, Contains, replicate}
 use Rattle.std.proofs.lemmas.List.Elements.{All-nil}
 use Rattle.std.proofs.lemmas.List.FromFn.{get_or-range_with_len}
-use Rattle.card_types.specs.Says.{used}
+use Rattle.card_types.specs.Represents.{used}
 use Rattle.card_types.specs.declared.limits.TheConstants.{KEYS}
 use Rattle.rec_store.specs.Keeper.{key_pages}
 use Rattle.rec_store.specs.Places.{key_page}

@@ -24,7 +24,7 @@ use Rattle.card_types.specs.Ascending.{counter_order, key_order, object_order}
 use Rattle.card_types.specs.Layout.{HasIssuer}
 use Rattle.card_types.specs.Privileges.{bits_of, named_bits}
 use Rattle.card_types.specs.Registry as registry
-use Rattle.card_types.specs.Says.{Says, counter_of, domain_aid, entry_of, file_aid, file_of, keeps_counter, key_of, object_of, used}
+use Rattle.card_types.specs.Represents.{Represents, counter_of, domain_aid, entry_of, file_aid, file_of, keeps_counter, key_of, object_of, used}
 use Rattle.card_types.specs.Slots.{held}
 use Rattle.card_types.specs.Well.{IsWellEntry}
 use Rattle.card_types.specs.declared.factory.TheConstants.{FACTORY_FILE}
@@ -74,7 +74,7 @@ one_named_list name all xs ys first second sorted also =
     one_list (on name aid_order) (on_total name nat_list_cmp_total) all xs ys first second (sorted_by_name aid_order name xs sorted) (sorted_by_name aid_order name ys also)
 
 -- tables say at most one registry
-pub said_once : (load : ℕ → List ℕ) (t : Tables) (a b : registry.Registry) → Says load t a → Says load t b → a ≡ b
+pub said_once : (load : ℕ → List ℕ) (t : Tables) (a b : registry.Registry) → Represents load t a → Represents load t b → a ≡ b
 said_once load t a b says other =
     let entries : a.entries ≡ b.entries = one_named_list (λ entry. entry.aid) _ a.entries b.entries says.entries other.entries says.ascending.entries other.ascending.entries in
     let files : a.files ≡ b.files = one_named_list (λ file. file.aid) _ a.files b.files says.files other.files says.ascending.files other.ascending.files in
@@ -154,7 +154,7 @@ module _ (store load : ℕ → List ℕ) (t u : Tables) (first : HoldsTables sto
         ∙ ap (λ entries. map (file_of load entries) (used u.files.items)) same
 
     -- what the one say, the others do
-    says_alike : (said : registry.Registry) → Says load u said → Says load t said
+    says_alike : (said : registry.Registry) → Represents load u said → Represents load t said
     says_alike said says = record {
       life = one_card_life (store 0) t.life u.life first.life second.life ∙ says.life;
       entries = subst (λ all. IsPermutation all said.entries) (sym shown_entries) says.entries;
@@ -165,7 +165,7 @@ module _ (store load : ℕ → List ℕ) (t u : Tables) (first : HoldsTables sto
       ascending = says.ascending;
     }
 
-    pub one_said : (a b : registry.Registry) → Says load t a → Says load u b → a ≡ b
+    pub one_said : (a b : registry.Registry) → Represents load t a → Represents load u b → a ≡ b
     one_said a b says other = said_once load t a b says (says_alike b other)
 
     factory_alike : (a b : Option LoadFile) → AreSameFiles a b → MatchOption b ⊥ (λ file. (file.aid ≡ FACTORY_FILE) × (file.len ≡ 0)) → MatchOption a ⊥ (λ file. (file.aid ≡ FACTORY_FILE) × (file.len ≡ 0))

@@ -7,7 +7,7 @@ use Rattle.std.proofs.lemmas.List.{get_or_past}
 use Rattle.byteorder.specs.Endian.{big_from}
 use Rattle.card_types.specs.CardLife.{card_life_code}
 use Rattle.card_types.specs.LifeMark.{life_mark_code}
-use Rattle.card_types.specs.Says.{keeps_counter}
+use Rattle.card_types.specs.Represents.{keeps_counter}
 use Rattle.card_types.specs.Well.{pages_of}
 use Rattle.card_types.specs.declared.card_life.CardLife.{CardLife}
 use Rattle.card_types.specs.declared.card_life.CardLife.TheVariants.{OpReady, Initialized, Secured, Locked, Terminated}

@@ -10,7 +10,7 @@ use Rattle.std.proofs.lemmas.List.Elements.{All-cons, All-contains, All-head, Al
 use Rattle.card_check.specs.IsCard.{HasPages, IsCard, pages_named}
 use Rattle.card_types.proofs.Members.{contains_first, contains_later}
 use Rattle.card_types.specs.Registry.{Registry}
-use Rattle.card_types.specs.Says.{Says, domain_aid, file_of, used}
+use Rattle.card_types.specs.Represents.{Represents, domain_aid, file_of, used}
 use Rattle.card_types.specs.Slots.{held}
 use Rattle.card_types.specs.declared.limits.TheConstants.{ENTRIES, FILES, KEYS, OBJECTS}
 use Rattle.card_types.specs.declared.tables.LoadFile.{LoadFile}
@@ -59,7 +59,7 @@ module _ (old new : ℕ → List ℕ) (t : Tables) (same : (file : LoadFile) →
       let pages = map_same new old (pages_named file) (same file among) in
       λ i. record { aid = file.aid; domain = domain_aid t.entries.items file.domain; bytes = take file.len (concat (pages i)) })
 
-  pub says_same : (registry : Registry) → Says old t registry → Says new t registry
+  pub says_same : (registry : Registry) → Represents old t registry → Represents new t registry
   says_same registry says = record {
     life = says.life;
     entries = says.entries;
@@ -113,17 +113,17 @@ module _ (list : ℕ → Option Page) (loose : List ℕ) (outcome : List Page) (
   pub left_card : IsCard (load_page outcome) t
   left_card = card_same (load_in list) (load_page outcome) t left_load card
 
-  pub left_says : (registry : Registry) → Says (load_in list) t registry → Says (load_page outcome) t registry
+  pub left_says : (registry : Registry) → Represents (load_in list) t registry → Represents (load_page outcome) t registry
   left_says registry says = says_same (load_in list) (load_page outcome) t left_load registry says
 
-  pub left : (registry : Registry) → HoldsTables (store_in list) t → Says (load_in list) t registry → Reopens outcome registry
+  pub left : (registry : Registry) → HoldsTables (store_in list) t → Represents (load_in list) t registry → Reopens outcome registry
   left registry held says = record {
     sound = leaves.sound;
     holds = record { tables = t; held = left_tables held; card = left_card; says = left_says registry says };
   }
 
 -- pages that hold a registry, of which all else that power loss leaves are loose pages
-pub keeps : (pages : List Page) (may_leave : List Page → Type 0) (registry : Registry) (t : Tables) → HasValidJournal pages → HoldsTables (store_page pages) t → IsCard (load_page pages) t → Says (load_page pages) t registry
+pub keeps : (pages : List Page) (may_leave : List Page → Type 0) (registry : Registry) (t : Tables) → HasValidJournal pages → HoldsTables (store_page pages) t → IsCard (load_page pages) t → Represents (load_page pages) t registry
     → (loose : List ℕ) → Always may_leave (Leaves (stored pages) loose) → ((n : ℕ) → Contains loose n → IsFree t n) → KeepsPages pages may_leave registry
 keeps pages may_leave registry t sound held card says loose leaves free = record {
   reopens = λ outcome possible. left (stored pages) loose outcome t (leaves outcome possible) free card registry held says;
@@ -173,7 +173,7 @@ pub free_of_held : (store : ℕ → List ℕ) (t u : Tables) (page : ℕ) → Ho
 free_of_held store t u page first second = free_same t u page (same_pages store (λ _. []) t u first second)
 
 -- pages that power loss leaves of a list, and what it leaves then
-pub keeps_left : (list : ℕ → Option Page) (loose : List ℕ) (t : Tables) (registry : Registry) → ((n : ℕ) → Contains loose n → IsFree t n) → HoldsTables (store_in list) t → IsCard (load_in list) t → Says (load_in list) t registry
+pub keeps_left : (list : ℕ → Option Page) (loose : List ℕ) (t : Tables) (registry : Registry) → ((n : ℕ) → Contains loose n → IsFree t n) → HoldsTables (store_in list) t → IsCard (load_in list) t → Represents (load_in list) t registry
     → (pages : List Page) (may_leave : List Page → Type 0) → Leaves list loose pages → Always may_leave (Leaves list loose) → KeepsPages pages may_leave registry
 keeps_left list loose t registry free held card says pages may_leave now later =
     keeps pages may_leave registry t now.sound (left_tables list loose pages t now free card held) (left_card list loose pages t now free card) (left_says list loose pages t now free card registry says) loose

@@ -2,7 +2,7 @@
 -- of any other key.
 use Rattle.std.specs.Prelude.{◌≡◌, ℕ, ◌≤◌, List, Option, None, Some, length, slice_index, if◌then◌else◌}
 use Rattle.byteorder.specs.Endian.{big_from}
-use Rattle.card_types.specs.Says.{keeps_counter}
+use Rattle.card_types.specs.Represents.{keeps_counter}
 use Rattle.card_types.specs.declared.limits.TheConstants.{COUNTER_LIMIT}
 use Rattle.card_types.specs.declared.tables.KeyRec.{KeyRec}
 use Rattle.rec_store.specs.Bytes.{HasBytesAt}

@@ -2,7 +2,7 @@
 use Rattle.std.specs.Prelude.{◌≡◌, ◌⊎◌, ℕ, ◌≤◌, ◌++◌, List, [], Option, None, Contains, All, take, replicate, nat_lt, if◌then◌else◌}
 use Rattle.card_check.specs.IsCard.{IsCard, pages_named}
 use Rattle.card_types.specs.Registry.{Registry}
-use Rattle.card_types.specs.Says.{Says, used}
+use Rattle.card_types.specs.Represents.{Represents, used}
 use Rattle.card_types.specs.declared.tables.Tables.{Tables}
 use Rattle.flash_core.specs.declared.flash.Flash.{Ghosts as Flash}
 use Rattle.flash_core.specs.declared.page.Page.{Page}
@@ -16,7 +16,7 @@ pub record HoldsRegistry (store load : ℕ → List ℕ) (registry : Registry) :
   pub tables : Tables
   pub held : HoldsTables store tables
   pub card : IsCard load tables
-  pub says : Says load tables registry
+  pub says : Represents load tables registry
 
 -- the bytes of a list of pages: those of a store page
 abbrev pub store_in : (ℕ → Option Page) → ℕ → List ℕ

@@ -3,7 +3,7 @@
 ghost use Rattle.std.specs.Prelude.{◌≡◌, [], false, true, IsOk, OnErr, OnOk};
 ghost use Rattle.card_check.specs.IsCard.{IsCard};
 ghost use Rattle.card_types.specs.Registry.{Registry};
-ghost use Rattle.card_types.specs.Says.{Says};
+ghost use Rattle.card_types.specs.Represents.{Represents};
 ghost use Rattle.faults.specs.Faults.{HasCause};
 ghost use Rattle.page_journal.specs.Moments.{LeavesOnly};
 ghost use Rattle.rec_store.specs.Reopens.{Keeps, ReopensEither, load_page};
@@ -19,10 +19,10 @@ impl<F: Flash> Records<F> {
         requires card { F.tells → IsCard (load_page (F.pages self.old.flash)) self.old.tables }
         // Power lost at any moment leaves the registry from before, or the one that the tables say.
         ensures moments { F.tells → (before after : Registry) → Keeps F.Flash self.old.flash before
-            → Says (load_page (F.pages self.old.flash)) self.old.tables after
+            → Represents (load_page (F.pages self.old.flash)) self.old.tables after
             → LeavesOnly F.Flash self.old.flash self.new.flash (ReopensEither before after) }
         ensures keeps { F.tells → (before after : Registry) → Keeps F.Flash self.old.flash before
-            → Says (load_page (F.pages self.old.flash)) self.old.tables after
+            → Represents (load_page (F.pages self.old.flash)) self.old.tables after
             → OnOk result (Keeps F.Flash self.new.flash after) }
         ensures load { F.tells → OnOk result (load_page (F.pages self.new.flash) ≡ load_page (F.pages self.old.flash)) }
         ensures tables { self.new.tables ≡ self.old.tables }

@@ -1,7 +1,7 @@
 //! What keeps the key slots of a card.
 
 ghost use Rattle.std.specs.Prelude.{◌≡◌, ◌<◌, List, Option, All, IfSome, length, slice_set};
-ghost use Rattle.card_types.specs.Says.{used};
+ghost use Rattle.card_types.specs.Represents.{used};
 ghost use Rattle.card_types.specs.declared.limits.TheConstants.{KEYS};
 ghost use Rattle.card_types.specs.declared.tables.KeyRec.{KeyRec as KeyOf};
 ghost use Rattle.rec_store.specs.Keeper.{IsRoomy, SameElse, same_else_on, same_else_self};

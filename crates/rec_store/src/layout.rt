@@ -3,7 +3,7 @@
 ghost use Rattle.std.specs.Prelude.{◌≡◌, ◌≤◌, ℕ, All, OnOk, slice_get};
 ghost use Rattle.card_check.specs.IsCard.{IsCard, IsInLoadPages};
 ghost use Rattle.card_types.specs.Registry.{Registry};
-ghost use Rattle.card_types.specs.Says.{Says, used};
+ghost use Rattle.card_types.specs.Represents.{Represents, used};
 ghost use Rattle.card_types.specs.declared.tables.Tables.{Tables};
 ghost use Rattle.faults.specs.Faults.{HasCause};
 ghost use Rattle.rec_store.specs.FirstSlots.{HasFirst, HaveRoom};
@@ -32,7 +32,7 @@ pub fn lay_out<F: Flash>(
     requires roomy_keys { All IsRoomyKey (used keys.now) }
     // Power lost from then on leaves each registry that tables with these things in their first slots say.
     ensures keeps { F.tells → (tables : Tables) (registry : Registry) → HasFirst tables life entries.now files.now keys.now objects.now
-        → IsCard (load_page (F.pages flash.new)) tables → Says (load_page (F.pages flash.new)) tables registry
+        → IsCard (load_page (F.pages flash.new)) tables → Represents (load_page (F.pages flash.new)) tables registry
         → OnOk result (Keeps F.Flash flash.new registry) }
     ensures load { F.tells → (page : ℕ) → 96 ≤ page → slice_get (F.pages flash.new) page ≡ slice_get (F.pages flash.old) page }
     ensures cause { HasCause (F.faults flash.old) (F.faults flash.new) result }

@@ -2,7 +2,7 @@
 
 ghost use Rattle.std.specs.Prelude.{◌≡◌, ◌≢◌, ◌<◌, ◌≤◌, ℕ, [], true, OnOk};
 ghost use Rattle.card_types.specs.Registry.{Registry};
-ghost use Rattle.card_types.specs.Says.{Says};
+ghost use Rattle.card_types.specs.Represents.{Represents};
 ghost use Rattle.faults.specs.Faults.{HasCause};
 ghost use Rattle.page_journal.specs.Moments.{LeavesOnly};
 ghost use Rattle.rec_store.specs.Reopens.{IsFree, Keeps, Reopens, load_page};
@@ -39,7 +39,7 @@ impl<F: Flash> Records<F> {
         ensures bytes { F.tells → OnOk result (load_page (F.pages self.new.flash) page ≡ from.now.bytes) }
         ensures others { F.tells → (other : ℕ) → other ≢ page → load_page (F.pages self.new.flash) other ≡ load_page (F.pages self.old.flash) other }
         // The files of the tables have their bytes.
-        ensures says { F.tells → (registry : Registry) → Says (load_page (F.pages self.old.flash)) self.old.tables registry → Says (load_page (F.pages self.new.flash)) self.old.tables registry }
+        ensures says { F.tells → (registry : Registry) → Represents (load_page (F.pages self.old.flash)) self.old.tables registry → Represents (load_page (F.pages self.new.flash)) self.old.tables registry }
         ensures same { (self.new.tables ≡ self.old.tables) × (self.new.staged ≡ self.old.staged) × (self.new.live ≡ true) }
         // With nothing staged power lost at any moment leaves the registry.
         ensures moments { F.tells → self.old.staged ≡ [] → (registry : Registry) → Keeps F.Flash self.old.flash registry

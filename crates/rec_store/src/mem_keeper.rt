@@ -1,7 +1,7 @@
 //! The key slots of a card in memory.
 
 ghost use Rattle.std.specs.Prelude.{◌≡◌, List, Option, None, All, IfOk, length, replicate};
-ghost use Rattle.card_types.specs.Says.{used};
+ghost use Rattle.card_types.specs.Represents.{used};
 ghost use Rattle.card_types.specs.declared.limits.TheConstants.{KEYS};
 ghost use Rattle.card_types.specs.declared.tables.KeyRec.{KeyRec as KeyOf};
 ghost use Rattle.rec_store.specs.KeySlot.{IsRoomyKey};

@@ -4,7 +4,7 @@ ghost use Rattle.std.specs.Prelude.{◌≡◌, ◌≤◌, ℕ, List, [], true, A
 ghost use Rattle.card_check.specs.IsCard.{HasPages, IsCard};
 ghost use Rattle.card_types.specs.InOrder.{IsInOrder};
 ghost use Rattle.card_types.specs.Registry.{Registry};
-ghost use Rattle.card_types.specs.Says.{Says, used};
+ghost use Rattle.card_types.specs.Represents.{Represents, used};
 ghost use Rattle.card_types.specs.declared.tables.Tables.{Tables as TablesOf};
 ghost use Rattle.flash_core.specs.Device.{Only};
 ghost use Rattle.page_journal.specs.Journal.{HasValidJournal, stored};
@@ -35,7 +35,7 @@ impl<F: Flash> Records<F> {
         ensures in_order { IfOk result (λ r. IsInOrder r.tables) }
         // The tables say the registry that the pages reopened as, and power lost leaves it from then on.
         ensures says { F.tells → IfOk result (λ r. (registry : Registry) × Reopens (F.pages flash) registry
-            × Says (load_page (F.pages r.flash)) r.tables registry × Keeps F.Flash r.flash registry) }
+            × Represents (load_page (F.pages r.flash)) r.tables registry × Keeps F.Flash r.flash registry) }
         ensures load { F.tells → IfOk result (λ r. load_page (F.pages r.flash) ≡ load_page (F.pages flash)) }
         // Power lost at any moment leaves no registry that it could not leave before.
         ensures moments { F.tells → (registries : List Registry) → Always (F.may_leave flash) (ReopensAsOne registries)

@@ -10,7 +10,7 @@ use Rattle.card_types.specs.Found.{aid_of}
 use Rattle.card_types.specs.Registry as registry
 use Rattle.card_types.specs.Registry.{entry_named, file_named}
 use Rattle.card_types.specs.RegistryChange.{IsEntryAdded, IsFileAdded}
-use Rattle.card_types.specs.Says.{Says, entry_of, file_of}
+use Rattle.card_types.specs.Represents.{Represents, entry_of, file_of}
 use Rattle.card_types.specs.Slots.{held}
 use Rattle.card_types.specs.Well.{Well}
 use Rattle.card_types.specs.declared.found.Found.{Found}
@@ -28,7 +28,7 @@ use Rattle.registry.specs.Adding.{AddsEntry, AddsFile, IsTaken, NoneHas, PlaceFa
 use Rattle.registry.specs.declared.refusal.AddRefusal.{AddRefusal}
 use Rattle.registry.specs.declared.refusal.AddRefusal.TheVariants.{Taken, Full}
 
-module _ (page : ℕ → List ℕ) (before : Tables) (said : registry.Registry) (says : Says page before said) where
+module _ (page : ℕ → List ℕ) (before : Tables) (said : registry.Registry) (says : Represents page before said) where
   -- what is in a slot is there by its name
   pub taken_by : (thing : Found) (aid : List ℕ) → aid_of before thing ≡ Some aid → IsTaken said aid
   taken_by (found.Entry slot) aid at = inl (subst IsSome (sym (found_entry_named page before said says slot aid at).2) refl)
@@ -59,7 +59,7 @@ module _ (page : ℕ → List ℕ) (before : Tables) (said : registry.Registry) 
   module _ (well : Well said) (after : Tables) (slot : ℕ) where
     -- an entry is added
     pub entry_added : (entry domain : Entry) → held before.entries.items entry.domain ≡ Some domain → NoneHas before entry.aid → AddsEntry before after slot entry
-        → (added : registry.Registry) × IsEntryAdded (entry_of before.entries.items before.files.items entry) said added × Says page after added
+        → (added : registry.Registry) × IsEntryAdded (entry_of before.entries.items before.files.items entry) said added × Represents page after added
     entry_added entry domain there none adds =
         let view = entry_of before.entries.items before.files.items in
         let unnamed = (none_found_none_named page before said says entry.aid none).0 in
@@ -75,7 +75,7 @@ module _ (page : ℕ → List ℕ) (before : Tables) (said : registry.Registry) 
 
     -- an Executable Load File is added
     pub file_added : (file : LoadFile) → NoneHas before file.aid → AddsFile before after slot file
-        → (added : registry.Registry) × IsFileAdded (file_of page before.entries.items file) said added × Says page after added
+        → (added : registry.Registry) × IsFileAdded (file_of page before.entries.items file) said added × Represents page after added
     file_added file none adds =
         let view = file_of page before.entries.items in
         let unnamed = (none_found_none_named page before said says file.aid none).1 in

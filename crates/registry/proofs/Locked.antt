@@ -7,7 +7,7 @@ use Rattle.std.proofs.lemmas.Bool.{cases_Bool}
 use Rattle.std.proofs.lemmas.List.Sorted.{IsPermutation-map}
 use Rattle.card_types.specs.Registry as registry
 use Rattle.card_types.specs.RegistryChange.{with_locks}
-use Rattle.card_types.specs.Says.{Says, counter_of, domain_aid, entry_of, file_of, keeps_counter, key_of, object_of, used}
+use Rattle.card_types.specs.Represents.{Represents, counter_of, domain_aid, entry_of, file_of, keeps_counter, key_of, object_of, used}
 use Rattle.card_types.specs.Slots.{held}
 use Rattle.card_types.specs.Well.{Well}
 use Rattle.card_types.specs.declared.tables.Entry.{Entry}
@@ -31,7 +31,7 @@ mapped_slots view view' f (Some x ∷ before) (Some y ∷ after) long each =
     let rest = mapped_slots view view' f before after (omega (arith, long)) (λ slot. each (suc slot)) in
     rw (first, rest) refl
 
-module _ (page : ℕ → List ℕ) (before after : Tables) (said : registry.Registry) (says : Says page before said) (well : Well said) (domain : ℕ) (top : Entry)
+module _ (page : ℕ → List ℕ) (before after : Tables) (said : registry.Registry) (says : Represents page before said) (well : Well said) (domain : ℕ) (top : Entry)
     (at : held before.entries.items domain ≡ Some top) (locked : Bool) (locks : LocksTree before after domain locked)
     (long : length after.entries.items ≡ length before.entries.items) where
   abbrev tree : List ℕ → Bool
@@ -91,7 +91,7 @@ module _ (page : ℕ → List ℕ) (before after : Tables) (said : registry.Regi
         | inr other ↦ (let then = used_slot slot entry here in rw (then, here, other) (ap Some (same_view entry)))
       ]
 
-  tree_locked : Says page after (with_locks said tree locked)
+  tree_locked : Represents page after (with_locks said tree locked)
   tree_locked = record {
     life = locks.life ∙ says.life;
     entries = subst (λ (xs : List registry.Entry). IsPermutation xs (map marks said.entries)) (sym (mapped_slots view view' marks before.entries.items after.entries.items long same_slot))
@@ -114,5 +114,5 @@ module _ (page : ℕ → List ℕ) (before after : Tables) (said : registry.Regi
         | inr other ↦ rw other refl
       ]
 
-  pub says_locked : (these : List ℕ → Bool) × IsTreeOf said (domain_aid before.entries.items domain) these × Says page after (with_locks said these locked)
+  pub says_locked : (these : List ℕ → Bool) × IsTreeOf said (domain_aid before.entries.items domain) these × Represents page after (with_locks said these locked)
   says_locked = (tree, these_tell page before said says well domain top at, tree_locked)

@@ -12,7 +12,7 @@ use Rattle.card_types.specs.Ascending.{counter_order, key_order, object_order}
 use Rattle.card_types.specs.Changed.{IsChanged, IsRemoved}
 use Rattle.card_types.specs.Registry as registry
 use Rattle.card_types.specs.RegistryChange.{without_entry}
-use Rattle.card_types.specs.Says.{Says, counter_of, domain_aid, entry_of, keeps_counter, key_of, object_of, used}
+use Rattle.card_types.specs.Represents.{Represents, counter_of, domain_aid, entry_of, keeps_counter, key_of, object_of, used}
 use Rattle.card_types.specs.SlotChange.{SetsEntry}
 use Rattle.card_types.specs.Slots.{held}
 use Rattle.card_types.specs.Well.{Well}
@@ -47,7 +47,7 @@ same_tests true b to from = sym (to refl)
 same_tests false true to from = from refl
 same_tests false false to from = refl
 
-module _ (page : ℕ → List ℕ) (before between : Tables) (said : registry.Registry) (says : Says page before said) (well : Well said) (slot : ℕ) (entry : Entry)
+module _ (page : ℕ → List ℕ) (before between : Tables) (said : registry.Registry) (says : Represents page before said) (well : Well said) (slot : ℕ) (entry : Entry)
     (at : held before.entries.items slot ≡ Some entry) (life : between.life ≡ before.life) (entries : between.entries.items ≡ before.entries.items)
     (files : between.files.items ≡ before.files.items) (keys : between.keys.items ≡ map (freed key_owner slot) before.keys.items)
     (objects : between.objects.items ≡ map (freed object_owner slot) before.objects.items) where
@@ -83,7 +83,7 @@ module _ (page : ℕ → List ℕ) (before between : Tables) (said : registry.Re
   objects_left = ap (λ (slots : List (Option Object)). used slots) objects ∙ used_freed object_owner slot before.objects.items
 
   -- what they say without the keys and data objects
-  says_between : Says page between rest
+  says_between : Represents page between rest
   says_between = record {
     life = life ∙ says.life;
     entries = rw (entries, files) says.entries;
@@ -130,7 +130,7 @@ module _ (page : ℕ → List ℕ) (before between : Tables) (said : registry.Re
   }
 
   -- and without the entry
-  pub entry_removed : (after : Tables) → IsNoDomain before slot → SetsEntry between after slot None → Says page after (without_entry said aid)
+  pub entry_removed : (after : Tables) → IsNoDomain before slot → SetsEntry between after slot None → Represents page after (without_entry said aid)
   entry_removed after alone set =
       let here : held between.entries.items slot ≡ Some entry = ap (λ (slots : List (Option Entry)). held slots slot) entries ∙ at in
       let within = held_within between.entries.items slot entry here in

@@ -7,7 +7,7 @@ use Rattle.card_types.specs.Changed.{IsChanged, IsRemoved, IsReplaced}
 use Rattle.card_types.specs.Registry as registry
 use Rattle.card_types.specs.Registry.{entry_named}
 use Rattle.card_types.specs.RegistryChange.{moved, with_entries, without_file}
-use Rattle.card_types.specs.Says.{Says, domain_aid, entry_of, file_aid, file_of}
+use Rattle.card_types.specs.Represents.{Represents, domain_aid, entry_of, file_aid, file_of}
 use Rattle.card_types.specs.SlotChange.{SetsEntry, SetsFile}
 use Rattle.card_types.specs.Slots.{held}
 use Rattle.card_types.specs.Well.{IsWellFile, Well}
@@ -31,7 +31,7 @@ pub thing_of : {T : Type 0} (o : Option T) → IsSome o → (thing : T) × (o �
 thing_of None some = cc
 thing_of (Some thing) some = (thing, refl)
 
-module _ (page : ℕ → List ℕ) (before after : Tables) (said : registry.Registry) (says : Says page before said) (slot : ℕ) where
+module _ (page : ℕ → List ℕ) (before after : Tables) (said : registry.Registry) (says : Represents page before said) (slot : ℕ) where
   module _ (entry : Entry) (at : held before.entries.items slot ≡ Some entry) where
     abbrev view : Entry → registry.Entry
     view e = entry_of before.entries.items before.files.items e
@@ -42,7 +42,7 @@ module _ (page : ℕ → List ℕ) (before after : Tables) (said : registry.Regi
     -- the entry is another, with the same AID
     pub entry_replaced : (new : Entry) (change : registry.Entry → registry.Entry) → ((e : registry.Entry) → (change e).aid ≡ e.aid) → new.aid ≡ entry.aid
         → entry_of before.entries.items before.files.items new ≡ change (entry_of before.entries.items before.files.items entry) → SetsEntry before after slot (Some new)
-        → Says page after (with_entries said (λ other. same_aid other (domain_aid before.entries.items slot)) change)
+        → Represents page after (with_entries said (λ other. same_aid other (domain_aid before.entries.items slot)) change)
     entry_replaced new change kept alike is set =
         let aid = domain_aid before.entries.items slot in
         let within = held_within before.entries.items slot entry at in
@@ -64,15 +64,15 @@ module _ (page : ℕ → List ℕ) (before after : Tables) (said : registry.Regi
 
     -- the entry is in another domain
     pub entry_moved : Well said → (domain : ℕ) → SetsEntry before after slot (Some (record entry { domain = domain }))
-        → Says page after (moved said entry.aid (domain_aid before.entries.items domain))
+        → Represents page after (moved said entry.aid (domain_aid before.entries.items domain))
     entry_moved well domain set =
         let aid = domain_aid_is before.entries.items slot entry at in
         let to = domain_aid before.entries.items domain in
         let change : registry.Entry → registry.Entry = λ e. record e { domain = to } in
         let moves = entry_replaced (record entry { domain = domain }) change (λ e. refl) refl refl set in
-        let here : Says page after (with_entries said (λ other. same_aid other entry.aid) change) =
-        subst (λ (a : List ℕ). Says page after (with_entries said (λ other. same_aid other a) change)) aid moves in
-        subst (λ (files : List registry.LoadFile). Says page after (record (with_entries said (λ other. same_aid other entry.aid) change) { files = files }))
+        let here : Represents page after (with_entries said (λ other. same_aid other entry.aid) change) =
+        subst (λ (a : List ℕ). Represents page after (with_entries said (λ other. same_aid other a) change)) aid moves in
+        subst (λ (files : List registry.LoadFile). Represents page after (record (with_entries said (λ other. same_aid other entry.aid) change) { files = files }))
         (sym (none_changed (λ (f : registry.LoadFile). f.aid) entry.aid (λ file. record file { domain = to }) said.files (no_file_too well))) here
 
   module _ (file : LoadFile) (at : held before.files.items slot ≡ Some file) where
@@ -90,7 +90,7 @@ module _ (page : ℕ → List ℕ) (before after : Tables) (said : registry.Regi
 
     -- the file is in another domain
     pub file_moved : Well said → (domain : ℕ) → SetsFile before after slot (Some (record file { domain = domain }))
-        → Says page after (moved said file.aid (domain_aid before.entries.items domain))
+        → Represents page after (moved said file.aid (domain_aid before.entries.items domain))
     file_moved well domain set =
         let to = domain_aid before.entries.items domain in
         let new : LoadFile = record file { domain = domain } in
@@ -102,11 +102,11 @@ module _ (page : ℕ → List ℕ) (before after : Tables) (said : registry.Regi
         let changed : IsChanged (λ a b. aid_order a.aid b.aid) (option_map file_view (held before.files.items slot)) (Some (file_view new)) said.files files = rw at replaced in
         let here = file_changed page page before after said says slot (Some new) files within set
         (keeps_files_replaced page page before after said says slot file new within set at refl) (λ other f there. refl) changed in
-        subst (λ (entries : List registry.Entry). Says page after (record said { entries = entries; files = files }))
+        subst (λ (entries : List registry.Entry). Represents page after (record said { entries = entries; files = files }))
         (sym (none_changed (λ (e : registry.Entry). e.aid) file.aid (λ entry. record entry { domain = to }) said.entries (no_entry_too well))) here
 
     -- the file is gone
-    pub file_removed : IsUnloaded before slot → SetsFile before after slot None → Says page after (without_file said (file_aid before.files.items slot))
+    pub file_removed : IsUnloaded before slot → SetsFile before after slot None → Represents page after (without_file said (file_aid before.files.items slot))
     file_removed unloaded set =
         let within = held_within before.files.items slot file at in
         let aid = file_aid before.files.items slot in

@@ -5,7 +5,7 @@ use Rattle.std.proofs.lemmas.Bool.{cases_eq}
 use Rattle.card_types.specs.Hierarchy.{IsLine, IsPath}
 use Rattle.card_types.specs.Registry as registry
 use Rattle.card_types.specs.Registry.{domain_of, entry_named}
-use Rattle.card_types.specs.Says.{Says, domain_aid, domain_slot}
+use Rattle.card_types.specs.Represents.{Represents, domain_aid, domain_slot}
 use Rattle.card_types.specs.Slots.{held}
 use Rattle.card_types.specs.Well.{Well}
 use Rattle.card_types.specs.declared.tables.Entry.{Entry}
@@ -84,7 +84,7 @@ used_in_tree entries domain slot top at (inr above) =
     let entry = used_from_step entries slot next.0 next.1 in
     (entry.0, entry.1)
 
-module _ (page : ℕ → List ℕ) (tables : Tables) (said : registry.Registry) (says : Says page tables said) (well : Well said) (domain : ℕ) (top : Entry)
+module _ (page : ℕ → List ℕ) (tables : Tables) (said : registry.Registry) (says : Represents page tables said) (well : Well said) (domain : ℕ) (top : Entry)
     (at : held tables.entries.items domain ≡ Some top) where
   abbrev entries : List (Option Entry)
   entries = tables.entries.items

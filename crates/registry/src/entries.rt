@@ -3,7 +3,7 @@
 ghost use Rattle.std.specs.Prelude.{◌≡◌, ◌↔◌, ℕ, List, true, length, Err, IfOk, OnErr, OnOk, IsSome};
 ghost use Rattle.card_types.specs.Registry.{Registry};
 ghost use Rattle.card_types.specs.RegistryChange.{IsEntryAdded, with_life, with_receipts};
-ghost use Rattle.card_types.specs.Says.{Says, domain_aid, entry_of};
+ghost use Rattle.card_types.specs.Represents.{Represents, domain_aid, entry_of};
 ghost use Rattle.card_types.specs.Slots.{held};
 ghost use Rattle.card_types.specs.Well.{Well};
 ghost use Rattle.card_types.specs.declared.limits.TheConstants.{ENTRIES};
@@ -25,11 +25,11 @@ pub fn add_entry<F: Flash>(records: &mut Records<F>, value: Entry) -> Result<u8,
     requires domain { IsSome (held records.old.tables.entries.items value.domain) }
     requires file { IsSome (held records.old.tables.files.items value.file) }
     requires room { HasRoomFor entry_pages records.old.staged }
-    ensures said { OnOk result ((page : ℕ → List ℕ) (said : Registry) → Says page records.old.tables said → Well said → (after : Registry)
-        × IsEntryAdded (entry_of records.old.tables.entries.items records.old.tables.files.items value) said after × Says page records.new.tables after) }
+    ensures said { OnOk result ((page : ℕ → List ℕ) (said : Registry) → Represents page records.old.tables said → Well said → (after : Registry)
+        × IsEntryAdded (entry_of records.old.tables.entries.items records.old.tables.files.items value) said after × Represents page records.new.tables after) }
     ensures slots { IfOk result (λ slot. AddsEntry records.old.tables records.new.tables slot value) }
-    ensures taken { (page : ℕ → List ℕ) (said : Registry) → Says page records.old.tables said → (result ≡ Err AddRefusal.Taken ↔ IsTaken said value.aid) }
-    ensures full { (page : ℕ → List ℕ) (said : Registry) → Says page records.old.tables said
+    ensures taken { (page : ℕ → List ℕ) (said : Registry) → Represents page records.old.tables said → (result ≡ Err AddRefusal.Taken ↔ IsTaken said value.aid) }
+    ensures full { (page : ℕ → List ℕ) (said : Registry) → Represents page records.old.tables said
         → (result ≡ Err AddRefusal.Full ↔ ((¬ IsTaken said value.aid) × (length said.entries ≡ ENTRIES))) }
     ensures unchanged { OnErr result (records.new ≡ records.old) }
     ensures same { (records.new.flash ≡ records.old.flash) × (records.new.live ≡ true) }
@@ -47,8 +47,8 @@ pub fn set_life<F: Flash>(records: &mut Records<F>, slot: u8, life: LifeMark)
     requires live { records.old.live ≡ true }
     requires slot { IsSome (held records.old.tables.entries.items slot) }
     requires room { HasRoomFor entry_pages records.old.staged }
-    ensures said { (page : ℕ → List ℕ) (said : Registry) → Says page records.old.tables said
-        → Says page records.new.tables (with_life said (domain_aid records.old.tables.entries.items slot) life) }
+    ensures said { (page : ℕ → List ℕ) (said : Registry) → Represents page records.old.tables said
+        → Represents page records.new.tables (with_life said (domain_aid records.old.tables.entries.items slot) life) }
     ensures slots { ChangesEntry records.old.tables records.new.tables slot (λ entry. record entry { life = life }) }
     ensures same { (records.new.flash ≡ records.old.flash) × (records.new.live ≡ true) }
     ensures staged { records.new.staged ≡ with_staged records.old.staged (entry_page slot) }
@@ -64,8 +64,8 @@ pub fn set_receipts<F: Flash>(records: &mut Records<F>, slot: u8, number: u16)
     requires live { records.old.live ≡ true }
     requires slot { IsSome (held records.old.tables.entries.items slot) }
     requires room { HasRoomFor entry_pages records.old.staged }
-    ensures said { (page : ℕ → List ℕ) (said : Registry) → Says page records.old.tables said
-        → Says page records.new.tables (with_receipts said (domain_aid records.old.tables.entries.items slot) number) }
+    ensures said { (page : ℕ → List ℕ) (said : Registry) → Represents page records.old.tables said
+        → Represents page records.new.tables (with_receipts said (domain_aid records.old.tables.entries.items slot) number) }
     ensures slots { ChangesEntry records.old.tables records.new.tables slot (λ entry. record entry { receipts = number }) }
     ensures same { (records.new.flash ≡ records.old.flash) × (records.new.live ≡ true) }
     ensures staged { records.new.staged ≡ with_staged records.old.staged (entry_page slot) }

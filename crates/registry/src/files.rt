@@ -5,7 +5,7 @@ ghost use Rattle.card_check.specs.IsCard.{IsInLoadPages};
 ghost use Rattle.card_types.specs.First.{IsFirstFree};
 ghost use Rattle.card_types.specs.Registry.{Registry};
 ghost use Rattle.card_types.specs.RegistryChange.{IsFileAdded, without_file};
-ghost use Rattle.card_types.specs.Says.{Says, file_aid, file_of};
+ghost use Rattle.card_types.specs.Represents.{Represents, file_aid, file_of};
 ghost use Rattle.card_types.specs.SlotChange.{SetsFile};
 ghost use Rattle.card_types.specs.Slots.{held};
 ghost use Rattle.card_types.specs.Well.{Well};
@@ -28,11 +28,11 @@ pub fn add_file<F: Flash>(records: &mut Records<F>, value: LoadFile) -> Result<u
     requires domain { IsSome (held records.old.tables.entries.items value.domain) }
     requires pages { IsInLoadPages value }
     requires room { (slot : ℕ) → IsFirstFree records.old.tables.files.items slot → HasRoomFor (file_page slot ∷ []) records.old.staged }
-    ensures said { OnOk result ((page : ℕ → List ℕ) (said : Registry) → Says page records.old.tables said → Well said → (after : Registry)
-        × IsFileAdded (file_of page records.old.tables.entries.items value) said after × Says page records.new.tables after) }
+    ensures said { OnOk result ((page : ℕ → List ℕ) (said : Registry) → Represents page records.old.tables said → Well said → (after : Registry)
+        × IsFileAdded (file_of page records.old.tables.entries.items value) said after × Represents page records.new.tables after) }
     ensures slots { IfOk result (λ slot. AddsFile records.old.tables records.new.tables slot value) }
-    ensures taken { (page : ℕ → List ℕ) (said : Registry) → Says page records.old.tables said → (result ≡ Err AddRefusal.Taken ↔ IsTaken said value.aid) }
-    ensures full { (page : ℕ → List ℕ) (said : Registry) → Says page records.old.tables said
+    ensures taken { (page : ℕ → List ℕ) (said : Registry) → Represents page records.old.tables said → (result ≡ Err AddRefusal.Taken ↔ IsTaken said value.aid) }
+    ensures full { (page : ℕ → List ℕ) (said : Registry) → Represents page records.old.tables said
         → (result ≡ Err AddRefusal.Full ↔ ((¬ IsTaken said value.aid) × (length said.files ≡ FILES))) }
     ensures unchanged { OnErr result (records.new ≡ records.old) }
     ensures same { (records.new.flash ≡ records.old.flash) × (records.new.live ≡ true) }
@@ -51,8 +51,8 @@ pub fn remove_file<F: Flash>(records: &mut Records<F>, slot: u8)
     requires slot { IsSome (held records.old.tables.files.items slot) }
     requires unloaded { IsUnloaded records.old.tables slot }
     requires room { HasRoomFor (file_page slot ∷ []) records.old.staged }
-    ensures said { (page : ℕ → List ℕ) (said : Registry) → Says page records.old.tables said
-        → Says page records.new.tables (without_file said (file_aid records.old.tables.files.items slot)) }
+    ensures said { (page : ℕ → List ℕ) (said : Registry) → Represents page records.old.tables said
+        → Represents page records.new.tables (without_file said (file_aid records.old.tables.files.items slot)) }
     ensures slots { SetsFile records.old.tables records.new.tables slot None }
     ensures same { (records.new.flash ≡ records.old.flash) × (records.new.live ≡ true) }
     ensures staged { records.new.staged ≡ with_staged records.old.staged (file_page slot) }

@@ -4,7 +4,7 @@ ghost use Rattle.std.specs.Prelude.{◌≡◌, ◌≢◌, ◌↔◌, ◌⊎◌, 
 ghost use Rattle.std.specs.Option.{option_map};
 ghost use Rattle.card_types.specs.Registry.{Registry};
 ghost use Rattle.card_types.specs.RegistryChange.{with_locks};
-ghost use Rattle.card_types.specs.Says.{Says, domain_aid};
+ghost use Rattle.card_types.specs.Represents.{Represents, domain_aid};
 ghost use Rattle.card_types.specs.Slots.{held};
 ghost use Rattle.card_types.specs.Well.{Well};
 ghost use Rattle.card_types.specs.declared.limits.TheConstants.{ENTRIES};
@@ -62,8 +62,8 @@ pub fn lock_tree<F: Flash>(records: &mut Records<F>, domain: u8, locked: bool)
     requires slot { IsSome (held records.old.tables.entries.items domain) }
     requires no_loops { IsFreeOfLoops records.old.tables.entries.items }
     requires room { HasRoomFor entry_pages records.old.staged }
-    ensures said { (page : ℕ → List ℕ) (said : Registry) → Says page records.old.tables said → Well said → (these : List ℕ → Bool)
-        × IsTreeOf said (domain_aid records.old.tables.entries.items domain) these × Says page records.new.tables (with_locks said these locked) }
+    ensures said { (page : ℕ → List ℕ) (said : Registry) → Represents page records.old.tables said → Well said → (these : List ℕ → Bool)
+        × IsTreeOf said (domain_aid records.old.tables.entries.items domain) these × Represents page records.new.tables (with_locks said these locked) }
     ensures slots { LocksTree records.old.tables records.new.tables domain locked }
     ensures same { (records.new.flash ≡ records.old.flash) × (records.new.live ≡ true) }
     ensures staged { StagesChanged entry_page records.old.tables.entries.items records.new.tables.entries.items records.old.staged records.new.staged }

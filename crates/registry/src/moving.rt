@@ -4,7 +4,7 @@ ghost use Rattle.std.specs.Prelude.{◌≡◌, ℕ, List, true, Some, IsSome};
 ghost use Rattle.card_types.specs.Found.{aid_of};
 ghost use Rattle.card_types.specs.Registry.{Registry};
 ghost use Rattle.card_types.specs.RegistryChange.{moved};
-ghost use Rattle.card_types.specs.Says.{Says, domain_aid};
+ghost use Rattle.card_types.specs.Represents.{Represents, domain_aid};
 ghost use Rattle.card_types.specs.Slots.{held};
 ghost use Rattle.card_types.specs.Well.{Well};
 ghost use Rattle.rec_store.specs.Room.{HasRoomFor, with_staged};
@@ -22,7 +22,7 @@ pub fn move_to<F: Flash>(records: &mut Records<F>, thing: Found, domain: u8)
     requires domain { IsSome (held records.old.tables.entries.items domain) }
     requires room { HasRoomFor (thing_pages thing) records.old.staged }
     ensures said { (page : ℕ → List ℕ) (said : Registry) (aid : List ℕ) → aid_of records.old.tables thing ≡ Some aid
-        → Says page records.old.tables said → Well said → Says page records.new.tables (moved said aid (domain_aid records.old.tables.entries.items domain)) }
+        → Represents page records.old.tables said → Well said → Represents page records.new.tables (moved said aid (domain_aid records.old.tables.entries.items domain)) }
     ensures slots { Moves records.old.tables records.new.tables thing domain }
     ensures same { (records.new.flash ≡ records.old.flash) × (records.new.live ≡ true) }
     ensures staged { records.new.staged ≡ with_staged records.old.staged (thing_page thing) }

@@ -3,7 +3,7 @@
 ghost use Rattle.std.specs.Prelude.{◌≡◌, ℕ, List, true, IsSome, map};
 ghost use Rattle.card_types.specs.Registry.{Registry};
 ghost use Rattle.card_types.specs.RegistryChange.{without_entry};
-ghost use Rattle.card_types.specs.Says.{Says, domain_aid};
+ghost use Rattle.card_types.specs.Represents.{Represents, domain_aid};
 ghost use Rattle.card_types.specs.Slots.{held};
 ghost use Rattle.card_types.specs.Well.{Well};
 ghost use Rattle.rec_store.specs.Keeper.{SameElse};
@@ -73,8 +73,8 @@ pub fn remove_entry<F: Flash>(records: &mut Records<F>, slot: u8)
     requires slot { IsSome (held records.old.tables.entries.items slot) }
     requires alone { IsNoDomain records.old.tables slot }
     requires room { HasRoomFor owner_pages records.old.staged }
-    ensures said { (page : ℕ → List ℕ) (said : Registry) → Says page records.old.tables said → Well said
-        → Says page records.new.tables (without_entry said (domain_aid records.old.tables.entries.items slot)) }
+    ensures said { (page : ℕ → List ℕ) (said : Registry) → Represents page records.old.tables said → Well said
+        → Represents page records.new.tables (without_entry said (domain_aid records.old.tables.entries.items slot)) }
     ensures slots { RemovesEntry records.old.tables records.new.tables slot }
     ensures same { (records.new.flash ≡ records.old.flash) × (records.new.live ≡ true) }
     ensures staged { StagesOwned records.old records.new }

@@ -14,7 +14,7 @@ use Rattle.scp03_card.specs.Offer.{s_mac}
 use Rattle.scp03_card.specs.Session.{Session, chain, chain_of, message, number, with_message}
 use Rattle.scp03_card.specs.Opens.{command_icv}
 use Rattle.scp03_card.specs.Protected.{is_success_or_warning, protected, r_mac, reply_field, reply_icv, with_r_mac}
-use Rattle.scp03_card.specs.Kept.{HasSessionKeys, Keys, KeptSession, StandsFor}
+use Rattle.scp03_card.specs.Kept.{HasSessionKeys, Keys, KeptSession, RepresentsSession}
 
 -- the chaining value after one more message
 pub chain_more : (session : Session) (m : List ℕ) → chain_of (with_message session m) ≡ cmac (s_mac session.offer) (chain_of session ++ m)
@@ -22,7 +22,7 @@ unfolding chain
 chain_more session m =
     fold-append (λ (value next : List ℕ). cmac (s_mac session.offer) (value ++ next)) zero_block session.messages (m ∷ [])
 
-module _ (kept : KeptSession) (session : Session) (stands : StandsFor kept session) where
+module _ (kept : KeptSession) (session : Session) (stands : RepresentsSession kept session) where
   pub kept_next_chain : (m : List ℕ) → cmac kept.keys.mac (kept.chain ++ m) ≡ chain_of (with_message session m)
   kept_next_chain m = (λ i. cmac (stands.keys.mac i) (stands.chain i ++ m)) ∙ sym (chain_more session m)
 
@@ -42,7 +42,7 @@ module _ (kept : KeptSession) (session : Session) (stands : StandsFor kept sessi
   -- the number of the next message
   pub kept_next_number : (m : List ℕ) (n : ℕ) → n ≡ (kept.number + 1) % 2 ^ 128 → n ≡ number (with_message session m)
   kept_next_number m n en =
-      omega (arith, stands.begun, stands.number, length-append session.messages (m ∷ []))
+      omega (arith, stands.started, stands.number, length-append session.messages (m ∷ []))
 
 -- the initial chaining vector of a command
 pub command_icv_of : (keys : Keys) (session : Session) (n : ℕ) → HasSessionKeys keys session.offer → n ≡ number session

@@ -24,7 +24,7 @@ pub record KeptOffer : Type 0 where
   pub card : List ℕ
 
 -- what is kept is this offer
-pub record StandsForOffer (kept : KeptOffer) (offer : Offer) : Type 0 where
+pub record RepresentsOffer (kept : KeptOffer) (offer : Offer) : Type 0 where
   pub keys : HasSessionKeys kept.keys offer
   pub host : kept.host ≡ offer.host
   pub card : kept.card ≡ offer.card
@@ -36,9 +36,9 @@ pub record KeptSession : Type 0 where
   pub number : ℕ
 
 -- what is kept is this session, which has a first message
-pub record StandsFor (kept : KeptSession) (session : Session) : Type 0 where
+pub record RepresentsSession (kept : KeptSession) (session : Session) : Type 0 where
   pub keys : HasSessionKeys kept.keys session.offer
   pub level : kept.level ≡ session.level
-  pub begun : 0 < length session.messages
+  pub started : 0 < length session.messages
   pub chain : kept.chain ≡ chain_of session
   pub number : kept.number ≡ number session

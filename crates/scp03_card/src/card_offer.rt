@@ -1,7 +1,7 @@
 //! What the card has offered, once it has answered INITIALIZE UPDATE.
 
 ghost use Rattle.std.specs.Prelude.{◌≡◌};
-ghost use Rattle.scp03_card.specs.Kept.{StandsForOffer};
+ghost use Rattle.scp03_card.specs.Kept.{RepresentsOffer};
 ghost use Rattle.scp03_card.specs.Offer as model;
 ghost use Rattle.scp03_card.specs.Offer.{card_cryptogram};
 
@@ -28,14 +28,14 @@ impl<K: BlockKey> Model for Offer<K> {
 impl<K: BlockKey> Offer<K> {
     /// The card challenge.
     pub fn challenge(&self) -> [u8; 8]
-        ensures { (offer : model.Offer) → StandsForOffer self.now offer → result ≡ offer.card }
+        ensures { (offer : model.Offer) → RepresentsOffer self.now offer → result ≡ offer.card }
     {
         self.card
     }
 
     /// The card cryptogram.
     pub fn cryptogram(&self) -> [u8; 8]
-        ensures { (offer : model.Offer) → StandsForOffer self.now offer → result ≡ card_cryptogram offer }
+        ensures { (offer : model.Offer) → RepresentsOffer self.now offer → result ≡ card_cryptogram offer }
     {
         self.keys.card_cryptogram(&self.host, &self.card)
     }

@@ -4,7 +4,7 @@ ghost use Rattle.std.specs.Prelude.{◌≡◌, ℕ, ◌+◌, ◌≤◌, List, �
 ghost use Rattle.aes_block.specs.Cipher.{cipher};
 ghost use Rattle.arrayvec.specs.ArrayVec.{array_vec_len};
 ghost use Rattle.cmac_kdf.specs.Cbc.{sealed};
-ghost use Rattle.scp03_card.specs.Kept.{StandsFor};
+ghost use Rattle.scp03_card.specs.Kept.{RepresentsSession};
 ghost use Rattle.scp03_card.specs.Protected.{protected, reply_field};
 ghost use Rattle.scp03_card.specs.Session as model;
 
@@ -22,7 +22,7 @@ impl<K: BlockKey> Session<K> {
     /// field.
     pub fn close_reply(&mut self, reply: &mut ArrayVec<u8, 258>, status: Status)
         requires { array_vec_len reply.old ≤ 239 }
-        ensures protected { (session : model.Session) → StandsFor self.old session → reply.new.items ≡ protected session reply.old.items status.0 }
+        ensures protected { (session : model.Session) → RepresentsSession self.old session → reply.new.items ≡ protected session reply.old.items status.0 }
         ensures unchanged { self.new ≡ self.old }
     {
         let sw = status.to_bytes();
@@ -44,7 +44,7 @@ impl<K: BlockKey> Session<K> {
     // At the level that asks for it, enciphers a data field that is not empty.
     fn encipher(&self, reply: &mut ArrayVec<u8, 258>)
         requires { array_vec_len reply.old ≤ 239 }
-        ensures field { (session : model.Session) → StandsFor self.now session → reply.new.items ≡ reply_field session reply.old.items }
+        ensures field { (session : model.Session) → RepresentsSession self.now session → reply.new.items ≡ reply_field session reply.old.items }
         ensures room { array_vec_len reply.new ≤ 240 }
     {
         if reply.is_empty() || !has_r_encryption(self.level) {

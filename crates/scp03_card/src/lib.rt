@@ -20,7 +20,7 @@
 //! ```
 //!
 //! `specs/` says what a session is: its keys, its level and the list of the messages that it has
-//! accepted. The code keeps no list. `StandsFor` says for which sessions the kept chaining value and
+//! accepted. The code keeps no list. `RepresentsSession` says for which sessions the kept chaining value and
 //! number stand, and each clause holds for all of them. So the reply to a command is that of the
 //! session which has accepted it, and this caller is proved from the contracts:
 //!

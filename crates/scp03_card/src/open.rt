@@ -2,7 +2,7 @@
 
 ghost use Rattle.std.specs.Prelude.{◌≡◌, ℕ, ◌+◌, ◌≤◌, List, length, take, IfOk, OnOk, OnErr, IfSome, IfNone};
 ghost use Rattle.apdu_core.specs.Apdu.{apdu_of};
-ghost use Rattle.scp03_card.specs.Kept.{HasSessionKeys, StandsFor};
+ghost use Rattle.scp03_card.specs.Kept.{HasSessionKeys, RepresentsSession};
 ghost use Rattle.scp03_card.specs.Opens.{Gives, IsAuthentic, Opens, accepting, field_of};
 ghost use Rattle.scp03_card.specs.Session as model;
 ghost use Rattle.scp03_card.specs.Session.{chain_of, message, with_message};
@@ -25,17 +25,17 @@ impl<K: BlockKey> Session<K> {
         plain: &mut [u8; 255],
     ) -> Result<usize, OpenRefusal>
         requires { length command.now.body.now ≤ 255 }
-        ensures opened { (session : model.Session) → StandsFor self.old session → IfOk result (λ n. Opens session (apdu_of command.now) (take n plain.new)) }
-        ensures accepted { (session : model.Session) → StandsFor self.old session → OnOk result (StandsFor self.new (accepting session (apdu_of command.now))) }
+        ensures opened { (session : model.Session) → RepresentsSession self.old session → IfOk result (λ n. Opens session (apdu_of command.now) (take n plain.new)) }
+        ensures accepted { (session : model.Session) → RepresentsSession self.old session → OnOk result (RepresentsSession self.new (accepting session (apdu_of command.now))) }
         ensures length { IfOk result (λ n. n + 8 ≤ length command.now.body.now) }
-        ensures mac { (session : model.Session) → StandsFor self.old session → result ≡ Err OpenRefusal.Mac → IsAuthentic session (apdu_of command.now) → ⊥ }
-        ensures padding { (session : model.Session) → StandsFor self.old session → result ≡ Err OpenRefusal.Padding
+        ensures mac { (session : model.Session) → RepresentsSession self.old session → result ≡ Err OpenRefusal.Mac → IsAuthentic session (apdu_of command.now) → ⊥ }
+        ensures padding { (session : model.Session) → RepresentsSession self.old session → result ≡ Err OpenRefusal.Padding
             → (p : List ℕ) → Gives (accepting session (apdu_of command.now)) (field_of (apdu_of command.now)) p → ⊥ }
-        ensures padding_alone { (session : model.Session) → StandsFor self.old session → result ≡ Err OpenRefusal.Padding → IsAuthentic session (apdu_of command.now) }
+        ensures padding_alone { (session : model.Session) → RepresentsSession self.old session → result ≡ Err OpenRefusal.Padding → IsAuthentic session (apdu_of command.now) }
         ensures unchanged { OnErr result (self.new ≡ self.old) }
 
         // What opens is opened.
-        ensures back { (session : model.Session) (p : List ℕ) → StandsFor self.old session → Opens session (apdu_of command.now) p
+        ensures back { (session : model.Session) (p : List ℕ) → RepresentsSession self.old session → Opens session (apdu_of command.now) p
             → (n : ℕ) × (result ≡ Ok n) × (take n plain.new ≡ p) }
     {
         let field = sent_field(command);
@@ -55,7 +55,7 @@ impl<K: BlockKey> Session<K> {
     // The chaining value after a command with this data field.
     fn chain_after(&self, command: &Command<'_>, field: &[u8]) -> [u8; 16]
         requires { length field.now ≤ 247 }
-        ensures { (session : model.Session) → StandsFor self.now session
+        ensures { (session : model.Session) → RepresentsSession self.now session
             → result ≡ chain_of (with_message session (message (apdu_of command.now) field.now)) }
     {
         let header = [

@@ -1,7 +1,7 @@
 //! A session of the secure channel.
 
 ghost use Rattle.std.specs.Prelude.{◌≡◌};
-ghost use Rattle.scp03_card.specs.Kept.{StandsFor};
+ghost use Rattle.scp03_card.specs.Kept.{RepresentsSession};
 ghost use Rattle.scp03_card.specs.Session as model;
 
 use crate::session_keys::SessionKeys;
@@ -37,14 +37,14 @@ impl<K: BlockKey> Model for Session<K> {
 impl<K: BlockKey> Session<K> {
     /// The static key for sensitive data, Key-DEK.
     pub fn dek(&self) -> &K
-        ensures { (session : model.Session) → StandsFor self.now session → K.key_bytes result.now ≡ session.offer.dek }
+        ensures { (session : model.Session) → RepresentsSession self.now session → K.key_bytes result.now ≡ session.offer.dek }
     {
         self.keys.dek()
     }
 
     /// Its security level.
     pub fn level(&self) -> Level
-        ensures { (session : model.Session) → StandsFor self.now session → result ≡ session.level }
+        ensures { (session : model.Session) → RepresentsSession self.now session → result ≡ session.level }
     {
         self.level
     }

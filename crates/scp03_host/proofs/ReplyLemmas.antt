@@ -14,7 +14,7 @@ use Rattle.cmac_kdf.specs.Cbc.{sealed}
 use Rattle.cmac_kdf.specs.Cmac.{cmac}
 use Rattle.cmac_kdf.proofs.CbcLemmas.{length-sealed, same_sealed}
 use Rattle.cmac_kdf.proofs.CmacLemmas.{cmac_is_block}
-use Rattle.scp03_card.specs.Kept.{KeptSession, StandsFor}
+use Rattle.scp03_card.specs.Kept.{KeptSession, RepresentsSession}
 use Rattle.scp03_card.specs.Levels.{has_r_mac, has_r_encryption}
 use Rattle.scp03_card.specs.Offer.{s_enc, s_rmac}
 use Rattle.scp03_card.specs.Protected.{is_success_or_warning, protected, r_mac, reply_field, reply_icv}
@@ -29,7 +29,7 @@ truth_of false xs ys e = (λ t. absurd (true≢false (sym t)), λ s. absurd (oth
 
 -- ---- a data field that is enciphered
 
-module _ (kept : KeptSession) (session : Session) (stands : StandsFor kept session) where
+module _ (kept : KeptSession) (session : Session) (stands : RepresentsSession kept session) where
   kept_reply_sealed : (p : List ℕ)
       → sealed kept.keys.enc (cipher kept.keys.enc (0x80 ∷ drop 1 (to_be_bytes w128 kept.number))) p
       ≡ sealed (s_enc session.offer) (reply_icv session) p

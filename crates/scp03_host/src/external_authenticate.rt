@@ -2,7 +2,7 @@
 
 ghost use Rattle.std.specs.Prelude.{◌≡◌, ◌≢◌, ◌↔◌, ◌<◌, ◌++◌, length, take, IfOk, OnOk, OnErr};
 ghost use Rattle.apdu_core.specs.Apdu.{Short};
-ghost use Rattle.scp03_card.specs.Kept.{StandsFor};
+ghost use Rattle.scp03_card.specs.Kept.{RepresentsSession};
 ghost use Rattle.scp03_card.specs.Offer.{Offer, host_cryptogram};
 ghost use Rattle.scp03_card.specs.Session.{answered, chain_of};
 ghost use Rattle.scp03_host.specs.Begin.{IsOfCard, answer_to, offer_from_reply};
@@ -30,7 +30,7 @@ pub fn begin<K: BlockKey>(
     out: &mut ArrayVec<u8, 261>,
 ) -> Result<HostSession<K>, BeginRefusal>
     requires { channel < 4 }
-    ensures session { IfOk result (λ kept. StandsFor kept
+    ensures session { IfOk result (λ kept. RepresentsSession kept
         (answered (offer_from_reply (K.key_bytes keys.enc) (K.key_bytes keys.mac) (K.key_bytes keys.dek) host.now reply.now) level)) }
     ensures sent { OnOk result (Short
         (answer_to (offer_from_reply (K.key_bytes keys.enc) (K.key_bytes keys.mac) (K.key_bytes keys.dek) host.now reply.now) level channel) out.new.items) }

@@ -4,7 +4,7 @@ ghost use Rattle.scp03_host.specs.Agreement.{BeginAgreeing, GoOnAgreeing, OnePla
 
 /// Two ends that stand for one session go on agreeing, over every list of commands and replies.
 pub fn agreement()
-    ensures begun { BeginAgreeing }
+    ensures started { BeginAgreeing }
     ensures kept { GoOnAgreeing }
 {}
 

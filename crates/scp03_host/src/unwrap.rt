@@ -3,7 +3,7 @@
 ghost use Rattle.std.specs.Prelude.{◌≡◌, ◌↔◌, ℕ, ◌+◌, ◌≤◌, List, [], ◌++◌, length, take, IsTrue, IfOk, IfSome, IfNone, OnErr};
 ghost use Rattle.arrayvec.specs.ArrayVec.{array_vec_len};
 ghost use Rattle.cmac_kdf.specs.Blocks.{IsBytes};
-ghost use Rattle.scp03_card.specs.Kept.{StandsFor};
+ghost use Rattle.scp03_card.specs.Kept.{RepresentsSession};
 ghost use Rattle.scp03_card.specs.Levels as standard;
 ghost use Rattle.scp03_card.specs.Protected.{r_mac, reply_field};
 ghost use Rattle.scp03_card.specs.Session as model;
@@ -25,18 +25,18 @@ impl<K: BlockKey> HostSession<K> {
         out: &mut ArrayVec<u8, 256>,
     ) -> Result<Status, ReplyRefusal>
         requires { length reply.now ≤ 258 }
-        ensures unwrapped { (session : model.Session) → StandsFor self.old session → IfOk result (λ status. Unwraps session reply.now out.new.items status.0) }
-        ensures short { (session : model.Session) → StandsFor self.old session → (result ≡ Err ReplyRefusal.Short) ↔ IsTooShort session reply.now }
-        ensures mac { (session : model.Session) → StandsFor self.old session
+        ensures unwrapped { (session : model.Session) → RepresentsSession self.old session → IfOk result (λ status. Unwraps session reply.now out.new.items status.0) }
+        ensures short { (session : model.Session) → RepresentsSession self.old session → (result ≡ Err ReplyRefusal.Short) ↔ IsTooShort session reply.now }
+        ensures mac { (session : model.Session) → RepresentsSession self.old session
             → (result ≡ Err ReplyRefusal.Mac) ↔ (IsTooShort session reply.now → ⊥) × (HasRightMac session reply.now → ⊥) }
-        ensures padding { (session : model.Session) → StandsFor self.old session
+        ensures padding { (session : model.Session) → RepresentsSession self.old session
             → (result ≡ Err ReplyRefusal.Padding) ↔ (IsTooShort session reply.now → ⊥) × HasRightMac session reply.now
             × ((body : List ℕ) (status : ℕ) → Unwraps session reply.now body status → ⊥) }
         ensures empty { OnErr result (out.new.items ≡ []) }
         ensures unchanged { self.new ≡ self.old }
 
         // What a card answered is unwrapped.
-        ensures back { (session : model.Session) (body : List ℕ) (status : ℕ) → StandsFor self.old session → Unwraps session reply.now body status
+        ensures back { (session : model.Session) (body : List ℕ) (status : ℕ) → RepresentsSession self.old session → Unwraps session reply.now body status
             → (result ≡ Ok (record { 0 = status })) × (out.new.items ≡ body) }
     {
         out.clear();
@@ -71,14 +71,14 @@ impl<K: BlockKey> HostSession<K> {
 
     // Replies have an R-MAC.
     fn has_r_mac(&self) -> bool
-        ensures { (session : model.Session) → StandsFor self.now session → result ≡ standard.has_r_mac session.level }
+        ensures { (session : model.Session) → RepresentsSession self.now session → result ≡ standard.has_r_mac session.level }
     {
         has_r_mac(self.level)
     }
 
     // They are enciphered.
     fn has_r_encryption(&self) -> bool
-        ensures { (session : model.Session) → StandsFor self.now session → result ≡ standard.has_r_encryption session.level }
+        ensures { (session : model.Session) → RepresentsSession self.now session → result ≡ standard.has_r_encryption session.level }
     {
         has_r_encryption(self.level)
     }
@@ -86,7 +86,7 @@ impl<K: BlockKey> HostSession<K> {
     // Whether these eight bytes are the R-MAC of the data field as sent and of the status.
     fn is_right_mac(&self, field: &[u8], mac: &[u8], status: Status) -> bool
         requires { length mac.now ≡ 8 }
-        ensures { (session : model.Session) → StandsFor self.now session → IsTrue result ↔ (mac.now ≡ r_mac session field.now status.0) }
+        ensures { (session : model.Session) → RepresentsSession self.now session → IsTrue result ↔ (mac.now ≡ r_mac session field.now status.0) }
     {
         let right = self.keys.reply_mac(&self.chain, field, &status.to_bytes());
         mac == &right[..8]
@@ -95,9 +95,9 @@ impl<K: BlockKey> HostSession<K> {
     // Writes what the data field of the reply gives to the front of `plain`, and answers its length.
     fn plain_field(&self, field: &[u8], plain: &mut [u8; 256]) -> Option<usize>
         requires { length field.now ≤ 256 }
-        ensures some { (session : model.Session) → StandsFor self.now session
+        ensures some { (session : model.Session) → RepresentsSession self.now session
             → IfSome result (λ n. (reply_field session (take n plain.new) ≡ field.now) × IsBytes (take n plain.new)) }
-        ensures none { (session : model.Session) → StandsFor self.now session
+        ensures none { (session : model.Session) → RepresentsSession self.now session
             → IfNone result ((p : List ℕ) → IsBytes p → reply_field session p ≡ field.now → ⊥) }
         ensures length { IfSome result (λ n. n ≤ length field.now) }
     {
@@ -108,9 +108,9 @@ impl<K: BlockKey> HostSession<K> {
 
     // The same in place: `field` is the data field at entry.
     fn decipher(&self, field: &mut [u8]) -> Option<usize>
-        ensures some { (session : model.Session) → StandsFor self.now session
+        ensures some { (session : model.Session) → RepresentsSession self.now session
             → IfSome result (λ n. (reply_field session (take n field.new) ≡ field.old) × IsBytes (take n field.new)) }
-        ensures none { (session : model.Session) → StandsFor self.now session
+        ensures none { (session : model.Session) → RepresentsSession self.now session
             → IfNone result ((p : List ℕ) → IsBytes p → reply_field session p ≡ field.old → ⊥) }
         ensures length { IfSome result (λ n. n ≤ length field.old) }
     {

@@ -2,7 +2,7 @@
 
 ghost use Rattle.std.specs.Prelude.{◌≡◌, ◌↔◌, ◌+◌, ◌%◌, ◌^◌, ◌<◌, ◌≤◌, length, take, IsErr, OnOk, OnErr};
 ghost use Rattle.apdu_core.specs.Apdu.{Short, apdu_of};
-ghost use Rattle.scp03_card.specs.Kept.{HasSessionKeys, StandsFor};
+ghost use Rattle.scp03_card.specs.Kept.{HasSessionKeys, RepresentsSession};
 ghost use Rattle.scp03_card.specs.Session as model;
 ghost use Rattle.scp03_card.specs.Session.{chain_of};
 ghost use Rattle.scp03_host.specs.Wrapped as standard;
@@ -26,10 +26,10 @@ impl<K: BlockKey> HostSession<K> {
         out: &mut ArrayVec<u8, 261>,
     ) -> Result<(), TooLong>
         requires { channel < 4 }
-        ensures sent { (session : model.Session) → StandsFor self.old session
+        ensures sent { (session : model.Session) → RepresentsSession self.old session
             → OnOk result (Short (wrapped session (apdu_of plain.now) channel) out.new.items) }
-        ensures accepted { (session : model.Session) → StandsFor self.old session → OnOk result (StandsFor self.new (having_sent session (apdu_of plain.now))) }
-        ensures too_long { (session : model.Session) → StandsFor self.old session
+        ensures accepted { (session : model.Session) → RepresentsSession self.old session → OnOk result (RepresentsSession self.new (having_sent session (apdu_of plain.now))) }
+        ensures too_long { (session : model.Session) → RepresentsSession self.old session
             → IsErr result ↔ (standard.room_for session.level < length plain.now.body.now) }
         ensures unchanged { OnErr result ((self.new ≡ self.old) × (out.new ≡ out.old)) }
     {
@@ -58,7 +58,7 @@ impl<K: BlockKey> HostSession<K> {
     // The chaining value after the command with this data field.
     fn chain_after(&self, plain: &Command<'_>, field: &[u8]) -> [u8; 16]
         requires { length field.now ≤ 247 }
-        ensures { (session : model.Session) → StandsFor self.now session → field.now ≡ sent_field session plain.now.body.now
+        ensures { (session : model.Session) → RepresentsSession self.now session → field.now ≡ sent_field session plain.now.body.now
             → result ≡ chain_of (having_sent session (apdu_of plain.now)) }
     {
         let header = [0x84, plain.ins, plain.p1, plain.p2, field.len() as u8 + 8];

@@ -4,7 +4,7 @@
 ghost use Rattle.std.specs.Prelude.{◌≡◌, ◌≤◌, length, OnOk};
 ghost use Rattle.apdu_core.specs.Apdu.{apdu_of};
 ghost use Rattle.arrayvec.specs.ArrayVec.{array_vec_len};
-ghost use Rattle.scp03_card.specs.Kept.{StandsFor};
+ghost use Rattle.scp03_card.specs.Kept.{RepresentsSession};
 ghost use Rattle.scp03_card.specs.Opens.{accepting};
 ghost use Rattle.scp03_card.specs.Protected.{protected};
 ghost use Rattle.scp03_card.specs.Session as model;
@@ -50,7 +50,7 @@ fn bytes(digits: &[u8]) -> ArrayVec<u8, 258> {
 
 /// A session that the host has begun, and the values of the card before: `card` is the challenge and
 /// the cryptogram, `host` the body of EXTERNAL AUTHENTICATE.
-fn begun<K: BlockKey>(
+fn begin_session<K: BlockKey>(
     counter: u32,
     card: (u64, u64),
     level: Level,
@@ -126,7 +126,7 @@ fn answered<K: BlockKey>(
 ) -> Result<usize, OpenRefusal>
     requires body { length command.now.body.now ≤ 255 }
     requires field { array_vec_len reply.old ≤ 239 }
-    ensures { (s : model.Session) → StandsFor session.old s
+    ensures { (s : model.Session) → RepresentsSession session.old s
         → OnOk result (reply.new.items ≡ protected (accepting s (apdu_of command.now)) reply.old.items status.0) }
 {
     let len = session.open_command(command, plain)?;
@@ -136,7 +136,7 @@ fn answered<K: BlockKey>(
 
 /// What comes of GET DATA with a reply of five bytes, and the reply.
 fn get_data() -> Result<(Result<usize, OpenRefusal>, ArrayVec<u8, 258>), &'static str> {
-    let mut session = begun::<Aes128>(0, CARD, Level::Full, HOST_FULL)?;
+    let mut session = begin_session::<Aes128>(0, CARD, Level::Full, HOST_FULL)?;
     let sent = bytes(GET_DATA);
     let command = Command::read(&sent).ok().ok_or("a command")?;
     let mut reply = bytes(b"c103000001");
@@ -175,7 +175,7 @@ fn longer_keys(rt: HostRuntime) {
 
 // The keys begin with 40, and the sequence counter is 01FFFE.
 fn longer<K: BlockKey>(card: (u64, u64), host: u128, sent: &[u8], answer: &[u8]) -> Told {
-    let mut session = begun::<K>(0x01fffe, card, Level::Full, host)?;
+    let mut session = begin_session::<K>(0x01fffe, card, Level::Full, host)?;
     exchange(&mut session, sent, answer, b"010203", b"05", 0x9000)
 }
 
@@ -228,7 +228,7 @@ const SENT: [(&[u8], Result<usize, OpenRefusal>); 14] = [
 
 #[test]
 fn refused_commands(rt: HostRuntime) -> Result<(), Fail> {
-    let mut session = begun::<Aes128>(0, CARD, Level::Full, HOST_FULL)?;
+    let mut session = begin_session::<Aes128>(0, CARD, Level::Full, HOST_FULL)?;
     let mut plain = [0; 255];
     for (sent, wanted) in SENT {
         let found = open(&mut session, sent, &mut plain);

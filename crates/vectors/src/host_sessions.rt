@@ -52,7 +52,7 @@ fn keys<K: BlockKey>(key: &[u8]) -> StaticKeys<K>
 }
 
 /// A session that is begun, with the EXTERNAL AUTHENTICATE that is sent.
-fn begun(
+fn begin_session(
     level: Level,
     channel: u8,
     out: &mut ArrayVec<u8, 261>,
@@ -68,7 +68,7 @@ fn begun(
 #[test]
 fn the_key_for_data(rt: HostRuntime) -> Result<(), Fail> {
     let mut out = ArrayVec::new();
-    let session = begun(Level::Full, 0, &mut out)?;
+    let session = begin_session(Level::Full, 0, &mut out)?;
     let mut block = [0; 16];
     session.dek().seal(&mut block);
     assert!(rt; u128::from_be_bytes(block) == 0x1899564a9da8de833d25c71739eaadce);

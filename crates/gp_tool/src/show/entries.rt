@@ -8,7 +8,7 @@ ghost use Rattle.arrayvec.specs.ArrayVec.{array_vec_len};
 ghost use Rattle.card_types.specs.AidOrder.{aid_order};
 ghost use Rattle.card_types.specs.InOrder.{IsInOrder};
 ghost use Rattle.card_types.specs.Registry.{Entry as NamedEntry, Registry};
-ghost use Rattle.card_types.specs.Says.{Says, entry_of};
+ghost use Rattle.card_types.specs.Represents.{Represents, entry_of};
 ghost use Rattle.faults.specs.Faults.{HasCause};
 ghost use Rattle.gp_tool.specs.Listing.{Writes};
 ghost use Rattle.gp_tool.specs.Show.{entry_kind, entry_line, entry_names, entry_state};
@@ -105,7 +105,7 @@ fn push_state(entry: &Entry, line: &mut ArrayVec<u8, LINE_ROOM>)
 /// Writes the lines of the entries.
 pub fn show_entries<K: Sink>(tables: &Tables, sink: &mut K) -> Result<(), WriteFailed>
     requires in_order { IsInOrder tables.now }
-    ensures written { (page : ℕ → List ℕ) (said : Registry) → Says page tables.now said
+    ensures written { (page : ℕ → List ℕ) (said : Registry) → Represents page tables.now said
         → Writes K.tells (K.state sink.old).written (K.state sink.new).written (flat_map entry_line said.entries) result }
     ensures flushes { (K.state sink.new).flushes ≡ (K.state sink.old).flushes }
     ensures cause { HasCause (K.state sink.old).faults (K.state sink.new).faults result }

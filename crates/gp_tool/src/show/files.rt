@@ -3,11 +3,11 @@
 ghost use Rattle.std.specs.Prelude.{◌≡◌, ◌≤◌, ◌++◌, ℕ, List, [], ◌∷◌, Some, true, length, OnOk, IfErr, IfSome, IfNone};
 ghost use Rattle.std.specs.List.{flat_map};
 ghost use Rattle.std.proofs.lemmas.Cmp.{nat_list_cmp_total};
-ghost use Rattle.card_core.specs.Card.{Stands};
+ghost use Rattle.card_core.specs.Card.{CardRepresents};
 ghost use Rattle.arrayvec.specs.ArrayVec.{array_vec_len};
 ghost use Rattle.card_types.specs.AidOrder.{aid_order};
 ghost use Rattle.card_types.specs.Least.{IsLeast, NoneFits};
-ghost use Rattle.card_types.specs.Says.{domain_aid, file_of};
+ghost use Rattle.card_types.specs.Represents.{domain_aid, file_of};
 ghost use Rattle.card_types.specs.Slots.{held};
 ghost use Rattle.page_journal.specs.Moments.{LeavesOnly};
 ghost use Rattle.policy_rules.specs.State.{State};
@@ -95,13 +95,13 @@ fn write_file<F: Flash, K: Sink>(
 ) -> Result<(), ShowFault>
     requires up { card.old.up ≡ true }
     requires used { held card.old.tables.files.items slot ≡ Some file.now }
-    ensures written { F.tells → (state : State) → Stands F.Flash card.old state
+    ensures written { F.tells → (state : State) → CardRepresents F.Flash card.old state
         → Writes K.tells (K.state sink.old).written (K.state sink.new).written (file_line (file_of (load_page (F.pages card.old.flash)) card.old.tables.entries.items file.now)) result }
-    ensures moments { F.tells → (state : State) → Stands F.Flash card.old state
+    ensures moments { F.tells → (state : State) → CardRepresents F.Flash card.old state
         → LeavesOnly F.Flash card.old.flash card.new.flash (λ outcome. Reopens outcome state.registry) }
-    ensures stands { (state : State) → Stands F.Flash card.old state → OnOk result (Stands F.Flash card.new state) }
-    ensures refused { (state : State) → Stands F.Flash card.old state
-        → IfErr result (λ fault. fault ≡ Write → Stands F.Flash card.new state) }
+    ensures stands { (state : State) → CardRepresents F.Flash card.old state → OnOk result (CardRepresents F.Flash card.new state) }
+    ensures refused { (state : State) → CardRepresents F.Flash card.old state
+        → IfErr result (λ fault. fault ≡ Write → CardRepresents F.Flash card.new state) }
     ensures same { card.new.tables ≡ card.old.tables }
     ensures up { OnOk result (card.new.up ≡ true) }
     ensures pages { F.tells → F.pages card.new.flash ≡ F.pages card.old.flash }
@@ -123,13 +123,13 @@ fn write_file<F: Flash, K: Sink>(
 /// Writes the lines of the Executable Load Files.
 pub fn show_files<F: Flash, K: Sink>(card: &mut Card<F>, sink: &mut K) -> Result<(), ShowFault>
     requires up { card.old.up ≡ true }
-    ensures written { F.tells → (state : State) → Stands F.Flash card.old state
+    ensures written { F.tells → (state : State) → CardRepresents F.Flash card.old state
         → Writes K.tells (K.state sink.old).written (K.state sink.new).written (flat_map file_line state.registry.files) result }
-    ensures moments { F.tells → (state : State) → Stands F.Flash card.old state
+    ensures moments { F.tells → (state : State) → CardRepresents F.Flash card.old state
         → LeavesOnly F.Flash card.old.flash card.new.flash (λ outcome. Reopens outcome state.registry) }
-    ensures stands { (state : State) → Stands F.Flash card.old state → OnOk result (Stands F.Flash card.new state) }
-    ensures refused { (state : State) → Stands F.Flash card.old state
-        → IfErr result (λ fault. fault ≡ Write → Stands F.Flash card.new state) }
+    ensures stands { (state : State) → CardRepresents F.Flash card.old state → OnOk result (CardRepresents F.Flash card.new state) }
+    ensures refused { (state : State) → CardRepresents F.Flash card.old state
+        → IfErr result (λ fault. fault ≡ Write → CardRepresents F.Flash card.new state) }
     ensures same { card.new.tables ≡ card.old.tables }
     ensures pages { F.tells → F.pages card.new.flash ≡ F.pages card.old.flash }
     ensures flushes { (K.state sink.new).flushes ≡ (K.state sink.old).flushes }

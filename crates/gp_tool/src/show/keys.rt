@@ -6,7 +6,7 @@ ghost use Rattle.card_types.proofs.KeyNames.{key_order_total};
 ghost use Rattle.card_types.specs.Ascending.{key_order};
 ghost use Rattle.card_types.specs.InOrder.{IsInOrder};
 ghost use Rattle.card_types.specs.Registry.{Key, Registry};
-ghost use Rattle.card_types.specs.Says.{Says, key_of};
+ghost use Rattle.card_types.specs.Represents.{Represents, key_of};
 ghost use Rattle.faults.specs.Faults.{HasCause};
 ghost use Rattle.gp_tool.specs.Listing.{Writes};
 ghost use Rattle.gp_tool.specs.Show.{key_line};
@@ -71,7 +71,7 @@ impl TextListing<KeyRec> for ListedKeys<'_> {
 /// Writes the lines of the keys.
 pub fn show_keys<K: Sink>(tables: &Tables, sink: &mut K) -> Result<(), WriteFailed>
     requires in_order { IsInOrder tables.now }
-    ensures written { (page : ℕ → List ℕ) (said : Registry) → Says page tables.now said
+    ensures written { (page : ℕ → List ℕ) (said : Registry) → Represents page tables.now said
         → Writes K.tells (K.state sink.old).written (K.state sink.new).written (flat_map key_line said.keys) result }
     ensures flushes { (K.state sink.new).flushes ≡ (K.state sink.old).flushes }
     ensures cause { HasCause (K.state sink.old).faults (K.state sink.new).faults result }

@@ -9,7 +9,7 @@ ghost use Rattle.std.specs.declared.cmp.Ordering.{Ordering};
 ghost use Rattle.std.proofs.lemmas.Cmp.{on_total};
 ghost use Rattle.card_types.specs.Least.{NoneFits};
 ghost use Rattle.card_types.specs.Nearer.{IsLeastFound};
-ghost use Rattle.card_types.specs.Says.{used};
+ghost use Rattle.card_types.specs.Represents.{used};
 ghost use Rattle.card_types.specs.Slots.{held};
 ghost use Rattle.faults.specs.Faults.{HasCause};
 ghost use Rattle.gp_tool.specs.Listing.{Writes, comes_past};

@@ -6,7 +6,7 @@ ghost use Rattle.card_types.proofs.ObjectNames.{object_order_total};
 ghost use Rattle.card_types.specs.Ascending.{object_order};
 ghost use Rattle.card_types.specs.InOrder.{IsInOrder};
 ghost use Rattle.card_types.specs.Registry.{Object as NamedObject, Registry};
-ghost use Rattle.card_types.specs.Says.{Says, object_of};
+ghost use Rattle.card_types.specs.Represents.{Represents, object_of};
 ghost use Rattle.faults.specs.Faults.{HasCause};
 ghost use Rattle.gp_tool.specs.Listing.{Writes};
 ghost use Rattle.gp_tool.specs.Show.{object_line};
@@ -65,7 +65,7 @@ impl TextListing<Object> for ListedObjects<'_> {
 /// Writes the lines of the data objects.
 pub fn show_objects<K: Sink>(tables: &Tables, sink: &mut K) -> Result<(), WriteFailed>
     requires in_order { IsInOrder tables.now }
-    ensures written { (page : ℕ → List ℕ) (said : Registry) → Says page tables.now said
+    ensures written { (page : ℕ → List ℕ) (said : Registry) → Represents page tables.now said
         → Writes K.tells (K.state sink.old).written (K.state sink.new).written (flat_map object_line said.objects) result }
     ensures flushes { (K.state sink.new).flushes ≡ (K.state sink.old).flushes }
     ensures cause { HasCause (K.state sink.old).faults (K.state sink.new).faults result }

@@ -2,7 +2,7 @@
 
 ghost use Rattle.std.specs.Prelude.{◌≡◌, ◌≤◌, length};
 ghost use Rattle.card_types.specs.AidOrder.{aid_order};
-ghost use Rattle.card_types.specs.Says.{domain_aid, file_aid};
+ghost use Rattle.card_types.specs.Represents.{domain_aid, file_aid};
 
 use card_types::{Entry, LoadFile, in_slot};
 use std::cmp::Ordering;

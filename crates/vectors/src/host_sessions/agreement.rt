@@ -3,7 +3,7 @@
 ghost use Rattle.std.specs.Prelude.{◌≡◌, ◌<◌, ◌≤◌, length, take, IsSomeAnd};
 ghost use Rattle.apdu_core.specs.Apdu.{apdu_of};
 ghost use Rattle.cmac_kdf.specs.Blocks.{IsBytes};
-ghost use Rattle.scp03_card.specs.Kept.{StandsFor};
+ghost use Rattle.scp03_card.specs.Kept.{RepresentsSession};
 ghost use Rattle.scp03_card.specs.Session as model;
 ghost use Rattle.scp03_host.specs.Agreement.{told_field};
 ghost use Rattle.scp03_host.specs.Wrapped.{having_sent};
@@ -26,9 +26,9 @@ fn deliver<K: BlockKey>(
     field: &mut [u8; 255],
 ) -> Option<usize>
     requires { length command.now.body.now ≤ 239 }
-    ensures { (session : model.Session) → IsBytes command.now.body.now → StandsFor host.old session → StandsFor card.old session → IsSomeAnd result (λ n.
+    ensures { (session : model.Session) → IsBytes command.now.body.now → RepresentsSession host.old session → RepresentsSession card.old session → IsSomeAnd result (λ n.
         (take n field.new ≡ command.now.body.now)
-        × StandsFor host.new (having_sent session (apdu_of command.now)) × StandsFor card.new (having_sent session (apdu_of command.now))) }
+        × RepresentsSession host.new (having_sent session (apdu_of command.now)) × RepresentsSession card.new (having_sent session (apdu_of command.now))) }
 {
     let mut sent = ArrayVec::new();
     let Ok(()) = host.wrap(command, 0, &mut sent) else {
@@ -52,7 +52,7 @@ fn answer<K: BlockKey>(
     told: &mut ArrayVec<u8, 256>,
 ) -> Option<Status>
     requires { length field.now ≤ 239 }
-    ensures told { (session : model.Session) → StandsFor host.old session → StandsFor card.old session
+    ensures told { (session : model.Session) → RepresentsSession host.old session → RepresentsSession card.old session
         → (result ≡ Some status) × (told.new.items ≡ told_field session field.now status.0) }
     ensures unchanged { (host.new ≡ host.old) × (card.new ≡ card.old) }
 {

@@ -1,6 +1,6 @@
 //! What the host refuses, and that nothing changes then.
 
-use super::{GET_DATA, HOST, KEY, LEVELS, UPDATE, begun, keys};
+use super::{GET_DATA, HOST, KEY, LEVELS, UPDATE, begin_session, keys};
 use crate::digits::bytes;
 use aes_block::Aes128;
 use apdu_core::{Command, Status};
@@ -117,7 +117,7 @@ fn unwrapped(
 #[test]
 fn replies_at_level_33(rt: HostRuntime) -> Result<(), Fail> {
     let mut out = ArrayVec::new();
-    let mut session = begun(Level::Full, 0, &mut out)?;
+    let mut session = begin_session(Level::Full, 0, &mut out)?;
     assert!(rt; session.wrap(&GET_DATA, 0, &mut out) == Ok(()));
     for (digits, expected, wanted) in AT_LEVEL_33 {
         let reply: ArrayVec<u8, 300> = bytes(digits);
@@ -162,7 +162,7 @@ fn plain_replies(rt: HostRuntime) -> Result<(), Fail> {
     let mut out = ArrayVec::new();
     for level in LEVELS {
         let plain = matches!(level, Level::Mac | Level::EncMac);
-        let mut session = begun(level, 0, &mut out)?;
+        let mut session = begin_session(level, 0, &mut out)?;
         for (reply, with_r_mac, body, status) in WITHOUT_R_MAC {
             let (found, field) = unwrapped(&mut session, reply).ok_or("a reply")?;
             let wanted = if plain {

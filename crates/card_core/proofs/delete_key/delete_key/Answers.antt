@@ -3,12 +3,12 @@ use Rattle.card_core.proofs.Cards.{in_order}
 use Rattle.card_core.proofs.DeleteKeyDone.{deleted_cards, deleted_says}
 use Rattle.card_core.proofs.Managing.{refusal_managed}
 use Rattle.card_types.specs.InOrder.{IsInOrder}
-use Rattle.card_types.specs.Says.{Says}
+use Rattle.card_types.specs.Represents.{Represents}
 use Rattle.card_types.specs.declared.tables.Tables.{Tables}
 use Rattle.policy_rules.proofs.DeleteKeyKeeps.{without_version}
 use Rattle.policy_rules.proofs.Judging.{does_so}
 use Rattle.policy_rules.specs.DeleteKey.{delete_key}
-use Rattle.policy_rules.specs.Means.{ActsIn}
+use Rattle.policy_rules.specs.Requests.{ActsIn}
 use Rattle.policy_rules.specs.Management.{acting}
 use Rattle.card_core.proofs.delete_key.delete_key.Goals as goal
 
@@ -41,7 +41,7 @@ returns-clause-done g c page admitted acts ascending request =
         status = refl;
       });
       volatile = refl;
-      says = subst (λ (aid : List ℕ). Says page c.delete.new.keeper.tables (without_version admitted.at.registry aid c.args.version)) (sym acts.on) says;
+      says = subst (λ (aid : List ℕ). Represents page c.delete.new.keeper.tables (without_version admitted.at.registry aid c.args.version)) (sym acts.on) says;
       body_is = c.push.ensures.items ∙ ap (λ (items : List ℕ). items ++ 0x00 ∷ []) c.requires.empty;
       status_is = refl;
     }

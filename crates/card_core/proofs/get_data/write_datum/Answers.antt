@@ -1,7 +1,7 @@
 use Rattle.std.proofs.Common.{◌≡◌, ◌++◌, ℕ, List, [], None, Some, sym, ap, subst, ◌∙◌, inl}
 use Rattle.bertlv.specs.Spelling.{Appends, Spelling}
 use Rattle.card_types.specs.Least.{IsLeast}
-use Rattle.card_types.specs.Says.{domain_aid}
+use Rattle.card_types.specs.Represents.{domain_aid}
 use Rattle.card_types.specs.Slots.{held}
 use Rattle.policy_rules.specs.GetData.{IsKeyInformation}
 use Rattle.policy_rules.specs.KeyOrder.{follows, name_order}

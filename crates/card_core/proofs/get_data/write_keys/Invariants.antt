@@ -1,7 +1,7 @@
 use Rattle.std.proofs.Common.{◌≡◌, ◌≤◌, ◌*◌, ℕ, List, None, Some, length}
 use Rattle.card_types.specs.Least.{IsLeast}
 use Rattle.card_types.specs.Registry.{Registry}
-use Rattle.card_types.specs.Says.{Says}
+use Rattle.card_types.specs.Represents.{Represents}
 use Rattle.card_types.specs.Slots.{held}
 use Rattle.card_types.specs.Well.{Well}
 use Rattle.card_types.specs.declared.tables.Entry.{Entry}
@@ -13,7 +13,7 @@ use Rattle.card_core.proofs.get_data.write_keys.Given as goal
 abbrev pub invariant-loop : goal.invariant-loop
 invariant-loop l = record {
   size : length l.value.items ≤ 9 * l.counter;
-  listing : (page : ℕ → List ℕ) (tables : Tables) (said : Registry) (entry : Entry) → Says page tables said → Well said
+  listing : (page : ℕ → List ℕ) (tables : Tables) (said : Registry) (entry : Entry) → Represents page tables said → Well said
       → l.keys ≡ tables.keys.items → held tables.entries.items l.first.owner ≡ Some entry
       → ((slot : ℕ) × IsLeast (follows l.first.owner None) name_order l.keys slot l.first)
       → IsListing tables said l.first.owner l.key l.counter l.value.items;

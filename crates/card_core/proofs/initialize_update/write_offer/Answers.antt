@@ -1,5 +1,5 @@
 use Rattle.card_core.proofs.OfferMade.{body_is}
-use Rattle.card_types.specs.Says.{counter_of}
+use Rattle.card_types.specs.Represents.{counter_of}
 use Rattle.scp03_card.proofs.OfferLemmas.{last_three}
 use Rattle.card_core.proofs.initialize_update.write_offer.Goals as goal
 

@@ -5,7 +5,7 @@ use Rattle.policy_rules.proofs.ManageChannelLaws.{close_passes}
 use Rattle.policy_rules.specs.ManageChannel.{manage_channel}
 use Rattle.policy_rules.specs.Volatile.{without_channel}
 use Rattle.policy_rules.specs.declared.live.TheConstants.{CHANNELS}
-use Rattle.card_core.proofs.Standing.{begun_shows, none_selected, some_selected}
+use Rattle.card_core.proofs.ChannelChanges.{begun_shows, none_selected, some_selected}
 use Rattle.card_core.proofs.manage_channel.close_channel.Goals as goal
 
 pub returns-then-is_none : goal.returns-then-is_none

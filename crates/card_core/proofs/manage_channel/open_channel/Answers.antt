@@ -7,7 +7,7 @@ use Rattle.policy_rules.specs.ManageChannel.{manage_channel}
 use Rattle.policy_rules.specs.Volatile.{fresh, with_channel}
 use Rattle.policy_rules.specs.declared.live.TheConstants.{CHANNELS}
 use Rattle.card_core.proofs.Carrying.{refusal_shows}
-use Rattle.card_core.proofs.Standing.{opened_shows}
+use Rattle.card_core.proofs.ChannelChanges.{opened_shows}
 use Rattle.card_core.proofs.manage_channel.open_channel.Goals as goal
 
 pub returns-in-Ok-clause-done : goal.returns-in-Ok-clause-done

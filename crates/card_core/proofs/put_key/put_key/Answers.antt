@@ -3,7 +3,7 @@ use Rattle.card_types.specs.InOrder.{IsInOrder}
 use Rattle.policy_rules.proofs.FirstJoined.{first_behind, first_within}
 use Rattle.policy_rules.proofs.PutKeyLaws.{put_judged}
 use Rattle.policy_rules.proofs.PutKeyKeeps.{keys_sent}
-use Rattle.policy_rules.specs.Means.{ActsIn, IsRequestOf, IsWellFormed, sent_key, sent_keys}
+use Rattle.policy_rules.specs.Requests.{ActsIn, IsRequestOf, IsWellFormed, sent_key, sent_keys}
 use Rattle.policy_rules.specs.PutKey.{PutKeyFails}
 use Rattle.policy_rules.specs.PutRules.{key_rules, version_rules}
 use Rattle.policy_rules.specs.declared.put_key.PutKeys.TheVariants.{One, Three}
@@ -13,8 +13,8 @@ use Rattle.card_core.proofs.PutKeyBrought.{brought, checks_said, formed_one, for
 use Rattle.card_core.proofs.PutKeyDone.{body_one, body_three, fits_one, fits_three, judged_by, put_managed}
 use Rattle.card_core.proofs.Managing.{refusal_managed}
 use Rattle.card_core.proofs.PutKeyTables.{put_cards}
-use Rattle.card_core.specs.Holds.{HoldsAs}
-use Rattle.card_core.specs.Offers.{standing_for}
+use Rattle.card_core.specs.SecureChannels.{RepresentsSecureChannel}
+use Rattle.card_core.specs.Offers.{secure_channel_for}
 use Rattle.card_core.proofs.put_key.put_key.Goals as goal
 
 pub returns-in_err-judge_put_versions-clause-done : goal.returns-in_err-judge_put_versions-clause-done
@@ -38,7 +38,7 @@ returns-in_err-judge_put_keys-in-One-clause-done g c page admitted acts ascendin
     let sent = c.in-One.sent in
     let key = c.open_key-key.result.bytes in
     let asked = subst (λ k. IsRequestOf (PutKey c.args.replaced c.args.version k) admitted.command) c.in-One.is request in
-    let secured = subst (λ h. HoldsAs h (standing_for admitted)) c.in-Secured.is holds in
+    let secured = subst (λ h. RepresentsSecureChannel h (secure_channel_for admitted)) c.in-Secured.is holds in
     let checks = checks_said admitted c.args.replaced c.args.version (One sent) asked c.in-Secured.session secured _ c.dek-dek.ensures (key ∷ []) (c.open_key-key.ensures.key, tt)
     c.open_key-key.result.fits (fits_one c.open_key-key.result.fits (sent_key sent) key c.open_key-key.ensures.fits) in
     let before = c.in_ok-judge_put_versions.ensures.passed page admitted c.args.keys.now (subst (λ t. ActsIn page t c.args.domain admitted) (sym c.tables.ensures.tables) acts) request in
@@ -106,7 +106,7 @@ pub returns-in_err-judge_put_keys-in-Three-clause-done : goal.returns-in_err-jud
 returns-in_err-judge_put_keys-in-Three-clause-done g c page admitted acts ascending request holds =
     let keys = Three c.in-Three.first c.in-Three.second c.in-Three.third in
     let asked = subst (λ k. IsRequestOf (PutKey c.args.replaced c.args.version k) admitted.command) c.in-Three.is request in
-    let secured = subst (λ h. HoldsAs h (standing_for admitted)) c.in-Secured.is holds in
+    let secured = subst (λ h. RepresentsSecureChannel h (secure_channel_for admitted)) c.in-Secured.is holds in
     let checks = checks_said admitted c.args.replaced c.args.version keys asked c.in-Secured.session secured _ c.dek-dek.ensures
     (c.open_key-enc.result.bytes ∷ c.open_key-mac.result.bytes ∷ c.open_key-kek.result.bytes ∷ [])
     (c.open_key-enc.ensures.key, (c.open_key-mac.ensures.key, (c.open_key-kek.ensures.key, tt))) c.all_fit-fit.result
@@ -127,7 +127,7 @@ returns-in_ok-judge_put_keys-in-One-clause-done g c page admitted acts ascending
     let key = c.open_key-key.result.bytes in
     let form = formed_one c.args.replaced c.args.version sent (subst (λ k. IsWellFormed (PutKey c.args.replaced c.args.version k)) c.in-One.is c.requires.formed) in
     let asked = subst (λ k. IsRequestOf (PutKey c.args.replaced c.args.version k) admitted.command) c.in-One.is request in
-    let secured = subst (λ h. HoldsAs h (standing_for admitted)) c.in-Secured.is holds in
+    let secured = subst (λ h. RepresentsSecureChannel h (secure_channel_for admitted)) c.in-Secured.is holds in
     let brings = brought admitted c.args.replaced c.args.version (One sent) asked c.in-Secured.session secured _ c.dek-dek.ensures (key ∷ []) (c.open_key-key.ensures.key, tt) in
     let checks = checks_said admitted c.args.replaced c.args.version (One sent) asked c.in-Secured.session secured _ c.dek-dek.ensures (key ∷ []) (c.open_key-key.ensures.key, tt)
     c.open_key-key.result.fits (fits_one c.open_key-key.result.fits (sent_key sent) key c.open_key-key.ensures.fits) in
@@ -164,7 +164,7 @@ returns-in_ok-judge_put_keys-in-Three-clause-done g c page admitted acts ascendi
     let form = formed_set c.args.replaced c.args.version c.in-Three.first c.in-Three.second c.in-Three.third
     (subst (λ k. IsWellFormed (PutKey c.args.replaced c.args.version k)) c.in-Three.is c.requires.formed) in
     let asked = subst (λ k. IsRequestOf (PutKey c.args.replaced c.args.version k) admitted.command) c.in-Three.is request in
-    let secured = subst (λ h. HoldsAs h (standing_for admitted)) c.in-Secured.is holds in
+    let secured = subst (λ h. RepresentsSecureChannel h (secure_channel_for admitted)) c.in-Secured.is holds in
     let brings = brought admitted c.args.replaced c.args.version keys asked c.in-Secured.session secured _ c.dek-dek.ensures bytes
     (c.open_key-enc.ensures.key, (c.open_key-mac.ensures.key, (c.open_key-kek.ensures.key, tt))) in
     let checks = checks_said admitted c.args.replaced c.args.version keys asked c.in-Secured.session secured _ c.dek-dek.ensures bytes

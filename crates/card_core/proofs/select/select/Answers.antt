@@ -8,7 +8,7 @@ use Rattle.policy_rules.specs.Select.{IsControlInformation, select, selected_sta
 use Rattle.policy_rules.specs.Volatile.{fresh, with_selected}
 use Rattle.policy_rules.specs.declared.live.TheConstants.{CHANNELS}
 use Rattle.card_core.proofs.Carrying.{refusal_shows}
-use Rattle.card_core.proofs.Standing.{begun_shows, held_same}
+use Rattle.card_core.proofs.ChannelChanges.{begun_shows, held_same}
 use Rattle.card_core.proofs.select.select.Goals as goal
 
 pub returns-in-Ok-clause-done : goal.returns-in-Ok-clause-done

@@ -3,9 +3,9 @@ use Rattle.std.specs.Prelude.{slice_index_or}
 use Rattle.card_core.proofs.Carrying.{refused_carried}
 use Rattle.card_core.proofs.Passed.{read_at, session_kept}
 use Rattle.policy_rules.specs.declared.live.TheConstants.{CHANNELS}
-use Rattle.card_core.specs.Holds.{IsInSession, without_offer_held}
-use Rattle.card_core.specs.declared.held.Held.{Held}
-use Rattle.card_core.specs.declared.held.Held.TheVariants as held
+use Rattle.card_core.specs.SecureChannels.{IsInSession, without_offer_held}
+use Rattle.card_core.specs.declared.channel_session.ChannelSession.{ChannelSession}
+use Rattle.card_core.specs.declared.channel_session.ChannelSession.TheVariants as held
 use Rattle.card_core.proofs.serve.act.Goals as goal
 
 pub returns-in-Err-clause-done : goal.returns-in-Err-clause-done
@@ -24,7 +24,7 @@ returns-in-Err-clause-kept g c = λ secured kinds.
     let same = c.in-Err.ensures.kept kinds in
     let four : length c.carry_out-served.new.held ≡ CHANNELS = search rules in
     session_kept c.carry_out-served.new.held c.from-place.result c.args.received.now.channel c.refuse.new.held c.index-held-place.result four c.requires.channel c.from-place.ensures
-    c.refuse.ensures.held (subst (λ (h : List Held). IsInSession (slice_index_or h c.args.received.now.channel held.Nothing)) (sym same) secured) ∙ same
+    c.refuse.ensures.held (subst (λ (h : List ChannelSession). IsInSession (slice_index_or h c.args.received.now.channel held.Nothing)) (sym same) secured) ∙ same
 
 pub returns-in_default-clause-done : goal.returns-in_default-clause-done
 returns-in_default-clause-done g c = λ page judged stands at is. rw c.in_default.is (c.in_default.ensures.done page judged stands at is)

@@ -7,7 +7,7 @@ use Rattle.policy_rules.proofs.ExternalAuthenticateLaws.{begin_passes, unoffered
 use Rattle.policy_rules.proofs.Judging.{malformed_judged}
 use Rattle.policy_rules.proofs.Selected.{selected_entry}
 use Rattle.policy_rules.specs.Classes.{managing}
-use Rattle.policy_rules.specs.Means.{IsMalformed, IsRequestOf, form_in}
+use Rattle.policy_rules.specs.Requests.{IsMalformed, IsRequestOf, form_in}
 use Rattle.policy_rules.specs.Commands.{Judges}
 use Rattle.policy_rules.specs.declared.external_authenticate.RuleEA.TheVariants.{EA1}
 use Rattle.policy_rules.specs.declared.instruction.TheConstants.{EXTERNAL_AUTHENTICATE}
@@ -21,11 +21,11 @@ use Rattle.card_core.proofs.Acting.{acts_for, answer_carried, held_there, low, m
 use Rattle.card_core.proofs.Cards.{in_order}
 use Rattle.card_core.proofs.Carrying.{refusal_carried}
 use Rattle.card_core.proofs.Offered.{is_offer, no_offer}
-use Rattle.card_core.proofs.Standing.{HasFour}
-use Rattle.card_core.specs.Holds.{HoldsAs, IsInSession, IsOffered}
-use Rattle.card_core.specs.Offers.{AnswersAs, OffersAs, standing_for}
-use Rattle.card_core.specs.declared.held.Held.{Held}
-use Rattle.card_core.specs.declared.held.Held.TheVariants as held
+use Rattle.card_core.proofs.ChannelChanges.{HasFour}
+use Rattle.card_core.specs.SecureChannels.{RepresentsSecureChannel, IsInSession, IsOffered}
+use Rattle.card_core.specs.Offers.{AnswersAs, OffersAs, secure_channel_for}
+use Rattle.card_core.specs.declared.channel_session.ChannelSession.{ChannelSession}
+use Rattle.card_core.specs.declared.channel_session.ChannelSession.TheVariants as held
 use Rattle.card_core.proofs.serve.carry_out.Goals as goal
 
 -- the instruction is that of the request's form
@@ -53,7 +53,7 @@ returns-in_err-judge_offer-clause-done g c = λ page judged stands at is.
     c.from-place.result c.index-held-place.result c.from-place.ensures in
     let low = low page tables live all judged stands c.told-held c.args.received.now.channel slot c.requires.channel at c.requires.selected in
     let none = no_offer (slice_index_or all judged.channel held.Nothing) judged (stands.shows.holds judged.channel low)
-    (subst (λ (h : Held). IsOffered h → ⊥) here found.2) in
+    (subst (λ (h : ChannelSession). IsOffered h → ⊥) here found.2) in
     let judges = unoffered_judged judged (ap (λ (command : Apdu). command.ins) is ∙ found.1) none in
     refusal_carried page (record { tables = tables; live = live; held = all }) judged c.args.reply.now.items c.from_residual.result c.in_err-judge_offer.field-0.0
     c.from_residual.ensures.1 (record { held = c.told-held; channels = stands.sound.fits.channels }) low stands.shows
@@ -129,7 +129,7 @@ returns-in-Initialize-clause-done g c = λ page judged stands at is.
     rw (c.from-place.ensures ∙ at) (offer_carried page c.args.records.now.tables c.args.live.now c.args.held.now judged stands four low c.args.received.now.selected
     c.initialize_update.new.records.tables c.initialize_update.new.held c.initialize_update.new.reply.items c.initialize_update.result
     asked.form opened c.initialize_update.ensures.entries
-    (subst (λ (h : Held). OffersAs judged page c.args.records.now.tables c.initialize_update.new.records.tables h c.initialize_update.new.held c.initialize_update.new.reply.items c.initialize_update.result) here offers))
+    (subst (λ (h : ChannelSession). OffersAs judged page c.args.records.now.tables c.initialize_update.new.records.tables h c.initialize_update.new.held c.initialize_update.new.reply.items c.initialize_update.result) here offers))
 
 -- EXTERNAL AUTHENTICATE
 pub returns-in-Authenticate-clause-done : goal.returns-in-Authenticate-clause-done
@@ -146,10 +146,10 @@ returns-in-Authenticate-clause-done g c = λ page judged stands at is.
     ap (λ (n : ℕ). slice_index_or c.args.held.now n c.index-held-place-in-Authenticate.result) (c.from-place.ensures ∙ at)
     ∙ get_or_default c.args.held.now judged.channel c.index-held-place-in-Authenticate.result held.Nothing (subst (λ (n : ℕ). judged.channel < n) (sym c.told-held) low) in
     let answers = c.external_authenticate.ensures judged asked
-    (subst (λ (h : Held). HoldsAs h (standing_for judged)) (sym here) (stands.shows.holds judged.channel low)) in
+    (subst (λ (h : ChannelSession). RepresentsSecureChannel h (secure_channel_for judged)) (sym here) (stands.shows.holds judged.channel low)) in
     rw (c.from-place.ensures ∙ at, c.requires.empty) (answer_carried page c.args.records.now.tables c.args.live.now c.args.held.now judged stands four low c.args.received.now.selected
     c.external_authenticate.new.held c.external_authenticate.result asked.form opened
-    (subst (λ (h : Held). AnswersAs judged h c.external_authenticate.new.held c.external_authenticate.result) here answers))
+    (subst (λ (h : ChannelSession). AnswersAs judged h c.external_authenticate.new.held c.external_authenticate.result) here answers))
 
 pub returns-in-PutKey-clause-done : goal.returns-in-PutKey-clause-done
 returns-in-PutKey-clause-done g c = λ page judged stands at is.
@@ -163,7 +163,7 @@ returns-in-PutKey-clause-done g c = λ page judged stands at is.
     c.from-place.result c.index-held-place-in-PutKey.result c.from-place.ensures in
     let acts = acts_for page tables live all judged stands c.told-held c.args.received.now.channel slot c.requires.channel at c.requires.selected in
     let managed = c.manage.ensures.done page judged acts stands.sound.ascending (subst (IsRequestOf c.in_ok-request.request) (sym is) request)
-    (subst (λ (h : Held). HoldsAs h (standing_for judged)) (sym here) (stands.shows.holds judged.channel low)) in
+    (subst (λ (h : ChannelSession). RepresentsSecureChannel h (secure_channel_for judged)) (sym here) (stands.shows.holds judged.channel low)) in
     managed_carried page tables live all judged stands (record { held = c.told-held; channels = stands.sound.fits.channels }) low
     c.manage.new.records.tables c.manage.new.reply.items c.manage.result c.manage.ensures.entries managed
 

@@ -9,50 +9,50 @@ use Rattle.card_types.specs.declared.card_life.CardLife.{CardLife}
 use Rattle.policy_rules.specs.Admission.{Admitted, admitted_as, class_passed}
 use Rattle.policy_rules.proofs.Passing.{channel_is_low}
 use Rattle.policy_rules.specs.Classes.{channel_of, class_of}
-use Rattle.policy_rules.specs.Volatile.{Secured, Standing, channel_at, standing_of}
+use Rattle.policy_rules.specs.Volatile.{Secured, SecureChannel, channel_at, secure_channel_of}
 use Rattle.policy_rules.specs.LiveEnds.{live_without_place}
-use Rattle.policy_rules.specs.Means.{SaysState}
+use Rattle.policy_rules.specs.Requests.{RepresentsState}
 use Rattle.policy_rules.specs.declared.live.Live.{Live}
 use Rattle.policy_rules.specs.declared.live.TheConstants.{CHANNELS}
-use Rattle.card_core.specs.Kept.{StandsOn}
+use Rattle.card_core.specs.Kept.{RepresentsSoundly}
 use Rattle.card_core.proofs.Passed.{goes_on, holds_passed, managed_served, opened_so, opened_stands, over_served, passed_as, passed_held, passed_there, placed, plain_stands, protects_so, read_at, refused_served, selected_same, session_of, written_at}
-use Rattle.card_core.proofs.Serving.{admits_opened, admits_plain, barred, carried_out, is_managed, not_managed, protected_one, unprotected_unmanaged}
-use Rattle.card_core.specs.Holds.{HoldsAs, IsInSession, without_offer_held}
+use Rattle.card_core.proofs.Serving.{admits_opened, admits_plain, rejected, carried_out, is_managed, not_managed, protected_one, unprotected_unmanaged}
+use Rattle.card_core.specs.SecureChannels.{RepresentsSecureChannel, IsInSession, without_offer_held}
 use Rattle.card_core.specs.Secured.{OpensAs}
-use Rattle.card_core.specs.Serves.{IsOver, Serves, live_passed}
-use Rattle.card_core.specs.declared.held.Held.{Held}
-use Rattle.card_core.specs.declared.held.Held.TheVariants as held
+use Rattle.card_core.specs.Serves.{IsTerminatedFor, Serves, live_passed}
+use Rattle.card_core.specs.declared.channel_session.ChannelSession.{ChannelSession}
+use Rattle.card_core.specs.declared.channel_session.ChannelSession.TheVariants as held
 use Rattle.card_core.proofs.serve.serve.Goals as goal
 
 -- a rule on class, channel or instruction refuses the bytes
 pub returns-in-Err-clause-served : goal.returns-in-Err-clause-served
 returns-in-Err-clause-served g c = λ page state stands.
     rw c.close_plain.ensures.rule (
-    barred page (record { tables = c.args.records.now.tables; live = c.args.live.now; held = c.args.held.now }) state c.args.bytes.now c.close_plain.new.reply.items c.in-Err.rule
-    state.volatile stands.sound (c.in-Err.ensures.refused page state (subst (λ t. SaysState page t c.args.live.now state) (sym c.tables.ensures.tables) stands.shows.says)) (c.in-Err.ensures.leaves state) stands.shows
+    rejected page (record { tables = c.args.records.now.tables; live = c.args.live.now; held = c.args.held.now }) state c.args.bytes.now c.close_plain.new.reply.items c.in-Err.rule
+    state.volatile stands.sound (c.in-Err.ensures.refused page state (subst (λ t. RepresentsState page t c.args.live.now state) (sym c.tables.ensures.tables) stands.shows.says)) (c.in-Err.ensures.leaves state) stands.shows
     (c.close_plain.ensures.closed ∙ rw c.requires.empty refl))
 
 -- the card is terminated
-pub returns-in-Err-pass_class-clause-served : goal.returns-in-Err-pass_class-clause-served
-returns-in-Err-pass_class-clause-served g c = λ page state stands.
-    let over = c.in-Err-pass_class.ensures.over in
-    let lost : c.pass_class.new.held ≡ without_offer_held (slice_index_or c.args.held.now (channel_of c.in-Ok.received.command.class) held.Nothing) = c.in-Err-pass_class.ensures.lost ∙ ap without_offer_held
+pub returns-in-Err-check_class-clause-served : goal.returns-in-Err-check_class-clause-served
+returns-in-Err-check_class-clause-served g c = λ page state stands.
+    let over = c.in-Err-check_class.ensures.over in
+    let lost : c.check_class.new.held ≡ without_offer_held (slice_index_or c.args.held.now (channel_of c.in-Ok.received.command.class) held.Nothing) = c.in-Err-check_class.ensures.lost ∙ ap without_offer_held
     (read_at c.args.held.now c.from-channel.result (channel_of c.in-Ok.received.command.class) c.index-held-channel.result c.told-held (channel_is_low c.in-Ok.received.command.class)
     (c.from-channel.ensures ∙ c.in-Ok.ensures.channel)) in
-    let served = over_served page c.args.records.now.tables c.args.live.now c.args.held.now state stands c.told-held (apdu_of c.in-Ok.received.command) c.args.bytes.now c.close_plain-in-Err-pass_class.new.reply.items
-    c.in-Ok.ensures.spelled c.in-Ok.received.class c.in-Ok.ensures.class c.in-Ok.ensures.known (c.in-Ok.ensures.passed page state (subst (λ t. SaysState page t c.args.live.now state) (sym c.tables.ensures.tables) stands.shows.says))
-    (subst (λ (life : CardLife). IsOver life c.in-Ok.received.class c.in-Ok.received.command.ins) (ap (λ t. t.life) c.tables-2.ensures.tables ∙ stands.shows.says.registry.life) over.1)
-    (c.close_plain-in-Err-pass_class.ensures.closed ∙ rw (c.requires.empty, over.0) refl) in
-    rw (c.close_plain-in-Err-pass_class.ensures.rule, over.0, lost, c.forget_place.ensures, c.from-channel.ensures, c.in-Ok.ensures.channel) served
+    let served = over_served page c.args.records.now.tables c.args.live.now c.args.held.now state stands c.told-held (apdu_of c.in-Ok.received.command) c.args.bytes.now c.close_plain-in-Err-check_class.new.reply.items
+    c.in-Ok.ensures.spelled c.in-Ok.received.class c.in-Ok.ensures.class c.in-Ok.ensures.known (c.in-Ok.ensures.passed page state (subst (λ t. RepresentsState page t c.args.live.now state) (sym c.tables.ensures.tables) stands.shows.says))
+    (subst (λ (life : CardLife). IsTerminatedFor life c.in-Ok.received.class c.in-Ok.received.command.ins) (ap (λ t. t.life) c.tables-2.ensures.tables ∙ stands.shows.says.registry.life) over.1)
+    (c.close_plain-in-Err-check_class.ensures.closed ∙ rw (c.requires.empty, over.0) refl) in
+    rw (c.close_plain-in-Err-check_class.ensures.rule, over.0, lost, c.forget_place.ensures, c.from-channel.ensures, c.in-Ok.ensures.channel) served
 
 -- card content management in plain
 pub returns-then-is_plain_management-clause-served : goal.returns-then-is_plain_management-clause-served
 returns-then-is_plain_management-clause-served g c = λ page state stands.
     let command : Apdu = apdu_of c.in-Ok.received.command in
     let here = c.from-channel.ensures ∙ c.in-Ok.ensures.channel in
-    let passed = passed_as c.args.held.now c.told-held command c.from-channel.result c.index-held-channel.result c.pass_class.new.held here c.in_default.ensures.kept in
-    let front = c.in-Ok.ensures.passed page state (subst (λ t. SaysState page t c.args.live.now state) (sym c.tables.ensures.tables) stands.shows.says) in
-    let not_over = goes_on page c.args.records.now.tables c.args.live.now c.args.held.now state stands c.told-held command c.in-Ok.received.class (subst (λ t. IsOver t.life c.in-Ok.received.class c.in-Ok.received.command.ins → ⊥) c.tables-2.ensures.tables c.in_default.ensures.ok) in
+    let passed = passed_as c.args.held.now c.told-held command c.from-channel.result c.index-held-channel.result c.check_class.new.held here c.in_default.ensures.kept in
+    let front = c.in-Ok.ensures.passed page state (subst (λ t. RepresentsState page t c.args.live.now state) (sym c.tables.ensures.tables) stands.shows.says) in
+    let not_over = goes_on page c.args.records.now.tables c.args.live.now c.args.held.now state stands c.told-held command c.in-Ok.received.class (subst (λ t. IsTerminatedFor t.life c.in-Ok.received.class c.in-Ok.received.command.ins → ⊥) c.tables-2.ensures.tables c.in_default.ensures.ok) in
     let managed = is_managed command c.in-Ok.received.class c.is_plain_management.result c.in-Ok.ensures.class c.is_plain_management.ensures c.if-is_plain_management.true in
     let opened = opened_so c.args.live.now command c.in-Ok.received.channel c.in-Ok.received.selected c.in-Ok.ensures.channel c.in-Ok.ensures.selected in
     let served = managed_served page c.args.records.now.tables c.args.live.now c.args.held.now state stands c.told-held command c.in-Ok.received.selected opened
@@ -79,9 +79,9 @@ pub returns-then-not-is_protected-clause-served : goal.returns-then-not-is_prote
 returns-then-not-is_protected-clause-served g c = λ page state stands.
     let command : Apdu = apdu_of c.in-Ok.received.command in
     let here = c.from-channel.ensures ∙ c.in-Ok.ensures.channel in
-    let passed = passed_as c.args.held.now c.told-held command c.from-channel.result c.index-held-channel.result c.pass_class.new.held here c.in_default.ensures.kept in
-    let front = c.in-Ok.ensures.passed page state (subst (λ t. SaysState page t c.args.live.now state) (sym c.tables.ensures.tables) stands.shows.says) in
-    let not_over = goes_on page c.args.records.now.tables c.args.live.now c.args.held.now state stands c.told-held command c.in-Ok.received.class (subst (λ t. IsOver t.life c.in-Ok.received.class c.in-Ok.received.command.ins → ⊥) c.tables-2.ensures.tables c.in_default.ensures.ok) in
+    let passed = passed_as c.args.held.now c.told-held command c.from-channel.result c.index-held-channel.result c.check_class.new.held here c.in_default.ensures.kept in
+    let front = c.in-Ok.ensures.passed page state (subst (λ t. RepresentsState page t c.args.live.now state) (sym c.tables.ensures.tables) stands.shows.says) in
+    let not_over = goes_on page c.args.records.now.tables c.args.live.now c.args.held.now state stands c.told-held command c.in-Ok.received.class (subst (λ t. IsTerminatedFor t.life c.in-Ok.received.class c.in-Ok.received.command.ins → ⊥) c.tables-2.ensures.tables c.in_default.ensures.ok) in
     let plain = protects_so command c.in-Ok.received.class c.is_protected.result false c.in-Ok.ensures.class c.is_protected.ensures c.if-not-is_protected.true in
     let unmanaged = not_managed command c.in-Ok.received.class c.is_plain_management.result c.in-Ok.ensures.class c.is_plain_management.ensures c.if-is_plain_management.false in
     let at = plain_stands page c.args.records.now.tables c.args.live.now c.args.held.now state stands c.told-held command plain in
@@ -105,29 +105,29 @@ act-served-requires-in-Ok-open_command-clause-selected g c =
 
 pub act-served-requires-in-Ok-open_command-clause-secured : goal.act-served-requires-in-Ok-open_command-clause-secured
 act-served-requires-in-Ok-open_command-clause-secured g c = λ managed.
-    let all : List Held = slice_set c.args.held.now c.from-channel.result c.pass_class.new.held in
+    let all : List ChannelSession = slice_set c.args.held.now c.from-channel.result c.check_class.new.held in
     let low = subst (λ (n : ℕ). n < CHANNELS) (sym c.in-Ok.ensures.channel) (channel_is_low c.in-Ok.received.command.class) in
     let there = written_at all c.in-Ok.received.channel c.in-Ok.received.channel c.open_command.new.held held.Nothing
-    (length-set c.args.held.now c.from-channel.result c.pass_class.new.held ∙ c.told-held) low refl in
+    (length-set c.args.held.now c.from-channel.result c.check_class.new.held ∙ c.told-held) low refl in
     rw c.from-channel.ensures (rw c.from-channel.ensures at (subst IsInSession (sym there) c.in-Ok-open_command.ensures.secured))
 
 pub returns-in-Ok-open_command-clause-served : goal.returns-in-Ok-open_command-clause-served
 returns-in-Ok-open_command-clause-served g c = λ page state stands.
     let command : Apdu = apdu_of c.in-Ok.received.command in
     let here = c.from-channel.ensures ∙ c.in-Ok.ensures.channel in
-    let passed = passed_as c.args.held.now c.told-held command c.from-channel.result c.index-held-channel.result c.pass_class.new.held here c.in_default.ensures.kept in
-    let front = c.in-Ok.ensures.passed page state (subst (λ t. SaysState page t c.args.live.now state) (sym c.tables.ensures.tables) stands.shows.says) in
-    let not_over = goes_on page c.args.records.now.tables c.args.live.now c.args.held.now state stands c.told-held command c.in-Ok.received.class (subst (λ t. IsOver t.life c.in-Ok.received.class c.in-Ok.received.command.ins → ⊥) c.tables-2.ensures.tables c.in_default.ensures.ok) in
+    let passed = passed_as c.args.held.now c.told-held command c.from-channel.result c.index-held-channel.result c.check_class.new.held here c.in_default.ensures.kept in
+    let front = c.in-Ok.ensures.passed page state (subst (λ t. RepresentsState page t c.args.live.now state) (sym c.tables.ensures.tables) stands.shows.says) in
+    let not_over = goes_on page c.args.records.now.tables c.args.live.now c.args.held.now state stands c.told-held command c.in-Ok.received.class (subst (λ t. IsTerminatedFor t.life c.in-Ok.received.class c.in-Ok.received.command.ins → ⊥) c.tables-2.ensures.tables c.in_default.ensures.ok) in
     let protected = protects_so command c.in-Ok.received.class c.is_protected.result true c.in-Ok.ensures.class c.is_protected.ensures c.if-not-is_protected.false in
     let opened = opened_so c.args.live.now command c.in-Ok.received.channel c.in-Ok.received.selected c.in-Ok.ensures.channel c.in-Ok.ensures.selected in
-    let old = passed_there c.args.held.now c.told-held command c.from-channel.result c.pass_class.new.held c.index-held-channel-2.result here passed in
-    let standing : Standing = standing_of (channel_at (class_passed state.volatile command) (channel_of command.class)) in
-    let holds = subst (λ (h : Held). HoldsAs h standing) (sym old)
+    let old = passed_there c.args.held.now c.told-held command c.from-channel.result c.check_class.new.held c.index-held-channel-2.result here passed in
+    let secure_channel : SecureChannel = secure_channel_of (channel_at (class_passed state.volatile command) (channel_of command.class)) in
+    let holds = subst (λ (h : ChannelSession). RepresentsSecureChannel h secure_channel) (sym old)
     (holds_passed page c.args.records.now.tables c.args.live.now c.args.held.now state stands c.told-held command) in
     let plain : List ℕ = take c.in-Ok-open_command.count c.open_command.new.plain in
     let found = session_of page c.args.records.now.tables c.args.live.now c.args.held.now state stands c.told-held command
-    (λ session. Opens session command plain × HoldsAs c.open_command.new.held (Secured (accepting session command)))
-    (c.in-Ok-open_command.ensures.opens standing holds) in
+    (λ session. Opens session command plain × RepresentsSecureChannel c.open_command.new.held (Secured (accepting session command)))
+    (c.in-Ok-open_command.ensures.opens secure_channel holds) in
     let session : Session = found.0 in
     let admitted : Admitted = admitted_as state command (Some (accepting session command)) plain in
     let at = opened_stands page c.args.records.now.tables c.args.live.now c.args.held.now state stands c.told-held command c.in-Ok.received.selected
@@ -135,29 +135,29 @@ returns-in-Ok-open_command-clause-served g c = λ page state stands.
     let live = c.pass_session-in-Ok-open_command.ensures ∙ ap (live_passed command.ins c.in-Ok.received.channel) c.forget_place.ensures
     ∙ ap (λ (n : ℕ). live_passed command.ins n (live_without_place c.args.live.now n)) c.in-Ok.ensures.channel in
     let done = c.act-served-in-Ok-open_command.ensures.done page admitted
-    (subst (λ (l : Live). StandsOn page (record {
+    (subst (λ (l : Live). RepresentsSoundly page (record {
       tables = c.args.records.now.tables;
       live = l;
-      held = slice_set (slice_set c.args.held.now c.from-channel.result c.pass_class.new.held) c.from-channel.result c.open_command.new.held;
+      held = slice_set (slice_set c.args.held.now c.from-channel.result c.check_class.new.held) c.from-channel.result c.open_command.new.held;
     }) admitted.at) (sym live)
     (placed page c.args.records.now.tables (live_passed command.ins (channel_of command.class) (live_without_place c.args.live.now (channel_of command.class)))
-    c.args.held.now admitted.at c.from-channel.result (channel_of command.class) c.pass_class.new.held
+    c.args.held.now admitted.at c.from-channel.result (channel_of command.class) c.check_class.new.held
     (passed_held c.args.held.now c.told-held command) c.open_command.new.held here passed at)) c.in-Ok.ensures.channel refl in
     let low = subst (λ (n : ℕ). n < CHANNELS) (sym c.in-Ok.ensures.channel) (channel_is_low c.in-Ok.received.command.class) in
-    let opened_here = written_at (slice_set c.args.held.now c.from-channel.result c.pass_class.new.held) c.in-Ok.received.channel c.in-Ok.received.channel c.open_command.new.held held.Nothing
-    (length-set c.args.held.now c.from-channel.result c.pass_class.new.held ∙ c.told-held) low refl in
-    let in_session : IsInSession (slice_index_or (slice_set (slice_set c.args.held.now c.from-channel.result c.pass_class.new.held) c.from-channel.result c.open_command.new.held)
+    let opened_here = written_at (slice_set c.args.held.now c.from-channel.result c.check_class.new.held) c.in-Ok.received.channel c.in-Ok.received.channel c.open_command.new.held held.Nothing
+    (length-set c.args.held.now c.from-channel.result c.check_class.new.held ∙ c.told-held) low refl in
+    let in_session : IsInSession (slice_index_or (slice_set (slice_set c.args.held.now c.from-channel.result c.check_class.new.held) c.from-channel.result c.open_command.new.held)
     c.in-Ok.received.channel held.Nothing) = rw c.from-channel.ensures (rw c.from-channel.ensures at (subst IsInSession (sym opened_here) c.in-Ok-open_command.ensures.secured)) in
     let same = c.act-served-in-Ok-open_command.ensures.kept in_session (protected_one (class_of command.class) command.ins c.in-Ok.ensures.known protected) in
-    let there = ap (λ (all : List Held). slice_index_or all c.from-channel.result c.index-held-channel-in-Ok-open_command.result) same
-    ∙ written_at (slice_set c.args.held.now c.from-channel.result c.pass_class.new.held) c.from-channel.result (channel_of command.class) c.open_command.new.held
-    c.index-held-channel-in-Ok-open_command.result (length-set c.args.held.now c.from-channel.result c.pass_class.new.held ∙ c.told-held)
+    let there = ap (λ (all : List ChannelSession). slice_index_or all c.from-channel.result c.index-held-channel-in-Ok-open_command.result) same
+    ∙ written_at (slice_set c.args.held.now c.from-channel.result c.check_class.new.held) c.from-channel.result (channel_of command.class) c.open_command.new.held
+    c.index-held-channel-in-Ok-open_command.result (length-set c.args.held.now c.from-channel.result c.check_class.new.held ∙ c.told-held)
     (channel_is_low command.class) here in
     let closed = c.close_protected.ensures.closed (accepting session command)
-    (subst (λ (h : Held). HoldsAs h (Secured (accepting session command))) (sym there) found.2.1) in
+    (subst (λ (h : ChannelSession). RepresentsSecureChannel h (Secured (accepting session command))) (sym there) found.2.1) in
     let kept = ap (slice_set c.act-served-in-Ok-open_command.new.held c.from-channel.result) c.close_protected.ensures.same
     ∙ set-get_or c.act-served-in-Ok-open_command.new.held c.from-channel.result c.index-held-channel-in-Ok-open_command.result in
-    subst (λ (all : List Held). Serves page state c.args.bytes.now (record { tables = c.act-served-in-Ok-open_command.new.records.tables; live = c.act-served-in-Ok-open_command.new.live; held = all })
+    subst (λ (all : List ChannelSession). Serves page state c.args.bytes.now (record { tables = c.act-served-in-Ok-open_command.new.records.tables; live = c.act-served-in-Ok-open_command.new.live; held = all })
     c.close_protected.new.reply.items c.close_protected.result) (sym kept)
     (rw c.close_protected.ensures.rule (
     carried_out page state c.args.bytes.now command (Some (accepting session command)) plain
@@ -170,20 +170,20 @@ pub returns-in-Err-open_command-clause-served : goal.returns-in-Err-open_command
 returns-in-Err-open_command-clause-served g c = λ page state stands.
     let command : Apdu = apdu_of c.in-Ok.received.command in
     let here = c.from-channel.ensures ∙ c.in-Ok.ensures.channel in
-    let passed = passed_as c.args.held.now c.told-held command c.from-channel.result c.index-held-channel.result c.pass_class.new.held here c.in_default.ensures.kept in
-    let front = c.in-Ok.ensures.passed page state (subst (λ t. SaysState page t c.args.live.now state) (sym c.tables.ensures.tables) stands.shows.says) in
-    let not_over = goes_on page c.args.records.now.tables c.args.live.now c.args.held.now state stands c.told-held command c.in-Ok.received.class (subst (λ t. IsOver t.life c.in-Ok.received.class c.in-Ok.received.command.ins → ⊥) c.tables-2.ensures.tables c.in_default.ensures.ok) in
+    let passed = passed_as c.args.held.now c.told-held command c.from-channel.result c.index-held-channel.result c.check_class.new.held here c.in_default.ensures.kept in
+    let front = c.in-Ok.ensures.passed page state (subst (λ t. RepresentsState page t c.args.live.now state) (sym c.tables.ensures.tables) stands.shows.says) in
+    let not_over = goes_on page c.args.records.now.tables c.args.live.now c.args.held.now state stands c.told-held command c.in-Ok.received.class (subst (λ t. IsTerminatedFor t.life c.in-Ok.received.class c.in-Ok.received.command.ins → ⊥) c.tables-2.ensures.tables c.in_default.ensures.ok) in
     let protected = protects_so command c.in-Ok.received.class c.is_protected.result true c.in-Ok.ensures.class c.is_protected.ensures c.if-not-is_protected.false in
     let opened = opened_so c.args.live.now command c.in-Ok.received.channel c.in-Ok.received.selected c.in-Ok.ensures.channel c.in-Ok.ensures.selected in
-    let old = passed_there c.args.held.now c.told-held command c.from-channel.result c.pass_class.new.held c.index-held-channel-2.result here passed in
-    let standing : Standing = standing_of (channel_at (class_passed state.volatile command) (channel_of command.class)) in
-    let holds = subst (λ (h : Held). HoldsAs h standing) (sym old)
+    let old = passed_there c.args.held.now c.told-held command c.from-channel.result c.check_class.new.held c.index-held-channel-2.result here passed in
+    let secure_channel : SecureChannel = secure_channel_of (channel_at (class_passed state.volatile command) (channel_of command.class)) in
+    let holds = subst (λ (h : ChannelSession). RepresentsSecureChannel h secure_channel) (sym old)
     (holds_passed page c.args.records.now.tables c.args.live.now c.args.held.now state stands c.told-held command) in
-    let opens = c.in-Err-open_command.ensures.opens standing holds in
+    let opens = c.in-Err-open_command.ensures.opens secure_channel holds in
     let served = refused_served page c.args.records.now.tables c.args.live.now c.args.held.now state stands c.told-held command c.in-Ok.received.selected
     opened protected c.args.bytes.now c.in-Ok.ensures.spelled c.in-Ok.ensures.known c.in-Ok.received.class c.in-Ok.ensures.class
     front not_over c.open_command.new.held c.open_command.new.plain c.close_plain-in-Err-open_command.new.reply.items c.in-Err-open_command.rule
-    (subst (λ (h : Held). OpensAs command standing h c.open_command.new.held c.open_command.new.plain (Err c.in-Err-open_command.rule)) old opens)
+    (subst (λ (h : ChannelSession). OpensAs command secure_channel h c.open_command.new.held c.open_command.new.plain (Err c.in-Err-open_command.rule)) old opens)
     (c.close_plain-in-Err-open_command.ensures.closed ∙ rw c.requires.empty refl) in
     rw (c.close_plain-in-Err-open_command.ensures.rule, passed, c.end_load-in-Err-open_command.ensures, c.forget_place.ensures, c.in-Ok.ensures.channel, here) served
 

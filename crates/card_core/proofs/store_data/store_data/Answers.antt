@@ -3,11 +3,11 @@ use Rattle.std.specs.Prelude.{All}
 use Rattle.std.proofs.lemmas.List.Elements.{All-head}
 use Rattle.bertlv.specs.Spelling.{Element, AreElements}
 use Rattle.card_types.specs.InOrder.{IsInOrder}
-use Rattle.card_types.specs.Says.{used}
+use Rattle.card_types.specs.Represents.{used}
 use Rattle.card_types.specs.Well.{IsObject}
 use Rattle.card_types.specs.declared.limits.TheConstants.{OBJECTS}
 use Rattle.policy_rules.proofs.StoreDataElements.{elements_behind, none_left}
-use Rattle.policy_rules.specs.Means.{ActsIn}
+use Rattle.policy_rules.specs.Requests.{ActsIn}
 use Rattle.policy_rules.specs.ObjectsFound.{has_object_in, new_tags}
 use Rattle.card_core.proofs.Cards.{in_order}
 use Rattle.card_core.proofs.Managing.{refusal_managed}
@@ -24,7 +24,7 @@ use Rattle.policy_rules.specs.Arranged.{IsArranged}
 use Rattle.policy_rules.specs.Commands.{TakesCommand, Judges}
 use Rattle.policy_rules.specs.State.{Effect}
 use Rattle.policy_rules.specs.DataObjects.{with_data, with_objects}
-use Rattle.policy_rules.specs.StoreData.{HasObjects, StoreDataDoes, StoreDataField, store_data}
+use Rattle.policy_rules.specs.StoreData.{HasObjects, StoreDataEffect, StoreDataField, store_data}
 use Rattle.card_core.specs.Manages.{IsManaged}
 use Rattle.card_types.specs.Registry as registry
 use Rattle.card_core.proofs.store_data.store_data.Goals as goal
@@ -43,7 +43,7 @@ all_managed page before now domain admitted acts takes judges elements has put s
     let part = put.shows page said acts.says acts.well in
     let things = part.rest ∙ ap (λ (owner : List ℕ). with_objects owner said.objects elements) (sym acts.on) in
     let effect : Effect = record { state = record { registry = with_data said part.objects; volatile = admitted.at.volatile }; body = []; status = 0x9000 } in
-    let does : StoreDataDoes admitted effect = record {
+    let does : StoreDataEffect admitted effect = record {
       elements = elements;
       objects = part.objects;
       has = has;

@@ -3,7 +3,7 @@ use Rattle.std.specs.Prelude.{nat_lt}
 use Rattle.std.proofs.lemmas.Bool.{and_parts, eqb-true}
 use Rattle.card_types.proofs.SetNames.{counter_in_slot, has_from_held, has_key_named, key_in_slot, key_length_in_slot, set_beside}
 use Rattle.card_types.specs.Registry.{key_named}
-use Rattle.card_types.specs.Says.{domain_aid, key_of}
+use Rattle.card_types.specs.Represents.{domain_aid, key_of}
 use Rattle.card_types.proofs.key_set.set_with.Goals as goal
 
 pub key_named-requires-clause-there : goal.key_named-requires-clause-there

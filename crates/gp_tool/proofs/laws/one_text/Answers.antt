@@ -1,7 +1,7 @@
 use Rattle.std.proofs.Common.{ap}
 use Rattle.gp_tool.proofs.OneText.{plays_once}
 use Rattle.gp_tool.proofs.laws.one_text.Goals as goal
-use Rattle.gp_tool.specs.Plays.{text_of}
+use Rattle.gp_tool.specs.RunsLines.{text_of}
 
 pub returns-clause-text : goal.returns-clause-text
 returns-clause-text c first lines some others last another one other =

@@ -1,5 +1,5 @@
 use Rattle.std.proofs.Common.{refl, arith, ◌∙◌}
-use Rattle.gp_tool.proofs.Course.{going_first, going_further, going_ends}
+use Rattle.gp_tool.proofs.RunSoFar.{going_first, going_further, going_ends}
 use Rattle.gp_tool.proofs.Moments.{has_failed, has_run, joins, nothing_done, stays}
 use Rattle.gp_tool.specs.Device.{HasFailed, HasRun}
 use Rattle.gp_tool.proofs.run.take_lines.Goals as goal

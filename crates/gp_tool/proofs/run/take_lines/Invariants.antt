@@ -1,6 +1,6 @@
 use Rattle.std.proofs.Common.{◌≡◌, ◌-◌, ◌≤◌, None, true}
 use Rattle.io_edge.specs.Lines.{IsWithin}
-use Rattle.card_core.specs.Card.{Stands}
+use Rattle.card_core.specs.Card.{CardRepresents}
 use Rattle.policy_rules.specs.State.{State}
 use Rattle.gp_tool.specs.Device.{LeavesOneOf}
 use Rattle.gp_tool.specs.Ends.{outside}
@@ -17,9 +17,9 @@ invariant-loop-ending g l = record {
   writes : (g.K.Sink.state l.sink).faults ≡ (g.K.Sink.state l.fn.sink).faults;
   later : g.F.Flash.faults l.fn.card.flash ≤ g.F.Flash.faults l.card.flash;
   flushes : (g.K.Sink.state l.sink).flushes ≡ (g.K.Sink.state l.fn.sink).flushes;
-  going : (first : State) → Stands g.F.Flash l.fn.card first
+  going : (first : State) → CardRepresents g.F.Flash l.fn.card first
       → Going g.S.Source.tells g.K.Sink.tells first
-      (Stands g.F.Flash l.card)
+      (CardRepresents g.F.Flash l.card)
       (LeavesOneOf g.F.Flash l.fn.card.flash l.card.flash)
       l.done
       (outside (g.S.Source.state l.fn.source) (g.K.Sink.state l.fn.sink))

@@ -1,7 +1,7 @@
 use Rattle.std.proofs.Common.{◌≡◌, false, List, Option, refl, sym, subst, ◌∙◌}
 use Rattle.std.specs.List.Sorted.{IsPermutation}
 use Rattle.std.proofs.lemmas.List.Sorted.{IsPermutation-refl}
-use Rattle.card_types.specs.Says.{used}
+use Rattle.card_types.specs.Represents.{used}
 use Rattle.card_types.specs.declared.tables.KeyRec.{KeyRec}
 use Rattle.key_sets.specs.PutFails.{has_version}
 use Rattle.key_sets.proofs.Stays.{none_goes}

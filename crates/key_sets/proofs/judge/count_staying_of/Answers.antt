@@ -2,7 +2,7 @@ use Rattle.std.proofs.Common.{◌≡◌, ◌==◌, ◌&&◌, List, length, refl,
 use Rattle.std.proofs.lemmas.Iterator.{YieldsList-from_slice}
 use Rattle.std.proofs.lemmas.Iterator.Consumers.{YieldsList-from_filter, count_from_yields_List}
 use Rattle.std.specs.Prelude.{filter, not}
-use Rattle.card_types.specs.Says.{used}
+use Rattle.card_types.specs.Represents.{used}
 use Rattle.card_types.specs.declared.tables.KeyRec.{KeyRec}
 use Rattle.key_sets.specs.InSlots.{holds_staying_of}
 use Rattle.key_sets.specs.Puts.{is_of}

@@ -1,6 +1,6 @@
 use Rattle.std.proofs.Common.{◌≡◌, ◌+◌, List, [], ◌∷◌, length, ap, ◌∙◌, arith}
 use Rattle.std.proofs.lemmas.List.Sorted.{length_permutation}
-use Rattle.card_types.specs.Says.{used}
+use Rattle.card_types.specs.Represents.{used}
 use Rattle.card_types.specs.declared.tables.KeyRec.{KeyRec}
 use Rattle.key_sets.specs.Puts.{set_keys, staying}
 use Rattle.key_sets.proofs.Putting.{put_three, slot_left}

@@ -1,7 +1,7 @@
 use Rattle.std.proofs.Common.{◌≡◌, List, Option, Some, ap, sym, subst, ◌∙◌}
 use Rattle.std.specs.List.{list_any}
 use Rattle.std.proofs.lemmas.Bool.{false_from_ne_true, not-true, not_from_false}
-use Rattle.card_types.specs.Says.{domain_slot}
+use Rattle.card_types.specs.Represents.{domain_slot}
 use Rattle.card_types.specs.declared.tables.Entry.{Entry}
 use Rattle.policy_rules.specs.KeyOrder.{holds_counter_but}
 use Rattle.policy_rules.proofs.LastSet.{last_set, root_slot, set_left}

@@ -1,4 +1,4 @@
-use Rattle.card_types.specs.Says.{domain_aid}
+use Rattle.card_types.specs.Represents.{domain_aid}
 use Rattle.policy_rules.proofs.DataFound.{counter_data, counter_tag, keys_tag, object_tag, no_counter_data, no_keys, no_object_data, object_data}
 use Rattle.policy_rules.proofs.get_data.find_datum.Goals as goal
 

@@ -2,7 +2,7 @@ use Rattle.std.proofs.Common.{length}
 use Rattle.key_sets.specs.PutFails.{PutFails}
 use Rattle.policy_rules.proofs.FirstJoined.{passed_behind, refused_behind, refused_within}
 use Rattle.policy_rules.proofs.PutKeyJudging.{roomy_ok}
-use Rattle.policy_rules.specs.Means.{sent_keys}
+use Rattle.policy_rules.specs.Requests.{sent_keys}
 use Rattle.policy_rules.specs.PutKey.{PutKeyFails}
 use Rattle.policy_rules.specs.PutRules.{key_rules, version_rules}
 use Rattle.policy_rules.proofs.put_key.judge_put_key.Goals as goal

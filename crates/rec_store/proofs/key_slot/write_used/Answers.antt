@@ -3,7 +3,7 @@ use Rattle.std.proofs.lemmas.Grind.{common_steps}
 use Rattle.rec_store.proofs.key_slot.write_used.Goals as goal
 use Rattle.rec_store.proofs.Kept.{bytes_kept, counted}
 use Rattle.rec_store.specs.Bytes.{HasBytesAt}
-use Rattle.card_types.specs.Says.{keeps_counter}
+use Rattle.card_types.specs.Represents.{keeps_counter}
 
 pub returns : goal.returns
 returns c =

@@ -5,7 +5,7 @@ use Rattle.card_check.specs.IsCard.{IsInLoadPages}
 use Rattle.card_types.proofs.DrawnCounter.{held_within}
 use Rattle.card_types.specs.Found.{aid_of}
 use Rattle.card_types.specs.RegistryChange.{moved}
-use Rattle.card_types.specs.Says.{Says, domain_aid}
+use Rattle.card_types.specs.Represents.{Represents, domain_aid}
 use Rattle.card_types.specs.Slots.{held}
 use Rattle.card_types.specs.declared.found.Found.{Found}
 use Rattle.card_types.specs.declared.found.Found.TheVariants as found
@@ -61,7 +61,7 @@ returns-in-Entry-clause-said g c page said aid named says well =
     let here : aid_of before (found.Entry slot) ≡ Some aid = subst (λ (thing : Found). aid_of before thing ≡ Some aid) c.in-Entry.is named in
     let own = ap (option_map (λ (e : Entry). e.aid)) at in
     let same : entry.aid ≡ aid = cc in
-    subst (λ (name : List ℕ). Says page after (moved said name (domain_aid before.entries.items c.args.domain))) same
+    subst (λ (name : List ℕ). Represents page after (moved said name (domain_aid before.entries.items c.args.domain))) same
     (entry_moved page before after said says slot entry at well c.args.domain c.set_entry.ensures.tables)
 
 pub returns-in-Entry-clause-room : goal.returns-in-Entry-clause-room
@@ -88,7 +88,7 @@ returns-in-File-clause-said g c page said aid named says well =
     let here : aid_of before (found.File slot) ≡ Some aid = subst (λ (thing : Found). aid_of before thing ≡ Some aid) c.in-File.is named in
     let own = ap (option_map (λ (f : LoadFile). f.aid)) at in
     let same : file.aid ≡ aid = cc in
-    subst (λ (name : List ℕ). Says page after (moved said name (domain_aid before.entries.items c.args.domain))) same
+    subst (λ (name : List ℕ). Represents page after (moved said name (domain_aid before.entries.items c.args.domain))) same
     (file_moved page before after said says slot file at well c.args.domain c.set_file.ensures.tables)
 
 pub returns-in-File-clause-room : goal.returns-in-File-clause-room

@@ -1,7 +1,7 @@
 use Rattle.std.proofs.Common.{refl}
 use Rattle.std.proofs.lemmas.List.Elements.{All-contains}
 use Rattle.card_types.proofs.KeyNames.{counters_shown}
-use Rattle.card_types.specs.Says.{counter_of}
+use Rattle.card_types.specs.Represents.{counter_of}
 use Rattle.card_types.specs.Well.{IsWellCounter}
 use Rattle.gp_tool.specs.Show.{counter_line}
 use Rattle.gp_tool.proofs.show.counters.show_counters.Goals as goal

@@ -2,7 +2,7 @@ use Rattle.std.proofs.Common.{refl}
 use Rattle.card_types.specs.AidOrder.{aid_order}
 use Rattle.card_types.specs.Registry.{Entry}
 use Rattle.card_types.proofs.LeastOfList.{sorted_by_name}
-use Rattle.card_types.specs.Says.{entry_of}
+use Rattle.card_types.specs.Represents.{entry_of}
 use Rattle.gp_tool.specs.Show.{entry_line}
 use Rattle.gp_tool.proofs.ListedSlots.{all_listed}
 use Rattle.gp_tool.proofs.show.entries.show_entries.Goals as goal

@@ -1,12 +1,12 @@
 use Rattle.std.proofs.Common.{◌≡◌, ◌++◌, List, take, refl, ap, ◌∙◌, arith}
 use Rattle.std.proofs.lemmas.Result.{MatchResult-from_err}
-use Rattle.card_types.specs.Says.{file_of}
+use Rattle.card_types.specs.Represents.{file_of}
 use Rattle.card_types.specs.declared.tables.LoadFile.{LoadFile}
 use Rattle.card_types.specs.declared.tables.Tables.{Tables}
 use Rattle.flash_core.specs.declared.page.Page.{Page}
 use Rattle.rec_store.specs.Reopens.{Reopens, load_page}
 use Rattle.gp_tool.proofs.FilesInOrder.{file_found, file_order_total, files_sorted, no_file_found}
-use Rattle.gp_tool.proofs.StandsOn.{says_told, still_leaves}
+use Rattle.gp_tool.proofs.RepresentsSoundly.{says_told, still_leaves}
 use Rattle.rec_store.proofs.Leaving.{joined}
 use Rattle.gp_tool.proofs.Written.{all_written, enough_written, next_written, none_written, part_of_lines}
 use Rattle.gp_tool.specs.Show.{file_line}

@@ -1,7 +1,7 @@
 use Rattle.std.proofs.Common.{◌≡◌, ◌≤◌, true}
 use Rattle.std.specs.Option.{option_map}
-use Rattle.card_core.specs.Card.{Stands}
-use Rattle.card_types.specs.Says.{file_of}
+use Rattle.card_core.specs.Card.{CardRepresents}
+use Rattle.card_types.specs.Represents.{file_of}
 use Rattle.page_journal.specs.Moments.{LeavesOnly}
 use Rattle.policy_rules.specs.State.{State}
 use Rattle.rec_store.specs.Reopens.{Reopens, load_page}
@@ -16,11 +16,11 @@ invariant-loop g l =
     let first = l.initial.card in record {
       up : l.card.up ≡ true;
       tables : l.card.tables ≡ first.tables;
-      stands : (state : State) → Stands F first state → Stands F l.card state;
-      moments : F.tells → (state : State) → Stands F first state
+      stands : (state : State) → CardRepresents F first state → CardRepresents F l.card state;
+      moments : F.tells → (state : State) → CardRepresents F first state
           → LeavesOnly F first.flash l.card.flash (λ outcome. Reopens outcome state.registry);
       pages : F.tells → F.pages l.card.flash ≡ F.pages first.flash;
-      written : F.tells → (state : State) → Stands F first state
+      written : F.tells → (state : State) → CardRepresents F first state
           → IsWritten file_order file_line g.K.Sink.tells state.registry.files l.counter (option_map (file_of (load_page (F.pages first.flash)) first.tables.entries.items) l.last)
           (g.K.Sink.state l.initial.sink).written (g.K.Sink.state l.sink).written;
       flushes : (g.K.Sink.state l.sink).flushes ≡ (g.K.Sink.state l.initial.sink).flushes;

@@ -1,5 +1,5 @@
 use Rattle.std.proofs.Common.{refl}
-use Rattle.card_types.specs.Says.{key_of}
+use Rattle.card_types.specs.Represents.{key_of}
 use Rattle.gp_tool.specs.Show.{key_line}
 use Rattle.gp_tool.proofs.ListedSlots.{all_listed}
 use Rattle.gp_tool.proofs.show.keys.show_keys.Goals as goal

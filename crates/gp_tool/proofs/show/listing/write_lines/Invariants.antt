@@ -1,7 +1,7 @@
 use Rattle.std.proofs.Common.{◌≡◌, ℕ, List}
 use Rattle.std.specs.Prelude.{filter, map, option_copied, option_map}
 use Rattle.std.specs.List.Sorted.{IsPermutation, IsStrictlySortedBy}
-use Rattle.card_types.specs.Says.{used}
+use Rattle.card_types.specs.Represents.{used}
 use Rattle.gp_tool.proofs.Written.{IsWritten}
 use Rattle.gp_tool.proofs.show.listing.write_lines.Given as goal
 

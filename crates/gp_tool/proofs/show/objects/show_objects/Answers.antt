@@ -1,5 +1,5 @@
 use Rattle.std.proofs.Common.{refl}
-use Rattle.card_types.specs.Says.{object_of}
+use Rattle.card_types.specs.Represents.{object_of}
 use Rattle.gp_tool.specs.Show.{object_line}
 use Rattle.gp_tool.proofs.ListedSlots.{all_listed}
 use Rattle.gp_tool.proofs.show.objects.show_objects.Goals as goal

@@ -1,7 +1,7 @@
 use Rattle.std.proofs.Common.{◌≡◌, ◌⊎◌, inr, ⊎_elim, ◌<◌, [], length, ap, sym, subst, ◌∙◌}
 use Rattle.std.specs.Prelude.{OnOk}
 use Rattle.card_check.specs.IsCard.{IsCard}
-use Rattle.card_types.specs.Says.{Says}
+use Rattle.card_types.specs.Represents.{Represents}
 use Rattle.flash_core.specs.Device.{Only}
 use Rattle.page_journal.specs.Journal.{stored}
 use Rattle.page_journal.specs.Moments.{LeavesOnly, current}
@@ -23,7 +23,7 @@ returns-clause-moments g c told before after =
     let new = c.commit.new.self.flash in
     let held = c.self.invariant.3 told (ap (λ r. r.live) c.self.view_is ∙ c.requires.live) in
     let card = subst (λ (r : Contents g.row.F.Denot). IsCard (load_page (F.pages r.flash)) r.tables) (sym c.self.view_is) (c.requires.card told) in
-    subst (λ (r : Contents g.row.F.Denot). Keeps F r.flash before → Says (load_page (F.pages r.flash)) r.tables after
+    subst (λ (r : Contents g.row.F.Denot). Keeps F r.flash before → Represents (load_page (F.pages r.flash)) r.tables after
     → LeavesOnly F r.flash new (λ outcome. Reopens outcome before ⊎ Reopens outcome after)) c.self.view_is
     (λ was says.
     weaker F old new (Either store.staged (F.pages old) (F.may_leave old) tables before after c.self.invariant.2 held card says was)
@@ -42,7 +42,7 @@ returns-clause-keeps g c told before after =
     let held = c.self.invariant.3 told (ap (λ r. r.live) c.self.view_is ∙ c.requires.live) in
     let card = subst (λ (r : Contents g.row.F.Denot). IsCard (load_page (F.pages r.flash)) r.tables) (sym c.self.view_is) (c.requires.card told) in
     let K = Keeps F new after in
-    subst (λ (r : Contents g.row.F.Denot). Keeps F r.flash before → Says (load_page (F.pages r.flash)) r.tables after → OnOk c.commit.result K) c.self.view_is
+    subst (λ (r : Contents g.row.F.Denot). Keeps F r.flash before → Represents (load_page (F.pages r.flash)) r.tables after → OnOk c.commit.result K) c.self.view_is
     (λ was says. ⊎_elim
     (λ (empty : store.staged ≡ []). always_ok c.commit.result K
     (subst (λ (s : Store g.row.F.Denot). Keeps F s.flash after) (sym (e.idle empty).1) (idle store.staged (F.pages old) (F.may_leave old) tables before after c.self.invariant.2 held card says was empty)))

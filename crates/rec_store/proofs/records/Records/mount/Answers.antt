@@ -4,7 +4,7 @@ use Rattle.std.proofs.lemmas.List.{length-replicate}
 use Rattle.card_check.specs.IsCard.{HasPages, IsCard}
 use Rattle.card_types.specs.InOrder.{IsInOrder}
 use Rattle.card_types.specs.Registry.{Registry}
-use Rattle.card_types.specs.Says.{Says}
+use Rattle.card_types.specs.Represents.{Represents}
 use Rattle.flash_core.specs.declared.page.Page.{Page}
 use Rattle.page_journal.specs.Journal.{stored}
 use Rattle.page_journal.specs.Moments.{Leaves, LeavesOnly}
@@ -38,7 +38,7 @@ returns-in-Ok-mount-clause-says g c told =
     let moments = subst (λ p. IfOk c.open.result (λ r. LeavesOnly F store.flash r.flash (Leaves (stored p) []))) seen (c.open.ensures.moments told) in
     each_ok c.open.result
     (λ r. ((page : ℕ → List ℕ) → HasPages page → IsCard page r.tables) × (HoldsTables (store_page pages) r.tables × LeavesOnly F store.flash r.flash (Leaves list [])))
-    (λ r. (registry : Registry) × Reopens pages registry × Says (load_page (F.pages r.flash)) r.tables registry × Keeps F r.flash registry)
+    (λ r. (registry : Registry) × Reopens pages registry × Represents (load_page (F.pages r.flash)) r.tables registry × Keeps F r.flash registry)
     (λ r is.
     let card = is.0 (load_page pages) (has_pages list) in
     let later = now_left F store.flash r.flash (Leaves list []) is.1.1 told g.met.F.Flash.counts_now in
@@ -46,7 +46,7 @@ returns-in-Ok-mount-clause-says g c told =
     let loads : load_page (F.pages r.flash) ≡ load_page pages = λ i n. load_same (stored (F.pages r.flash)) list n (λ high. now.load n high (λ loose. absurd (omega (arith, loose.1)))) i in (
       card.said,
       record { sound = c.in-Ok-mount.ensures.sound told; holds = record { tables = r.tables; held = is.1.0; card = card; says = card.says } },
-      subst (λ load. Says load r.tables card.said) (sym loads) card.says,
+      subst (λ load. Represents load r.tables card.said) (sym loads) card.says,
       keeps_left list [] r.tables card.said (none_loose r.tables) is.1.0 card card.says (F.pages r.flash) (F.may_leave r.flash) now later,
     ))
     (also_ok c.open.result (λ r. (page : ℕ → List ℕ) → HasPages page → IsCard page r.tables) (λ r. HoldsTables (store_page pages) r.tables × LeavesOnly F store.flash r.flash (Leaves list []))

@@ -2,7 +2,7 @@ use Rattle.std.proofs.Common.{◌≡◌, ◌+◌, ◌/◌, refl, ap, sym, subst,
 use Rattle.std.specs.Prelude.{All, slice_set}
 use Rattle.std.specs.Vec.{with_item}
 use Rattle.card_check.specs.IsCard.{IsInLoadPages}
-use Rattle.card_types.specs.Says.{used}
+use Rattle.card_types.specs.Represents.{used}
 use Rattle.card_types.specs.SlotChange.{SetsFile}
 use Rattle.card_types.specs.declared.tables.Tables.{Tables}
 use Rattle.rec_store.specs.FileSlot.{HoldsFile}

@@ -5,7 +5,7 @@ use Rattle.policy_rules.specs.Run.{Input, Run, Command, Reset}
 use Rattle.policy_rules.specs.State.{State, powered_on}
 use Rattle.policy_rules.specs.Step.{Outcome}
 use Rattle.gp_tool.specs.Form.{AreSpelled}
-use Rattle.gp_tool.specs.Plays.{Plays, text_of, reply_line}
+use Rattle.gp_tool.specs.RunsLines.{RunsLines, text_of, reply_line}
 
 spelled_more : (xs ys : List (List ℕ)) (a b : List Input) → AreSpelled xs a → AreSpelled ys b → AreSpelled (xs ++ ys) (a ++ b)
 spelled_more [] ys a b none more = rw none more
@@ -25,14 +25,14 @@ run_more (Command bytes ∷ a) b state mid last (x ∷ xs) ys done more = (done.
 run_more (Reset ∷ a) b state mid last xs ys done more = run_more a b (powered_on state.registry) mid last xs ys done more
 
 pub plays_more : (xs ys : List (List ℕ)) (some more : List Outcome) (state mid last : State)
-    → Plays state xs some mid → Plays mid ys more last → Plays state (xs ++ ys) (some ++ more) last
+    → RunsLines state xs some mid → RunsLines mid ys more last → RunsLines state (xs ++ ys) (some ++ more) last
 plays_more xs ys some more state mid last first second = record {
   inputs = first.inputs ++ second.inputs;
   spelled = spelled_more xs ys first.inputs second.inputs first.spelled second.spelled;
   run = run_more first.inputs second.inputs state mid last some more first.run second.run;
 }
 
-pub plays_none : (state : State) → Plays state [] [] state
+pub plays_none : (state : State) → RunsLines state [] [] state
 plays_none state = record { inputs = []; spelled = refl; run = (refl, refl) }
 
 pub text_more : (some more : List Outcome) → text_of (some ++ more) ≡ text_of some ++ text_of more

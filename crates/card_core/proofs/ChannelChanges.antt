@@ -6,35 +6,35 @@ use Rattle.std.proofs.lemmas.List.{set-get_or}
 use Rattle.apdu_core.specs.Apdu.{Apdu}
 use Rattle.card_types.specs.Layout.{HasIssuer, HasLayout}
 use Rattle.card_types.specs.Registry.{Registry}
-use Rattle.card_types.specs.Says.{Says}
+use Rattle.card_types.specs.Represents.{Represents}
 use Rattle.card_types.specs.Slots.{held}
 use Rattle.card_types.specs.declared.factory.TheConstants.{ISSUER}
 use Rattle.card_types.specs.declared.tables.Entry.{Entry}
 use Rattle.card_types.specs.declared.tables.TheConstants.{ISSUER_SLOT}
 use Rattle.card_types.specs.declared.tables.Tables.{Tables}
 use Rattle.policy_rules.proofs.SetChannel.{lowest_is_closed}
-use Rattle.policy_rules.specs.Admission.{channel_passed, placeless, session_passed}
+use Rattle.policy_rules.specs.Admission.{channel_passed, without_place, session_passed}
 use Rattle.policy_rules.specs.Classes.{channel_of}
 use Rattle.policy_rules.specs.LiveEnds.{kept_of_others, live_with_channel, live_without_load, live_without_place}
 use Rattle.policy_rules.specs.ManageChannel.{lowest_closed}
-use Rattle.policy_rules.specs.Means.{IsLoadNamed, IsSelectedIn, SaysState, place_of}
+use Rattle.policy_rules.specs.Requests.{IsLoadNamed, IsSelectedIn, RepresentsState, place_of}
 use Rattle.policy_rules.specs.State.{State}
-use Rattle.policy_rules.specs.Volatile.{Channel, LoadSession, Nothing, Offered, Secured, Standing, Volatile, channel_at, fresh, load_of_others, place_in, standing_of, standing_so, with_channel, with_offer_dropped, with_standing, without_load, without_offer}
+use Rattle.policy_rules.specs.Volatile.{Channel, LoadSession, Nothing, Offered, Secured, SecureChannel, Volatile, channel_at, fresh, load_without_channel, place_in, secure_channel_of, channel_with, with_channel, with_offer_dropped, with_secure_channel, without_load, without_offer}
 use Rattle.policy_rules.specs.declared.instruction.TheConstants.{LOAD}
 use Rattle.policy_rules.specs.declared.live.Live.{Live}
 use Rattle.policy_rules.specs.declared.live.LoadName.{LoadName}
 use Rattle.policy_rules.specs.declared.live.Place.{Place as KeptPlace}
 use Rattle.policy_rules.specs.declared.live.TheConstants.{CHANNELS}
-use Rattle.card_core.specs.Holds.{HoldsAs, held_passed, without_offer_held}
-use Rattle.card_core.specs.Kept.{Kept, Shows}
+use Rattle.card_core.specs.SecureChannels.{RepresentsSecureChannel, held_passed, without_offer_held}
+use Rattle.card_core.specs.Kept.{Kept, KeptRepresents}
 use Rattle.card_core.specs.Serves.{live_passed}
-use Rattle.card_core.specs.declared.held.Held.{Held}
-use Rattle.card_core.specs.declared.held.Held.TheVariants as held
+use Rattle.card_core.specs.declared.channel_session.ChannelSession.{ChannelSession}
+use Rattle.card_core.specs.declared.channel_session.ChannelSession.TheVariants as held
 use Rattle.card_core.proofs.SetAt.{IsSetAt, none_at, same_at, set_at, set_each}
 
 -- the load session of another channel is left, as the code keeps it and in the model
 load_left : (entries : List (Option Entry)) (number : ℕ) (kept : Option LoadName) (load : Option LoadSession) → IsLoadNamed entries kept load
-    → IsLoadNamed entries (kept_of_others number kept) (load_of_others number load)
+    → IsLoadNamed entries (kept_of_others number kept) (load_without_channel number load)
 load_left entries number None None named = tt
 load_left entries number None (Some load) named = absurd named
 load_left entries number (Some kept) None named = absurd named
@@ -52,10 +52,10 @@ pub record HasFour (card : Kept) (state : State) : Type 0 where
   pub channels : length state.volatile.channels ≡ CHANNELS
 
 -- what the code keeps of a channel goes with what the channel has in the model
-pub record IsKeptAs (tables : Tables) (slot : Option ℕ) (kept : Option KeptPlace) (now : Held) (channel : Option Channel) : Type 0 where
+pub record IsKeptAs (tables : Tables) (slot : Option ℕ) (kept : Option KeptPlace) (now : ChannelSession) (channel : Option Channel) : Type 0 where
   pub selected : IsSelectedIn tables.entries.items slot channel
   pub place : option_map place_of kept ≡ place_in channel
-  pub holds : HoldsAs now (standing_of channel)
+  pub holds : RepresentsSecureChannel now (secure_channel_of channel)
 
 -- a channel is set, as the code keeps it and in the model; the load session is left at that, or has ended
 pub record SetsChannel (live after_live : Live) (volatile after : Volatile) (number : ℕ) (slot : Option ℕ) (place : Option KeptPlace) (channel : Option Channel) : Type 0 where
@@ -63,7 +63,7 @@ pub record SetsChannel (live after_live : Live) (volatile after : Volatile) (num
   pub places : IsSetAt live.places after_live.places number place None
   pub channels : after.channels ≡ slice_set volatile.channels number channel
 
-module _ (page : ℕ → List ℕ) (tables : Tables) (live : Live) (all : List Held) (state : State) (shows : Shows page (record { tables = tables; live = live; held = all }) state)
+module _ (page : ℕ → List ℕ) (tables : Tables) (live : Live) (all : List ChannelSession) (state : State) (shows : KeptRepresents page (record { tables = tables; live = live; held = all }) state)
     (four : HasFour (record { tables = tables; live = live; held = all }) state) (number : ℕ) (low : number < CHANNELS) where
   few : number < length state.volatile.channels
   few = subst (λ (n : ℕ). number < n) (sym four.channels) low
@@ -74,14 +74,14 @@ module _ (page : ℕ → List ℕ) (tables : Tables) (live : Live) (all : List H
   abbrev here : Option Channel
   here = channel_at state.volatile number
 
-  holds_here : HoldsAs (slice_index_or all number held.Nothing) (standing_of here)
+  holds_here : RepresentsSecureChannel (slice_index_or all number held.Nothing) (secure_channel_of here)
   holds_here = shows.holds number low
 
   -- a channel is set
-  pub channel_shows : (after_live : Live) (after : Volatile) (slot : Option ℕ) (place : Option KeptPlace) (now : Held) (channel : Option Channel)
+  pub channel_shows : (after_live : Live) (after : Volatile) (slot : Option ℕ) (place : Option KeptPlace) (now : ChannelSession) (channel : Option Channel)
       → SetsChannel live after_live state.volatile after number slot place channel → IsKeptAs tables slot place now channel
       → IsLoadNamed tables.entries.items after_live.load after.load
-      → Shows page (record { tables = tables; live = after_live; held = slice_set all number now }) (record { registry = state.registry; volatile = after })
+      → KeptRepresents page (record { tables = tables; live = after_live; held = slice_set all number now }) (record { registry = state.registry; volatile = after })
   channel_shows after_live after slot place now channel sets kept load = record {
     says = record {
       registry = shows.says.registry;
@@ -94,7 +94,7 @@ module _ (page : ℕ → List ℕ) (tables : Tables) (live : Live) (all : List H
       load = load;
     };
     holds = λ n within.
-        set_each (λ h c. HoldsAs h (standing_of c)) all (slice_set all number now) state.volatile.channels after.channels number now held.Nothing channel None
+        set_each (λ h c. RepresentsSecureChannel h (secure_channel_of c)) all (slice_set all number now) state.volatile.channels after.channels number now held.Nothing channel None
         (set_at all number now held.Nothing few_held) channels kept.holds n (shows.holds n within);
   }
     where
@@ -104,13 +104,13 @@ module _ (page : ℕ → List ℕ) (tables : Tables) (live : Live) (all : List H
 
   -- the channel has something else selected, or is closed, and all that it had has ended
   pub begun_shows : number < length live.selected → (slot : Option ℕ) (channel : Option Channel) → IsSelectedIn tables.entries.items slot channel
-      → place_in channel ≡ None → standing_of channel ≡ Nothing
-      → Shows page (record { tables = tables; live = live_with_channel live number slot; held = slice_set all number held.Nothing })
+      → place_in channel ≡ None → secure_channel_of channel ≡ Nothing
+      → KeptRepresents page (record { tables = tables; live = live_with_channel live number slot; held = slice_set all number held.Nothing })
       (record { registry = state.registry; volatile = without_load (with_channel state.volatile number channel) number })
-  begun_shows within slot channel selected placeless nothing =
+  begun_shows within slot channel selected without_place nothing =
       channel_shows (live_with_channel live number slot) (without_load (with_channel state.volatile number channel) number) slot None held.Nothing channel
       (record { selected = set_at live.selected number slot None within; places = none_at live.places number; channels = refl })
-      (record { selected = selected; place = sym placeless; holds = subst (HoldsAs held.Nothing) (sym nothing) tt })
+      (record { selected = selected; place = sym without_place; holds = subst (RepresentsSecureChannel held.Nothing) (sym nothing) tt })
       (load_left tables.entries.items number live.load state.volatile.load shows.says.load)
 
   selected_passed : (keeps : Bool) (slot : Option ℕ) (channel : Option Channel) → IsSelectedIn tables.entries.items slot channel
@@ -123,15 +123,15 @@ module _ (page : ℕ → List ℕ) (tables : Tables) (live : Live) (all : List H
   place_passed keeps None = refl
   place_passed keeps (Some channel) = refl
 
-  standing_passed : (now : Held) (channel : Option Channel) → HoldsAs now (without_offer (standing_of channel)) → HoldsAs now (standing_of (channel_passed false channel))
-  standing_passed now None holds = holds
-  standing_passed now (Some channel) holds = holds
+  secure_channel_passed : (now : ChannelSession) (channel : Option Channel) → RepresentsSecureChannel now (without_offer (secure_channel_of channel)) → RepresentsSecureChannel now (secure_channel_of (channel_passed false channel))
+  secure_channel_passed now None holds = holds
+  secure_channel_passed now (Some channel) holds = holds
 
-  standing_kept : (now : Held) (channel : Option Channel) → HoldsAs now (standing_of channel) → HoldsAs now (standing_of (channel_passed true channel))
-  standing_kept now None holds = holds
-  standing_kept now (Some channel) holds = holds
+  secure_channel_kept : (now : ChannelSession) (channel : Option Channel) → RepresentsSecureChannel now (secure_channel_of channel) → RepresentsSecureChannel now (secure_channel_of (channel_passed true channel))
+  secure_channel_kept now None holds = holds
+  secure_channel_kept now (Some channel) holds = holds
 
-  offer_dropped : (now : Held) (standing : Standing) → HoldsAs now standing → HoldsAs (without_offer_held now) (without_offer standing)
+  offer_dropped : (now : ChannelSession) (secure_channel : SecureChannel) → RepresentsSecureChannel now secure_channel → RepresentsSecureChannel (without_offer_held now) (without_offer secure_channel)
   offer_dropped held.Nothing Nothing holds = tt
   offer_dropped held.Nothing (Offered offer) holds = absurd holds
   offer_dropped held.Nothing (Secured session) holds = absurd holds
@@ -142,18 +142,18 @@ module _ (page : ℕ → List ℕ) (tables : Tables) (live : Live) (all : List H
   offer_dropped (held.Secured kept) (Offered offer) holds = absurd holds
   offer_dropped (held.Secured kept) (Secured session) holds = holds
 
-  held_after : (keeps : Bool) → HoldsAs (held_passed keeps (slice_index_or all number held.Nothing)) (standing_of (channel_passed keeps here))
-  held_after true = standing_kept (slice_index_or all number held.Nothing) here holds_here
+  held_after : (keeps : Bool) → RepresentsSecureChannel (held_passed keeps (slice_index_or all number held.Nothing)) (secure_channel_of (channel_passed keeps here))
+  held_after true = secure_channel_kept (slice_index_or all number held.Nothing) here holds_here
   held_after false =
-      standing_passed (without_offer_held (slice_index_or all number held.Nothing)) here
-      (offer_dropped (slice_index_or all number held.Nothing) (standing_of here) holds_here)
+      secure_channel_passed (without_offer_held (slice_index_or all number held.Nothing)) here
+      (offer_dropped (slice_index_or all number held.Nothing) (secure_channel_of here) holds_here)
 
   -- behind the check of the class
   pub passed_shows : (keeps : Bool)
-      → Shows page (record { tables = tables; live = live_without_place live number; held = slice_set all number (held_passed keeps (slice_index_or all number held.Nothing)) })
-      (record { registry = state.registry; volatile = placeless state.volatile number keeps })
+      → KeptRepresents page (record { tables = tables; live = live_without_place live number; held = slice_set all number (held_passed keeps (slice_index_or all number held.Nothing)) })
+      (record { registry = state.registry; volatile = without_place state.volatile number keeps })
   passed_shows keeps =
-      channel_shows (live_without_place live number) (placeless state.volatile number keeps) (slice_index_or live.selected number None) None
+      channel_shows (live_without_place live number) (without_place state.volatile number keeps) (slice_index_or live.selected number None) None
       (held_passed keeps (slice_index_or all number held.Nothing)) (channel_passed keeps here)
       (record { selected = same_at live.selected number None; places = none_at live.places number; channels = refl })
       (record {
@@ -163,57 +163,57 @@ module _ (page : ℕ → List ℕ) (tables : Tables) (live : Live) (all : List H
       })
       shows.says.load
 
-  selected_so : (standing : Standing) (slot : Option ℕ) (channel : Option Channel) → IsSelectedIn tables.entries.items slot channel
-      → IsSelectedIn tables.entries.items slot (standing_so standing channel)
-  selected_so standing slot None selected = selected
-  selected_so standing None (Some channel) selected = selected
-  selected_so standing (Some slot) (Some channel) selected = selected
+  selected_so : (secure_channel : SecureChannel) (slot : Option ℕ) (channel : Option Channel) → IsSelectedIn tables.entries.items slot channel
+      → IsSelectedIn tables.entries.items slot (channel_with secure_channel channel)
+  selected_so secure_channel slot None selected = selected
+  selected_so secure_channel None (Some channel) selected = selected
+  selected_so secure_channel (Some slot) (Some channel) selected = selected
 
-  place_so : (standing : Standing) (channel : Option Channel) → place_in channel ≡ place_in (standing_so standing channel)
-  place_so standing None = refl
-  place_so standing (Some channel) = refl
+  place_so : (secure_channel : SecureChannel) (channel : Option Channel) → place_in channel ≡ place_in (channel_with secure_channel channel)
+  place_so secure_channel None = refl
+  place_so secure_channel (Some channel) = refl
 
   -- the channel holds something else
-  holds_shows : (now : Held) (standing : Standing) → HoldsAs now (standing_of (standing_so standing here))
-      → Shows page (record { tables = tables; live = live; held = slice_set all number now }) (record { registry = state.registry; volatile = with_standing state.volatile number standing })
-  holds_shows now standing holds =
-      channel_shows live (with_standing state.volatile number standing) (slice_index_or live.selected number None) (slice_index_or live.places number None) now
-      (standing_so standing here)
+  holds_shows : (now : ChannelSession) (secure_channel : SecureChannel) → RepresentsSecureChannel now (secure_channel_of (channel_with secure_channel here))
+      → KeptRepresents page (record { tables = tables; live = live; held = slice_set all number now }) (record { registry = state.registry; volatile = with_secure_channel state.volatile number secure_channel })
+  holds_shows now secure_channel holds =
+      channel_shows live (with_secure_channel state.volatile number secure_channel) (slice_index_or live.selected number None) (slice_index_or live.places number None) now
+      (channel_with secure_channel here)
       (record { selected = same_at live.selected number None; places = same_at live.places number None; channels = refl })
       (record {
-        selected = selected_so standing (slice_index_or live.selected number None) here (shows.says.selected number low);
-        place = shows.says.places number low ∙ place_so standing here;
+        selected = selected_so secure_channel (slice_index_or live.selected number None) here (shows.says.selected number low);
+        place = shows.says.places number low ∙ place_so secure_channel here;
         holds = holds;
       })
       shows.says.load
 
-  stands_so : (now : Held) (standing : Standing) (channel : Option Channel) (slot : ℕ) → IsSelectedIn tables.entries.items (Some slot) channel
-      → HoldsAs now standing → HoldsAs now (standing_of (standing_so standing channel))
-  stands_so now standing None slot selected holds = absurd selected
-  stands_so now standing (Some channel) slot selected holds = holds
+  stands_so : (now : ChannelSession) (secure_channel : SecureChannel) (channel : Option Channel) (slot : ℕ) → IsSelectedIn tables.entries.items (Some slot) channel
+      → RepresentsSecureChannel now secure_channel → RepresentsSecureChannel now (secure_channel_of (channel_with secure_channel channel))
+  stands_so now secure_channel None slot selected holds = absurd selected
+  stands_so now secure_channel (Some channel) slot selected holds = holds
 
   -- an open channel holds something else
-  pub standing_shows : (slot : ℕ) (now : Held) (standing : Standing) → slice_index_or live.selected number None ≡ Some slot → HoldsAs now standing
-      → Shows page (record { tables = tables; live = live; held = slice_set all number now }) (record { registry = state.registry; volatile = with_standing state.volatile number standing })
-  standing_shows slot now standing opened holds =
-      holds_shows now standing
-      (stands_so now standing here slot (subst (λ (s : Option ℕ). IsSelectedIn tables.entries.items s here) opened (shows.says.selected number low)) holds)
+  pub secure_channel_shows : (slot : ℕ) (now : ChannelSession) (secure_channel : SecureChannel) → slice_index_or live.selected number None ≡ Some slot → RepresentsSecureChannel now secure_channel
+      → KeptRepresents page (record { tables = tables; live = live; held = slice_set all number now }) (record { registry = state.registry; volatile = with_secure_channel state.volatile number secure_channel })
+  secure_channel_shows slot now secure_channel opened holds =
+      holds_shows now secure_channel
+      (stands_so now secure_channel here slot (subst (λ (s : Option ℕ). IsSelectedIn tables.entries.items s here) opened (shows.says.selected number low)) holds)
 
-  dropped_so : (now : Held) (channel : Option Channel) → HoldsAs now (without_offer (standing_of channel))
-      → HoldsAs now (standing_of (standing_so (without_offer (standing_of channel)) channel))
+  dropped_so : (now : ChannelSession) (channel : Option Channel) → RepresentsSecureChannel now (without_offer (secure_channel_of channel))
+      → RepresentsSecureChannel now (secure_channel_of (channel_with (without_offer (secure_channel_of channel)) channel))
   dropped_so now None holds = holds
   dropped_so now (Some channel) holds = holds
 
   -- the channel has lost its offer, if it had one
-  pub lost_shows : Shows page (record { tables = tables; live = live; held = slice_set all number (without_offer_held (slice_index_or all number held.Nothing)) })
+  pub lost_shows : KeptRepresents page (record { tables = tables; live = live; held = slice_set all number (without_offer_held (slice_index_or all number held.Nothing)) })
       (record { registry = state.registry; volatile = with_offer_dropped state.volatile number })
   lost_shows =
-      holds_shows (without_offer_held (slice_index_or all number held.Nothing)) (without_offer (standing_of here))
-      (dropped_so (without_offer_held (slice_index_or all number held.Nothing)) here (offer_dropped (slice_index_or all number held.Nothing) (standing_of here) holds_here))
+      holds_shows (without_offer_held (slice_index_or all number held.Nothing)) (without_offer (secure_channel_of here))
+      (dropped_so (without_offer_held (slice_index_or all number held.Nothing)) here (offer_dropped (slice_index_or all number held.Nothing) (secure_channel_of here) holds_here))
 
 -- the load session of a channel has ended
-pub load_ended_shows : (page : ℕ → List ℕ) (card : Kept) (registry : Registry) (volatile : Volatile) (number : ℕ) → Shows page card (record { registry = registry; volatile = volatile })
-    → Shows page (record { tables = card.tables; live = live_without_load card.live number; held = card.held }) (record { registry = registry; volatile = without_load volatile number })
+pub load_ended_shows : (page : ℕ → List ℕ) (card : Kept) (registry : Registry) (volatile : Volatile) (number : ℕ) → KeptRepresents page card (record { registry = registry; volatile = volatile })
+    → KeptRepresents page (record { tables = card.tables; live = live_without_load card.live number; held = card.held }) (record { registry = registry; volatile = without_load volatile number })
 load_ended_shows page card registry volatile number shows = record {
   says = record {
     registry = shows.says.registry;
@@ -226,23 +226,23 @@ load_ended_shows page card registry volatile number shows = record {
 
 -- it has, unless the command goes on with it
 pub session_passed_shows : (page : ℕ → List ℕ) (card : Kept) (registry : Registry) (volatile : Volatile) (command : Apdu)
-    → Shows page card (record { registry = registry; volatile = volatile })
-    → Shows page (record { tables = card.tables; live = live_passed command.ins (channel_of command.class) card.live; held = card.held })
+    → KeptRepresents page card (record { registry = registry; volatile = volatile })
+    → KeptRepresents page (record { tables = card.tables; live = live_passed command.ins (channel_of command.class) card.live; held = card.held })
     (record { registry = registry; volatile = session_passed volatile command })
 session_passed_shows page card registry volatile command shows = by (command.ins == LOAD)
   where
     by : (goes_on : Bool)
-        → Shows page (record { tables = card.tables; live = if goes_on then card.live else live_without_load card.live (channel_of command.class); held = card.held })
+        → KeptRepresents page (record { tables = card.tables; live = if goes_on then card.live else live_without_load card.live (channel_of command.class); held = card.held })
         (record { registry = registry; volatile = if goes_on then volatile else without_load volatile (channel_of command.class) })
     by true = shows
     by false = load_ended_shows page card registry volatile (channel_of command.class) shows
 
 -- the same is said over tables whose entries are the same
 pub says_over : (page : ℕ → List ℕ) (tables tables' : Tables) (live : Live) (state : State) (registry : Registry) (volatile : Volatile)
-    → tables'.entries.items ≡ tables.entries.items → Says page tables' registry → volatile ≡ state.volatile → SaysState page tables live state
-    → SaysState page tables' live (record { registry = registry; volatile = volatile })
+    → tables'.entries.items ≡ tables.entries.items → Represents page tables' registry → volatile ≡ state.volatile → RepresentsState page tables live state
+    → RepresentsState page tables' live (record { registry = registry; volatile = volatile })
 says_over page tables tables' live state registry volatile entries says same told =
-    subst (λ (v : Volatile). SaysState page tables' live (record { registry = registry; volatile = v })) (sym same) (record {
+    subst (λ (v : Volatile). RepresentsState page tables' live (record { registry = registry; volatile = v })) (sym same) (record {
       registry = says;
       selected = subst (λ (es : List (Option Entry)). (number : ℕ) → number < CHANNELS
           → IsSelectedIn es (slice_index_or live.selected number None) (channel_at state.volatile number)) (sym entries) told.selected;
@@ -251,16 +251,16 @@ says_over page tables tables' live state registry volatile entries says same tol
     })
 
 -- nothing is set in what is held
-pub held_same : (page : ℕ → List ℕ) (card : Kept) (state : State) (number : ℕ) (now : Held) → slice_index_or card.held number held.Nothing ≡ now → Shows page card state
-    → Shows page (record { tables = card.tables; live = card.live; held = slice_set card.held number now }) state
+pub held_same : (page : ℕ → List ℕ) (card : Kept) (state : State) (number : ℕ) (now : ChannelSession) → slice_index_or card.held number held.Nothing ≡ now → KeptRepresents page card state
+    → KeptRepresents page (record { tables = card.tables; live = card.live; held = slice_set card.held number now }) state
 held_same page card state number now same shows =
-    subst (λ (all : List Held). Shows page (record { tables = card.tables; live = card.live; held = all }) state)
+    subst (λ (all : List ChannelSession). KeptRepresents page (record { tables = card.tables; live = card.live; held = all }) state)
     (sym (ap (slice_set card.held number) (sym same) ∙ set-get_or card.held number held.Nothing)) shows
 
 -- the same volatile state
-pub shows_same : (page : ℕ → List ℕ) (card : Kept) (registry : Registry) (a b : Volatile) → a ≡ b → Shows page card (record { registry = registry; volatile = a })
-    → Shows page card (record { registry = registry; volatile = b })
-shows_same page card registry a b same shows = subst (λ (v : Volatile). Shows page card (record { registry = registry; volatile = v })) same shows
+pub shows_same : (page : ℕ → List ℕ) (card : Kept) (registry : Registry) (a b : Volatile) → a ≡ b → KeptRepresents page card (record { registry = registry; volatile = a })
+    → KeptRepresents page card (record { registry = registry; volatile = b })
+shows_same page card registry a b same shows = subst (λ (v : Volatile). KeptRepresents page card (record { registry = registry; volatile = v })) same shows
 
 pub issuer_selected : (entries : List (Option Entry)) → HasIssuer entries → IsSelectedIn entries (Some ISSUER_SLOT) (Some (fresh ISSUER))
 issuer_selected entries has = by (held entries ISSUER_SLOT) refl has
@@ -271,13 +271,13 @@ issuer_selected entries has = by (held entries ISSUER_SLOT) refl has
     by (Some entry) at is = (entry, at, is)
 
 -- the lowest closed channel is opened, and holds nothing, as it did
-pub opened_shows : (page : ℕ → List ℕ) (tables : Tables) (live : Live) (all : List Held) (state : State) → Shows page (record { tables = tables; live = live; held = all }) state
+pub opened_shows : (page : ℕ → List ℕ) (tables : Tables) (live : Live) (all : List ChannelSession) (state : State) → KeptRepresents page (record { tables = tables; live = live; held = all }) state
     → HasFour (record { tables = tables; live = live; held = all }) state → (number : ℕ) → number < CHANNELS → number < length live.selected → HasLayout tables
     → lowest_closed state.volatile.channels ≡ Some number
-    → Shows page (record { tables = tables; live = record { selected = slice_set live.selected number (Some ISSUER_SLOT); load = live.load; places = live.places }; held = all })
+    → KeptRepresents page (record { tables = tables; live = record { selected = slice_set live.selected number (Some ISSUER_SLOT); load = live.load; places = live.places }; held = all })
     (record { registry = state.registry; volatile = with_channel state.volatile number (Some (fresh ISSUER)) })
 opened_shows page tables live all state shows four number low within layout found =
-    subst (λ (h : List Held). Shows page (record { tables = tables; live = opened; held = h }) (record { registry = state.registry; volatile = after }))
+    subst (λ (h : List ChannelSession). KeptRepresents page (record { tables = tables; live = opened; held = h }) (record { registry = state.registry; volatile = after }))
     (set-get_or all number held.Nothing)
     (channel_shows page tables live all state shows four number low opened after (Some ISSUER_SLOT) (slice_index_or live.places number None)
     (slice_index_or all number held.Nothing) (Some (fresh ISSUER))
@@ -285,7 +285,7 @@ opened_shows page tables live all state shows four number low within layout foun
     (record {
       selected = issuer_selected tables.entries.items layout.issuer;
       place = shows.says.places number low ∙ ap place_in closed;
-      holds = subst (λ (c : Option Channel). HoldsAs (slice_index_or all number held.Nothing) (standing_of c)) closed (shows.holds number low);
+      holds = subst (λ (c : Option Channel). RepresentsSecureChannel (slice_index_or all number held.Nothing) (secure_channel_of c)) closed (shows.holds number low);
     })
     shows.says.load)
   where

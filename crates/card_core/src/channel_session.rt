@@ -1,25 +1,25 @@
 //! What an open channel holds besides its selection.
 
 ghost use Rattle.std.specs.Prelude.{◌≡◌, ◌↔◌, IsTrue};
-ghost use Rattle.card_core.specs.Holds.{IsOffered, without_offer_held};
-ghost use Rattle.card_core.specs.declared.held.Held.TheVariants as holding;
+ghost use Rattle.card_core.specs.SecureChannels.{IsOffered, without_offer_held};
+ghost use Rattle.card_core.specs.declared.channel_session.ChannelSession.TheVariants as holding;
 
 use aes_block::Aes128;
 use scp03_card::{Offer, Session};
 
 /// Nothing, an offer that the host has still to answer, or a session.
 #[derive(Drop)]
-pub enum Held {
+pub enum ChannelSession {
     Nothing,
     Offered(Offer<Aes128>),
     Secured(Session<Aes128>),
 }
 
-impl Held {
+impl ChannelSession {
     pub fn is_offered(&self) -> bool
         ensures { IsTrue result ↔ IsOffered self.now }
     {
-        matches!(self, Held::Offered(_))
+        matches!(self, ChannelSession::Offered(_))
     }
 
     /// Ends what is held. Where nothing is, nothing is written.
@@ -27,8 +27,8 @@ impl Held {
         ensures { self.new ≡ holding.Nothing }
     {
         match self {
-            Held::Nothing => {}
-            _ => *self = Held::Nothing,
+            ChannelSession::Nothing => {}
+            _ => *self = ChannelSession::Nothing,
         }
     }
 
@@ -37,7 +37,7 @@ impl Held {
         ensures { self.new ≡ without_offer_held self.old }
     {
         if self.is_offered() {
-            *self = Held::Nothing;
+            *self = ChannelSession::Nothing;
         }
     }
 }

@@ -1,7 +1,7 @@
 -- What a card that stands for a state says, and what power lost leaves of it.
 use Rattle.std.proofs.Common.{◌≡◌, ℕ, List, sym, subst}
-use Rattle.card_core.specs.Card.{CardOver, Stands}
-use Rattle.card_types.specs.Says.{Says}
+use Rattle.card_core.specs.Card.{CardOver, CardRepresents}
+use Rattle.card_types.specs.Represents.{Represents}
 use Rattle.card_types.specs.declared.tables.Tables.{Tables}
 use Rattle.flash_core.specs.declared.flash.Flash.{Ghosts as Flash}
 use Rattle.flash_core.specs.declared.page.Page.{Page}
@@ -11,15 +11,15 @@ use Rattle.rec_store.proofs.Leaving.{unmoved}
 use Rattle.rec_store.specs.Reopens.{Reopens, load_page}
 
 module _ {F : Type 0} (device : Flash F) (card : CardOver F) (state : State)
-    (stands : Stands device card state) where
+    (stands : CardRepresents device card state) where
   -- its tables say the registry, over its own load pages
-  pub says_told : device.tells → Says (load_page (device.pages card.flash)) card.tables state.registry
+  pub says_told : device.tells → Represents (load_page (device.pages card.flash)) card.tables state.registry
   says_told told =
-      subst (λ (page : ℕ → List ℕ). Says page card.tables state.registry) (sym (stands.load told)) stands.on.shows.says.registry
+      subst (λ (page : ℕ → List ℕ). Represents page card.tables state.registry) (sym (stands.load told)) stands.on.shows.says.registry
 
   -- and so do tables that are the same, over the pages that it shows
-  pub says_seen : (seen : Tables) → seen ≡ card.tables → Says stands.page seen state.registry
-  says_seen seen same = subst (λ (tables : Tables). Says stands.page tables state.registry) (sym same) stands.on.shows.says.registry
+  pub says_seen : (seen : Tables) → seen ≡ card.tables → Represents stands.page seen state.registry
+  says_seen seen same = subst (λ (tables : Tables). Represents stands.page tables state.registry) (sym same) stands.on.shows.says.registry
 
   -- where no call was made, power lost leaves the registry
   pub still_leaves : ((flash : F) (outcome : List Page) → device.tells → device.left_since flash (device.moment flash) outcome → device.may_leave flash outcome) → device.tells

@@ -6,8 +6,8 @@ use Rattle.policy_rules.specs.Run.{Input}
 use Rattle.gp_tool.specs.Form.{SpellsInputs}
 
 -- the line has a form, and is not too long
-abbrev pub IsGood : List ℕ → Type 0
-IsGood line = ((inputs : List Input) × SpellsInputs line inputs) × (length line ≤ LINE_LIMIT)
+abbrev pub IsServable : List ℕ → Type 0
+IsServable line = ((inputs : List Input) × SpellsInputs line inputs) × (length line ≤ LINE_LIMIT)
 
-abbrev pub AreGood : List (List ℕ) → Type 0
-AreGood lines = AllByRecursion IsGood lines
+abbrev pub AreServable : List (List ℕ) → Type 0
+AreServable lines = AllByRecursion IsServable lines

@@ -15,7 +15,7 @@ abbrev pub text_of : List Outcome → List ℕ
 text_of outcomes = flat_map reply_line outcomes
 
 -- From one state of the card the lines, each of a form, lead to another, with an outcome for each command.
-pub record Plays (state : State) (lines : List (List ℕ)) (outcomes : List Outcome) (last : State) : Type 0 where
+pub record RunsLines (state : State) (lines : List (List ℕ)) (outcomes : List Outcome) (last : State) : Type 0 where
   pub inputs : List Input
   pub spelled : AreSpelled lines inputs
   pub run : Run state inputs outcomes last

@@ -69,7 +69,7 @@ object_of entries object = record {
 }
 
 -- each list has what the used slots hold, and is in ascending order
-pub record Says (page : ℕ → List ℕ) (tables : Tables) (said : registry.Registry) : Type 0 where
+pub record Represents (page : ℕ → List ℕ) (tables : Tables) (said : registry.Registry) : Type 0 where
   pub life : tables.life ≡ said.life
   pub entries : IsPermutation (map (entry_of tables.entries.items tables.files.items) (used tables.entries.items)) said.entries
   pub files : IsPermutation (map (file_of page tables.entries.items) (used tables.files.items)) said.files

@@ -9,11 +9,11 @@ use Rattle.policy_rules.specs.State.{State}
 use Rattle.policy_rules.specs.Step.{Outcome}
 use Rattle.gp_tool.proofs.ComeFirst.{come_more, lines_come}
 use Rattle.gp_tool.proofs.Moments.{Joins, among_first, among_more, plays_ends}
-use Rattle.gp_tool.proofs.PlaysMore.{plays_more, plays_none, text_more}
+use Rattle.gp_tool.proofs.RunsMore.{plays_more, plays_none, text_more}
 use Rattle.gp_tool.specs.Device.{registries}
-use Rattle.gp_tool.specs.Ends.{AreShort, Course, Ends, IsBad, Outside, Reached, TakesNoMore, room_ahead}
+use Rattle.gp_tool.specs.Ends.{AreShort, RunSoFar, Ends, IsBad, Outside, Reached, TakesNoMore, room_ahead}
 use Rattle.gp_tool.specs.Going.{Going}
-use Rattle.gp_tool.specs.Plays.{Plays, bad_line, reply_line, text_of}
+use Rattle.gp_tool.specs.RunsLines.{RunsLines, bad_line, reply_line, text_of}
 use Rattle.gp_tool.specs.Turn.{GoesOn, EndsWith, total}
 use Rattle.gp_tool.specs.declared.ending.Ending.{Ending}
 use Rattle.gp_tool.specs.declared.ending.Ending.TheVariants.{Finished, BadLine, FlashFault, ReadFault, WriteFault, InputTooLong}
@@ -42,7 +42,7 @@ short_more (first ∷ given) line short fits = (short.0, short_more given line s
 
 -- one line further
 course_more : (first : State) (given : List (List ℕ)) (line : List ℕ) (outcomes more : List Outcome) (state last : State)
-    → Course first given outcomes state → length line ≤ LINE_LIMIT → Plays state (line ∷ []) more last → Course first (given ++ line ∷ []) (outcomes ++ more) last
+    → RunSoFar first given outcomes state → length line ≤ LINE_LIMIT → RunsLines state (line ∷ []) more last → RunSoFar first (given ++ line ∷ []) (outcomes ++ more) last
 course_more first given line outcomes more state last course fits plays = record {
   fits = short_more given line course.fits fits;
   plays = plays_more given (line ∷ []) outcomes more first state last course.plays plays;

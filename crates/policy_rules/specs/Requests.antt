@@ -3,7 +3,7 @@ use Rattle.std.specs.Prelude.{◌≡◌, ◌⊎◌, ℕ, ◌<◌, ◌≤◌, Lis
 use Rattle.std.specs.Option.{option_map}
 use Rattle.apdu_core.specs.Apdu.{Apdu}
 use Rattle.card_types.specs.Level.{code_of}
-use Rattle.card_types.specs.Says.{Says, domain_aid}
+use Rattle.card_types.specs.Represents.{Represents, domain_aid}
 use Rattle.card_types.specs.Slots.{held}
 use Rattle.card_types.specs.Well.{Well}
 use Rattle.card_types.specs.declared.tables.Entry.{Entry}
@@ -61,16 +61,16 @@ form_in (Store objects) = store_data
 form_in (DeleteKey version identifier) = delete_key
 
 -- the request is that of a command of its form with this P1, P2 and data field
-abbrev pub Means : Request → ℕ → ℕ → List ℕ → Type 0
-Means (Select partial) p1 p2 body = partial.now ≡ body
-Means MoreChannel p1 p2 body = p1 ≡ 0x00
-Means (LessChannel number) p1 p2 body = (p1 ≡ 0x80) × (p2 ≡ number) × (1 ≤ number) × (number ≤ 3)
-Means (Get tag) p1 p2 body = tag ≡ tag_of p1 p2
-Means (Initialize version challenge) p1 p2 body = (version ≡ p1) × (challenge.now ≡ body)
-Means (Authenticate level proof) p1 p2 body = (code_of level ≡ p1) × (proof.now ≡ body)
-Means (PutKey replaced version keys) p1 p2 body = (replaced ≡ p1) × HasKeyFields p2 body version (sent_keys keys) × AreOfAes128 keys
-Means (Store objects) p1 p2 body = objects.now ≡ body
-Means (DeleteKey version identifier) p1 p2 body = Chooses body version identifier
+abbrev pub Decodes : Request → ℕ → ℕ → List ℕ → Type 0
+Decodes (Select partial) p1 p2 body = partial.now ≡ body
+Decodes MoreChannel p1 p2 body = p1 ≡ 0x00
+Decodes (LessChannel number) p1 p2 body = (p1 ≡ 0x80) × (p2 ≡ number) × (1 ≤ number) × (number ≤ 3)
+Decodes (Get tag) p1 p2 body = tag ≡ tag_of p1 p2
+Decodes (Initialize version challenge) p1 p2 body = (version ≡ p1) × (challenge.now ≡ body)
+Decodes (Authenticate level proof) p1 p2 body = (code_of level ≡ p1) × (proof.now ≡ body)
+Decodes (PutKey replaced version keys) p1 p2 body = (replaced ≡ p1) × HasKeyFields p2 body version (sent_keys keys) × AreOfAes128 keys
+Decodes (Store objects) p1 p2 body = objects.now ≡ body
+Decodes (DeleteKey version identifier) p1 p2 body = Chooses body version identifier
 
 -- the rule on its form that a command breaks: P1 and P2 are judged before the data field
 abbrev pub IsMalformed : ℕ → ℕ → ℕ → List ℕ → Rule → Type 0
@@ -80,13 +80,13 @@ IsMalformed ins p1 p2 body found =
 
 -- the request of a well-formed command, or the rule that a malformed one breaks
 abbrev pub Parses : ℕ → ℕ → ℕ → List ℕ → Result Request Rule → Type 0
-Parses ins p1 p2 body (Ok request) = Takes (form_in request) ins p1 p2 body × Means request p1 p2 body
+Parses ins p1 p2 body (Ok request) = Takes (form_in request) ins p1 p2 body × Decodes request p1 p2 body
 Parses ins p1 p2 body (Err found) = IsMalformed ins p1 p2 body found
 
 -- the request is that of this command, which its form takes
 pub record IsRequestOf (request : Request) (command : Apdu) : Type 0 where
   pub form : TakesCommand (form_in request) command
-  pub means : Means request command.p1 command.p2 command.body
+  pub means : Decodes request command.p1 command.p2 command.body
 
 -- the request is that of some command
 abbrev pub IsWellFormed : Request → Type 0
@@ -94,7 +94,7 @@ IsWellFormed request = (command : Apdu) × IsRequestOf request command
 
 -- the request is that of some P1, P2 and data field
 abbrev pub IsMeant : Request → Type 0
-IsMeant request = (p1 p2 : ℕ) × (body : List ℕ) × Means request p1 p2 body
+IsMeant request = (p1 p2 : ℕ) × (body : List ℕ) × Decodes request p1 p2 body
 
 -- the slot is that of the entry that the channel has selected; where the channel is closed there is none
 abbrev pub IsSelectedIn : List (Option Entry) → Option ℕ → Option Channel → Type 0
@@ -105,7 +105,7 @@ IsSelectedIn entries (Some slot) (Some channel) = (entry : Entry) × (held entri
 
 -- The tables say the registry that a command is judged by, and the slot is that of the domain that it acts for.
 pub record ActsIn (page : ℕ → List ℕ) (tables : Tables) (domain : ℕ) (admitted : Admitted) : Type 0 where
-  pub says : Says page tables admitted.at.registry
+  pub says : Represents page tables admitted.at.registry
   pub well : Well admitted.at.registry
   pub entry : Entry
   pub at : held tables.entries.items domain ≡ Some entry
@@ -126,8 +126,8 @@ IsLoadNamed entries (Some name) (Some load) =
 -- What the code keeps says this state, as far as the rules look: the tables say the registry over these load pages, for each
 -- channel its slot is that of the AID selected and its place the one in the listing, and the load session is the one named.
 -- What else a channel and a load session have is said elsewhere.
-pub record SaysState (page : ℕ → List ℕ) (tables : Tables) (live : Live) (state : State) : Type 0 where
-  pub registry : Says page tables state.registry
+pub record RepresentsState (page : ℕ → List ℕ) (tables : Tables) (live : Live) (state : State) : Type 0 where
+  pub registry : Represents page tables state.registry
   pub selected : (number : ℕ) → number < CHANNELS
       → IsSelectedIn tables.entries.items (slice_index_or live.selected number None) (channel_at state.volatile number)
   pub places : (number : ℕ) → number < CHANNELS
