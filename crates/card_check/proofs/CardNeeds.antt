@@ -189,6 +189,8 @@ module _ (page : ℕ → List ℕ) (tables : Tables) (card : IsCard page tables)
       record {
         owner = is_domain_slot key.owner owner;
         size = is.size;
+        size_of_set = λ other another here owned versioned.
+            is.size_of_set (key_of entries another) ((keys_shown page tables said says).there other another here refl) (ap (domain_aid entries) owned) versioned;
         name = is.name;
         alone = λ other has.
             (let another = in_used (IsKeyOf key.owner key.version key.identifier) (held tables.keys.items other) has in

@@ -170,6 +170,13 @@ module _ (page : ℕ → List ℕ) (whole : HasPages page) (tables : Tables) (ca
       record {
         owner = domain_named key.owner is.owner;
         size = is.size;
+        size_of_set = λ other among owned versioned.
+            (let from = (keys_shown page tables said says).from other among in
+            let alike = ap (λ (k : registry.Key). k.owner) from.4 ∙ owned in
+            let same = is.size_of_set from.0 from.1 from.2
+            (one_domain tables card from.1.owner key.owner (card.keys.at from.0 from.1 from.2).owner is.owner alike)
+            (ap (λ (k : registry.Key). k.version) from.4 ∙ versioned) in
+            ap (λ (k : registry.Key). length k.bytes) (sym from.4) ∙ same);
         name = is.name;
         whole = λ low. (let set = is.whole low in whole_set key.owner key.version set.0 low set.1);
       }

@@ -1,5 +1,5 @@
 -- What the slots of a card hold, by the numbers of the slots.
-use Rattle.std.specs.Prelude.{◌≡◌, ℕ, ◌<◌, ◌≤◌, ◌==◌, ◌&&◌, ◌||◌, Bool, true, false, List, Option, None, Some, MatchOption, IsSome, length}
+use Rattle.std.specs.Prelude.{◌≡◌, ◌≢◌, ℕ, ◌<◌, ◌≤◌, ◌==◌, ◌&&◌, ◌||◌, Bool, true, false, List, Option, None, Some, MatchOption, IsSome, length}
 use Rattle.std.specs.List.{count_by}
 use Rattle.card_types.specs.Aid.{IsAid}
 use Rattle.card_types.specs.Found.{aid_of}
@@ -84,10 +84,22 @@ abbrev pub is_key_of : ℕ → Option KeyRec → Bool
 is_key_of owner None = false
 is_key_of owner (Some key) = key.owner == owner
 
+-- the keys of this owner with this key version number have this length
+abbrev pub HaveLength : List (Option KeyRec) → ℕ → ℕ → ℕ → Type 0
+HaveLength keys owner version size =
+    (other : ℕ) (key : KeyRec) → held keys other ≡ Some key → key.owner ≡ owner → key.version ≡ version → length key.bytes.items ≡ size
+
+-- the slot holds a key of that key's owner with its key version number, of another length
+abbrev pub HasOtherLength : KeyRec → Option KeyRec → Type 0
+HasOtherLength key None = ⊥
+HasOtherLength key (Some other) =
+    (other.owner ≡ key.owner) × (other.version ≡ key.version) × (length other.bytes.items ≢ length key.bytes.items)
+
 -- the key in the slot is one that a card may have
 pub record IsCardKey (tables : Tables) (slot : ℕ) (key : KeyRec) : Type 0 where
   pub owner : IsDomainSlot tables.entries.items key.owner
   pub size : IsKeyLength (length key.bytes.items)
+  pub size_of_set : HaveLength tables.keys.items key.owner key.version (length key.bytes.items)
   pub name : IsKeyName key.version key.identifier
   pub alone : (other : ℕ) → HasKey tables.keys.items key.owner key.version key.identifier other → other ≡ slot
   pub whole : key.version < 0x70 → (slots : List ℕ) × HasKeys tables.keys.items key.owner key.version slots

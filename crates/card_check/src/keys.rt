@@ -2,19 +2,17 @@
 
 ghost use Rattle.std.specs.Prelude.{◌≡◌, ◌↔◌, ℕ, ◌<◌, ◌≤◌, List, IsTrue, true, length};
 ghost use Rattle.std.specs.List.{count_by};
-ghost use Rattle.card_check.specs.CardSlots.{HasRoom, IsCardKey, is_key_of as is_key_by};
+ghost use Rattle.card_check.specs.CardSlots.{HasOtherLength, HasRoom, HaveLength, IsCardKey, is_key_of as is_key_by};
 ghost use Rattle.card_check.specs.EachSlot.{EachSlot};
 ghost use Rattle.card_types.specs.KeySets.{HasKey, HasKeys};
-ghost use Rattle.card_types.specs.Well.{IsKeyName};
+ghost use Rattle.card_types.specs.Slots.{held};
+ghost use Rattle.card_types.specs.Well.{IsKeyLength, IsKeyName};
 ghost use Rattle.card_types.specs.Represents.{keeps_counter};
 ghost use Rattle.card_types.specs.declared.limits.TheConstants.{COUNTER_LIMIT, KEYS};
 
 use crate::domains::is_domain;
 use crate::slots::{Asks, all_admitted};
 use card_types::{COUNTER_LIMIT, DOMAIN_KEYS, KEYS, KeyRec, Tables, in_slot, set_of};
-
-/// The length of a key.
-const KEY_LENGTH: usize = 16;
 
 /// The highest key version number of a key set.
 const LAST_VERSION: u8 = 0x6F;
@@ -40,12 +38,45 @@ impl Asks<KeyRec> for Tables {
 
     fn admits(&self, slot: u8, key: &KeyRec) -> bool {
         is_domain(&self.entries, key.owner)
-            && key.bytes.len() == KEY_LENGTH
+            && is_key_length(key.bytes.len())
+            && has_length_of_set(&self.keys, key)
             && is_key_name(key.version, key.identifier)
             && is_only(&self.keys, slot, key)
             && is_in_set(&self.keys, key)
             && counts_well(key)
             && keys_of(&self.keys, key.owner) <= DOMAIN_KEYS
+    }
+}
+
+fn is_key_length(length: usize) -> bool
+    ensures { IsTrue result ↔ IsKeyLength length }
+{
+    matches!(length, 16 | 24 | 32)
+}
+
+// Whether the keys of its owner with its key version number are as long as this one.
+fn has_length_of_set(keys: &[Option<KeyRec>], key: &KeyRec) -> bool
+    requires { length keys.now ≡ KEYS }
+    ensures { IsTrue result ↔ HaveLength keys.now key.now.owner key.now.version (length key.now.bytes.items) }
+{
+    for other in 0..KEYS as u8 {
+        if has_other_length(keys, other, key) {
+            return false;
+        }
+    }
+    true
+}
+
+fn has_other_length(keys: &[Option<KeyRec>], slot: u8, key: &KeyRec) -> bool
+    ensures { IsTrue result ↔ HasOtherLength key.now (held keys.now slot) }
+{
+    match in_slot(keys, slot) {
+        Some(held) => {
+            held.owner == key.owner
+                && held.version == key.version
+                && held.bytes.len() != key.bytes.len()
+        }
+        None => false,
     }
 }
 

@@ -1,7 +1,7 @@
 -- The registry of the factory card is as a registry always is.
-use Rattle.std.proofs.Common.{inl, ℕ, ◌≤◌, Bool, List, [], ◌∷◌, length, refl, arith}
-use Rattle.std.specs.Prelude.{Contains, filter}
-use Rattle.std.proofs.lemmas.List.Elements.{All-from_recursion}
+use Rattle.std.proofs.Common.{◌≡◌, inl, ℕ, ◌≤◌, Bool, List, [], ◌∷◌, length, refl, arith}
+use Rattle.std.specs.Prelude.{All, Contains, filter}
+use Rattle.std.proofs.lemmas.List.Elements.{All-contains, All-from_recursion}
 use Rattle.std.proofs.lemmas.Bool.{cond_both}
 use Rattle.card_types.specs.AidOrder.{same_aid}
 use Rattle.card_types.specs.Factory.{factory_registry, issuer_of_factory, key_of_factory}
@@ -51,10 +51,14 @@ well_issuer = record {
   loaded = refl;
 }
 
+factory_key_size : All (λ (key : registry.Key). length key.bytes ≡ 16) factory_registry.keys
+factory_key_size = All-from_recursion (λ (key : registry.Key). length key.bytes ≡ 16) factory_registry.keys (refl, (refl, (refl, tt)))
+
 well_key : (identifier : ℕ) → 1 ≤ identifier → identifier ≤ 3 → IsWellKey factory_registry (key_of_factory identifier)
 well_key identifier least most = record {
   owner = refl;
-  size = refl;
+  size = inl refl;
+  size_of_set = λ other among owned versioned. All-contains (λ (key : registry.Key). length key.bytes ≡ 16) factory_registry.keys other factory_key_size among;
   name = inl (omega arith, omega arith, least, most);
   whole = λ of_set. whole_set;
 }

@@ -49,6 +49,7 @@ module _ (stays : List ℕ → Type 0) (before after : Registry) (keeps : KeepsO
         record {
           owner = keeps.domains key.owner from.1 is.owner;
           size = is.size;
+          size_of_set = λ other among owned versioned. is.size_of_set other (keeps.keys_from other among).0 owned versioned;
           name = is.name;
           whole = λ below. whole_still key.owner key.version from.1 (is.whole below);
         })) after.keys (All-contains_itself after.keys)

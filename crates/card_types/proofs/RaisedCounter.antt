@@ -127,7 +127,7 @@ module _ (registry : Registry) (owner : List ℕ) (version : ℕ) where
   still_well_file file is = record { aid = is.aid; apart = is.apart; domain = is.domain; size = is.size }
 
   still_well_key : (key : Key) → IsWellKey registry key → IsWellKey (raised registry owner version) key
-  still_well_key key is = record { owner = is.owner; size = is.size; name = is.name; whole = λ below. whole_still key.owner key.version (is.whole below) }
+  still_well_key key is = record { owner = is.owner; size = is.size; size_of_set = is.size_of_set; name = is.name; whole = λ below. whole_still key.owner key.version (is.whole below) }
 
   still_well_object : (object : Object) → IsWellObject registry object → IsWellObject (raised registry owner version) object
   still_well_object object is = record { owner = is.owner; form = is.form }

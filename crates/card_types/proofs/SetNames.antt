@@ -104,21 +104,18 @@ module _ (page : ℕ → List ℕ) (tables : Tables) (said : registry.Registry) 
       (subst (λ (o : ℕ). key_named said (domain_aid tables.entries.items o) key.version key.identifier ≡ Some (key_of tables.entries.items key)) is.same_owner
       (key_in_slot slot key at)))
 
-  -- and the counter of a set is that in the slot of its first key
-  pub set_counter_named : (owner version : ℕ) (slots : List ℕ) (key : KeyRec) → 1 ≤ version → IsSetOf tables.keys.items owner version slots
-      → held tables.keys.items (slice_index_or slots 0 0) ≡ Some key
-      → counter_named said (domain_aid tables.entries.items owner) version ≡ Some (counter_of tables.entries.items key)
-  set_counter_named owner version slots key least is at =
-      let set = slots_of_set tables.keys.items owner version slots least is in
-      let named = is_key_held tables.keys.items owner version 1 (slice_index_or slots 0 0) key at set.0 in
-      subst (λ (v : ℕ). counter_named said (domain_aid tables.entries.items owner) v ≡ Some (counter_of tables.entries.items key)) named.same_version
-      (subst (λ (o : ℕ). counter_named said (domain_aid tables.entries.items o) key.version ≡ Some (counter_of tables.entries.items key)) named.same_owner
-      (counter_in_slot (slice_index_or slots 0 0) key at (first_keeps_counter tables.keys.items owner version slots key is at)))
-
   module _ (well : Well said) where
     -- a key in a slot has the length of a key
     pub key_length_in_slot : (slot : ℕ) (key : KeyRec) → held tables.keys.items slot ≡ Some key → IsKeyLength (length key.bytes.items)
     key_length_in_slot slot key at = (All-contains (IsWellKey said) said.keys _ well.keys ((keys_shown page tables said says).there slot key at refl)).size
+
+    -- keys of one domain with one key version number have one length
+    pub key_length_of_set : (slot other : ℕ) (key another : KeyRec) → held tables.keys.items slot ≡ Some key → held tables.keys.items other ≡ Some another
+        → another.owner ≡ key.owner → another.version ≡ key.version → length another.bytes.items ≡ length key.bytes.items
+    key_length_of_set slot other key another at here owned versioned =
+        let shown = keys_shown page tables said says in
+        (All-contains (IsWellKey said) said.keys _ well.keys (shown.there slot key at refl)).size_of_set
+        (key_of tables.entries.items another) (shown.there other another here refl) (ap (domain_aid tables.entries.items) owned) versioned
 
     -- a key of a domain in a slot is in a slot
     slot_of_key : (owner : ℕ) (entry : Entry) (version identifier : ℕ) → held tables.entries.items owner ≡ Some entry

@@ -6,11 +6,11 @@ use Rattle.card_types.specs.Well.{IsKeyLength}
 use Rattle.card_types.specs.declared.key_set.KeySet.{KeySet}
 use Rattle.card_types.specs.declared.tables.Entry.{Entry}
 
--- each has the length of a key
+-- they have one length, that of a key
 pub record HaveKeyLength (set : KeySet) : Type 0 where
   pub enc : IsKeyLength (length set.enc.now.bytes.items)
-  pub mac : IsKeyLength (length set.mac.now.bytes.items)
-  pub dek : IsKeyLength (length set.dek.now.bytes.items)
+  pub mac : length set.mac.now.bytes.items ≡ length set.enc.now.bytes.items
+  pub dek : length set.dek.now.bytes.items ≡ length set.enc.now.bytes.items
 
 -- they are the keys of this domain's key set with this key version number, and Key-ENC keeps its counter
 pub record AreKeysOf (entries : List (Option Entry)) (said : Registry) (owner : List ℕ) (version : ℕ) (set : KeySet) : Type 0 where
@@ -18,7 +18,3 @@ pub record AreKeysOf (entries : List (Option Entry)) (said : Registry) (owner : 
   pub mac : key_named said owner version 2 ≡ Some (key_of entries set.mac.now)
   pub dek : key_named said owner version 3 ≡ Some (key_of entries set.dek.now)
   pub counter : counter_named said owner version ≡ Some (counter_of entries set.enc.now)
-
--- the domain has no sequence counter with this key version number
-abbrev pub NoCounterOf : Registry → List ℕ → ℕ → Type 0
-NoCounterOf said owner version = (counter : Counter) → Contains said.counters counter → counter.owner ≡ owner → counter.version ≡ version → ⊥

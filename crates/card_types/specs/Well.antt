@@ -53,9 +53,13 @@ has_domain_privilege entry =
 abbrev pub pages_of : ℕ → ℕ
 pages_of size = (size + 255) / 256
 
--- The lengths of keys: those of AES-128.
+-- The lengths of keys: those of AES-128, AES-192 and AES-256.
 abbrev pub IsKeyLength : ℕ → Type 0
-IsKeyLength n = n ≡ 16
+IsKeyLength n = (n ≡ 16) ⊎ (n ≡ 24) ⊎ (n ≡ 32)
+
+-- the keys of a domain that have one key version number have one length
+abbrev pub HasLengthOfSet : List Key → Key → Type 0
+HasLengthOfSet keys key = (other : Key) → Contains keys other → other.owner ≡ key.owner → other.version ≡ key.version → length other.bytes ≡ length key.bytes
 
 -- A key of a set has a key version number of 01 to 6F and a key identifier of 01 to 03. A token key has key
 -- version number 70, a receipt key 71, and key identifier 01.
@@ -123,6 +127,7 @@ pub record IsWellFile (registry : Registry) (file : LoadFile) : Type 0 where
 pub record IsWellKey (registry : Registry) (key : Key) : Type 0 where
   pub owner : IsDomainNamed registry key.owner
   pub size : IsKeyLength (length key.bytes)
+  pub size_of_set : HasLengthOfSet registry.keys key
   pub name : IsKeyName key.version key.identifier
   pub whole : key.version < 0x70 → IsWholeSet registry key.owner key.version
 

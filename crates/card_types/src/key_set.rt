@@ -3,7 +3,7 @@
 ghost use Rattle.std.specs.Prelude.{◌≡◌, ◌≤◌, ◌↔◌, ◌⊎◌, ℕ, List, true, Some, IsSome, IsTrue, IfSome, IfNone, Contains, length};
 ghost use Rattle.card_types.specs.InOrder.{IsInOrder};
 ghost use Rattle.card_types.specs.KeySets.{HasKey, HasKeys, HoldsKeyOf, IsKeyOf, IsSetOf, NoSetOf, is_key};
-ghost use Rattle.card_types.specs.NamedKeys.{AreKeysOf, HaveKeyLength, NoCounterOf};
+ghost use Rattle.card_types.specs.NamedKeys.{AreKeysOf, HaveKeyLength};
 ghost use Rattle.card_types.specs.Registry.{Counter, Registry};
 ghost use Rattle.card_types.specs.Represents.{Represents, domain_aid, keeps_counter};
 ghost use Rattle.card_types.specs.Slots.{held};
@@ -102,13 +102,6 @@ pub struct KeySet<'a> {
     pub dek: &'a KeyRec,
 }
 
-fn key_at(tables: &Tables, slot: u8) -> &KeyRec
-    requires { IsSome (held tables.now.keys.items slot) }
-    ensures { held tables.now.keys.items slot ≡ Some result.now }
-{
-    in_slot(&tables.keys, slot).unwrap()
-}
-
 // A key that is there.
 fn key_named(tables: &Tables, owner: u8, version: u8, identifier: u8) -> &KeyRec
     requires slots { length tables.now.keys.items ≡ KEYS }
@@ -135,22 +128,4 @@ pub fn set_with<'a>(tables: &'a Tables, enc: &'a KeyRec) -> KeySet<'a>
         mac: key_named(tables, enc.owner, enc.version, 2),
         dek: key_named(tables, enc.owner, enc.version, 3),
     }
-}
-
-/// The keys of the key set of the domain in the slot `owner` with this key version number.
-pub fn keys_of_set(tables: &Tables, owner: u8, version: u8) -> Option<KeySet<'_>>
-    requires in_order { IsInOrder tables.now }
-    requires version { 1 ≤ version }
-    ensures lengths { IfSome result HaveKeyLength }
-    ensures some { (page : ℕ → List ℕ) (said : Registry) → Represents page tables.now said
-        → IfSome result (AreKeysOf tables.now.entries.items said (domain_aid tables.now.entries.items owner) version) }
-    ensures none { (page : ℕ → List ℕ) (said : Registry) (entry : Entry) → Represents page tables.now said → Well said → held tables.now.entries.items owner ≡ Some entry
-        → IfNone result (NoCounterOf said (domain_aid tables.now.entries.items owner) version) }
-{
-    let [first, second, third] = set_of(&tables.keys, owner, version)?;
-    Some(KeySet {
-        enc: key_at(tables, first),
-        mac: key_at(tables, second),
-        dek: key_at(tables, third),
-    })
 }

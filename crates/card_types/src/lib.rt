@@ -22,7 +22,7 @@ pub use factory::{
     issuer_domain,
 };
 pub use found::{Found, Kind, find, next_after};
-pub use key_set::{KeySet, find_key, keys_of_set, set_of, set_with};
+pub use key_set::{KeySet, find_key, set_of, set_with};
 pub use laws::{additions_keep_order, changes_keep_order, moves_keep_order, removals_keep_order};
 pub use level::Level;
 pub use life::{Life, LifeMark};

@@ -6,7 +6,7 @@ ghost use Rattle.card_types.specs.declared.limits.TheConstants.{ENTRIES, FILES};
 
 use bitflags::Flags;
 use card_types::{
-    Aid, CardLife, Found, Kind, Level, Life, LifeMark, Privileges, Tables, find, keys_of_set,
+    Aid, CardLife, Found, Kind, Level, Life, LifeMark, Privileges, Tables, find,
     next_after, set_of,
 };
 use std::test::Fail;
@@ -117,31 +117,18 @@ fn makes_the_factory_card(rt: HostRuntime) -> Result<(), Fail> {
     Ok(())
 }
 
-/// The key identifiers of Key-ENC, Key-MAC and Key-DEK of a key set, and their key version numbers.
-fn numbers(tables: &Tables, owner: u8, version: u8) -> Option<[(u8, u8); 3]>
-    requires in_order { IsInOrder tables.now }
-    requires version { 1 ≤ version }
-{
-    let set = keys_of_set(tables, owner, version)?;
-    Some([
-        (set.enc.identifier, set.enc.version),
-        (set.mac.identifier, set.mac.version),
-        (set.dek.identifier, set.dek.version),
-    ])
-}
-
 #[test]
 fn finds_the_keys_of_a_set(rt: HostRuntime) -> Result<(), Fail> {
     let tables = Tables::factory(rt.alloc())?;
     for (owner, version, wanted) in [
-        (0, 0x30, Some([(1, 0x30), (2, 0x30), (3, 0x30)])),
+        (0, 0x30, Some([0, 1, 2])),
         (0, 0x31, None),
         (0, 0x70, None),
         (0, 0xFF, None),
         (1, 0x30, None),
     ] {
         assert!(rt;
-            numbers(&tables, owner, version) == wanted,
+            set_of(&tables.keys, owner, version) == wanted,
             "{owner} {version}"
         );
     }

@@ -1,7 +1,7 @@
 use Rattle.std.proofs.Common.{◌≡◌, ◌==◌, Some, subst}
 use Rattle.std.specs.Prelude.{nat_lt}
 use Rattle.std.proofs.lemmas.Bool.{and_parts, eqb-true}
-use Rattle.card_types.proofs.SetNames.{counter_in_slot, has_from_held, has_key_named, key_in_slot, key_length_in_slot, set_beside}
+use Rattle.card_types.proofs.SetNames.{counter_in_slot, has_from_held, has_key_named, key_in_slot, key_length_in_slot, key_length_of_set, set_beside}
 use Rattle.card_types.specs.Registry.{key_named}
 use Rattle.card_types.specs.Represents.{domain_aid, key_of}
 use Rattle.card_types.proofs.key_set.set_with.Goals as goal
@@ -21,8 +21,18 @@ key_named-requires-2-clause-there c =
 pub returns-clause-lengths : goal.returns-clause-lengths
 returns-clause-lengths c =
     let order = c.requires.in_order in
-    let long = key_length_in_slot order.page c.args.tables.now order.said order.says order.well in
-    record { enc = long _ _ c.requires.there.1; mac = long _ _ c.key_named.ensures.at; dek = long _ _ c.key_named-2.ensures.at }
+    let tables = c.args.tables.now in
+    let tables = c.args.tables.now in
+    let enc = c.args.enc.now in
+    let slot = c.requires.there.0 in
+    let second = c.key_named.ensures in
+    let third = c.key_named-2.ensures in
+    let alike = key_length_of_set order.page tables order.said order.says order.well in
+    record {
+      enc = key_length_in_slot order.page tables order.said order.says order.well slot enc c.requires.there.1;
+      mac = alike slot second.slot enc c.key_named.result.now c.requires.there.1 second.at second.is.same_owner second.is.same_version;
+      dek = alike slot third.slot enc c.key_named-2.result.now c.requires.there.1 third.at third.is.same_owner third.is.same_version;
+    }
 
 pub returns-clause-keys : goal.returns-clause-keys
 returns-clause-keys c page said says =
