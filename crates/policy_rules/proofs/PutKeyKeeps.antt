@@ -113,8 +113,8 @@ module _ (registry : Registry) (well : Well registry) (owner : List ℕ) (domain
   abbrev added : List Key
   added = keys_from owner version 1 new
 
-  abbrev without_number : List Counter
-  without_number = counters_from owner version
+  abbrev new_counters : List Counter
+  new_counters = counters_from owner version
 
   abbrev after : Registry
   after = with_keys registry keys counters
@@ -124,7 +124,7 @@ module _ (registry : Registry) (well : Well registry) (owner : List ℕ) (domain
       let key = has_new_key owner version 1 new identifier least most in
       record {
         key = key.0;
-        is_there = key_added registry owner replaced added without_number keys counters keys_put.same counters_put.same key.0 key.1;
+        is_there = key_added registry owner replaced added new_counters keys counters keys_put.same counters_put.same key.0 key.1;
         owner_is = key.2;
         version_is = key.3;
         identifier_is = key.4;
@@ -139,7 +139,7 @@ module _ (registry : Registry) (well : Well registry) (owner : List ℕ) (domain
         third = has_key 3 (omega arith) (omega arith);
         counter = record {
           counter = record { owner = owner; version = version; number = 0 };
-          is_there = counter_begun registry owner replaced added without_number keys counters keys_put.same counters_put.same _ (begun_counter owner version below);
+          is_there = counter_begun registry owner replaced added new_counters keys counters keys_put.same counters_put.same _ (begun_counter owner version below);
           owner_is = refl;
           version_is = refl;
         };
@@ -157,14 +157,14 @@ module _ (registry : Registry) (well : Well registry) (owner : List ℕ) (domain
             (subst (λ (v : ℕ). IsWholeSet after owner v) (sym is.version_is) (whole (subst (λ (v : ℕ). v < 0x70) is.version_is below)));
       }
 
-  counter_well : (counter : Counter) → Contains without_number counter → IsWellCounter after counter
+  counter_well : (counter : Counter) → Contains new_counters counter → IsWellCounter after counter
   counter_well counter there =
       let is = begun_is owner version counter there in
       subst (IsWellCounter after) (sym is.1) (record { set = whole is.0; version = is.0; number = omega arith })
 
   pub new_keys_well : Well after
   new_keys_well =
-      put_well registry owner replaced added without_number keys counters keys_put.same counters_put.same well key_well counter_well
+      put_well registry owner replaced added new_counters keys counters keys_put.same counters_put.same well key_well counter_well
       (λ key there. (new_key owner version 1 new sizes key there).owner_is)
       (omega (arith, length_keys_from owner version 1 new)) (omega (arith, length_keys_from owner version 1 new))
 

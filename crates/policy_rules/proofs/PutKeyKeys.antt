@@ -14,9 +14,9 @@ use Rattle.card_types.specs.declared.limits.TheConstants.{DOMAIN_KEYS, KEYS}
 use Rattle.policy_rules.specs.KeyVersions.{counters_but, is_counter_numbered, is_key_numbered, keys_but, with_keys}
 use Rattle.policy_rules.proofs.Filtered.{as_many_pass, fewer_pass, most_pass, none_pass}
 
-module _ (registry : Registry) (owner : List ℕ) (replaced : ℕ) (added : List Key) (without_number : List Counter) (keys : List Key) (counters : List Counter)
+module _ (registry : Registry) (owner : List ℕ) (replaced : ℕ) (added : List Key) (new_counters : List Counter) (keys : List Key) (counters : List Counter)
     (keys_put : IsPermutation (added ++ keys_but owner replaced registry.keys) keys)
-    (counters_put : IsPermutation (without_number ++ counters_but owner replaced registry.counters) counters) where
+    (counters_put : IsPermutation (new_counters ++ counters_but owner replaced registry.counters) counters) where
   abbrev pub after : Registry
   after = with_keys registry keys counters
 
@@ -39,23 +39,23 @@ module _ (registry : Registry) (owner : List ℕ) (replaced : ℕ) (added : List
             inr (kept.0, not-true (is_key_numbered owner replaced key) kept.1))
       ]
 
-  pub counter_begun : (counter : Counter) → Contains without_number counter → Contains counters counter
+  pub counter_begun : (counter : Counter) → Contains new_counters counter → Contains counters counter
   counter_begun counter there =
-      Contains-permutation (without_number ++ counters_but owner replaced registry.counters) counters counter counters_put
-      (Contains-append_left without_number (counters_but owner replaced registry.counters) counter there)
+      Contains-permutation (new_counters ++ counters_but owner replaced registry.counters) counters counter counters_put
+      (Contains-append_left new_counters (counters_but owner replaced registry.counters) counter there)
 
   counter_stays : (counter : Counter) → Contains registry.counters counter → is_counter_numbered owner replaced counter ≡ false → Contains counters counter
   counter_stays counter there other =
-      Contains-permutation (without_number ++ counters_but owner replaced registry.counters) counters counter counters_put
-      (Contains-append_right without_number (counters_but owner replaced registry.counters) counter
+      Contains-permutation (new_counters ++ counters_but owner replaced registry.counters) counters counter counters_put
+      (Contains-append_right new_counters (counters_but owner replaced registry.counters) counter
       (contains_filter (λ c. not (is_counter_numbered owner replaced c)) registry.counters counter there (not_from_false (is_counter_numbered owner replaced counter) other)))
 
   counter_from : (counter : Counter) → Contains counters counter
-      → Contains without_number counter ⊎ (Contains registry.counters counter × (is_counter_numbered owner replaced counter ≡ false))
+      → Contains new_counters counter ⊎ (Contains registry.counters counter × (is_counter_numbered owner replaced counter ≡ false))
   counter_from counter there =
-      elim (Contains-append_cases without_number (counters_but owner replaced registry.counters) counter
-      (Contains-permutation counters (without_number ++ counters_but owner replaced registry.counters) counter
-      (IsPermutation-sym (without_number ++ counters_but owner replaced registry.counters) counters counters_put) there)) [
+      elim (Contains-append_cases new_counters (counters_but owner replaced registry.counters) counter
+      (Contains-permutation counters (new_counters ++ counters_but owner replaced registry.counters) counter
+      (IsPermutation-sym (new_counters ++ counters_but owner replaced registry.counters) counters counters_put) there)) [
         | inl new ↦ inl new
         | inr stays ↦
             (let kept = filtered (λ c. not (is_counter_numbered owner replaced c)) registry.counters counter stays in
@@ -108,7 +108,7 @@ module _ (registry : Registry) (owner : List ℕ) (replaced : ℕ) (added : List
 
   -- with room for well keys of the domain, and for its well counters
   module _ (well : Well registry) (keys_well : (key : Key) → Contains added key → IsWellKey after key)
-      (counters_well : (counter : Counter) → Contains without_number counter → IsWellCounter after counter)
+      (counters_well : (counter : Counter) → Contains new_counters counter → IsWellCounter after counter)
       (owned : (key : Key) → Contains added key → key.owner ≡ owner)
       (room : length (keys_but owner replaced registry.keys) + length added ≤ KEYS)
       (own_room : length (filter (λ key. same_aid key.owner owner) (keys_but owner replaced registry.keys)) + length added ≤ DOMAIN_KEYS) where
