@@ -6,6 +6,7 @@
 //! - `card_sessions`: the card side of SCP03.
 //! - `codes`: CMAC, derivation and CBC, by the published examples.
 //! - `data_objects`: BER-TLV elements, and the places of refusals.
+//! - `delegation`: tokens and receipts.
 //! - `devices`: flash devices that fail, and a file.
 //! - `domains`: which security domains are above which.
 //! - `frames`: thirty frames.
@@ -30,6 +31,8 @@ mod card_sessions;
 mod codes;
 #[cfg(test)]
 mod data_objects;
+#[cfg(test)]
+mod delegation;
 #[cfg(test)]
 mod devices;
 #[cfg(test)]

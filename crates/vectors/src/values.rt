@@ -6,8 +6,7 @@ ghost use Rattle.card_types.specs.declared.limits.TheConstants.{ENTRIES, FILES};
 
 use bitflags::Flags;
 use card_types::{
-    Aid, CardLife, Found, Kind, Level, Life, LifeMark, Privileges, Tables, find,
-    next_after, set_of,
+    Aid, CardLife, Found, Kind, Level, Life, LifeMark, Privileges, Tables, find, next_after, set_of,
 };
 use std::test::Fail;
 
