@@ -41,7 +41,7 @@ pub fn place_set<R: RecordKeeper>(
     requires roomy { R.roomy keeper.old }
     requires replaced { replaced ≤ 0x6F }
     requires version { (1 ≤ version) × (version ≤ 0x6F) }
-    requires lengths { IsKeyLength (length enc.now) × IsKeyLength (length mac.now) × IsKeyLength (length dek.now) }
+    requires lengths { IsKeyLength (length enc.now) × (length mac.now ≡ length enc.now) × (length dek.now ≡ length enc.now) }
     requires judged { NoneHolds (PutFails owner replaced version 3 (R.slots keeper.old)) }
     ensures put { Puts owner replaced (set_keys owner version enc.now mac.now dek.now) (R.slots keeper.old) (R.slots keeper.new) }
     ensures same_else { R.same_else keeper.old keeper.new }
@@ -67,7 +67,7 @@ pub fn put_set<R: RecordKeeper>(
     requires roomy { R.roomy keeper.old }
     requires replaced { replaced ≤ 0x6F }
     requires version { (1 ≤ version) × (version ≤ 0x6F) }
-    requires lengths { IsKeyLength (length enc.now) × IsKeyLength (length mac.now) × IsKeyLength (length dek.now) }
+    requires lengths { IsKeyLength (length enc.now) × (length mac.now ≡ length enc.now) × (length dek.now ≡ length enc.now) }
     ensures put { OnOk result (Puts owner replaced (set_keys owner version enc.now mac.now dek.now) (R.slots keeper.old) (R.slots keeper.new)) }
     ensures exactly { MatchResult result (λ _. NoneHolds (PutFails owner replaced version 3 (R.slots keeper.old))) (HoldsFirst (PutFails owner replaced version 3 (R.slots keeper.old))) }
     ensures unchanged { OnErr result (R.slots keeper.new ≡ R.slots keeper.old) }

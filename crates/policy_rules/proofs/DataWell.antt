@@ -39,6 +39,7 @@ module _ (registry : Registry) (objects : List Object) where
   key_stays key well = record {
     owner = well.owner;
     size = well.size;
+    size_of_set = well.size_of_set;
     name = well.name;
     whole = λ low. set_stays key.owner key.version (well.whole low);
   }

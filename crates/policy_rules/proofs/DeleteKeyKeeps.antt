@@ -23,7 +23,7 @@ module _ (registry : Registry) (owner : List ℕ) (version : ℕ) where
   without_version_well well =
       put_well registry owner version [] [] (keys_but owner version registry.keys) (counters_but owner version registry.counters)
       (IsPermutation-refl (keys_but owner version registry.keys)) (IsPermutation-refl (counters_but owner version registry.counters)) well
-      (λ key there. absurd (omega (arith, there.1))) (λ counter there. absurd (omega (arith, there.1))) (λ key there. absurd (omega (arith, there.1)))
+      (λ key other there. absurd (omega (arith, there.1))) (λ key there. absurd (omega (arith, there.1))) (λ counter there. absurd (omega (arith, there.1))) (λ key there. absurd (omega (arith, there.1)))
       (omega (arith, most_pass (λ key. not (is_key_numbered owner version key)) registry.keys, well.few_keys))
       (omega (arith, fewer_pass (λ key. same_aid key.owner owner) (λ key. not (is_key_numbered owner version key)) registry.keys, well.few_keys_each owner))
 

@@ -1,7 +1,7 @@
 -- The offer that INITIALIZE UPDATE makes, and the registry with the counter one higher.
 use Rattle.std.proofs.Common.{◌≡◌, ◌≢◌, ℕ, ◌<◌, ◌≤◌, List, Bool, true, false, ◌==◌, ◌&&◌, Some, refl, sym, subst, ◌∙◌, length, arith}
 use Rattle.std.specs.Prelude.{Contains, find, map, if◌then◌else◌}
-use Rattle.std.proofs.lemmas.Bool.{and_parts}
+use Rattle.std.proofs.lemmas.Bool.{and_parts, eqb-true}
 use Rattle.std.proofs.lemmas.List.Elements.{All-contains}
 use Rattle.card_types.proofs.LeastOfList.{found_fits, names_sorted}
 use Rattle.card_types.proofs.RaisedCounter.{counter_found, raised_found_well}
@@ -10,7 +10,7 @@ use Rattle.card_types.specs.AidOrder.{same_aid}
 use Rattle.card_types.specs.Ascending.{IsAscending, counter_order}
 use Rattle.card_types.specs.Counters.{raised, raised_counter}
 use Rattle.card_types.specs.Registry.{Counter, Key, Registry, key_named}
-use Rattle.card_types.specs.Well.{IsKeyLength, IsWellCounter, IsWellKey, Well}
+use Rattle.card_types.specs.Well.{IsWellCounter, IsWellKey, Well}
 use Rattle.card_types.specs.declared.limits.TheConstants.{COUNTER_LIMIT}
 use Rattle.policy_rules.specs.Admission.{Admitted}
 use Rattle.policy_rules.specs.InitializeUpdate.{IsOfferOf}
@@ -22,22 +22,29 @@ use Rattle.policy_rules.proofs.SameThings.{same_fits}
 use Rattle.scp03_card.proofs.Lengths.{length-card_challenge}
 use Rattle.scp03_card.specs.Offer.{Offer}
 
--- a key of the registry has the length of one
-key_length : (registry : Registry) (owner : List ℕ) (version identifier : ℕ) (key : Key) → Well registry → key_named registry owner version identifier ≡ Some key
-    → IsKeyLength (length key.bytes)
-key_length registry owner version identifier key well named =
+-- a key that is found has its name
+key_found : (registry : Registry) (owner : List ℕ) (version identifier : ℕ) (key : Key) → key_named registry owner version identifier ≡ Some key
+    → Contains registry.keys key × (key.owner ≡ owner) × (key.version ≡ version)
+key_found registry owner version identifier key named =
     let found = found_fits (λ (k : Key). same_aid k.owner owner && k.version == version && k.identifier == identifier) registry.keys key named in
-    let is = All-contains (IsWellKey registry) registry.keys key well.keys found.0 in
-    is.size
+    let outer = and_parts (same_aid key.owner owner && key.version == version) (key.identifier == identifier) found.1 in
+    let inner = and_parts (same_aid key.owner owner) (key.version == version) outer.0 in
+    (found.0, (same_aid_decides key.owner owner).0 inner.0, eqb-true key.version version inner.1)
 
 pub well_offer : (admitted : Admitted) (owner : List ℕ) (counter : Counter) (offer : Offer) → Well admitted.at.registry → length admitted.command.body ≡ 8
     → IsOfferOf admitted owner counter offer → IsWellOffer offer
 well_offer admitted owner counter offer well long makes =
-    let enc = key_length admitted.at.registry owner counter.version 1 makes.enc well makes.key_enc in
-    let mac = key_length admitted.at.registry owner counter.version 2 makes.mac well makes.key_mac in
-    let dek = key_length admitted.at.registry owner counter.version 3 makes.dek well makes.key_dek in
-    subst IsWellOffer (sym makes.is)
-    (record { enc = enc; mac = mac ∙ sym enc; dek = dek ∙ sym enc; host = long; card = length-card_challenge makes.enc.bytes counter.number (acting admitted) })
+    let enc = key_found admitted.at.registry owner counter.version 1 makes.enc makes.key_enc in
+    let mac = key_found admitted.at.registry owner counter.version 2 makes.mac makes.key_mac in
+    let dek = key_found admitted.at.registry owner counter.version 3 makes.dek makes.key_dek in
+    let is = All-contains (IsWellKey admitted.at.registry) admitted.at.registry.keys makes.enc well.keys enc.0 in
+    subst IsWellOffer (sym makes.is) (record {
+      enc = is.size;
+      mac = is.size_of_set makes.mac mac.0 (mac.1 ∙ sym enc.1) (mac.2 ∙ sym enc.2);
+      dek = is.size_of_set makes.dek dek.0 (dek.1 ∙ sym enc.1) (dek.2 ∙ sym enc.2);
+      host = long;
+      card = length-card_challenge makes.enc.bytes counter.number (acting admitted);
+    })
 
 -- the counter of a key set is one of the domain
 counter_of_set : (registry : Registry) (owner : List ℕ) (version : ℕ) (counter : Counter) → set_counter registry owner version ≡ Some counter

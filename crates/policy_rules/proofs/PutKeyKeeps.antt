@@ -1,9 +1,10 @@
 -- PUT KEY keeps a registry well and its lists in order.
-use Rattle.std.proofs.Common.{◌≡◌, ◌⊎◌, inl, inr, ℕ, suc, ◌+◌, ◌<◌, ◌≤◌, ◌++◌, List, [], ◌∷◌, Option, None, Some, length, refl, ap, sym, subst, ◌∙◌, arith}
-use Rattle.std.specs.Prelude.{All, Contains, MatchOption, filter}
-use Rattle.std.proofs.lemmas.Bool.{cases_lt, le-ltb, lt-ltb}
+use Rattle.std.proofs.Common.{◌≡◌, ◌≢◌, true, ◌==◌, ◌⊎◌, inl, inr, ℕ, suc, ◌+◌, ◌<◌, ◌≤◌, ◌++◌, List, [], ◌∷◌, Option, None, Some, length, refl, ap, sym, subst, ◌∙◌, arith}
+use Rattle.std.specs.Prelude.{All, Contains, MatchOption, filter, slice_index_or}
+use Rattle.std.proofs.lemmas.Bool.{and_from, cases_eq, cases_lt, eq-eqb, false≢true, le-ltb, lt-ltb}
 use Rattle.std.proofs.lemmas.List.Elements.{All-head, All-nil, All-cons, All-tail}
 use Rattle.card_types.proofs.Members.{contains_cases, contains_first, contains_later}
+use Rattle.card_types.proofs.SameAid.{same_aid_decides}
 use Rattle.card_types.specs.AidOrder.{same_aid}
 use Rattle.card_types.specs.Ascending.{IsAscending, counter_order, key_order}
 use Rattle.card_types.specs.Registry.{Counter, Key, Registry}
@@ -11,47 +12,53 @@ use Rattle.card_types.specs.Well.{HasKeyNamed, IsDomainNamed, IsKeyLength, IsKey
 use Rattle.card_types.specs.declared.limits.TheConstants.{DOMAIN_KEYS, KEYS}
 use Rattle.policy_rules.specs.Admission.{Admitted}
 use Rattle.policy_rules.specs.Arranged.{IsArranged}
-use Rattle.policy_rules.specs.KeyVersions.{counters_but, keys_but, with_keys}
+use Rattle.policy_rules.specs.KeyVersions.{counters_but, has_key_version, is_key_numbered, keys_but, with_keys}
 use Rattle.policy_rules.specs.Management.{acting}
-use Rattle.policy_rules.specs.PutKey.{AreKeysSent, IsNewVersion, PutKeyEffect, PutKeyFails, SentKey, counters_from, key_count, keys_from, keys_left, own_keys_left}
+use Rattle.policy_rules.specs.PutKey.{AreKeysSent, AreOfOneLength, HasFieldLengths, IsNewVersion, PutKeyEffect, PutKeyFails, SentKey, counters_from, key_count, keys_from, keys_left, new_version, own_keys_left}
 use Rattle.policy_rules.specs.State.{Effect}
 use Rattle.policy_rules.specs.Volatile.{session_on}
-use Rattle.policy_rules.specs.declared.put_key.RulePK.TheVariants.{PK4}
+use Rattle.policy_rules.specs.declared.put_key.RulePK.TheVariants.{PK2, PK4}
 use Rattle.policy_rules.specs.declared.rule.Rule.TheVariants.{PK}
 use Rattle.scp03_card.specs.Session.{Session}
-use Rattle.policy_rules.proofs.PutKeyKeys.{counter_begun, key_added, put_well}
+use Rattle.policy_rules.proofs.Filtered.{any_there}
+use Rattle.policy_rules.proofs.PutKeyKeys.{AreApart, counter_begun, key_added, length_of_added, put_well}
 
 -- what is so of a key that is put
-pub record IsNewKey (owner : List ℕ) (version identifier : ℕ) (keys : List (List ℕ)) (key : Key) : Type 0 where
+pub record IsNewKey (owner : List ℕ) (version identifier size : ℕ) (keys : List (List ℕ)) (key : Key) : Type 0 where
   pub owner_is : key.owner ≡ owner
   pub version_is : key.version ≡ version
   pub least : identifier ≤ key.identifier
   pub most : key.identifier < identifier + length keys
-  pub size : IsKeyLength (length key.bytes)
+  pub size_is : length key.bytes ≡ size
 
--- keys of the length of a key
-abbrev pub HaveLengths : List (List ℕ) → Type 0
-HaveLengths keys = All (λ bytes. IsKeyLength (length bytes)) keys
+abbrev has_size : ℕ → List ℕ → Type 0
+has_size size bytes = length bytes ≡ size
+
+-- keys of one length, that of a key
+pub record HaveLengths (keys : List (List ℕ)) : Type 0 where
+  pub size : ℕ
+  pub is_length : IsKeyLength size
+  pub each : All (has_size size) keys
 
 module _ (owner : List ℕ) (version : ℕ) where
-  pub new_key : (identifier : ℕ) (keys : List (List ℕ)) → HaveLengths keys → (key : Key) → Contains (keys_from owner version identifier keys) key
-      → IsNewKey owner version identifier keys key
-  new_key identifier [] sizes key there = (let low = there.1 in absurd (omega arith))
-  new_key identifier (bytes ∷ keys) sizes key there =
+  pub new_key : (identifier size : ℕ) (keys : List (List ℕ)) → All (has_size size) keys → (key : Key)
+      → Contains (keys_from owner version identifier keys) key → IsNewKey owner version identifier size keys key
+  new_key identifier size [] sizes key there = (let low = there.1 in absurd (omega arith))
+  new_key identifier size (bytes ∷ keys) sizes key there =
       let first : Key = record { owner = owner; version = version; identifier = identifier; bytes = bytes } in
       elim (contains_cases first (keys_from owner version (identifier + 1) keys) key there) [
-        | inl same ↦ subst (IsNewKey owner version identifier (bytes ∷ keys)) same (record {
+        | inl same ↦ subst (IsNewKey owner version identifier size (bytes ∷ keys)) same (record {
           owner_is = refl;
           version_is = refl;
           least = omega arith;
           most = omega arith;
-          size = All-head (λ b. IsKeyLength (length b)) bytes keys sizes;
+          size_is = All-head (has_size size) bytes keys sizes;
         })
         | inr later ↦
-            (let is = new_key (identifier + 1) keys (All-tail (λ b. IsKeyLength (length b)) bytes keys sizes) key later in
+            (let is = new_key (identifier + 1) size keys (All-tail (has_size size) bytes keys sizes) key later in
             let least = is.least in
             let most = is.most in
-            record { owner_is = is.owner_is; version_is = is.version_is; least = omega arith; most = omega arith; size = is.size })
+            record { owner_is = is.owner_is; version_is = is.version_is; least = omega arith; most = omega arith; size_is = is.size_is })
       ]
 
   -- each key identifier is there
@@ -105,7 +112,8 @@ begun_is owner version counter there = elim (cases_lt version 0x70) [
 
 -- Keys are put for a domain, in the place of those with a key version number.
 module _ (registry : Registry) (well : Well registry) (owner : List ℕ) (domain : IsDomainNamed registry owner) (replaced version : ℕ)
-    (new : List (List ℕ)) (sizes : HaveLengths new) (versioned : AreOfVersion version new) (keys : List Key) (counters : List Counter)
+    (new : List (List ℕ)) (sizes : HaveLengths new) (versioned : AreOfVersion version new)
+    (free : (version ≢ replaced) × (has_key_version registry owner version ≡ true) → ⊥) (keys : List Key) (counters : List Counter)
     (keys_put : IsArranged key_order (keys_from owner version 1 new ++ keys_but owner replaced registry.keys) keys)
     (counters_put : IsArranged counter_order (counters_from owner version ++ counters_but owner replaced registry.counters) counters)
     (room : length (keys_but owner replaced registry.keys) + length new ≤ KEYS)
@@ -145,12 +153,29 @@ module _ (registry : Registry) (well : Well registry) (owner : List ℕ) (domain
         };
       }
 
+  added_is : (key : Key) → Contains added key → IsNewKey owner version 1 sizes.size new key
+  added_is = new_key owner version 1 sizes.size new sizes.each
+
+  -- a key of the domain with the new key version number goes, where there is one
+  apart : AreApart registry owner replaced added new_counters keys counters keys_put.same counters_put.same
+  apart key other there here stays owned versioned =
+      let is = added_is key there in
+      let mine = (same_aid_decides other.owner owner).1 (owned ∙ is.owner_is) in
+      let numbered : (v : ℕ) → version ≡ v → is_key_numbered owner v other ≡ true =
+      λ v same. and_from (same_aid other.owner owner) (other.version == v) mine (eq-eqb other.version v (versioned ∙ is.version_is ∙ same)) in
+      elim (cases_eq version replaced) [
+        | inl same ↦ absurd (false≢true (sym stays ∙ numbered replaced same))
+        | inr differs ↦ free (differs, any_there (is_key_numbered owner version) registry.keys other here (numbered version refl))
+      ]
+
   key_well : (key : Key) → Contains added key → IsWellKey after key
   key_well key there =
-      let is = new_key owner version 1 new sizes key there in
+      let is = added_is key there in
       record {
         owner = subst (IsDomainNamed registry) (sym is.owner_is) domain;
-        size = is.size;
+        size = subst IsKeyLength (sym is.size_is) sizes.is_length;
+        size_of_set = length_of_added registry owner replaced added new_counters keys counters keys_put.same counters_put.same apart key there
+            (λ other new. (added_is other new).size_is ∙ sym is.size_is);
         name = subst (λ (v : ℕ). IsKeyName v key.identifier) (sym is.version_is) (key_name version key.identifier new versioned is.least is.most);
         whole = λ below.
             subst (λ (o : List ℕ). IsWholeSet after o key.version) (sym is.owner_is)
@@ -164,8 +189,8 @@ module _ (registry : Registry) (well : Well registry) (owner : List ℕ) (domain
 
   pub new_keys_well : Well after
   new_keys_well =
-      put_well registry owner replaced added new_counters keys counters keys_put.same counters_put.same well key_well counter_well
-      (λ key there. (new_key owner version 1 new sizes key there).owner_is)
+      put_well registry owner replaced added new_counters keys counters keys_put.same counters_put.same well apart key_well counter_well
+      (λ key there. (added_is key there).owner_is)
       (omega (arith, length_keys_from owner version 1 new)) (omega (arith, length_keys_from owner version 1 new))
 
   pub new_keys_ascending : IsAscending registry → IsAscending after
@@ -177,19 +202,30 @@ module _ (registry : Registry) (well : Well registry) (owner : List ℕ) (domain
     objects = ascending.objects;
   }
 
--- the keys that are sent have the length of a key, and are as many
-pub keys_sent : (dek : List ℕ) (sent : List SentKey) (keys : List (List ℕ)) → AreKeysSent dek sent keys → HaveLengths keys × (length keys ≡ length sent)
-keys_sent dek [] [] are = (All-nil _, refl)
-keys_sent dek [] (key ∷ keys) are = absurd are
-keys_sent dek (one ∷ sent) [] are = absurd are
-keys_sent dek (one ∷ sent) (key ∷ keys) are =
-    let rest = keys_sent dek sent keys are.1 in
-    (All-cons (λ bytes. IsKeyLength (length bytes)) key keys are.0.size rest.0, ap suc rest.1)
+-- the keys that are sent have the length that is said, and are as many
+sizes_sent : (dek : List ℕ) (size : ℕ) (sent : List SentKey) (keys : List (List ℕ)) → AreKeysSent dek sent keys → All (λ one. one.size ≡ size) sent
+    → All (has_size size) keys × (length keys ≡ length sent)
+sizes_sent dek size [] [] are said = (All-nil (has_size size), refl)
+sizes_sent dek size [] (key ∷ keys) are said = absurd are
+sizes_sent dek size (one ∷ sent) [] are said = absurd are
+sizes_sent dek size (one ∷ sent) (key ∷ keys) are said =
+    let rest = sizes_sent dek size sent keys are.1 (All-tail (λ k. k.size ≡ size) one sent said) in
+    (All-cons (has_size size) key keys (are.0.size ∙ All-head (λ k. k.size ≡ size) one sent said) rest.0, ap suc rest.1)
+
+pub keys_sent : (dek : List ℕ) (sent : List SentKey) (keys : List (List ℕ)) → AreKeysSent dek sent keys → All HasFieldLengths sent → AreOfOneLength sent
+    → HaveLengths keys × (length keys ≡ length sent)
+keys_sent dek [] keys are each alike =
+    let sizes = sizes_sent dek 16 [] keys are (All-nil (λ k. k.size ≡ 16)) in
+    (record { size = 16; is_length = inl refl; each = sizes.0 }, sizes.1)
+keys_sent dek (one ∷ sent) keys are each alike =
+    let sizes = sizes_sent dek alike.0 (one ∷ sent) keys are alike.1 in
+    let is_length = subst IsKeyLength (All-head (λ k. k.size ≡ alike.0) one sent alike.1) (All-head HasFieldLengths one sent each).size in
+    (record { size = alike.0; is_length = is_length; each = sizes.0 }, sizes.1)
 
 in_session : (session : Option Session) (sent : List SentKey) (keys : List (List ℕ)) → MatchOption session ⊥ (λ s. AreKeysSent s.offer.dek sent keys)
-    → HaveLengths keys × (length keys ≡ length sent)
-in_session None sent keys are = absurd are
-in_session (Some session) sent keys are = keys_sent session.offer.dek sent keys are
+    → All HasFieldLengths sent → AreOfOneLength sent → HaveLengths keys × (length keys ≡ length sent)
+in_session None sent keys are each alike = absurd are
+in_session (Some session) sent keys are each alike = keys_sent session.offer.dek sent keys are each alike
 
 pub of_version : (p2 version : ℕ) (keys : List (List ℕ)) → IsNewVersion p2 version → length keys ≡ key_count p2 → AreOfVersion version keys
 of_version p2 version keys (inl set) count = inl (set.1, set.2, count ∙ ap key_count set.0)
@@ -210,19 +246,22 @@ rooms admitted passed = (
 )
 
 pub put_keeps : (admitted : Admitted) (done : Effect) → Well admitted.at.registry → IsAscending admitted.at.registry
-    → IsDomainNamed admitted.at.registry (acting admitted) → (PutKeyFails admitted (PK PK4) → ⊥) → PutKeyEffect admitted done
+    → IsDomainNamed admitted.at.registry (acting admitted) → (PutKeyFails admitted (PK PK2) → ⊥) → (PutKeyFails admitted (PK PK4) → ⊥) → PutKeyEffect admitted done
     → Well done.state.registry × IsAscending done.state.registry
-put_keeps admitted done well ascending domain passed does =
+put_keeps admitted done well ascending domain untaken roomy does =
     let registry = admitted.at.registry in
-    let sent = in_session (session_on admitted.at.volatile admitted.channel) does.sent does.bytes does.brings.opened in
-    let count : length does.bytes ≡ key_count admitted.command.p2 = sent.1 ∙ does.brings.has.count in
-    let versioned = of_version admitted.command.p2 does.version does.bytes does.brings.has.new count in
-    let room = rooms admitted passed in
+    let has = does.brings.has in
+    let sent = in_session (session_on admitted.at.volatile admitted.channel) does.sent does.bytes does.brings.opened has.each has.alike in
+    let count : length does.bytes ≡ key_count admitted.command.p2 = sent.1 ∙ has.count in
+    let versioned = of_version admitted.command.p2 does.version does.bytes has.new count in
+    let is : new_version admitted ≡ does.version = ap (λ (body : List ℕ). slice_index_or body 0 0) has.spelled in
+    let free = subst (λ (v : ℕ). (v ≢ admitted.command.p1) × (has_key_version registry (acting admitted) v ≡ true) → ⊥) is untaken in
+    let room = rooms admitted roomy in
     let card : length (keys_left admitted) + length does.bytes ≤ KEYS = (let r = room.0 in omega arith) in
     let own : length (own_keys_left admitted) + length does.bytes ≤ DOMAIN_KEYS = (let r = room.1 in omega arith) in (
       subst Well (sym does.registry)
-          (new_keys_well registry well (acting admitted) domain admitted.command.p1 does.version does.bytes sent.0 versioned does.keys does.counters does.keys_put does.counters_put card own),
+          (new_keys_well registry well (acting admitted) domain admitted.command.p1 does.version does.bytes sent.0 versioned free does.keys does.counters does.keys_put does.counters_put card own),
       subst IsAscending (sym does.registry)
-          (new_keys_ascending registry well (acting admitted) domain admitted.command.p1 does.version does.bytes sent.0 versioned does.keys does.counters does.keys_put does.counters_put card own
+          (new_keys_ascending registry well (acting admitted) domain admitted.command.p1 does.version does.bytes sent.0 versioned free does.keys does.counters does.keys_put does.counters_put card own
           ascending),
     )

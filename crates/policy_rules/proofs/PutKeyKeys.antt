@@ -1,5 +1,5 @@
 -- The registry with keys put in the place of those of a domain with a key version number, or none.
-use Rattle.std.proofs.Common.{◌≡◌, ◌⊎◌, inl, inr, ℕ, ◌+◌, ◌≤◌, Bool, false, ◌==◌, ◌&&◌, ◌++◌, List, length, ap, subst, ◌∙◌, arith, length-append}
+use Rattle.std.proofs.Common.{◌≡◌, ◌⊎◌, inl, inr, ℕ, ◌+◌, ◌≤◌, Bool, false, ◌==◌, ◌&&◌, ◌++◌, List, length, ap, subst, sym, ◌∙◌, arith, length-append}
 use Rattle.std.specs.Prelude.{Contains, filter, not}
 use Rattle.std.specs.List.Sorted.{IsPermutation}
 use Rattle.std.proofs.lemmas.Bool.{cases_Bool, not-true, not_from_false}
@@ -9,7 +9,7 @@ use Rattle.card_types.proofs.Members.{contains_filter, filtered}
 use Rattle.card_types.proofs.SameAid.{same_aid_decides}
 use Rattle.card_types.specs.AidOrder.{same_aid}
 use Rattle.card_types.specs.Registry.{Counter, Entry, Key, LoadFile, Object, Registry, keys_of}
-use Rattle.card_types.specs.Well.{HasCounterOf, HasKeyNamed, IsWellCounter, IsWellEntry, IsWellFile, IsWellKey, IsWellObject, IsWholeSet, Well}
+use Rattle.card_types.specs.Well.{HasCounterOf, HasKeyNamed, HasLengthOfSet, IsWellCounter, IsWellEntry, IsWellFile, IsWellKey, IsWellObject, IsWholeSet, Well}
 use Rattle.card_types.specs.declared.limits.TheConstants.{DOMAIN_KEYS, KEYS}
 use Rattle.policy_rules.specs.KeyVersions.{counters_but, is_counter_numbered, is_key_numbered, keys_but, with_keys}
 use Rattle.policy_rules.proofs.Filtered.{as_many_pass, fewer_pass, most_pass, none_pass}
@@ -38,6 +38,18 @@ module _ (registry : Registry) (owner : List ℕ) (replaced : ℕ) (added : List
             (let kept = filtered (λ k. not (is_key_numbered owner replaced k)) registry.keys key stays in
             inr (kept.0, not-true (is_key_numbered owner replaced key) kept.1))
       ]
+
+  -- the keys that are put have other key version numbers than their owner's that stay
+  abbrev pub AreApart : Type 0
+  AreApart = (key other : Key) → Contains added key → Contains registry.keys other → is_key_numbered owner replaced other ≡ false
+      → other.owner ≡ key.owner → other.version ≡ key.version → ⊥
+
+  pub length_of_added : AreApart → (key : Key) → Contains added key → ((other : Key) → Contains added other → length other.bytes ≡ length key.bytes)
+      → HasLengthOfSet keys key
+  length_of_added apart key there alike other among owned versioned = elim (key_from other among) [
+    | inl new ↦ alike other new
+    | inr stays ↦ absurd (apart key other there stays.0 stays.1 owned versioned)
+  ]
 
   pub counter_begun : (counter : Counter) → Contains new_counters counter → Contains counters counter
   counter_begun counter there =
@@ -100,14 +112,23 @@ module _ (registry : Registry) (owner : List ℕ) (replaced : ℕ) (added : List
   still_well_object : (object : Object) → IsWellObject registry object → IsWellObject after object
   still_well_object object is = record { owner = is.owner; form = is.form }
 
-  still_well_key : (key : Key) → is_key_numbered owner replaced key ≡ false → IsWellKey registry key → IsWellKey after key
-  still_well_key key other is = record { owner = is.owner; size = is.size; name = is.name; whole = λ below. whole_still key.owner key.version other (is.whole below) }
+  still_well_key : AreApart → (key : Key) → Contains registry.keys key → is_key_numbered owner replaced key ≡ false → IsWellKey registry key → IsWellKey after key
+  still_well_key apart key there stays is = record {
+    owner = is.owner;
+    size = is.size;
+    size_of_set = λ other among owned versioned. elim (key_from other among) [
+      | inl new ↦ absurd (apart other key new there stays (sym owned) (sym versioned))
+      | inr kept ↦ is.size_of_set other kept.0 owned versioned
+    ];
+    name = is.name;
+    whole = λ below. whole_still key.owner key.version stays (is.whole below);
+  }
 
   still_well_counter : (counter : Counter) → is_counter_numbered owner replaced counter ≡ false → IsWellCounter registry counter → IsWellCounter after counter
   still_well_counter counter other is = record { set = whole_still counter.owner counter.version other is.set; version = is.version; number = is.number }
 
   -- with room for well keys of the domain, and for its well counters
-  module _ (well : Well registry) (keys_well : (key : Key) → Contains added key → IsWellKey after key)
+  module _ (well : Well registry) (apart : AreApart) (keys_well : (key : Key) → Contains added key → IsWellKey after key)
       (counters_well : (counter : Counter) → Contains new_counters counter → IsWellCounter after counter)
       (owned : (key : Key) → Contains added key → key.owner ≡ owner)
       (room : length (keys_but owner replaced registry.keys) + length added ≤ KEYS)
@@ -149,7 +170,7 @@ module _ (registry : Registry) (owner : List ℕ) (replaced : ℕ) (added : List
       keys = All-weaker (Contains keys) (IsWellKey after)
           (λ key there. elim (key_from key there) [
             | inl new ↦ keys_well key new
-            | inr stays ↦ still_well_key key stays.1 (All-contains (IsWellKey registry) registry.keys key well.keys stays.0)
+            | inr stays ↦ still_well_key apart key stays.0 stays.1 (All-contains (IsWellKey registry) registry.keys key well.keys stays.0)
           ])
           keys (All-contains_itself keys);
       counters = All-weaker (Contains counters) (IsWellCounter after)

@@ -5,7 +5,7 @@ use Rattle.policy_rules.specs.Commands.{JudgesAs}
 use Rattle.policy_rules.specs.PutKey.{PutKeyEffect, PutKeyFails, put_key, put_rules}
 use Rattle.policy_rules.specs.Sound.{IsSound}
 use Rattle.policy_rules.specs.State.{Effect}
-use Rattle.policy_rules.specs.declared.put_key.RulePK.TheVariants.{PK4}
+use Rattle.policy_rules.specs.declared.put_key.RulePK.TheVariants.{PK2, PK4}
 use Rattle.policy_rules.specs.declared.rule.Rule.TheVariants.{PK}
 use Rattle.policy_rules.proofs.FirstUnique.{none_fails}
 use Rattle.policy_rules.proofs.PutKeyKeeps.{put_keeps}
@@ -24,6 +24,7 @@ put_key_keeps admitted done ready (takes, first) does =
     let apart = managed_apart admitted.command.ins put_key.instruction takes.0 (omega arith) in
     let registry = admitted.at.registry in
     let kept = put_keeps admitted done ready.sound.well ready.sound.ascending (ready.domain apart.0 apart.1)
+    (none_fails (PutKeyFails admitted) put_rules (PK PK2) (3, omega arith, refl) first)
     (none_fails (PutKeyFails admitted) put_rules (PK PK4) (5, omega arith, refl) first) does in
     let fits = same_fits registry registry.life does.keys does.counters registry.objects admitted.at.volatile ready.sound.fits in
     record { well = kept.0; ascending = kept.1; fits = fits_as (sym does.registry) (sym does.volatile) fits }

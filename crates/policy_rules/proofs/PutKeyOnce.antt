@@ -1,12 +1,12 @@
 -- PUT KEY has one effect.
-use Rattle.std.proofs.Common.{◌≡◌, ℕ, List, [], ◌∷◌, ◌++◌, Option, None, Some, inl, inr, map, refl, sym, subst, ◌∙◌, arith}
+use Rattle.std.proofs.Common.{◌≡◌, ℕ, List, [], ◌∷◌, ◌++◌, Option, None, Some, inl, inr, map, take, refl, sym, ap, subst, ◌∙◌, arith}
 use Rattle.std.specs.Prelude.{MatchOption, slice_index}
 use Rattle.std.specs.Cmp.{IsTotalOrder}
 use Rattle.std.specs.List.{concat}
 use Rattle.std.specs.List.Sorted.{IsPermutation}
 use Rattle.std.specs.declared.cmp.Ordering.{Ordering}
 use Rattle.std.proofs.lemmas.Bool.{cases_lt}
-use Rattle.std.proofs.lemmas.List.{get_or-replicate, get_or_past}
+use Rattle.std.proofs.lemmas.List.{get_or-replicate, get_or_past, take_at}
 use Rattle.std.proofs.lemmas.List.Sorted.{IsPermutation-sym, IsPermutation-trans}
 use Rattle.aes_block.specs.Cipher.{IsBlock}
 use Rattle.cmac_kdf.proofs.CbcLemmas.{same_plain}
@@ -36,9 +36,11 @@ zeros = record {
 
 one_key : (dek : List ℕ) (sent : SentKey) (a b : List ℕ) → IsKeySent dek sent a → IsKeySent dek sent b → a ≡ b
 one_key dek sent a b one other =
-    let long = one.size in
-    let too = other.size in
-    same_plain dek zero_block a b zeros one.bytes other.bytes (omega arith) (omega arith) (one.sealed ∙ sym other.sealed)
+    let whole = one.whole in
+    let too = other.whole in
+    let same : a ++ one.fill ≡ b ++ other.fill =
+    same_plain dek zero_block (a ++ one.fill) (b ++ other.fill) zeros one.bytes other.bytes (omega arith) (omega arith) (one.sealed ∙ sym other.sealed) in
+    sym (take_at a one.fill sent.size one.size) ∙ ap (take sent.size) same ∙ take_at b other.fill sent.size other.size
 
 pub one_keys : (dek : List ℕ) (sent : List SentKey) (a b : List (List ℕ)) → AreKeysSent dek sent a → AreKeysSent dek sent b → a ≡ b
 one_keys dek [] [] [] one other = refl
@@ -64,8 +66,8 @@ pub one_sent : (p2 : ℕ) (body : List ℕ) (v w : ℕ) (xs ys : List SentKey) �
 one_sent p2 body v w xs ys one other =
     let both = sym one.spelled ∙ other.spelled in
     let fields : concat (map key_field xs) ≡ concat (map key_field ys) = cc in
-    one_fields xs ys (concat (map key_field xs)) (key_count p2) (record { number = one.count; each = one.each; spelled = refl })
-    (record { number = other.count; each = other.each; spelled = fields })
+    one_fields xs ys (concat (map key_field xs)) (key_count p2) (record { number = one.count; each = one.each; alike = one.alike; spelled = refl })
+    (record { number = other.count; each = other.each; alike = other.alike; spelled = fields })
 
 -- what the command brings is one
 pub brings_once : (admitted : Admitted) (v w : ℕ) (xs ys : List SentKey) (a b : List (List ℕ)) → Brings admitted v xs a → Brings admitted w ys b

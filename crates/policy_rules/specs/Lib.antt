@@ -19,10 +19,10 @@ pub mod Laws
 pub mod ManageChannel
 pub mod LiveEnds
 pub mod Management
-pub mod Means
 pub mod ObjectsFound
 pub mod PutKey
 pub mod PutRules
+pub mod Requests
 pub mod Rules
 pub mod Run
 pub mod Select

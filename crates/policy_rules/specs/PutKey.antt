@@ -1,6 +1,6 @@
 -- PUT KEY (GlobalPlatform Card Specification 2.3.1, 11.8; Amendment D, 7.2): a key set, a token key or a receipt key of the selected
 -- domain is put, in the place of the keys with another key version number, or of none.
-use Rattle.std.specs.Prelude.{◌≡◌, ◌≢◌, ◌⊎◌, ℕ, ◌+◌, ◌<◌, ◌≤◌, List, [], ◌∷◌, ◌++◌, All, Bool, MatchOption, codes, false, filter, if◌then◌else◌, length, map, nat_lt, replicate, slice_index_or, take, true, ◌==◌}
+use Rattle.std.specs.Prelude.{◌≡◌, ◌≢◌, ◌⊎◌, ℕ, ◌+◌, ◌*◌, ◌/◌, ◌<◌, ◌≤◌, List, [], ◌∷◌, ◌++◌, All, Bool, MatchOption, codes, false, filter, if◌then◌else◌, length, map, nat_lt, replicate, slice_index_or, take, true, ◌==◌}
 use Rattle.std.specs.List.{concat}
 use Rattle.aes_block.specs.Cipher.{cipher}
 use Rattle.card_types.specs.AidOrder.{same_aid}
@@ -29,18 +29,30 @@ abbrev pub PutKeyParameters : ℕ → ℕ → Type 0
 PutKeyParameters p1 p2 =
     ((p1 ≤ 0x6F) × (p2 ≡ 0x81)) ⊎ (((p1 ≡ 0x00) ⊎ (p1 ≡ 0x70) ⊎ (p1 ≡ 0x71)) × (p2 ≡ 0x01))
 
--- a key as it is sent: its sixteen enciphered bytes, and its check value
+-- a key as it is sent: its length, its enciphered bytes, and its check value
 pub record SentKey : Type 0 where
+  pub size : ℕ
   pub sealed : List ℕ
   pub check : List ℕ
 
--- its key field: the key type AES, the length of the key data, that of the key, the key data, the length of the check value, and
--- that value
-abbrev pub key_field : SentKey → List ℕ
-key_field key = 0x88 ∷ 0x11 ∷ 0x10 ∷ key.sealed ++ 0x03 ∷ key.check
+-- how many bytes a key of this length has once it is enciphered: whole blocks
+abbrev pub sealed_size : ℕ → ℕ
+sealed_size size = (size + 15) / 16 * 16
 
-abbrev pub HasFieldLengths : SentKey → Type 0
-HasFieldLengths key = (length key.sealed ≡ 16) × (length key.check ≡ 3)
+-- its key field: the key type AES, the length of the key data (the length of the key and the enciphered bytes), the length of the
+-- key, the enciphered bytes, the length of the check value, and that value
+abbrev pub key_field : SentKey → List ℕ
+key_field key = 0x88 ∷ (sealed_size key.size + 1) ∷ key.size ∷ key.sealed ++ 0x03 ∷ key.check
+
+-- the lengths of its parts
+pub record HasFieldLengths (key : SentKey) : Type 0 where
+  pub size : IsKeyLength key.size
+  pub sealed : length key.sealed ≡ sealed_size key.size
+  pub check : length key.check ≡ 3
+
+-- the keys have one length
+abbrev pub AreOfOneLength : List SentKey → Type 0
+AreOfOneLength keys = (size : ℕ) × All (λ key. key.size ≡ size) keys
 
 -- three keys make a key set, which has a key version number from 01 to 6F; a token key (70) and a receipt key (71) stand alone
 abbrev pub key_count : ℕ → ℕ
@@ -50,22 +62,25 @@ abbrev pub IsNewVersion : ℕ → ℕ → Type 0
 IsNewVersion p2 version =
     ((p2 ≡ 0x81) × (0x01 ≤ version) × (version ≤ 0x6F)) ⊎ ((p2 ≡ 0x01) × ((version ≡ 0x70) ⊎ (version ≡ 0x71)))
 
--- the data field is the new key version number and the key fields
+-- the data field is the new key version number and the key fields, of keys of one length
 pub record HasKeyFields (p2 : ℕ) (body : List ℕ) (version : ℕ) (keys : List SentKey) : Type 0 where
   pub new : IsNewVersion p2 version
   pub count : length keys ≡ key_count p2
   pub each : All HasFieldLengths keys
+  pub alike : AreOfOneLength keys
   pub spelled : body ≡ version ∷ concat (map key_field keys)
 
 abbrev pub PutKeyField : ℕ → List ℕ → Type 0
 PutKeyField p2 body = (version : ℕ) × (keys : List SentKey) × HasKeyFields p2 body version keys
 
--- the bytes of a key that is sent: enciphered under the static Key-DEK of the session, they are what was sent (CBC without
--- padding, from a zero block; Amendment D, 4.1.4)
+-- The bytes of a key that is sent. With the bytes behind it that fill the last block, which are not read, it was enciphered as
+-- what was sent, under the static Key-DEK of the session (CBC without padding, from a zero block; Amendment D, 4.1.4).
 pub record IsKeySent (dek : List ℕ) (sent : SentKey) (key : List ℕ) : Type 0 where
-  pub bytes : IsBytes key
-  pub size : IsKeyLength (length key)
-  pub sealed : cbc dek zero_block key ≡ sent.sealed
+  pub fill : List ℕ
+  pub bytes : IsBytes (key ++ fill)
+  pub size : length key ≡ sent.size
+  pub whole : length (key ++ fill) ≡ sealed_size sent.size
+  pub sealed : cbc dek zero_block (key ++ fill) ≡ sent.sealed
 
 abbrev pub AreKeysSent : List ℕ → List SentKey → List (List ℕ) → Type 0
 AreKeysSent dek [] [] = Unit {0}

@@ -37,16 +37,11 @@ use Rattle.policy_rules.specs.declared.rule.RulePS.TheVariants.{P, S}
 
 -- a key as it is sent, and the keys of PUT KEY
 abbrev pub sent_key : SealedKey → SentKey
-sent_key key = record { sealed = key.sealed.now; check = key.check.now }
+sent_key key = record { size = key.len; sealed = key.sealed.now; check = key.check.now }
 
 abbrev pub sent_keys : PutKeys → List SentKey
 sent_keys (One key) = sent_key key ∷ []
 sent_keys (Three enc mac dek) = sent_key enc ∷ sent_key mac ∷ sent_key dek ∷ []
-
--- each is said to have the length of a key of AES-128
-abbrev pub AreOfAes128 : PutKeys → Type 0
-AreOfAes128 (One key) = key.len ≡ 16
-AreOfAes128 (Three enc mac dek) = (enc.len ≡ 16) × (mac.len ≡ 16) × (dek.len ≡ 16)
 
 -- the form of the commands with this request
 abbrev pub form_in : Request → CommandForm
@@ -68,7 +63,7 @@ Decodes (LessChannel number) p1 p2 body = (p1 ≡ 0x80) × (p2 ≡ number) × (1
 Decodes (Get tag) p1 p2 body = tag ≡ tag_of p1 p2
 Decodes (Initialize version challenge) p1 p2 body = (version ≡ p1) × (challenge.now ≡ body)
 Decodes (Authenticate level proof) p1 p2 body = (code_of level ≡ p1) × (proof.now ≡ body)
-Decodes (PutKey replaced version keys) p1 p2 body = (replaced ≡ p1) × HasKeyFields p2 body version (sent_keys keys) × AreOfAes128 keys
+Decodes (PutKey replaced version keys) p1 p2 body = (replaced ≡ p1) × HasKeyFields p2 body version (sent_keys keys)
 Decodes (Store objects) p1 p2 body = objects.now ≡ body
 Decodes (DeleteKey version identifier) p1 p2 body = Chooses body version identifier
 

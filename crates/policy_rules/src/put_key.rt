@@ -2,13 +2,14 @@
 
 ghost use Rattle.std.specs.Prelude.{◌≡◌, ◌≤◌, ◌↔◌, ℕ, List, None, Some, IfErr, IfNone, IfSome, IsTrue, OnOk, length};
 ghost use Rattle.card_types.specs.InOrder.{IsInOrder};
+ghost use Rattle.card_types.specs.Well.{IsKeyLength};
 ghost use Rattle.key_sets.specs.PutFails.{NoneHolds, PutFails};
 ghost use Rattle.key_sets.specs.declared.refusal.PutRefusal.TheVariants.{Unknown, Taken, Full};
 ghost use Rattle.policy_rules.specs.Admission.{Admitted};
 ghost use Rattle.policy_rules.specs.FirstFailing.{IsFirst};
 ghost use Rattle.policy_rules.specs.KeyFields.{AreFields, BeginsWithKey, NoFields};
-ghost use Rattle.policy_rules.specs.Requests.{ActsIn, AreOfAes128, IsRequestOf, Parses, sent_key, sent_keys};
-ghost use Rattle.policy_rules.specs.PutKey.{HasKeyFields, IsNewVersion, PutKeyFails, PutKeyField, PutKeyParameters, SaysChecks, SentKey, key_count, put_key_rule_name, put_key_rule_status, put_rules};
+ghost use Rattle.policy_rules.specs.Requests.{ActsIn, IsRequestOf, Parses, sent_key, sent_keys};
+ghost use Rattle.policy_rules.specs.PutKey.{HasKeyFields, IsNewVersion, PutKeyFails, PutKeyField, PutKeyParameters, SaysChecks, SentKey, key_count, put_key_rule_name, put_key_rule_status, put_rules, sealed_size};
 ghost use Rattle.policy_rules.specs.PutRules.{key_rules, version_rules};
 ghost use Rattle.policy_rules.specs.declared.instruction.TheConstants.{PUT_KEY};
 ghost use Rattle.policy_rules.specs.declared.put_key.PutKeys.{PutKeys as Keys};
@@ -88,31 +89,50 @@ impl PutKeys<'_> {
     }
 }
 
-/// How many bytes a key field has.
-const FIELD: usize = 23;
+/// Where the enciphered bytes of a key field begin: behind the key type, the length of the key data, and that of the key.
+const SEALED: usize = 3;
+
+/// How many bytes a check value has.
+const CHECK: usize = 3;
+
+// How many bytes a key of this length has once it is enciphered.
+fn sealed_length(len: u8) -> Option<usize>
+    ensures some { IfSome result (λ size. IsKeyLength len × (size ≡ sealed_size len)) }
+    ensures none { IfNone result (IsKeyLength len → ⊥) }
+{
+    match len {
+        16 => Some(16),
+        24 | 32 => Some(32),
+        _ => None,
+    }
+}
 
 // The key of the key field that the bytes begin with, and the bytes behind it.
 fn read_field(bytes: &[u8]) -> Option<(SealedKey<'_>, &[u8])>
-    ensures some { IfSome result (λ read. (read.0.len ≡ 16) × BeginsWithKey (sent_key read.0) bytes.now read.1.now) }
+    ensures some { IfSome result (λ read. BeginsWithKey (sent_key read.0) bytes.now read.1.now) }
     ensures none { IfNone result ((key : SentKey) (rest : List ℕ) → BeginsWithKey key bytes.now rest → ⊥) }
 {
-    if bytes.len() < FIELD {
+    if bytes.len() < SEALED || bytes[0] != 0x88 {
         return None;
     }
-    if bytes[0] != 0x88 || bytes[1] != 0x11 || bytes[2] != 0x10 || bytes[19] != 0x03 {
+    let len = bytes[2];
+    let size = sealed_length(len)?;
+    let mark = SEALED + size;
+    let end = mark + 1 + CHECK;
+    if usize::from(bytes[1]) != size + 1 || bytes.len() < end || bytes[mark] != 0x03 {
         return None;
     }
     let key = SealedKey {
-        len: 16,
-        sealed: &bytes[3..19],
-        check: &bytes[20..FIELD],
+        len,
+        sealed: &bytes[SEALED..mark],
+        check: &bytes[mark + 1..end],
     };
-    Some((key, &bytes[FIELD..]))
+    Some((key, &bytes[end..]))
 }
 
 // The key of one key field.
 fn read_one(bytes: &[u8]) -> Option<PutKeys<'_>>
-    ensures some { IfSome result (λ keys. AreOfAes128 keys × AreFields 1 bytes.now (sent_keys keys)) }
+    ensures some { IfSome result (λ keys. AreFields 1 bytes.now (sent_keys keys)) }
     ensures none { IfNone result (NoFields 1 bytes.now) }
 {
     let (key, rest) = read_field(bytes)?;
@@ -122,9 +142,9 @@ fn read_one(bytes: &[u8]) -> Option<PutKeys<'_>>
     Some(PutKeys::One(key))
 }
 
-// The keys of three key fields.
+// The keys of three key fields, which have one length.
 fn read_three(bytes: &[u8]) -> Option<PutKeys<'_>>
-    ensures some { IfSome result (λ keys. AreOfAes128 keys × AreFields 3 bytes.now (sent_keys keys)) }
+    ensures some { IfSome result (λ keys. AreFields 3 bytes.now (sent_keys keys)) }
     ensures none { IfNone result (NoFields 3 bytes.now) }
 {
     let (enc, rest) = read_field(bytes)?;
@@ -133,12 +153,15 @@ fn read_three(bytes: &[u8]) -> Option<PutKeys<'_>>
     if !rest.is_empty() {
         return None;
     }
+    if mac.len != enc.len || dek.len != enc.len {
+        return None;
+    }
     Some(PutKeys::Three(enc, mac, dek))
 }
 
 // The keys of as many key fields as P2 says.
 fn read_keys(p2: u8, bytes: &[u8]) -> Option<PutKeys<'_>>
-    ensures some { IfSome result (λ keys. AreOfAes128 keys × AreFields (key_count p2) bytes.now (sent_keys keys)) }
+    ensures some { IfSome result (λ keys. AreFields (key_count p2) bytes.now (sent_keys keys)) }
     ensures none { IfNone result (NoFields (key_count p2) bytes.now) }
 {
     if p2 == 0x81 {
@@ -161,7 +184,7 @@ fn is_new_version(p2: u8, version: u8) -> bool
 
 // The new key version number and the keys of the data field.
 fn read_body(p2: u8, body: &[u8]) -> Option<(u8, PutKeys<'_>)>
-    ensures some { IfSome result (λ read. HasKeyFields p2 body.now read.0 (sent_keys read.1) × AreOfAes128 read.1) }
+    ensures some { IfSome result (λ read. HasKeyFields p2 body.now read.0 (sent_keys read.1)) }
     ensures none { IfNone result (PutKeyField p2 body.now → ⊥) }
 {
     if body.is_empty() || !is_new_version(p2, body[0]) {
