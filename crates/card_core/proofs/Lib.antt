@@ -20,4 +20,4 @@ pub mod PutKeyDone
 pub mod PutKeyTables
 pub mod Serving
 pub mod SetAt
-pub mod Standing
+pub mod ChannelChanges

@@ -1,7 +1,7 @@
 pub mod Card
 pub mod Commits
 pub mod Domains
-pub mod Holds
+pub mod SecureChannels
 pub mod Kept
 pub mod LoadRead
 pub mod Manages
