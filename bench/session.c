@@ -1,13 +1,18 @@
 /* The yardstick of session.sh: the card side of SCP03 sessions at level 33 over the AES of
    OpenSSL, and the lines of their host.
 
-     session lines COUNT GETS    writes the lines of COUNT sessions, each of INITIALIZE UPDATE,
-                                 EXTERNAL AUTHENTICATE and GETS times GET DATA, of the sequence
-                                 counter and of the keys in turns
-     session answers             reads lines and answers each by one call of write; at INITIALIZE
-                                 UPDATE it commits a page to the file c.img first, as gp does
+     session keys SIZE                writes the lines of a session with the factory card that puts
+                                      a key set of keys of SIZE bytes, 24 or 32, in the place of its
+                                      own
+     session lines SIZE COUNT GETS    writes the lines of COUNT sessions with a card whose keys have
+                                      SIZE bytes, each of INITIALIZE UPDATE, EXTERNAL AUTHENTICATE
+                                      and GETS times GET DATA, of the sequence counter and of the
+                                      keys in turns
+     session answers SIZE             reads such lines and answers each by one call of write; at
+                                      INITIALIZE UPDATE it commits a page to the file c.img first,
+                                      as gp does
 
-   It knows these commands alone, and the factory card. Each session makes the key schedules and
+   Its card is the factory card, but for the length of its keys. Each session makes the key schedules and
    the CMAC subkeys of its static keys and of its session keys once, as gp does, but no schedules
    for deciphering and none of Key-DEK: these commands need neither. CMAC is written out over
    AES_encrypt. This and AES_cbc_encrypt of a few blocks work by a table of 256 bytes in OpenSSL
@@ -17,7 +22,7 @@
 #include <stdint.h>
 #include "journal.h"
 
-enum { LEVEL = 0x33, MOST = 261, ACCEPTED = 0x9000, REFUSED = 0x6982 };
+enum { LEVEL = 0x33, VERSION = 0x30, AES = 0x88, MOST = 261, ACCEPTED = 0x9000, REFUSED = 0x6982 };
 
 /* The derivation constants. */
 enum { CARD_CRYPTOGRAM, HOST_CRYPTOGRAM, CARD_CHALLENGE, S_ENC = 4, S_MAC = 6, S_RMAC = 7 };
@@ -30,12 +35,12 @@ struct code_key {
 };
 
 static const uint8_t aid[] = { 0xa0, 0, 0, 1, 0x51, 0, 0, 0 };
-static const uint8_t keys[] = {
-    0xe0, 0x12, 0xc0, 4, 1, 0x30, 0x88, 0x10, 0xc0, 4, 2, 0x30, 0x88, 0x10, 0xc0, 4, 3, 0x30, 0x88, 0x10,
-};
-/* Key-ENC and Key-MAC are alike. */
-static const block static_key = {
+
+/* How many bytes a key has: 16, 24 or 32. Key-ENC, Key-MAC and Key-DEK are alike, the front of this. */
+static size_t key_size = 16;
+static const uint8_t static_key[32] = {
     0x40, 0x41, 0x42, 0x43, 0x44, 0x45, 0x46, 0x47, 0x48, 0x49, 0x4a, 0x4b, 0x4c, 0x4d, 0x4e, 0x4f,
+    0x50, 0x51, 0x52, 0x53, 0x54, 0x55, 0x56, 0x57, 0x58, 0x59, 0x5a, 0x5b, 0x5c, 0x5d, 0x5e, 0x5f,
 };
 
 /* The sequence counter of the next session, which stands in this page of the card's. */
@@ -70,11 +75,16 @@ static void doubled(const block from, block to)
     to[15] = (uint8_t)(from[15] << 1 ^ (top ? 0x87 : 0));
 }
 
-static void set_code(struct code_key *of, const block bytes)
+static void set_cipher(AES_KEY *of, const uint8_t *bytes)
+{
+    AES_set_encrypt_key(bytes, (int)(8 * key_size), of);
+}
+
+static void set_code(struct code_key *of, const uint8_t *bytes)
 {
     block zero = { 0 };
 
-    AES_set_encrypt_key(bytes, 128, &of->key);
+    set_cipher(&of->key, bytes);
     AES_encrypt(zero, zero, &of->key);
     doubled(zero, of->whole);
     doubled(of->whole, of->padded);
@@ -98,16 +108,17 @@ static void code(const struct code_key *of, const uint8_t *message, size_t size,
     AES_encrypt(out, out, &of->key);
 }
 
-/* The context has 16 bytes at most. */
-static void derive(const struct code_key *of, uint8_t constant, uint8_t bits, const uint8_t *context, size_t size, block out)
+/* The context has 16 bytes at most. Whole blocks are derived, of which the caller takes the front. */
+static void derive(const struct code_key *of, uint8_t constant, size_t bits, const uint8_t *context, size_t size, uint8_t *out)
 {
     uint8_t input[32] = { 0 };
 
     input[11] = constant;
-    input[14] = bits;
-    input[15] = 1;
+    input[13] = (uint8_t)(bits >> 8);
+    input[14] = (uint8_t)bits;
     memcpy(input + 16, context, size);
-    code(of, input, 16 + size, out);
+    for (input[15] = 1; 128 * (input[15] - 1u) < bits; input[15]++, out += 16)
+        code(of, input, 16 + size, out);
 }
 
 static void put_counter(uint8_t *to)
@@ -130,13 +141,13 @@ static void make_card_challenge(const struct code_key *key)
 
 static void make_session_keys(const struct code_key *of_enc, const struct code_key *of_mac)
 {
-    block key;
+    uint8_t key[32];
 
-    derive(of_enc, S_ENC, 128, challenges, 16, key);
-    AES_set_encrypt_key(key, 128, &enc);
-    derive(of_mac, S_MAC, 128, challenges, 16, key);
+    derive(of_enc, S_ENC, 8 * key_size, challenges, 16, key);
+    set_cipher(&enc, key);
+    derive(of_mac, S_MAC, 8 * key_size, challenges, 16, key);
     set_code(&mac, key);
-    derive(of_mac, S_RMAC, 128, challenges, 16, key);
+    derive(of_mac, S_RMAC, 8 * key_size, challenges, 16, key);
     set_code(&rmac, key);
 }
 
@@ -215,8 +226,14 @@ static size_t external_authenticate(const uint8_t *command, uint8_t *reply)
 static size_t put_data(uint8_t tag, uint8_t *reply)
 {
     if (tag == 0xe0) {
-        memcpy(reply, keys, sizeof keys);
-        return sizeof keys;
+        reply[0] = 0xe0;
+        reply[1] = 18;
+        for (uint8_t i = 0; i < 3; i++) {
+            const uint8_t key[] = { 0xc0, 4, i + 1, VERSION, AES, (uint8_t)key_size };
+
+            memcpy(reply + 2 + sizeof key * i, key, sizeof key);
+        }
+        return 20;
     }
     reply[0] = 0xc1;
     reply[1] = 3;
@@ -224,10 +241,10 @@ static size_t put_data(uint8_t tag, uint8_t *reply)
     return 5;
 }
 
-/* Pads and enciphers a reply's data. */
-static size_t seal(uint8_t *data, size_t size)
+/* Pads and enciphers the data of a command, with the mark 00, or of a reply, with 80. */
+static size_t seal(uint8_t mark, uint8_t *data, size_t size)
 {
-    block vector = { 0x80 };
+    block vector = { mark };
     size_t padded = (size / 16 + 1) * 16;
 
     memset(data + size, 0, padded - size);
@@ -249,7 +266,7 @@ static size_t get_data(const uint8_t *command, uint8_t *reply)
     if (memcmp(command + 5, chain, 8) != 0)
         return put_status(reply, 0, REFUSED);
     number++;
-    size = seal(reply, put_data(command[3], reply));
+    size = seal(0x80, reply, put_data(command[3], reply));
     memcpy(message, chain, 16);
     memcpy(message + 16, reply, size);
     code(&rmac, message, put_status(message, 16 + size, ACCEPTED), sum);
@@ -361,6 +378,51 @@ static void put_get_data(uint8_t tag)
     put_line(line, sizeof line);
 }
 
+/* A key field of PUT KEY. The key goes under the Key-DEK of the session, and zeros fill its last block. */
+static size_t put_key_field(size_t size, uint8_t *to)
+{
+    block vector = { 0 }, check;
+    size_t sealed = (size + 15) / 16 * 16;
+    AES_KEY dek, new;
+
+    memset(to, 0, 3 + sealed);
+    to[0] = AES;
+    to[1] = (uint8_t)(sealed + 1);
+    to[2] = (uint8_t)size;
+    memcpy(to + 3, static_key, size);
+    set_cipher(&dek, static_key);
+    AES_cbc_encrypt(to + 3, to + 3, sealed, &dek, vector, AES_ENCRYPT);
+    memset(check, 1, sizeof check);
+    AES_set_encrypt_key(static_key, (int)(8 * size), &new);
+    AES_encrypt(check, check, &new);
+    to[3 + sealed] = 3;
+    memcpy(to + 4 + sealed, check, 3);
+    return 7 + sealed;
+}
+
+static void put_put_key(size_t size)
+{
+    uint8_t line[MOST] = { 0x84, 0xd8, VERSION, 0x81, 0, VERSION };
+    size_t field = 1;
+
+    for (int i = 0; i < 3; i++)
+        field += put_key_field(size, line + 5 + field);
+    number++;
+    field = seal(0, line + 5, field);
+    line[4] = (uint8_t)(field + 8);
+    chain_on(line, line + 5, field);
+    memcpy(line + 5 + field, chain, 8);
+    put_line(line, 13 + field);
+}
+
+static int keys(size_t size)
+{
+    put_initialize_update();
+    put_external_authenticate();
+    put_put_key(size);
+    return fflush(stdout) == 0 ? 0 : 6;
+}
+
 static int lines(unsigned long count, unsigned long gets)
 {
     for (unsigned long i = 0; i < count; i++) {
@@ -372,11 +434,25 @@ static int lines(unsigned long count, unsigned long gets)
     return fflush(stdout) == 0 ? 0 : 6;
 }
 
+static size_t read_size(const char *word)
+{
+    size_t size = strtoul(word, NULL, 10);
+
+    return size == 16 || size == 24 || size == 32 ? size : 0;
+}
+
 int main(int argc, char **argv)
 {
-    if (argc == 4 && strcmp(argv[1], "lines") == 0)
-        return lines(strtoul(argv[2], NULL, 10), strtoul(argv[3], NULL, 10));
-    if (argc == 2 && strcmp(argv[1], "answers") == 0) {
+    size_t size = argc < 3 ? 0 : read_size(argv[2]);
+
+    if (size == 0)
+        return 2;
+    if (argc == 3 && strcmp(argv[1], "keys") == 0)
+        return keys(size);
+    key_size = size;
+    if (argc == 5 && strcmp(argv[1], "lines") == 0)
+        return lines(strtoul(argv[3], NULL, 10), strtoul(argv[4], NULL, 10));
+    if (argc == 3 && strcmp(argv[1], "answers") == 0) {
         open_device("c.img");
         return answers();
     }
