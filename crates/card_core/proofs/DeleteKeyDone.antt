@@ -6,7 +6,7 @@ use Rattle.std.specs.List.Sorted.{IsPermutation}
 use Rattle.std.proofs.lemmas.Bool.{and_parts, eqb-true}
 use Rattle.std.proofs.lemmas.List.Sorted.{IsPermutation-map, IsPermutation-trans}
 use Rattle.card_types.proofs.Domains.{key_owner_is_used}
-use Rattle.card_types.proofs.KeptRepresents.{held_from_used}
+use Rattle.card_types.proofs.Shows.{held_from_used}
 use Rattle.card_types.specs.Registry.{Registry}
 use Rattle.card_types.specs.Represents.{Represents, counter_of, domain_aid, keeps_counter, key_of, used}
 use Rattle.card_types.specs.Slots.{held}

@@ -2,8 +2,10 @@ pub mod Acting
 pub mod Admitting
 pub mod Cards
 pub mod Carrying
+pub mod ChannelChanges
 pub mod CounterRaised
 pub mod DeleteKeyDone
+pub mod KeySent
 pub mod KeysSaid
 pub mod Listing
 pub mod LoadReads
@@ -20,4 +22,3 @@ pub mod PutKeyDone
 pub mod PutKeyTables
 pub mod Serving
 pub mod SetAt
-pub mod Standing

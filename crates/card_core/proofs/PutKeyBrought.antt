@@ -1,7 +1,8 @@
 -- The keys that a PUT KEY brings, and what comes of it.
-use Rattle.std.proofs.Common.{◌≡◌, ◌⊎◌, inl, inr, ℕ, ◌≤◌, Bool, true, false, List, [], ◌∷◌, refl, ap, sym, subst, ◌∙◌, arith}
+use Rattle.std.proofs.Common.{◌≡◌, ◌⊎◌, inl, inr, ℕ, ◌≤◌, Bool, true, false, List, [], ◌∷◌, length, refl, ap, sym, subst, ◌∙◌, arith}
 use Rattle.std.specs.Prelude.{◌↔◌, IsTrue, MatchOption}
-use Rattle.std.proofs.lemmas.List.Elements.{All-head, All-tail}
+use Rattle.std.proofs.lemmas.List.Elements.{All-cons, All-head, All-nil, All-tail}
+use Rattle.policy_rules.proofs.PutKeyKeeps.{HaveLengths}
 use Rattle.policy_rules.proofs.PutKeyOnce.{brings_once}
 use Rattle.policy_rules.specs.Admission.{Admitted}
 use Rattle.policy_rules.specs.Requests.{IsRequestOf, IsWellFormed, sent_key, sent_keys}
@@ -29,6 +30,8 @@ pub record IsFormedSet (replaced version : ℕ) (enc mac dek : SealedKey) : Type
   pub enc_lengths : HasFieldLengths (sent_key enc)
   pub mac_lengths : HasFieldLengths (sent_key mac)
   pub dek_lengths : HasFieldLengths (sent_key dek)
+  pub mac_size : mac.len ≡ enc.len
+  pub dek_size : dek.len ≡ enc.len
 
 one_replaced : (p1 p2 : ℕ) → PutKeyParameters p1 p2 → 1 ≡ key_count p2 → (p1 ≡ 0) ⊎ (p1 ≡ 0x70) ⊎ (p1 ≡ 0x71)
 one_replaced p1 p2 (inl set) count = (let clash = count ∙ ap key_count set.1 in absurd (omega (arith, clash)))
@@ -69,26 +72,48 @@ formed_set replaced version enc mac dek formed =
     let first = has.each in
     let second = All-tail HasFieldLengths (sent_key enc) (sent_key mac ∷ sent_key dek ∷ []) first in
     let third = All-tail HasFieldLengths (sent_key mac) (sent_key dek ∷ []) second in
+    let is_size = λ (key : SentKey). key.size ≡ has.alike.0 in
+    let sizes = has.alike.1 in
+    let rest = All-tail is_size (sent_key enc) (sent_key mac ∷ sent_key dek ∷ []) sizes in
+    let enc_size = All-head is_size (sent_key enc) (sent_key mac ∷ sent_key dek ∷ []) sizes in
     record {
       replaces = subst (λ (r : ℕ). r ≤ 0x6F) (sym p1) (set_replaced command.p1 command.p2 takes has.count);
       new = set_new command.p2 version has.new has.count;
       enc_lengths = All-head HasFieldLengths (sent_key enc) (sent_key mac ∷ sent_key dek ∷ []) first;
       mac_lengths = All-head HasFieldLengths (sent_key mac) (sent_key dek ∷ []) second;
       dek_lengths = All-head HasFieldLengths (sent_key dek) [] third;
+      mac_size = All-head is_size (sent_key mac) (sent_key dek ∷ []) rest ∙ sym enc_size;
+      dek_size = All-head is_size (sent_key dek) [] (All-tail is_size (sent_key mac) (sent_key dek ∷ []) rest) ∙ sym enc_size;
     }
 
--- the session of the channel is the one that is held
-in_session : (kept : KeptSession) (secure_channel : SecureChannel) → RepresentsSecureChannel (held.Secured kept) secure_channel → (dek : List ℕ) → ((session : Session) → RepresentsSession kept session → dek ≡ session.offer.dek)
-    → (sent : List SentKey) (bytes : List (List ℕ)) → AreKeysSent dek sent bytes → MatchOption (session_in secure_channel) ⊥ (λ session. AreKeysSent session.offer.dek sent bytes)
-in_session kept Nothing holds dek is sent bytes are = absurd holds
-in_session kept (Offered offer) holds dek is sent bytes are = absurd holds
-in_session kept (Secured session) holds dek is sent bytes are = subst (λ (d : List ℕ). AreKeysSent d sent bytes) (is session holds) are
+-- keys as long as they are said to be have one length
+pub one_length : (sent : SealedKey) (key : List ℕ) → HasFieldLengths (sent_key sent) → length key ≡ sent.len → HaveLengths (key ∷ [])
+one_length sent key has is = record { size = sent.len; is_length = has.size; each = All-cons (λ bytes. length bytes ≡ sent.len) key [] is (All-nil (λ bytes. length bytes ≡ sent.len)) }
+
+pub three_lengths : (replaced version : ℕ) (enc mac dek : SealedKey) (x y z : List ℕ) → IsFormedSet replaced version enc mac dek → length x ≡ enc.len → length y ≡ mac.len
+    → length z ≡ dek.len → HaveLengths (x ∷ y ∷ z ∷ [])
+three_lengths replaced version enc mac dek x y z form first second third =
+    let is_size = λ (bytes : List ℕ). length bytes ≡ enc.len in
+    record {
+      size = enc.len;
+      is_length = form.enc_lengths.size;
+      each = All-cons is_size x (y ∷ z ∷ []) first
+          (All-cons is_size y (z ∷ []) (second ∙ form.mac_size) (All-cons is_size z [] (third ∙ form.dek_size) (All-nil is_size)));
+    }
+
+-- the session of the channel is one for which the session that is held stands
+in_session : (kept : KeptSession) (secure_channel : SecureChannel) → RepresentsSecureChannel (held.Secured kept) secure_channel → (sent : List SentKey) (bytes : List (List ℕ))
+    → ((session : Session) → RepresentsSession kept session → AreKeysSent session.offer.dek sent bytes)
+    → MatchOption (session_in secure_channel) ⊥ (λ session. AreKeysSent session.offer.dek sent bytes)
+in_session kept Nothing holds sent bytes are = absurd holds
+in_session kept (Offered offer) holds sent bytes are = absurd holds
+in_session kept (Secured session) holds sent bytes are = are session holds
 
 module _ (admitted : Admitted) (replaced version : ℕ) (keys : PutKeys) (request : IsRequestOf (PutKey replaced version keys) admitted.command)
-    (kept : KeptSession) (holds : RepresentsSecureChannel (held.Secured kept) (secure_channel_for admitted)) (dek : List ℕ) (is : (session : Session) → RepresentsSession kept session → dek ≡ session.offer.dek)
-    (bytes : List (List ℕ)) (are : AreKeysSent dek (sent_keys keys) bytes) where
+    (kept : KeptSession) (holds : RepresentsSecureChannel (held.Secured kept) (secure_channel_for admitted)) (bytes : List (List ℕ))
+    (are : (session : Session) → RepresentsSession kept session → AreKeysSent session.offer.dek (sent_keys keys) bytes) where
   pub brought : Brings admitted version (sent_keys keys) bytes
-  brought = record { has = request.means.1; opened = in_session kept (secure_channel_for admitted) holds dek is (sent_keys keys) bytes are }
+  brought = record { has = request.means.1; opened = in_session kept (secure_channel_for admitted) holds (sent_keys keys) bytes are }
 
   -- whether the check values fit
   pub checks_said : (fit : Bool) → IsTrue fit ↔ ChecksFit (sent_keys keys) bytes → SaysChecks fit admitted

@@ -74,6 +74,12 @@ used_domain : (entries : List (Option Entry)) (domain : ℕ) (found : Option Ent
 used_domain entries domain None at is = cc
 used_domain entries domain (Some entry) at is = (entry, at, is)
 
+-- keys that are put as slices of what holds them
+pub puts_lent : (domain replaced version : ℕ) (old new : List (Option KeyRec)) (lent keys : List (List ℕ)) → lent ≡ keys
+    → Puts domain replaced (slot_keys domain version 1 lent) old new → Puts domain replaced (slot_keys domain version 1 keys) old new
+puts_lent domain replaced version old new lent keys same puts =
+    subst (λ (ks : List (List ℕ)). Puts domain replaced (slot_keys domain version 1 ks) old new) same puts
+
 module _ (old new : Tables) (life : new.life ≡ old.life) (entries : new.entries.items ≡ old.entries.items) (files : new.files.items ≡ old.files.items)
     (objects : new.objects.items ≡ old.objects.items) (domain replaced version : ℕ) (bytes : List (List ℕ))
     (puts : Puts domain replaced (slot_keys domain version 1 bytes) old.keys.items new.keys.items) (sizes : HaveLengths bytes) (versioned : AreOfVersion version bytes)
@@ -90,10 +96,11 @@ module _ (old new : Tables) (life : new.life ≡ old.life) (entries : new.entrie
         let named = ap (registry.entry_named said) (domain_aid_is old.entries.items domain there.0 there.1) ∙ entry_in_slot page old said says domain there.0 there.1 in
         subst (λ (e : Option registry.Entry). MatchOption e ⊥ (λ entry. registry.is_domain entry ≡ true)) (sym named) there.2
 
+    untaken : (version ≢ replaced) × (has_key_version said aid version ≡ true) → ⊥
+    untaken taken = none Taken (taken.0, has_version_by_name page old said says well domain there.0 there.1 version ∙ taken.1)
+
     free : version ≢ replaced → has_key_version said aid version ≡ false
-    free differs =
-        false_from_ne_true (has_key_version said aid version)
-        (λ is. none Taken (differs, has_version_by_name page old said says well domain there.0 there.1 version ∙ is))
+    free differs = false_from_ne_true (has_key_version said aid version) (λ is. untaken (differs, is))
 
     room : length (keys_but aid replaced said.keys) + length bytes ≤ KEYS
     room =
@@ -170,11 +177,11 @@ module _ (old new : Tables) (life : new.life ≡ old.life) (entries : new.entrie
       counters = subst (λ (es : List (Option Entry)). IsPermutation (map (counter_of es) (filter keeps_counter (used new.keys.items))) put_counters.0) (sym entries) says_counters;
       objects = same_all (object_of old.entries.items) (object_of new.entries.items) old.objects.items new.objects.items said.objects says.objects objects
           (λ other object at. rw entries);
-      ascending = new_keys_ascending said well aid domain_named replaced version bytes sizes versioned put_keys.0 put_counters.0 put_keys.1 put_counters.1 room own_room says.ascending;
+      ascending = new_keys_ascending said well aid domain_named replaced version bytes sizes versioned untaken put_keys.0 put_counters.0 put_keys.1 put_counters.1 room own_room says.ascending;
     }
 
     pub well_after : Well after
-    well_after = new_keys_well said well aid domain_named replaced version bytes sizes versioned put_keys.0 put_counters.0 put_keys.1 put_counters.1 room own_room
+    well_after = new_keys_well said well aid domain_named replaced version bytes sizes versioned untaken put_keys.0 put_counters.0 put_keys.1 put_counters.1 room own_room
 
   -- they are a card's
   pub put_cards : AreCards old → AreCards new

@@ -1,12 +1,13 @@
+pub mod AesKinds
 pub mod Card
 pub mod Commits
 pub mod Domains
-pub mod Holds
 pub mod Kept
 pub mod LoadRead
 pub mod Manages
 pub mod ObjectsPut
 pub mod Offers
 pub mod PowerOn
+pub mod SecureChannels
 pub mod Secured
 pub mod Serves

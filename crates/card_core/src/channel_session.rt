@@ -4,15 +4,15 @@ ghost use Rattle.std.specs.Prelude.{◌≡◌, ◌↔◌, IsTrue};
 ghost use Rattle.card_core.specs.SecureChannels.{IsOffered, without_offer_held};
 ghost use Rattle.card_core.specs.declared.channel_session.ChannelSession.TheVariants as holding;
 
-use aes_block::Aes128;
-use scp03_card::{Offer, Session};
+use crate::aes_offer::AesOffer;
+use crate::aes_session::AesSession;
 
 /// Nothing, an offer that the host has still to answer, or a session.
 #[derive(Drop)]
 pub enum ChannelSession {
     Nothing,
-    Offered(Offer<Aes128>),
-    Secured(Session<Aes128>),
+    Offered(AesOffer),
+    Secured(AesSession),
 }
 
 impl ChannelSession {

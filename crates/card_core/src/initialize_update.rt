@@ -5,7 +5,6 @@ ghost use Rattle.card_core.specs.Kept.{AreCards};
 ghost use Rattle.card_core.specs.Offers.{OffersAs};
 ghost use Rattle.card_types.specs.Ascending.{IsAscending};
 ghost use Rattle.card_types.specs.InOrder.{IsInOrder};
-ghost use Rattle.card_types.specs.NamedKeys.{HaveKeyLength};
 ghost use Rattle.card_types.specs.Registry.{Registry, object_named};
 ghost use Rattle.card_types.specs.Represents.{Represents, counter_of, domain_aid};
 ghost use Rattle.card_types.specs.Slots.{held as held_in};
@@ -19,40 +18,23 @@ ghost use Rattle.policy_rules.specs.Requests.{ActsIn, IsRequestOf};
 ghost use Rattle.policy_rules.specs.declared.request.Request.TheVariants.{Initialize};
 ghost use Rattle.scp03_card.specs.Kept.{RepresentsOffer};
 ghost use Rattle.scp03_card.specs.Offer as model;
-ghost use Rattle.scp03_card.specs.Offer.{offered};
 
+use crate::aes_offer::AesOffer;
 use crate::channel_session::ChannelSession;
 use crate::reply::REPLY_LIMIT;
-use aes_block::{Aes128, BlockKey};
 use apdu_core::Status;
 use arrayvec::ArrayVec;
-use card_types::{Aid, KeyRec, KeySet, Object, Tables};
+use card_types::{KeyRec, Object, Tables};
 use flash_core::Flash;
 use key_sets::raise_counter;
 use policy_rules::{Datum, Rule, judge_get_data, judge_initialize_update};
 use rec_store::Records;
-use scp03_card::{Offer, StaticKeys, offer};
 
 /// The tag of key diversification data.
 const DIVERSIFICATION: u16 = 0x00CF;
 
 /// SCP03, and its i parameter: a pseudo-random challenge, R-MAC and R-ENCRYPTION.
 const PROTOCOL: [u8; 2] = [0x03, 0x70];
-
-// The offer that the keys of a key set make.
-fn offer_of(set: &KeySet<'_>, aid: &Aid, host: &[u8; 8]) -> Offer<Aes128>
-    requires lengths { HaveKeyLength set.now }
-    requires counter { set.now.enc.now.counter ≤ COUNTER_LIMIT }
-    ensures made { RepresentsOffer result
-        (offered set.now.enc.now.bytes.items set.now.mac.now.bytes.items set.now.dek.now.bytes.items set.now.enc.now.counter aid.now host.now) }
-{
-    let keys = StaticKeys {
-        enc: Aes128::from_key(&set.enc.bytes),
-        mac: Aes128::from_key(&set.mac.bytes),
-        dek: Aes128::from_key(&set.dek.bytes),
-    };
-    offer(keys, set.enc.counter, aid, host)
-}
 
 // The key diversification data of a domain, where it has such a data object.
 fn diversification(tables: &Tables, owner: u8) -> Option<&Object>
@@ -91,7 +73,7 @@ fn write_diversification(tables: &Tables, owner: u8, reply: &mut ArrayVec<u8, RE
 fn write_offer(
     tables: &Tables,
     enc: &KeyRec,
-    offer: &Offer<Aes128>,
+    offer: &AesOffer,
     reply: &mut ArrayVec<u8, REPLY_LIMIT>,
 )
     requires in_order { IsInOrder tables.now }
@@ -140,7 +122,7 @@ pub fn initialize_update<F: Flash>(
     let slot = found.slot;
     let mut host = [0; 8];
     host.copy_from_slice(challenge);
-    let offer = offer_of(&found.keys, found.aid, &host);
+    let offer = AesOffer::of_set(&found.keys, found.aid, &host);
     write_offer(tables, found.keys.enc, &offer, reply);
     raise_counter(records, slot);
     *held = ChannelSession::Offered(offer);

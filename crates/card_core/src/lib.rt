@@ -4,6 +4,9 @@
 #![tactic(auto)]
 
 mod admit;
+mod aes_kind;
+mod aes_offer;
+mod aes_session;
 mod card;
 mod channel_session;
 mod delete_key;
@@ -15,6 +18,7 @@ mod initialize_update;
 mod literals;
 mod manage_channel;
 mod management;
+mod opened_key;
 mod power;
 mod put_key;
 mod reply;

@@ -1,7 +1,6 @@
 //! PUT KEY: keys of a domain are put.
 
-ghost use Rattle.std.specs.Prelude.{◌≡◌, ◌≤◌, ◌+◌, ◌↔◌, ◌++◌, ◌&&◌, ℕ, List, [], IsTrue, length, true, OnErr};
-ghost use Rattle.cmac_kdf.specs.Blocks.{IsBytes};
+ghost use Rattle.std.specs.Prelude.{◌≡◌, ◌≤◌, ◌+◌, ◌++◌, ◌&&◌, ℕ, List, [], length, true, OnErr};
 ghost use Rattle.card_core.specs.Domains.{is_domain_in};
 ghost use Rattle.card_core.specs.Kept.{AreCards};
 ghost use Rattle.card_core.specs.Manages.{Manages};
@@ -9,50 +8,18 @@ ghost use Rattle.card_core.specs.SecureChannels.{RepresentsSecureChannel, IsInSe
 ghost use Rattle.card_core.specs.Offers.{secure_channel_for};
 ghost use Rattle.card_types.specs.Ascending.{IsAscending};
 ghost use Rattle.policy_rules.specs.Admission.{Admitted};
-ghost use Rattle.policy_rules.specs.Requests.{ActsIn, IsRequestOf, IsWellFormed, sent_key};
-ghost use Rattle.policy_rules.specs.PutKey.{IsKeySent, check_value};
+ghost use Rattle.policy_rules.specs.Requests.{ActsIn, IsRequestOf, IsWellFormed};
 ghost use Rattle.policy_rules.specs.declared.request.Request.TheVariants.{PutKey};
 
 use crate::channel_session::ChannelSession;
+use crate::opened_key::OpenedKey;
 use crate::reply::REPLY_LIMIT;
-use aes_block::{Aes128, BlockKey};
 use apdu_core::Status;
 use arrayvec::ArrayVec;
-use cmac_kdf::cbc_unseal_blocks;
 use flash_core::Flash;
 use key_sets::{place_one, place_set};
 use policy_rules::{PutKeys, Rule, SealedKey, judge_put_keys, judge_put_versions};
 use rec_store::Records;
-
-// A key that was sent, and whether its check value is that of the key.
-#[derive(Drop)]
-struct OpenedKey {
-    bytes: [u8; 16],
-    fits: bool,
-}
-
-// Whether it is the check value of a key: the first three bytes of the cipher of sixteen bytes 01.
-fn is_check_value(key: &[u8; 16], check: &[u8]) -> bool
-    ensures tells { IsTrue result ↔ (check_value key.now ≡ check.now) }
-    ensures bytes { IsBytes key.now }
-{
-    let mut block = [0x01; 16];
-    Aes128::from_key(key).seal(&mut block);
-    &block[..3] == check
-}
-
-// The key that was sent under the Key-DEK.
-fn open_key<K: BlockKey>(dek: &K, sent: &SealedKey<'_>) -> OpenedKey
-    requires size { length sent.now.sealed.now ≡ 16 }
-    ensures key { IsKeySent (K.key_bytes dek.now) (sent_key sent.now) result.bytes }
-    ensures fits { IsTrue result.fits ↔ (check_value result.bytes ≡ sent.now.check.now) }
-{
-    let mut bytes = [0; 16];
-    bytes.copy_from_slice(sent.sealed);
-    cbc_unseal_blocks(dek, &[0; 16], &mut bytes);
-    let fits = is_check_value(&bytes, sent.check);
-    OpenedKey { bytes, fits }
-}
 
 fn all_fit(enc: &OpenedKey, mac: &OpenedKey, dek: &OpenedKey) -> bool
     ensures { result ≡ (enc.now.fits && mac.now.fits && dek.now.fits) }
@@ -101,10 +68,9 @@ pub fn put_key<F: Flash>(
         unreachable!()
     };
     judge_put_versions(records.tables(), domain, replaced, version)?;
-    let dek = session.dek();
     match keys {
         PutKeys::One(sent) => {
-            let key = open_key(dek, sent);
+            let key = session.open_key(sent);
             judge_put_keys(records.tables(), domain, replaced, keys, key.fits)?;
             reply.push(version);
             write_check(sent, reply);
@@ -112,9 +78,9 @@ pub fn put_key<F: Flash>(
             Ok(Status(0x9000))
         }
         PutKeys::Three(first, second, third) => {
-            let enc = open_key(dek, first);
-            let mac = open_key(dek, second);
-            let kek = open_key(dek, third);
+            let enc = session.open_key(first);
+            let mac = session.open_key(second);
+            let kek = session.open_key(third);
             let fit = all_fit(&enc, &mac, &kek);
             judge_put_keys(records.tables(), domain, replaced, keys, fit)?;
             reply.push(version);

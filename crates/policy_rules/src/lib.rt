@@ -35,7 +35,7 @@ pub use laws::{
     changes_are_opened, one_form, one_outcome, others_are_changes, places_are_forgotten,
     refusals_drop_offers, steps_keep_sound,
 };
-pub use literals::{classes, constants, status_words};
+pub use literals::{classes, constants, key_fields, status_words};
 pub use live::{CHANNELS, Live, LoadName, Place};
 pub use manage_channel::{RuleMC, judge_more_channel};
 pub use management::RuleM;

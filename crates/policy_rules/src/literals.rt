@@ -1,11 +1,12 @@
-//! The numbers that definitions read from the code, each against its literal, and the classes in whole.
+//! The numbers that definitions read from the code, each against its literal, the classes in whole, and the key fields of PUT KEY.
 
-ghost use Rattle.std.specs.Prelude.{◌≡◌, [], ◌∷◌, ◌++◌, None, Some, map, replicate};
+ghost use Rattle.std.specs.Prelude.{◌≡◌, ℕ, List, [], ◌∷◌, ◌++◌, None, Some, map, replicate};
 ghost use Rattle.std.specs.List.{range_with_len};
 ghost use Rattle.policy_rules.specs.Admission.{general_rules};
 ghost use Rattle.policy_rules.specs.Classes.{class_of, instructions_of, management};
 ghost use Rattle.policy_rules.specs.Commands.{forms_of};
 ghost use Rattle.policy_rules.specs.ExternalAuthenticate.{rules_before_form};
+ghost use Rattle.policy_rules.specs.PutKey.{key_field, sealed_size};
 ghost use Rattle.policy_rules.specs.Rules.{status_of, statuses_of};
 ghost use Rattle.policy_rules.specs.declared.class.Class.TheVariants.{Interindustry, Plain, Secure};
 ghost use Rattle.policy_rules.specs.declared.live.TheConstants.{CHANNELS};
@@ -25,6 +26,14 @@ pub fn classes()
     ensures plain { instructions_of Plain ≡ 0xCA ∷ 0x50 ∷ 0xD8 ∷ 0xE2 ∷ 0xE4 ∷ [] }
     ensures secure { instructions_of Secure ≡ 0x82 ∷ 0xCA ∷ 0xD8 ∷ 0xE2 ∷ 0xE4 ∷ [] }
     ensures management { management ≡ 0xE4 ∷ 0xE6 ∷ 0xE8 ∷ 0xD8 ∷ 0xE2 ∷ 0xF0 ∷ 0xF2 ∷ [] }
+{}
+
+/// The key field of PUT KEY for a key of each length.
+pub fn key_fields()
+    ensures enciphered { map sealed_size (16 ∷ 24 ∷ 32 ∷ []) ≡ 16 ∷ 32 ∷ 32 ∷ [] }
+    ensures of_16 { (sealed check : List ℕ) → key_field (record { size = 16; sealed = sealed; check = check }) ≡ 0x88 ∷ 0x11 ∷ 0x10 ∷ sealed ++ 0x03 ∷ check }
+    ensures of_24 { (sealed check : List ℕ) → key_field (record { size = 24; sealed = sealed; check = check }) ≡ 0x88 ∷ 0x21 ∷ 0x18 ∷ sealed ++ 0x03 ∷ check }
+    ensures of_32 { (sealed check : List ℕ) → key_field (record { size = 32; sealed = sealed; check = check }) ≡ 0x88 ∷ 0x21 ∷ 0x20 ∷ sealed ++ 0x03 ∷ check }
 {}
 
 /// The status word of each rule.

@@ -1,6 +1,6 @@
 //! PUT KEY (GlobalPlatform Card Specification 2.3.1, 11.8; Amendment D, 7.2).
 
-ghost use Rattle.std.specs.Prelude.{◌≡◌, ◌≤◌, ◌↔◌, ℕ, List, None, Some, IfErr, IfNone, IfSome, IsTrue, OnOk, length};
+ghost use Rattle.std.specs.Prelude.{◌≡◌, ◌≤◌, ◌↔◌, ◌+◌, ℕ, List, None, Some, IfErr, IfNone, IfSome, IsTrue, OnOk, length};
 ghost use Rattle.card_types.specs.InOrder.{IsInOrder};
 ghost use Rattle.card_types.specs.Well.{IsKeyLength};
 ghost use Rattle.key_sets.specs.PutFails.{NoneHolds, PutFails};
@@ -95,14 +95,14 @@ const SEALED: usize = 3;
 /// How many bytes a check value has.
 const CHECK: usize = 3;
 
-// How many bytes a key of this length has once it is enciphered.
-fn sealed_length(len: u8) -> Option<usize>
-    ensures some { IfSome result (λ size. IsKeyLength len × (size ≡ sealed_size len)) }
-    ensures none { IfNone result (IsKeyLength len → ⊥) }
+// How many enciphered bytes a key field has that says these lengths of the key data and of the key.
+fn sealed_length(key_data: u8, len: u8) -> Option<usize>
+    ensures some { IfSome result (λ size. IsKeyLength len × (size ≡ sealed_size len) × (key_data ≡ size + 1)) }
+    ensures none { IfNone result (IsKeyLength len → key_data ≡ sealed_size len + 1 → ⊥) }
 {
-    match len {
-        16 => Some(16),
-        24 | 32 => Some(32),
+    match (key_data, len) {
+        (17, 16) => Some(16),
+        (33, 24 | 32) => Some(32),
         _ => None,
     }
 }
@@ -116,10 +116,10 @@ fn read_field(bytes: &[u8]) -> Option<(SealedKey<'_>, &[u8])>
         return None;
     }
     let len = bytes[2];
-    let size = sealed_length(len)?;
+    let size = sealed_length(bytes[1], len)?;
     let mark = SEALED + size;
     let end = mark + 1 + CHECK;
-    if usize::from(bytes[1]) != size + 1 || bytes.len() < end || bytes[mark] != 0x03 {
+    if bytes.len() < end || bytes[mark] != 0x03 {
         return None;
     }
     let key = SealedKey {
@@ -142,6 +142,12 @@ fn read_one(bytes: &[u8]) -> Option<PutKeys<'_>>
     Some(PutKeys::One(key))
 }
 
+fn have_one_length(enc: &SealedKey<'_>, mac: &SealedKey<'_>, dek: &SealedKey<'_>) -> bool
+    ensures { IsTrue result ↔ ((mac.now.len ≡ enc.now.len) × (dek.now.len ≡ enc.now.len)) }
+{
+    mac.len == enc.len && dek.len == enc.len
+}
+
 // The keys of three key fields, which have one length.
 fn read_three(bytes: &[u8]) -> Option<PutKeys<'_>>
     ensures some { IfSome result (λ keys. AreFields 3 bytes.now (sent_keys keys)) }
@@ -153,7 +159,7 @@ fn read_three(bytes: &[u8]) -> Option<PutKeys<'_>>
     if !rest.is_empty() {
         return None;
     }
-    if mac.len != enc.len || dek.len != enc.len {
+    if !have_one_length(&enc, &mac, &dek) {
         return None;
     }
     Some(PutKeys::Three(enc, mac, dek))

@@ -50,12 +50,12 @@ returns-clause-done g c page admitted acts ascending request =
     let first = given.passed page admitted on means.0 in
     let uses = given.found page admitted.at.registry on.entry says well on.at in
     let keys = given.keys page admitted.at.registry says in
-    let stands = offer_stands _ _ _ _ _ found.aid.now (acting admitted) c.copy_from_slice.new.self admitted.command.body c.offer_of-offer.ensures.made
+    let stands = offer_stands _ _ _ _ _ found.aid.now (acting admitted) c.copy_from_slice.new.self admitted.command.body c.of_set-offer.ensures.made
     (given.selected ∙ sym on.on) (c.copy_from_slice.ensures.after ∙ means.1) in
     let offer = offered key.bytes.items found.keys.mac.now.bytes.items found.keys.dek.now.bytes.items key.counter (acting admitted) admitted.command.body in
     let else_ = c.raise_counter.ensures.same_else in
     let raises = c.raise_counter.ensures.raises in
-    let made : IsMade admitted page c.raise_counter.new.keeper.tables (Offered c.offer_of-offer.result) c.write_offer.new.reply.items = record {
+    let made : IsMade admitted page c.raise_counter.new.keeper.tables (Offered c.of_set-offer.result) c.write_offer.new.reply.items = record {
       owner = domain_aid tables.entries.items key.owner;
       counter = counter_of tables.entries.items key;
       offer = offer;

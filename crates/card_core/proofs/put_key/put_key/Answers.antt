@@ -1,18 +1,18 @@
-use Rattle.std.proofs.Common.{[], ◌∷◌, None, Some, inl, inr, refl, sym, subst}
+use Rattle.std.proofs.Common.{[], ◌∷◌, ◌∙◌, None, Some, ap, inl, inr, length, refl, sym, subst}
 use Rattle.card_types.specs.InOrder.{IsInOrder}
+use Rattle.card_types.specs.Well.{IsKeyLength}
 use Rattle.policy_rules.proofs.FirstJoined.{first_behind, first_within}
 use Rattle.policy_rules.proofs.PutKeyLaws.{put_judged}
-use Rattle.policy_rules.proofs.PutKeyKeeps.{keys_sent}
-use Rattle.policy_rules.specs.Requests.{ActsIn, IsRequestOf, IsWellFormed, sent_key, sent_keys}
+use Rattle.policy_rules.specs.Requests.{ActsIn, IsRequestOf, IsWellFormed, sent_key}
 use Rattle.policy_rules.specs.PutKey.{PutKeyFails}
 use Rattle.policy_rules.specs.PutRules.{key_rules, version_rules}
 use Rattle.policy_rules.specs.declared.put_key.PutKeys.TheVariants.{One, Three}
 use Rattle.policy_rules.specs.declared.request.Request.TheVariants.{PutKey}
 use Rattle.card_core.proofs.Cards.{in_order}
-use Rattle.card_core.proofs.PutKeyBrought.{brought, checks_said, formed_one, formed_set}
+use Rattle.card_core.proofs.PutKeyBrought.{brought, checks_said, formed_one, formed_set, one_length, three_lengths}
 use Rattle.card_core.proofs.PutKeyDone.{body_one, body_three, fits_one, fits_three, judged_by, put_managed}
 use Rattle.card_core.proofs.Managing.{refusal_managed}
-use Rattle.card_core.proofs.PutKeyTables.{put_cards}
+use Rattle.card_core.proofs.PutKeyTables.{put_cards, puts_lent}
 use Rattle.card_core.specs.SecureChannels.{RepresentsSecureChannel}
 use Rattle.card_core.specs.Offers.{secure_channel_for}
 use Rattle.card_core.proofs.put_key.put_key.Goals as goal
@@ -28,7 +28,7 @@ returns-in_err-judge_put_versions-clause-done g c page admitted acts ascending r
 pub open_key-key-requires : goal.open_key-key-requires
 open_key-key-requires g c =
     let form = formed_one c.args.replaced c.args.version c.in-One.sent (subst (λ k. IsWellFormed (PutKey c.args.replaced c.args.version k)) c.in-One.is c.requires.formed) in
-    record { size = form.lengths.0 }
+    record { size = form.lengths.size; sealed = form.lengths.sealed }
 
 pub judge_put_keys-requires : goal.judge_put_keys-requires
 judge_put_keys-requires g c = record { in_order = subst IsInOrder (sym c.tables-in-One.ensures.tables) (in_order c.args.records.now.tables c.requires.cards) }
@@ -36,10 +36,10 @@ judge_put_keys-requires g c = record { in_order = subst IsInOrder (sym c.tables-
 pub returns-in_err-judge_put_keys-in-One-clause-done : goal.returns-in_err-judge_put_keys-in-One-clause-done
 returns-in_err-judge_put_keys-in-One-clause-done g c page admitted acts ascending request holds =
     let sent = c.in-One.sent in
-    let key = c.open_key-key.result.bytes in
+    let key = c.open_key-key.result.bytes.items in
     let asked = subst (λ k. IsRequestOf (PutKey c.args.replaced c.args.version k) admitted.command) c.in-One.is request in
     let secured = subst (λ h. RepresentsSecureChannel h (secure_channel_for admitted)) c.in-Secured.is holds in
-    let checks = checks_said admitted c.args.replaced c.args.version (One sent) asked c.in-Secured.session secured _ c.dek-dek.ensures (key ∷ []) (c.open_key-key.ensures.key, tt)
+    let checks = checks_said admitted c.args.replaced c.args.version (One sent) asked c.in-Secured.session secured (key ∷ []) (λ session stands. (c.open_key-key.ensures.key session stands, tt))
     c.open_key-key.result.fits (fits_one c.open_key-key.result.fits (sent_key sent) key c.open_key-key.ensures.fits) in
     let before = c.in_ok-judge_put_versions.ensures.passed page admitted c.args.keys.now (subst (λ t. ActsIn page t c.args.domain admitted) (sym c.tables.ensures.tables) acts) request in
     let refused = c.in_err-judge_put_keys-in-One.ensures.refused page admitted c.args.version
@@ -52,7 +52,12 @@ returns-in_err-judge_put_keys-in-One-clause-done g c page admitted acts ascendin
 -- the rest of the token or receipt key
 pub write_check-requires-clause-size : goal.write_check-requires-clause-size
 write_check-requires-clause-size g c =
-    (formed_one c.args.replaced c.args.version c.in-One.sent (subst (λ k. IsWellFormed (PutKey c.args.replaced c.args.version k)) c.in-One.is c.requires.formed)).lengths.1
+    (formed_one c.args.replaced c.args.version c.in-One.sent (subst (λ k. IsWellFormed (PutKey c.args.replaced c.args.version k)) c.in-One.is c.requires.formed)).lengths.check
+
+pub place_one-requires-clause-length : goal.place_one-requires-clause-length
+place_one-requires-clause-length g c =
+    let form = formed_one c.args.replaced c.args.version c.in-One.sent (subst (λ k. IsWellFormed (PutKey c.args.replaced c.args.version k)) c.in-One.is c.requires.formed) in
+    subst IsKeyLength (sym (ap length c.deref.ensures.0 ∙ c.open_key-key.ensures.length)) form.lengths.size
 
 pub place_one-requires-clause-judged : goal.place_one-requires-clause-judged
 place_one-requires-clause-judged g c =
@@ -64,19 +69,19 @@ pub open_key-enc-requires : goal.open_key-enc-requires
 open_key-enc-requires g c =
     let form = formed_set c.args.replaced c.args.version c.in-Three.first c.in-Three.second c.in-Three.third
     (subst (λ k. IsWellFormed (PutKey c.args.replaced c.args.version k)) c.in-Three.is c.requires.formed) in
-    record { size = form.enc_lengths.0 }
+    record { size = form.enc_lengths.size; sealed = form.enc_lengths.sealed }
 
 pub open_key-mac-requires : goal.open_key-mac-requires
 open_key-mac-requires g c =
     let form = formed_set c.args.replaced c.args.version c.in-Three.first c.in-Three.second c.in-Three.third
     (subst (λ k. IsWellFormed (PutKey c.args.replaced c.args.version k)) c.in-Three.is c.requires.formed) in
-    record { size = form.mac_lengths.0 }
+    record { size = form.mac_lengths.size; sealed = form.mac_lengths.sealed }
 
 pub open_key-kek-requires : goal.open_key-kek-requires
 open_key-kek-requires g c =
     let form = formed_set c.args.replaced c.args.version c.in-Three.first c.in-Three.second c.in-Three.third
     (subst (λ k. IsWellFormed (PutKey c.args.replaced c.args.version k)) c.in-Three.is c.requires.formed) in
-    record { size = form.dek_lengths.0 }
+    record { size = form.dek_lengths.size; sealed = form.dek_lengths.sealed }
 
 pub judge_put_keys-requires-in-Three : goal.judge_put_keys-requires-in-Three
 judge_put_keys-requires-in-Three g c = record { in_order = subst IsInOrder (sym c.tables-in-Three.ensures.tables) (in_order c.args.records.now.tables c.requires.cards) }
@@ -84,17 +89,27 @@ judge_put_keys-requires-in-Three g c = record { in_order = subst IsInOrder (sym 
 pub write_check-requires-in-Three-clause-size : goal.write_check-requires-in-Three-clause-size
 write_check-requires-in-Three-clause-size g c =
     (formed_set c.args.replaced c.args.version c.in-Three.first c.in-Three.second c.in-Three.third
-    (subst (λ k. IsWellFormed (PutKey c.args.replaced c.args.version k)) c.in-Three.is c.requires.formed)).enc_lengths.1
+    (subst (λ k. IsWellFormed (PutKey c.args.replaced c.args.version k)) c.in-Three.is c.requires.formed)).enc_lengths.check
 
 pub write_check-requires-in-Three-2-clause-size : goal.write_check-requires-in-Three-2-clause-size
 write_check-requires-in-Three-2-clause-size g c =
     (formed_set c.args.replaced c.args.version c.in-Three.first c.in-Three.second c.in-Three.third
-    (subst (λ k. IsWellFormed (PutKey c.args.replaced c.args.version k)) c.in-Three.is c.requires.formed)).mac_lengths.1
+    (subst (λ k. IsWellFormed (PutKey c.args.replaced c.args.version k)) c.in-Three.is c.requires.formed)).mac_lengths.check
 
 pub write_check-requires-in-Three-3-clause-size : goal.write_check-requires-in-Three-3-clause-size
 write_check-requires-in-Three-3-clause-size g c =
     (formed_set c.args.replaced c.args.version c.in-Three.first c.in-Three.second c.in-Three.third
-    (subst (λ k. IsWellFormed (PutKey c.args.replaced c.args.version k)) c.in-Three.is c.requires.formed)).dek_lengths.1
+    (subst (λ k. IsWellFormed (PutKey c.args.replaced c.args.version k)) c.in-Three.is c.requires.formed)).dek_lengths.check
+
+pub place_set-requires-clause-lengths : goal.place_set-requires-clause-lengths
+place_set-requires-clause-lengths g c =
+    let form = formed_set c.args.replaced c.args.version c.in-Three.first c.in-Three.second c.in-Three.third
+    (subst (λ k. IsWellFormed (PutKey c.args.replaced c.args.version k)) c.in-Three.is c.requires.formed) in
+    let enc = ap length c.deref-in-Three.ensures.0 ∙ c.open_key-enc.ensures.length in (
+      subst IsKeyLength (sym enc) form.enc_lengths.size,
+      ap length c.deref-in-Three-2.ensures.0 ∙ c.open_key-mac.ensures.length ∙ form.mac_size ∙ sym enc,
+      ap length c.deref-in-Three-3.ensures.0 ∙ c.open_key-kek.ensures.length ∙ form.dek_size ∙ sym enc,
+    )
 
 pub place_set-requires-clause-judged : goal.place_set-requires-clause-judged
 place_set-requires-clause-judged g c =
@@ -107,11 +122,11 @@ returns-in_err-judge_put_keys-in-Three-clause-done g c page admitted acts ascend
     let keys = Three c.in-Three.first c.in-Three.second c.in-Three.third in
     let asked = subst (λ k. IsRequestOf (PutKey c.args.replaced c.args.version k) admitted.command) c.in-Three.is request in
     let secured = subst (λ h. RepresentsSecureChannel h (secure_channel_for admitted)) c.in-Secured.is holds in
-    let checks = checks_said admitted c.args.replaced c.args.version keys asked c.in-Secured.session secured _ c.dek-dek.ensures
-    (c.open_key-enc.result.bytes ∷ c.open_key-mac.result.bytes ∷ c.open_key-kek.result.bytes ∷ [])
-    (c.open_key-enc.ensures.key, (c.open_key-mac.ensures.key, (c.open_key-kek.ensures.key, tt))) c.all_fit-fit.result
+    let checks = checks_said admitted c.args.replaced c.args.version keys asked c.in-Secured.session secured
+    (c.open_key-enc.result.bytes.items ∷ c.open_key-mac.result.bytes.items ∷ c.open_key-kek.result.bytes.items ∷ [])
+    (λ session stands. (c.open_key-enc.ensures.key session stands, (c.open_key-mac.ensures.key session stands, (c.open_key-kek.ensures.key session stands, tt)))) c.all_fit-fit.result
     (fits_three c.open_key-enc.result.fits c.open_key-mac.result.fits c.open_key-kek.result.fits c.all_fit-fit.result
-    (sent_key c.in-Three.first) (sent_key c.in-Three.second) (sent_key c.in-Three.third) c.open_key-enc.result.bytes c.open_key-mac.result.bytes c.open_key-kek.result.bytes
+    (sent_key c.in-Three.first) (sent_key c.in-Three.second) (sent_key c.in-Three.third) c.open_key-enc.result.bytes.items c.open_key-mac.result.bytes.items c.open_key-kek.result.bytes.items
     c.all_fit-fit.ensures c.open_key-enc.ensures.fits c.open_key-mac.ensures.fits c.open_key-kek.ensures.fits) in
     let before = c.in_ok-judge_put_versions.ensures.passed page admitted c.args.keys.now (subst (λ t. ActsIn page t c.args.domain admitted) (sym c.tables.ensures.tables) acts) request in
     let refused = c.in_err-judge_put_keys-in-Three.ensures.refused page admitted c.args.version
@@ -124,12 +139,12 @@ returns-in_err-judge_put_keys-in-Three-clause-done g c page admitted acts ascend
 pub returns-in_ok-judge_put_keys-in-One-clause-done : goal.returns-in_ok-judge_put_keys-in-One-clause-done
 returns-in_ok-judge_put_keys-in-One-clause-done g c page admitted acts ascending request holds =
     let sent = c.in-One.sent in
-    let key = c.open_key-key.result.bytes in
+    let key = c.open_key-key.result.bytes.items in
     let form = formed_one c.args.replaced c.args.version sent (subst (λ k. IsWellFormed (PutKey c.args.replaced c.args.version k)) c.in-One.is c.requires.formed) in
     let asked = subst (λ k. IsRequestOf (PutKey c.args.replaced c.args.version k) admitted.command) c.in-One.is request in
     let secured = subst (λ h. RepresentsSecureChannel h (secure_channel_for admitted)) c.in-Secured.is holds in
-    let brings = brought admitted c.args.replaced c.args.version (One sent) asked c.in-Secured.session secured _ c.dek-dek.ensures (key ∷ []) (c.open_key-key.ensures.key, tt) in
-    let checks = checks_said admitted c.args.replaced c.args.version (One sent) asked c.in-Secured.session secured _ c.dek-dek.ensures (key ∷ []) (c.open_key-key.ensures.key, tt)
+    let brings = brought admitted c.args.replaced c.args.version (One sent) asked c.in-Secured.session secured (key ∷ []) (λ session stands. (c.open_key-key.ensures.key session stands, tt)) in
+    let checks = checks_said admitted c.args.replaced c.args.version (One sent) asked c.in-Secured.session secured (key ∷ []) (λ session stands. (c.open_key-key.ensures.key session stands, tt))
     c.open_key-key.result.fits (fits_one c.open_key-key.result.fits (sent_key sent) key c.open_key-key.ensures.fits) in
     let before = c.in_ok-judge_put_versions.ensures.passed page admitted c.args.keys.now (subst (λ t. ActsIn page t c.args.domain admitted) (sym c.tables.ensures.tables) acts) request in
     let passed = c.in_ok-judge_put_keys-in-One.ensures.passed page admitted c.args.version
@@ -140,7 +155,8 @@ returns-in_ok-judge_put_keys-in-One-clause-done g c page admitted acts ascending
     (c.in_ok-judge_put_keys-in-One.ensures.roomy c.args.version) in
     let same = c.place_one.ensures.same_else in
     put_managed c.args.records.now.tables c.place_one.new.keeper.tables same.life same.entries same.files same.objects c.args.domain c.args.replaced c.args.version (key ∷ [])
-    c.place_one.ensures.put (keys_sent _ (sent_key sent ∷ []) (key ∷ []) (c.open_key-key.ensures.key, tt)).0 (inr (form.new, refl)) judged c.requires.domain
+    (puts_lent c.args.domain c.args.replaced c.args.version c.args.records.now.tables.keys.items c.place_one.new.keeper.tables.keys.items
+    (c.deref.result.now ∷ []) (key ∷ []) (λ i. c.deref.ensures.0 i ∷ []) c.place_one.ensures.put) (one_length sent key form.lengths c.open_key-key.ensures.length) (inr (form.new, refl)) judged c.requires.domain
     page admitted acts (One sent) asked brings c.write_check.new.reply.items _
     (put_judged admitted None request.form first)
     (body_one c.args.version (sent_key sent) c.args.reply.now.items c.push.new.self.items c.write_check.new.reply.items c.requires.empty c.push.ensures.items c.write_check.ensures.written) refl
@@ -148,29 +164,30 @@ returns-in_ok-judge_put_keys-in-One-clause-done g c page admitted acts ascending
 pub returns-in_ok-judge_put_keys-in-One-clause-cards : goal.returns-in_ok-judge_put_keys-in-One-clause-cards
 returns-in_ok-judge_put_keys-in-One-clause-cards g c =
     let sent = c.in-One.sent in
-    let key = c.open_key-key.result.bytes in
+    let key = c.open_key-key.result.bytes.items in
     let form = formed_one c.args.replaced c.args.version sent (subst (λ k. IsWellFormed (PutKey c.args.replaced c.args.version k)) c.in-One.is c.requires.formed) in
     let judged = judged_by c.args.domain c.args.replaced c.args.version c.tables.result.now c.tables-in-One.result.now c.args.records.now.tables c.args.keys.now (One c.in-One.sent)
     c.tables.ensures.tables c.tables-in-One.ensures.tables c.in-One.is c.in_ok-judge_put_versions.ensures.known c.in_ok-judge_put_versions.ensures.free
     (c.in_ok-judge_put_keys-in-One.ensures.roomy c.args.version) in
     let same = c.place_one.ensures.same_else in
     put_cards c.args.records.now.tables c.place_one.new.keeper.tables same.life same.entries same.files same.objects c.args.domain c.args.replaced c.args.version (key ∷ [])
-    c.place_one.ensures.put (keys_sent _ (sent_key sent ∷ []) (key ∷ []) (c.open_key-key.ensures.key, tt)).0 (inr (form.new, refl)) judged c.requires.domain c.requires.cards
+    (puts_lent c.args.domain c.args.replaced c.args.version c.args.records.now.tables.keys.items c.place_one.new.keeper.tables.keys.items
+    (c.deref.result.now ∷ []) (key ∷ []) (λ i. c.deref.ensures.0 i ∷ []) c.place_one.ensures.put) (one_length sent key form.lengths c.open_key-key.ensures.length) (inr (form.new, refl)) judged c.requires.domain c.requires.cards
 
 pub returns-in_ok-judge_put_keys-in-Three-clause-done : goal.returns-in_ok-judge_put_keys-in-Three-clause-done
 returns-in_ok-judge_put_keys-in-Three-clause-done g c page admitted acts ascending request holds =
     let keys = Three c.in-Three.first c.in-Three.second c.in-Three.third in
-    let bytes = c.open_key-enc.result.bytes ∷ c.open_key-mac.result.bytes ∷ c.open_key-kek.result.bytes ∷ [] in
+    let bytes = c.open_key-enc.result.bytes.items ∷ c.open_key-mac.result.bytes.items ∷ c.open_key-kek.result.bytes.items ∷ [] in
     let form = formed_set c.args.replaced c.args.version c.in-Three.first c.in-Three.second c.in-Three.third
     (subst (λ k. IsWellFormed (PutKey c.args.replaced c.args.version k)) c.in-Three.is c.requires.formed) in
     let asked = subst (λ k. IsRequestOf (PutKey c.args.replaced c.args.version k) admitted.command) c.in-Three.is request in
     let secured = subst (λ h. RepresentsSecureChannel h (secure_channel_for admitted)) c.in-Secured.is holds in
-    let brings = brought admitted c.args.replaced c.args.version keys asked c.in-Secured.session secured _ c.dek-dek.ensures bytes
-    (c.open_key-enc.ensures.key, (c.open_key-mac.ensures.key, (c.open_key-kek.ensures.key, tt))) in
-    let checks = checks_said admitted c.args.replaced c.args.version keys asked c.in-Secured.session secured _ c.dek-dek.ensures bytes
-    (c.open_key-enc.ensures.key, (c.open_key-mac.ensures.key, (c.open_key-kek.ensures.key, tt))) c.all_fit-fit.result
+    let brings = brought admitted c.args.replaced c.args.version keys asked c.in-Secured.session secured bytes
+    (λ session stands. (c.open_key-enc.ensures.key session stands, (c.open_key-mac.ensures.key session stands, (c.open_key-kek.ensures.key session stands, tt)))) in
+    let checks = checks_said admitted c.args.replaced c.args.version keys asked c.in-Secured.session secured bytes
+    (λ session stands. (c.open_key-enc.ensures.key session stands, (c.open_key-mac.ensures.key session stands, (c.open_key-kek.ensures.key session stands, tt)))) c.all_fit-fit.result
     (fits_three c.open_key-enc.result.fits c.open_key-mac.result.fits c.open_key-kek.result.fits c.all_fit-fit.result
-    (sent_key c.in-Three.first) (sent_key c.in-Three.second) (sent_key c.in-Three.third) c.open_key-enc.result.bytes c.open_key-mac.result.bytes c.open_key-kek.result.bytes
+    (sent_key c.in-Three.first) (sent_key c.in-Three.second) (sent_key c.in-Three.third) c.open_key-enc.result.bytes.items c.open_key-mac.result.bytes.items c.open_key-kek.result.bytes.items
     c.all_fit-fit.ensures c.open_key-enc.ensures.fits c.open_key-mac.ensures.fits c.open_key-kek.ensures.fits) in
     let before = c.in_ok-judge_put_versions.ensures.passed page admitted c.args.keys.now (subst (λ t. ActsIn page t c.args.domain admitted) (sym c.tables.ensures.tables) acts) request in
     let passed = c.in_ok-judge_put_keys-in-Three.ensures.passed page admitted c.args.version
@@ -181,8 +198,11 @@ returns-in_ok-judge_put_keys-in-Three-clause-done g c page admitted acts ascendi
     c.in_ok-judge_put_versions.ensures.known c.in_ok-judge_put_versions.ensures.free (c.in_ok-judge_put_keys-in-Three.ensures.roomy c.args.version) in
     let same = c.place_set.ensures.same_else in
     put_managed c.args.records.now.tables c.place_set.new.keeper.tables same.life same.entries same.files same.objects c.args.domain c.args.replaced c.args.version bytes
-    c.place_set.ensures.put
-    (keys_sent _ (sent_keys keys) bytes (c.open_key-enc.ensures.key, (c.open_key-mac.ensures.key, (c.open_key-kek.ensures.key, tt)))).0 (inl (form.new.0, form.new.1, refl)) judged c.requires.domain
+    (puts_lent c.args.domain c.args.replaced c.args.version c.args.records.now.tables.keys.items c.place_set.new.keeper.tables.keys.items
+    (c.deref-in-Three.result.now ∷ c.deref-in-Three-2.result.now ∷ c.deref-in-Three-3.result.now ∷ []) bytes
+    (λ i. c.deref-in-Three.ensures.0 i ∷ c.deref-in-Three-2.ensures.0 i ∷ c.deref-in-Three-3.ensures.0 i ∷ []) c.place_set.ensures.put)
+    (three_lengths c.args.replaced c.args.version c.in-Three.first c.in-Three.second c.in-Three.third _ _ _ form
+    c.open_key-enc.ensures.length c.open_key-mac.ensures.length c.open_key-kek.ensures.length) (inl (form.new.0, form.new.1, refl)) judged c.requires.domain
     page admitted acts keys asked brings c.write_check-in-Three-3.new.reply.items _
     (put_judged admitted None request.form first)
     (body_three c.args.version (sent_key c.in-Three.first) (sent_key c.in-Three.second) (sent_key c.in-Three.third) c.args.reply.now.items c.push-in-Three.new.self.items
@@ -192,7 +212,7 @@ returns-in_ok-judge_put_keys-in-Three-clause-done g c page admitted acts ascendi
 pub returns-in_ok-judge_put_keys-in-Three-clause-cards : goal.returns-in_ok-judge_put_keys-in-Three-clause-cards
 returns-in_ok-judge_put_keys-in-Three-clause-cards g c =
     let keys = Three c.in-Three.first c.in-Three.second c.in-Three.third in
-    let bytes = c.open_key-enc.result.bytes ∷ c.open_key-mac.result.bytes ∷ c.open_key-kek.result.bytes ∷ [] in
+    let bytes = c.open_key-enc.result.bytes.items ∷ c.open_key-mac.result.bytes.items ∷ c.open_key-kek.result.bytes.items ∷ [] in
     let form = formed_set c.args.replaced c.args.version c.in-Three.first c.in-Three.second c.in-Three.third
     (subst (λ k. IsWellFormed (PutKey c.args.replaced c.args.version k)) c.in-Three.is c.requires.formed) in
     let judged = judged_by c.args.domain c.args.replaced c.args.version c.tables.result.now c.tables-in-Three.result.now c.args.records.now.tables c.args.keys.now
@@ -200,5 +220,8 @@ returns-in_ok-judge_put_keys-in-Three-clause-cards g c =
     c.in_ok-judge_put_versions.ensures.known c.in_ok-judge_put_versions.ensures.free (c.in_ok-judge_put_keys-in-Three.ensures.roomy c.args.version) in
     let same = c.place_set.ensures.same_else in
     put_cards c.args.records.now.tables c.place_set.new.keeper.tables same.life same.entries same.files same.objects c.args.domain c.args.replaced c.args.version bytes
-    c.place_set.ensures.put
-    (keys_sent _ (sent_keys keys) bytes (c.open_key-enc.ensures.key, (c.open_key-mac.ensures.key, (c.open_key-kek.ensures.key, tt)))).0 (inl (form.new.0, form.new.1, refl)) judged c.requires.domain c.requires.cards
+    (puts_lent c.args.domain c.args.replaced c.args.version c.args.records.now.tables.keys.items c.place_set.new.keeper.tables.keys.items
+    (c.deref-in-Three.result.now ∷ c.deref-in-Three-2.result.now ∷ c.deref-in-Three-3.result.now ∷ []) bytes
+    (λ i. c.deref-in-Three.ensures.0 i ∷ c.deref-in-Three-2.ensures.0 i ∷ c.deref-in-Three-3.ensures.0 i ∷ []) c.place_set.ensures.put)
+    (three_lengths c.args.replaced c.args.version c.in-Three.first c.in-Three.second c.in-Three.third _ _ _ form
+    c.open_key-enc.ensures.length c.open_key-mac.ensures.length c.open_key-kek.ensures.length) (inl (form.new.0, form.new.1, refl)) judged c.requires.domain c.requires.cards

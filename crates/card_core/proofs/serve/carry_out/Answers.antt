@@ -5,7 +5,6 @@ use Rattle.apdu_core.specs.Apdu.{Apdu, apdu_of}
 use Rattle.card_types.specs.InOrder.{IsInOrder}
 use Rattle.policy_rules.proofs.ExternalAuthenticateLaws.{begin_passes, unoffered_judged}
 use Rattle.policy_rules.proofs.Judging.{malformed_judged}
-use Rattle.policy_rules.proofs.Selected.{selected_entry}
 use Rattle.policy_rules.specs.Classes.{managing}
 use Rattle.policy_rules.specs.Requests.{IsMalformed, IsRequestOf, form_in}
 use Rattle.policy_rules.specs.Commands.{Judges}

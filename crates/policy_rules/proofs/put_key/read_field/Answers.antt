@@ -1,4 +1,4 @@
-use Rattle.std.proofs.Common.{◌≡◌, ◌+◌, List, ℕ, get_or, refl, subst, sym, arith}
+use Rattle.std.proofs.Common.{◌≡◌, ◌+◌, List, ℕ, get_or, refl, ap, subst, sym, ◌∙◌, arith}
 use Rattle.std.proofs.lemmas.List.{take_rest}
 use Rattle.policy_rules.proofs.KeyFields.{HasMarks, field_from_marks, key_between}
 use Rattle.policy_rules.specs.KeyFields.{BeginsWithKey}
@@ -11,12 +11,11 @@ returns-clause-some c =
     let mark = 3 + c.in_ok-size.size in
     let end = mark + 1 + 3 in
     let sealed = c.in_ok-size.ensures.some in
-    let key_data = c.from.ensures in
     let marks : HasMarks len bytes = record {
       is_length = sealed.0;
       long = omega arith;
       kind = c.if-bytes.false;
-      key_data = omega arith;
+      key_data = sealed.2 ∙ ap (λ (n : ℕ). n + 1) sealed.1;
       key_size = refl;
       check_size = subst (λ (n : ℕ). get_or bytes n 0 ≡ 0x03) (omega arith) c.if-bytes-mark-ne3.false;
     } in

@@ -1,4 +1,4 @@
-use Rattle.std.proofs.Common.{◌≡◌, inl, inr, [], ◌∷◌, sym, arith}
+use Rattle.std.proofs.Common.{◌≡◌, [], ◌∷◌, sym, ◌∙◌}
 use Rattle.std.proofs.lemmas.Bool.{eqb-false, eqb-true}
 use Rattle.std.proofs.lemmas.List.Elements.{All-cons, All-nil}
 use Rattle.policy_rules.proofs.KeyFields.{has_size, last_field, more_fields, none_behind, none_here, none_later, none_unlike}
@@ -24,10 +24,10 @@ returns-then-not-is_empty-clause-none c =
     (none_later _ _ _ 1 c.in_ok-mac.ensures.some
     (none_later _ _ _ 0 c.in_ok-dek.ensures.some (none_behind _ (eqb-false _ 0 (sym c.if-not-is_empty.ensures)))))
 
-pub returns-then-mac-enc-clause-none : goal.returns-then-mac-enc-clause-none
-returns-then-mac-enc-clause-none c =
+pub returns-then-not-have_one_length-clause-none : goal.returns-then-not-have_one_length-clause-none
+returns-then-not-have_one_length-clause-none c =
     none_unlike _ _ _ c.args.bytes.now _ _ _ c.in_ok-enc.ensures.some c.in_ok-mac.ensures.some c.in_ok-dek.ensures.some
-    (λ mac dek. elim c.then-mac-enc.either [ inl other ↦ other mac | inr last ↦ last.1 dek ])
+    (λ mac dek. (let same = c.have_one_length.ensures.1 (mac, dek) in cc))
 
 pub returns-clause-some : goal.returns-clause-some
 returns-clause-some c =
@@ -35,8 +35,9 @@ returns-clause-some c =
     let mac = sent_key c.in_ok-mac.mac in
     let dek = sent_key c.in_ok-dek.dek in
     let size = enc.size in
-    let one : dek.size ≡ mac.size = omega arith in
+    let same = c.have_one_length.ensures.0 c.if-not-have_one_length.false in
+    let one : dek.size ≡ mac.size = same.1 ∙ sym same.0 in
     more_fields enc _ _ 2 _ c.in_ok-enc.ensures.some
-    (All-cons (has_size size) mac (dek ∷ []) c.if-mac-enc.false (All-cons (has_size size) dek [] c.if-dek-enc.false (All-nil (has_size size))))
+    (All-cons (has_size size) mac (dek ∷ []) same.0 (All-cons (has_size size) dek [] same.1 (All-nil (has_size size))))
     (more_fields mac _ _ 1 _ c.in_ok-mac.ensures.some (All-cons (has_size mac.size) dek [] one (All-nil (has_size mac.size)))
     (last_field dek _ _ c.in_ok-dek.ensures.some (eqb-true _ 0 (sym c.if-not-is_empty.ensures))))
