@@ -7,7 +7,7 @@ use Rattle.std.proofs.lemmas.Bool.{cases_lt}
 use Rattle.std.proofs.lemmas.Bool.Decides.{nat_tests}
 use Rattle.std.proofs.lemmas.List.{length-append, length-replicate, length-take-le, take-append-le, take_all}
 use Rattle.std.proofs.lemmas.List.Elements.{All-cons, All-contains, All-head, All-map, All-nil, All-tail}
-use Rattle.card_check.specs.IsCard.{HasPages, IsCard, pages_named}
+use Rattle.card_check.specs.IsCard.{HasPages, IsCardOf, pages_named}
 use Rattle.card_types.proofs.Members.{contains_first, contains_later}
 use Rattle.card_types.specs.Registry.{Registry}
 use Rattle.card_types.specs.Represents.{Represents, domain_aid, file_of, used}
@@ -27,6 +27,7 @@ use Rattle.rec_store.specs.ObjectSlot.{HoldsObject}
 use Rattle.rec_store.specs.Places.{slot_at, slot_from}
 use Rattle.rec_store.specs.StoredTables.{AreHeld, HoldsTables}
 use Rattle.rec_store.specs.Superblock.{IsSuperblock}
+use Rattle.rec_store.specs.declared.store_layout.Layout.{Layout}
 use Rattle.rec_store.proofs.OneRegistry.{same_pages}
 
 -- store pages that are the same hold the same tables
@@ -35,14 +36,15 @@ module _ (old new : ℕ → List ℕ) (same : (n : ℕ) → n < 45 → new n ≡
   held_same holds first size count things within was i lt =
       subst (λ bytes. holds bytes (held things i)) (sym (ap (λ page. slot_at page size (i % (256 / size))) (same (first + i / (256 / size)) (within i lt)))) (was i lt)
 
-  pub tables_same : (t : Tables) → HoldsTables old t → HoldsTables new t
-  tables_same t was = record {
+  pub tables_same : {layout : Layout} (t : Tables) → HoldsTables layout old t → HoldsTables layout new t
+  tables_same {layout = layout} t was = record {
     slots = was.slots;
-    life = subst (λ bytes. IsSuperblock bytes t.life) (sym (same 0 (omega arith))) was.life;
+    superblock = subst (λ bytes. IsSuperblock bytes layout t.life) (sym (same 0 (omega arith))) was.superblock;
     entries = held_same HoldsEntry 1 64 ENTRIES t.entries.items (λ i lt. omega (arith, lt)) was.entries;
     files = held_same HoldsFile 9 256 FILES t.files.items (λ i lt. omega (arith, lt)) was.files;
     keys = held_same HoldsKey 25 64 KEYS t.keys.items (λ i lt. omega (arith, lt)) was.keys;
     objects = held_same HoldsObject 37 128 OBJECTS t.objects.items (λ i lt. omega (arith, lt)) was.objects;
+    fits = was.fits;
   }
 
 map_same : {X Y : Type 0} (f g : X → Y) (xs : List X) → ((x : X) → Contains xs x → f x ≡ g x) → map f xs ≡ map g xs
@@ -70,14 +72,13 @@ module _ (old new : ℕ → List ℕ) (t : Tables) (same : (file : LoadFile) →
     ascending = says.ascending;
   }
 
-  pub card_same : IsCard old t → IsCard new t
-  card_same card = record {
+  pub card_same : (registry : Registry) → IsCardOf old t registry → IsCardOf new t registry
+  card_same registry card = record {
     layout = card.layout;
     factory_file = card.factory_file;
     files = card.files;
     apart = card.apart;
-    said = card.said;
-    says = says_same card.said card.says;
+    says = says_same registry card.says;
     well = card.well;
   }
 
@@ -100,34 +101,28 @@ load_same a b n same = elim (cases_lt n 96) [
 ]
 
 -- what power loss leaves of a list of pages that hold tables
-module _ (list : ℕ → Option Page) (loose : List ℕ) (outcome : List Page) (t : Tables) (leaves : Leaves list loose outcome) (free : (n : ℕ) → Contains loose n → IsFree t n) (card : IsCard (load_in list) t) where
+module _ (list : ℕ → Option Page) (loose : List ℕ) (outcome : List Page) (t : Tables) (leaves : Leaves list loose outcome) (free : (n : ℕ) → Contains loose n → IsFree t n) (registry : Registry) (card : IsCardOf (load_in list) t registry) where
   left_store : (n : ℕ) → n < 45 → store_page outcome n ≡ store_in list n
   left_store n lt = ap bytes_of (leaves.store n lt)
 
   left_load : (file : LoadFile) → Contains (used t.files.items) file → (n : ℕ) → Contains (pages_named file) n → load_page outcome n ≡ load_in list n
   left_load file among n named = load_same (stored outcome) list n (λ high. leaves.load n high (λ is_loose. All-contains (λ file. Contains (pages_named file) n → ⊥) (used t.files.items) file (free n is_loose) among named))
 
-  pub left_tables : HoldsTables (store_in list) t → HoldsTables (store_page outcome) t
+  pub left_tables : {layout : Layout} → HoldsTables layout (store_in list) t → HoldsTables layout (store_page outcome) t
   left_tables held = tables_same (store_in list) (store_page outcome) left_store t held
 
-  pub left_card : IsCard (load_page outcome) t
-  left_card = card_same (load_in list) (load_page outcome) t left_load card
+  pub left_card : IsCardOf (load_page outcome) t registry
+  left_card = card_same (load_in list) (load_page outcome) t left_load registry card
 
-  pub left_says : (registry : Registry) → Represents (load_in list) t registry → Represents (load_page outcome) t registry
-  left_says registry says = says_same (load_in list) (load_page outcome) t left_load registry says
-
-  pub left : (registry : Registry) → HoldsTables (store_in list) t → Represents (load_in list) t registry → Reopens outcome registry
-  left registry held says = record {
-    sound = leaves.sound;
-    holds = record { tables = t; held = left_tables held; card = left_card; says = left_says registry says };
-  }
+  pub left : {layout : Layout} → HoldsTables layout (store_in list) t → Reopens outcome registry
+  left {layout = layout} held = record { sound = leaves.sound; holds = record { layout = layout; tables = t; held = left_tables held; card = left_card } }
 
 -- pages that hold a registry, of which all else that power loss leaves are loose pages
-pub keeps : (pages : List Page) (may_leave : List Page → Type 0) (registry : Registry) (t : Tables) → HasValidJournal pages → HoldsTables (store_page pages) t → IsCard (load_page pages) t → Represents (load_page pages) t registry
+pub keeps : (pages : List Page) (may_leave : List Page → Type 0) (registry : Registry) {layout : Layout} (t : Tables) → HasValidJournal pages → HoldsTables layout (store_page pages) t → IsCardOf (load_page pages) t registry
     → (loose : List ℕ) → Always may_leave (Leaves (stored pages) loose) → ((n : ℕ) → Contains loose n → IsFree t n) → KeepsPages pages may_leave registry
-keeps pages may_leave registry t sound held card says loose leaves free = record {
-  reopens = λ outcome possible. left (stored pages) loose outcome t (leaves outcome possible) free card registry held says;
-  now = record { sound = sound; holds = record { tables = t; held = held; card = card; says = says } };
+keeps pages may_leave registry {layout = layout} t sound held card loose leaves free = record {
+  reopens = λ outcome possible. left (stored pages) loose outcome t (leaves outcome possible) free registry card held;
+  now = record { sound = sound; holds = record { layout = layout; tables = t; held = held; card = card } };
   loose = loose;
   leaves = leaves;
   free = free;
@@ -169,14 +164,14 @@ free_same t u page same free =
         (All-from_map files (All-tail (λ named. Contains named page → ⊥) (pages_named file) (map pages_named files) all))
 
 -- the same tables, as other tables that the same store pages hold: no file has a page of which none of theirs has it
-pub free_of_held : (store : ℕ → List ℕ) (t u : Tables) (page : ℕ) → HoldsTables store t → HoldsTables store u → IsFree t page → IsFree u page
+pub free_of_held : (store : ℕ → List ℕ) (t u : Tables) (page : ℕ) → {first second : Layout} → HoldsTables first store t → HoldsTables second store u → IsFree t page → IsFree u page
 free_of_held store t u page first second = free_same t u page (same_pages store (λ _. []) t u first second)
 
 -- pages that power loss leaves of a list, and what it leaves then
-pub keeps_left : (list : ℕ → Option Page) (loose : List ℕ) (t : Tables) (registry : Registry) → ((n : ℕ) → Contains loose n → IsFree t n) → HoldsTables (store_in list) t → IsCard (load_in list) t → Represents (load_in list) t registry
+pub keeps_left : (list : ℕ → Option Page) (loose : List ℕ) (t : Tables) (registry : Registry) → ((n : ℕ) → Contains loose n → IsFree t n) → {layout : Layout} → HoldsTables layout (store_in list) t → IsCardOf (load_in list) t registry
     → (pages : List Page) (may_leave : List Page → Type 0) → Leaves list loose pages → Always may_leave (Leaves list loose) → KeepsPages pages may_leave registry
-keeps_left list loose t registry free held card says pages may_leave now later =
-    keeps pages may_leave registry t now.sound (left_tables list loose pages t now free card held) (left_card list loose pages t now free card) (left_says list loose pages t now free card registry says) loose
+keeps_left list loose t registry free held card pages may_leave now later =
+    keeps pages may_leave registry t now.sound (left_tables list loose pages t now free registry card held) (left_card list loose pages t now free registry card) loose
     (λ outcome possible.
     let leaves = later outcome possible in
     record {
