@@ -118,7 +118,7 @@ module _ (page : ℕ → List ℕ) (tables : Tables) (said : registry.Registry) 
         (key_of tables.entries.items another) (shown.there other another here refl) (ap (domain_aid tables.entries.items) owned) versioned
 
     -- a key of a domain in a slot is in a slot
-    slot_of_key : (owner : ℕ) (entry : Entry) (version identifier : ℕ) → held tables.entries.items owner ≡ Some entry
+    pub slot_of_key : (owner : ℕ) (entry : Entry) (version identifier : ℕ) → held tables.entries.items owner ≡ Some entry
         → HasKeyNamed said (domain_aid tables.entries.items owner) version identifier → (slot : ℕ) × HasKey tables.keys.items owner version identifier slot
     slot_of_key owner entry version identifier at has =
         let from = (keys_shown page tables said says).from has.key has.is_there in

@@ -1,9 +1,9 @@
 -- Paths and lines, over any steps.
-use Rattle.std.proofs.Common.{◌≡◌, ◌≢◌, ◌⊎◌, inl, inr, ◌<◌, ◌≤◌, List, [], ◌∷◌, ◌++◌, length, Option, Some, refl, ap, sym, subst, ◌∙◌, arith}
+use Rattle.std.proofs.Common.{◌≡◌, ◌≢◌, ◌⊎◌, inl, inr, ◌<◌, ◌≤◌, Bool, List, [], ◌∷◌, ◌++◌, length, Option, Some, refl, ap, sym, subst, ◌∙◌, arith}
 use Rattle.std.specs.Prelude.{Contains}
 use Rattle.card_types.specs.Hierarchy.{IsLine, IsPath}
 use Rattle.card_types.proofs.Lines.{one_line}
-use Rattle.domain_tree.specs.Above.{Above}
+use Rattle.domain_tree.specs.Above.{Above, IsFirstAbove}
 use Rattle.card_types.proofs.Members.{contains_cases}
 
 module _ {A : Type 0} (step : A → Option A) where
@@ -43,6 +43,16 @@ module _ {A : Type 0} (step : A → Option A) where
         | inl alike ↦ alike
         | inr shorter ↦ absurd (omega (arith, again.2))
       ]
+
+  -- one of those above that fit is the first
+  pub one_first_above : (fits : A → Bool) (b x y : A) (line : List A) → IsLine step x line → IsFirstAbove step fits b x → IsFirstAbove step fits b y → x ≡ y
+  one_first_above fits b x y line is one other = elim (one.lowest y other.above other.fitting) [
+    | inl same ↦ sym same
+    | inr over ↦ elim (other.lowest x one.above one.fitting) [
+        | inl same ↦ same
+        | inr under ↦ lead_to_each_other x y line over.path under.path is over.leads under.leads
+      ]
+  ]
 
   -- each one of a line has a line that is no longer
   pub line_of_member : (from : A) (line : List A) (member : A) → IsLine step from line → Contains line member

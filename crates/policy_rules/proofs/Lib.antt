@@ -1,6 +1,7 @@
 pub mod ActingDomain
 pub mod AllLawful
 pub mod AnySlot
+pub mod Approved
 pub mod Channels
 pub mod Chosen
 pub mod DataAsked
@@ -31,6 +32,7 @@ pub mod LastSet
 pub mod Lawful
 pub mod ManageChannelLaws
 pub mod ManagementFirst
+pub mod NearestHolder
 pub mod NewTags
 pub mod ObjectStored
 pub mod Offers

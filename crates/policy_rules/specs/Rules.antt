@@ -2,6 +2,7 @@
 -- the command.
 use Rattle.std.specs.Prelude.{ℕ, List, [], ◌∷◌, codes, map}
 use Rattle.policy_rules.specs.CommandForm.{CommandForm}
+use Rattle.policy_rules.specs.Delegation.{receipt_rule_name, receipt_rule_status, token_rule_name, token_rule_status}
 use Rattle.policy_rules.specs.DeleteKey.{delete_key_rule_name, delete_key_rule_status}
 use Rattle.policy_rules.specs.ExternalAuthenticate.{external_authenticate_rule_name, external_authenticate_rule_status}
 use Rattle.policy_rules.specs.GetData.{get_data_rule_name, get_data_rule_status}
@@ -36,6 +37,8 @@ name_of (group.EA rule) = external_authenticate_rule_name rule
 name_of (group.PK rule) = put_key_rule_name rule
 name_of (group.DK rule) = delete_key_rule_name rule
 name_of (group.SD rule) = store_data_rule_name rule
+name_of (group.TK rule) = token_rule_name rule
+name_of (group.RC rule) = receipt_rule_name rule
 
 abbrev pub status_of : Rule → ℕ
 status_of (group.G G1) = 0x6700
@@ -57,6 +60,8 @@ status_of (group.EA rule) = external_authenticate_rule_status rule
 status_of (group.PK rule) = put_key_rule_status rule
 status_of (group.DK rule) = delete_key_rule_status rule
 status_of (group.SD rule) = store_data_rule_status rule
+status_of (group.TK rule) = token_rule_status rule
+status_of (group.RC rule) = receipt_rule_status rule
 
 -- those of the rules of each of these forms
 abbrev pub statuses_of : List CommandForm → List (List ℕ)

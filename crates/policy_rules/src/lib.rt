@@ -2,6 +2,7 @@
 #![tactic(auto)]
 
 mod class;
+mod delegation;
 mod delete_key;
 mod external_authenticate;
 mod get_data;
@@ -22,6 +23,7 @@ mod session_sets;
 mod store_data;
 
 pub use class::{Class, channel_of, is_plain_management, is_protected};
+pub use delegation::{RuleRC, RuleTK, Signed, holds, judge_delegated};
 pub use delete_key::{RuleDK, judge_delete_key};
 pub use external_authenticate::RuleEA;
 pub use get_data::{Datum, RuleGD, judge_get_data};

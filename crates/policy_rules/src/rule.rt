@@ -4,6 +4,7 @@ ghost use Rattle.std.specs.Prelude.{◌≡◌};
 ghost use Rattle.policy_rules.specs.Rules.{name_of, status_of};
 ghost use Rattle.policy_rules.specs.Step.{keeps_load as keeps_load_by};
 
+use crate::delegation::{RuleRC, RuleTK};
 use crate::delete_key::RuleDK;
 use crate::external_authenticate::RuleEA;
 use crate::get_data::RuleGD;
@@ -29,6 +30,8 @@ pub enum Rule {
     PK(RulePK),
     DK(RuleDK),
     SD(RuleSD),
+    TK(RuleTK),
+    RC(RuleRC),
 }
 
 /// The rules that every command passes first.
@@ -86,6 +89,8 @@ impl Rule {
             Rule::PK(rule) => rule.status(),
             Rule::DK(rule) => rule.status(),
             Rule::SD(rule) => rule.status(),
+            Rule::TK(rule) => rule.status(),
+            Rule::RC(rule) => rule.status(),
         }
     }
 
@@ -120,6 +125,8 @@ impl Rule {
             Rule::PK(rule) => rule.name(),
             Rule::DK(rule) => rule.name(),
             Rule::SD(rule) => rule.name(),
+            Rule::TK(rule) => rule.name(),
+            Rule::RC(rule) => rule.name(),
         }
     }
 }
