@@ -19,13 +19,13 @@ use Rattle.policy_rules.specs.declared.live.TheConstants.{CHANNELS}
 use Rattle.policy_rules.specs.declared.rule.Rule.{Rule}
 use Rattle.card_core.specs.SecureChannels.{RepresentsChannels, RepresentsSecureChannel, without_offer_held}
 use Rattle.card_core.specs.Kept.{KeptRepresents, RepresentsSoundly}
-use Rattle.card_core.specs.Manages.{Manages}
+use Rattle.card_core.specs.Manages.{KeepsAids, Manages}
 use Rattle.card_core.specs.Offers.{AnswersAs, OffersAs, secure_channel_for}
 use Rattle.card_core.specs.Serves.{CarriesOutBut, live_refused}
 use Rattle.card_core.specs.declared.channel_session.ChannelSession.{ChannelSession}
 use Rattle.card_core.specs.declared.channel_session.ChannelSession.TheVariants as held
 use Rattle.card_core.proofs.Carrying.{refusal_shows}
-use Rattle.card_core.proofs.ChannelChanges.{HasFour, held_same, says_over, secure_channel_shows}
+use Rattle.card_core.proofs.ChannelChanges.{HasFour, held_same, says_kept, says_over, secure_channel_shows}
 
 module _ (page : ℕ → List ℕ) (tables : Tables) (live : Live) (all : List ChannelSession) (admitted : Admitted)
     (stands : RepresentsSoundly page (record { tables = tables; live = live; held = all }) admitted.at)
@@ -105,12 +105,12 @@ module _ (page : ℕ → List ℕ) (tables : Tables) (live : Live) (all : List C
   )
 
   -- card content management
-  pub managed_carried : (tables' : Tables) (body : List ℕ) (result : Result Status Rule) → tables'.entries.items ≡ tables.entries.items → Manages admitted page tables tables' body result
+  pub managed_carried : (tables' : Tables) (body : List ℕ) (result : Result Status Rule) → KeepsAids tables.entries.items tables'.entries.items → Manages admitted page tables tables' body result
       → CarriesOutBut page admitted (record { tables = tables'; live = live; held = all }) body result
-  managed_carried tables' body (Ok status) entries managed = (
+  managed_carried tables' body (Ok status) keeps managed = (
     managed.done,
     record {
-      says = says_over page tables tables' live admitted.at _ _ entries managed.says managed.volatile stands.shows.says;
+      says = says_kept page tables tables' live admitted.at keeps _ _ stands.sound managed.says managed.volatile stands.shows.says;
       holds = subst (RepresentsChannels all) (sym managed.volatile) stands.shows.holds;
     },
     managed.judges,
@@ -118,7 +118,7 @@ module _ (page : ℕ → List ℕ) (tables : Tables) (live : Live) (all : List C
     managed.body_is,
     managed.status_is,
   )
-  managed_carried tables' body (Err rule) entries (judges, same, empty) = (
+  managed_carried tables' body (Err rule) keeps (judges, same, empty) = (
     refusal_shows page (record { tables = tables'; live = live; held = all }) admitted (record { held = four.held; channels = four.channels }) low
         (subst (λ (t : Tables). KeptRepresents page (record { tables = t; live = live; held = all }) admitted.at) (sym same) stands.shows) rule,
     judges,
@@ -147,6 +147,6 @@ module _ (page : ℕ → List ℕ) (tables : Tables) (live : Live) (all : List C
   pub acts_for : ActsIn page tables slot admitted
   acts_for = selected_acts page tables live admitted admitted.channel slot stands.shows.says stands.sound low opened refl
 
-  pub managed_done : (tables' : Tables) (body : List ℕ) (result : Result Status Rule) → tables'.entries.items ≡ tables.entries.items → Manages admitted page tables tables' body result
+  pub managed_done : (tables' : Tables) (body : List ℕ) (result : Result Status Rule) → KeepsAids tables.entries.items tables'.entries.items → Manages admitted page tables tables' body result
       → CarriesOutBut page admitted (record { tables = tables'; live = live; held = all }) body result
   managed_done = managed_carried page tables live all admitted stands four low

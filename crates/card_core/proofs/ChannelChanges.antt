@@ -4,10 +4,12 @@ use Rattle.std.specs.Prelude.{MatchOption, is_none, slice_index_or, slice_set, i
 use Rattle.std.specs.Option.{option_map}
 use Rattle.std.proofs.lemmas.List.{set-get_or}
 use Rattle.apdu_core.specs.Apdu.{Apdu}
+use Rattle.card_types.proofs.Domains.{domain_aid_is, domain_named_is_used}
 use Rattle.card_types.specs.Layout.{HasIssuer, HasLayout}
 use Rattle.card_types.specs.Registry.{Registry}
 use Rattle.card_types.specs.Represents.{Represents}
 use Rattle.card_types.specs.Slots.{held}
+use Rattle.card_types.specs.Well.{IsDomainNamed, Well}
 use Rattle.card_types.specs.declared.factory.TheConstants.{ISSUER}
 use Rattle.card_types.specs.declared.tables.Entry.{Entry}
 use Rattle.card_types.specs.declared.tables.TheConstants.{ISSUER_SLOT}
@@ -18,6 +20,7 @@ use Rattle.policy_rules.specs.Classes.{channel_of}
 use Rattle.policy_rules.specs.LiveEnds.{kept_of_others, live_with_channel, live_without_load, live_without_place}
 use Rattle.policy_rules.specs.ManageChannel.{lowest_closed}
 use Rattle.policy_rules.specs.Requests.{IsLoadNamed, IsSelectedIn, RepresentsState, place_of}
+use Rattle.policy_rules.specs.Sound.{IsSound, IsWellLoad}
 use Rattle.policy_rules.specs.State.{State}
 use Rattle.policy_rules.specs.Volatile.{Channel, LoadSession, Nothing, Offered, Secured, SecureChannel, Volatile, channel_at, fresh, load_without_channel, place_in, secure_channel_of, channel_with, with_channel, with_offer_dropped, with_secure_channel, without_load, without_offer}
 use Rattle.policy_rules.specs.declared.instruction.TheConstants.{LOAD}
@@ -27,6 +30,7 @@ use Rattle.policy_rules.specs.declared.live.Place.{Place as KeptPlace}
 use Rattle.policy_rules.specs.declared.live.TheConstants.{CHANNELS}
 use Rattle.card_core.specs.SecureChannels.{RepresentsSecureChannel, held_passed, without_offer_held}
 use Rattle.card_core.specs.Kept.{Kept, KeptRepresents}
+use Rattle.card_core.specs.Manages.{KeepsAids}
 use Rattle.card_core.specs.Serves.{live_passed}
 use Rattle.card_core.specs.declared.channel_session.ChannelSession.{ChannelSession}
 use Rattle.card_core.specs.declared.channel_session.ChannelSession.TheVariants as held
@@ -249,6 +253,39 @@ says_over page tables tables' live state registry volatile entries says same tol
       places = told.places;
       load = subst (λ (es : List (Option Entry)). IsLoadNamed es live.load state.volatile.load) (sym entries) told.load;
     })
+
+-- and over tables whose slots keep their AIDs
+module _ (page : ℕ → List ℕ) (tables tables' : Tables) (live : Live) (state : State) (keeps : KeepsAids tables.entries.items tables'.entries.items) where
+  selected_kept : (slot : Option ℕ) (channel : Option Channel) → IsSelectedIn tables.entries.items slot channel → IsSelectedIn tables'.entries.items slot channel
+  selected_kept None None is = is
+  selected_kept None (Some channel) is = is
+  selected_kept (Some slot) None is = is
+  selected_kept (Some slot) (Some channel) (entry, at, aid) = (let other = keeps slot entry at in (other.0, other.1, other.2 ∙ aid))
+
+  load_kept : Well state.registry → Represents page tables state.registry → (name : Option LoadName) (load : Option LoadSession)
+      → MatchOption load (Unit {0}) (λ l. IsDomainNamed state.registry l.domain) → IsLoadNamed tables.entries.items name load → IsLoadNamed tables'.entries.items name load
+  load_kept well says None None domain is = is
+  load_kept well says None (Some load) domain is = is
+  load_kept well says (Some name) None domain is = is
+  load_kept well says (Some name) (Some load) domain (channel, aid, owner, next) =
+      let used = domain_named_is_used page tables state.registry says well name.domain (subst (IsDomainNamed state.registry) (sym owner) domain) in
+      let other = keeps name.domain used.0 used.1 in
+      let same = domain_aid_is tables'.entries.items name.domain other.0 other.1 ∙ other.2 ∙ sym (domain_aid_is tables.entries.items name.domain used.0 used.1) in
+      (channel, aid, same ∙ owner, next)
+
+  pub says_kept : (registry : Registry) (volatile : Volatile) → IsSound state → Represents page tables' registry → volatile ≡ state.volatile → RepresentsState page tables live state
+      → RepresentsState page tables' live (record { registry = registry; volatile = volatile })
+  says_kept registry volatile sound says same told =
+      subst (λ (v : Volatile). RepresentsState page tables' live (record { registry = registry; volatile = v })) (sym same) (record {
+        registry = says;
+        selected = λ number low. selected_kept (slice_index_or live.selected number None) (channel_at state.volatile number) (told.selected number low);
+        places = told.places;
+        load = load_kept sound.well told.registry live.load state.volatile.load (loaded state.volatile.load sound.fits.load) told.load;
+      })
+    where
+      loaded : (load : Option LoadSession) → MatchOption load (Unit {0}) (IsWellLoad state.registry state.volatile) → MatchOption load (Unit {0}) (λ l. IsDomainNamed state.registry l.domain)
+      loaded None is = tt
+      loaded (Some load) is = is.domain
 
 -- nothing is set in what is held
 pub held_same : (page : ℕ → List ℕ) (card : Kept) (state : State) (number : ℕ) (now : ChannelSession) → slice_index_or card.held number held.Nothing ≡ now → KeptRepresents page card state

@@ -1,12 +1,18 @@
 -- What comes of a command of card content management: the registry changes, and nothing of what the channels hold.
-use Rattle.std.specs.Prelude.{◌≡◌, ℕ, List, [], Result, Ok, Err, None, Some}
+use Rattle.std.specs.Prelude.{◌≡◌, ℕ, List, [], Option, Result, Ok, Err, None, Some}
 use Rattle.apdu_core.specs.declared.reply.Status.{Status}
 use Rattle.card_types.specs.Represents.{Represents}
+use Rattle.card_types.specs.Slots.{held}
+use Rattle.card_types.specs.declared.tables.Entry.{Entry}
 use Rattle.card_types.specs.declared.tables.Tables.{Tables}
 use Rattle.policy_rules.specs.Admission.{Admitted}
 use Rattle.policy_rules.specs.Commands.{HasEffect, Judges}
 use Rattle.policy_rules.specs.State.{Effect}
 use Rattle.policy_rules.specs.declared.rule.Rule.{Rule}
+
+-- each slot that is used holds an entry with the AID that it had
+abbrev pub KeepsAids : List (Option Entry) → List (Option Entry) → Type 0
+KeepsAids before after = (slot : ℕ) (entry : Entry) → held before slot ≡ Some entry → (other : Entry) × (held after slot ≡ Some other) × (other.aid ≡ entry.aid)
 
 -- no rule refused the command, it did what it does, and the tables say the registry that it leaves
 pub record IsManaged (admitted : Admitted) (page : ℕ → List ℕ) (tables : Tables) (body : List ℕ) (status : Status) : Type 0 where

@@ -4,12 +4,12 @@ ghost use Rattle.std.specs.Prelude.{◌≡◌, ◌≤◌, ℕ, List, [], Contain
 ghost use Rattle.card_core.specs.Domains.{is_domain_in};
 ghost use Rattle.card_core.specs.SecureChannels.{RepresentsSecureChannel, IsInSession};
 ghost use Rattle.card_core.specs.Kept.{AreCards};
-ghost use Rattle.card_core.specs.Manages.{Manages};
+ghost use Rattle.card_core.specs.Manages.{KeepsAids, Manages};
 ghost use Rattle.card_core.specs.Offers.{secure_channel_for};
 ghost use Rattle.card_types.specs.Ascending.{IsAscending};
 ghost use Rattle.policy_rules.specs.Admission.{Admitted};
 ghost use Rattle.policy_rules.specs.Classes.{managing};
-ghost use Rattle.policy_rules.specs.Requests.{ActsIn, IsRequestOf, IsWellFormed, form_in};
+ghost use Rattle.policy_rules.specs.Requests.{ActsIn, IsRequestOf, IsWellFormed, RepresentsState, form_in};
 
 use crate::channel_session::ChannelSession;
 use crate::delete_key::delete_key;
@@ -19,13 +19,14 @@ use crate::store_data::store_data;
 use apdu_core::Status;
 use arrayvec::ArrayVec;
 use flash_core::Flash;
-use policy_rules::{Request, Rule};
+use policy_rules::{Live, Request, Rule};
 use rec_store::Records;
 
 /// Does for the domain in a slot what a request of card content management asks for. The channel holds the session that it came
 /// in. It commits nothing.
 pub fn manage<F: Flash>(
     records: &mut Records<F>,
+    live: &Live,
     held: &ChannelSession,
     domain: u8,
     request: &Request<'_>,
@@ -39,10 +40,10 @@ pub fn manage<F: Flash>(
     requires managing { Contains managing (form_in request.now).instruction }
     requires formed { IsWellFormed request.now }
     requires empty { reply.old.items ≡ [] }
-    ensures done { (page : ℕ → List ℕ) (admitted : Admitted) → ActsIn page records.old.tables domain admitted → IsAscending admitted.at.registry
-        → IsRequestOf request.now admitted.command → RepresentsSecureChannel held.now (secure_channel_for admitted)
+    ensures done { (page : ℕ → List ℕ) (admitted : Admitted) → ActsIn page records.old.tables domain admitted → RepresentsState page records.old.tables live.now admitted.at
+        → IsAscending admitted.at.registry → IsRequestOf request.now admitted.command → RepresentsSecureChannel held.now (secure_channel_for admitted)
         → Manages admitted page records.old.tables records.new.tables reply.new.items result }
-    ensures entries { records.new.tables.entries.items ≡ records.old.tables.entries.items }
+    ensures aids { KeepsAids records.old.tables.entries.items records.new.tables.entries.items }
     ensures cards { AreCards records.new.tables }
     ensures same { (records.new.flash ≡ records.old.flash) × (records.new.live ≡ true) }
     ensures refused { OnErr result (records.new ≡ records.old) }

@@ -144,7 +144,14 @@ fn carry_out<F: Flash>(
             external_authenticate(&mut held[place], level, proof)
         }
         Request::PutKey { .. } | Request::Store { .. } | Request::DeleteKey { .. } => {
-            manage(records, &held[place], received.selected, &request, reply)
+            manage(
+                records,
+                live,
+                &held[place],
+                received.selected,
+                &request,
+                reply,
+            )
         }
     }
 }

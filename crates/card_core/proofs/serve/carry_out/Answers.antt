@@ -161,10 +161,10 @@ returns-in-PutKey-clause-done g c = λ page judged stands at is.
     let here = held_there page tables live all judged stands c.told-held c.args.received.now.channel slot c.requires.channel at c.requires.selected
     c.from-place.result c.index-held-place-in-PutKey.result c.from-place.ensures in
     let acts = acts_for page tables live all judged stands c.told-held c.args.received.now.channel slot c.requires.channel at c.requires.selected in
-    let managed = c.manage.ensures.done page judged acts stands.sound.ascending (subst (IsRequestOf c.in_ok-request.request) (sym is) request)
+    let managed = c.manage.ensures.done page judged acts stands.shows.says stands.sound.ascending (subst (IsRequestOf c.in_ok-request.request) (sym is) request)
     (subst (λ (h : ChannelSession). RepresentsSecureChannel h (secure_channel_for judged)) (sym here) (stands.shows.holds judged.channel low)) in
     managed_carried page tables live all judged stands (record { held = c.told-held; channels = stands.sound.fits.channels }) low
-    c.manage.new.records.tables c.manage.new.reply.items c.manage.result c.manage.ensures.entries managed
+    c.manage.new.records.tables c.manage.new.reply.items c.manage.result c.manage.ensures.aids managed
 
 pub returns-in-PutKey-clause-idle : goal.returns-in-PutKey-clause-idle
 returns-in-PutKey-clause-idle g c = λ other unmanaged.
