@@ -34,21 +34,23 @@ card_from_slots page whole tables card arrays =
     let said = said_by_card page tables card in
     let says = card_says page tables card in
     record {
-      layout = record {
-        entries = card.room.entries;
-        files = card.room.files;
-        keys = card.room.keys;
-        objects = card.room.objects;
-        issuer = used_from (λ (entry : Entry). entry.aid ≡ ISSUER) (held tables.entries.items 0) issuer.0 issuer.1 issuer.2.aid;
-      };
-      factory_file = used_from (λ (file : LoadFile). (file.aid ≡ FACTORY_FILE) × (file.len ≡ 0)) (held tables.files.items 0) factory.0 factory.1 (factory.2.aid, factory.2.len);
-      files = all_of_members IsInLoadPages (used tables.files.items) (λ file there. record {
-        size = All-contains (λ (f : LoadFile). f.len ≤ FILE_LIMIT) (used tables.files.items) file card.pages.lengths there;
-        pages = all_of_members IsLoadPage (pages_named file) (λ number among.
-            All-contains IsLoadPage (all_pages tables.files.items) number card.pages.pages.each (pages_of_one (used tables.files.items) file number there among));
-      });
-      apart = card.pages.pages.apart;
       said = said;
-      says = says;
-      well = card_is_well page whole tables card said says arrays;
+      of = record {
+        layout = record {
+          entries = card.room.entries;
+          files = card.room.files;
+          keys = card.room.keys;
+          objects = card.room.objects;
+          issuer = used_from (λ (entry : Entry). entry.aid ≡ ISSUER) (held tables.entries.items 0) issuer.0 issuer.1 issuer.2.aid;
+        };
+        factory_file = used_from (λ (file : LoadFile). (file.aid ≡ FACTORY_FILE) × (file.len ≡ 0)) (held tables.files.items 0) factory.0 factory.1 (factory.2.aid, factory.2.len);
+        files = all_of_members IsInLoadPages (used tables.files.items) (λ file there. record {
+          size = All-contains (λ (f : LoadFile). f.len ≤ FILE_LIMIT) (used tables.files.items) file card.pages.lengths there;
+          pages = all_of_members IsLoadPage (pages_named file) (λ number among.
+              All-contains IsLoadPage (all_pages tables.files.items) number card.pages.pages.each (pages_of_one (used tables.files.items) file number there among));
+        });
+        apart = card.pages.pages.apart;
+        says = says;
+        well = card_is_well page whole tables card said says arrays;
+      };
     }

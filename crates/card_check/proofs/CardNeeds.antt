@@ -57,16 +57,16 @@ module _ (page : ℕ → List ℕ) (tables : Tables) (card : IsCard page tables)
   said = card.said
 
   abbrev says : Represents page tables said
-  says = card.says
+  says = card.of.says
 
   abbrev well : Well said
-  well = card.well
+  well = card.of.well
 
   first_entry : (entry : Entry) × (held entries 0 ≡ Some entry) × (entry.aid ≡ ISSUER)
-  first_entry = in_used (λ (entry : Entry). entry.aid ≡ ISSUER) (held entries 0) card.layout.issuer
+  first_entry = in_used (λ (entry : Entry). entry.aid ≡ ISSUER) (held entries 0) card.of.layout.issuer
 
   first_file : (file : LoadFile) × (held files 0 ≡ Some file) × ((file.aid ≡ FACTORY_FILE) × (file.len ≡ 0))
-  first_file = in_used (λ (file : LoadFile). (file.aid ≡ FACTORY_FILE) × (file.len ≡ 0)) (held files 0) card.factory_file
+  first_file = in_used (λ (file : LoadFile). (file.aid ≡ FACTORY_FILE) × (file.len ≡ 0)) (held files 0) card.of.factory_file
 
   issuer_aid : domain_aid entries 0 ≡ ISSUER
   issuer_aid = domain_aid_is entries 0 first_entry.0 first_entry.1 ∙ first_entry.2
@@ -177,8 +177,8 @@ module _ (page : ℕ → List ℕ) (tables : Tables) (card : IsCard page tables)
 
   pages_are : HaveLoadPages files
   pages_are = record {
-    lengths = all_of_members (λ (f : LoadFile). f.len ≤ FILE_LIMIT) (used files) (λ file there. (All-contains IsInLoadPages (used files) file card.files there).size);
-    pages = record { each = pages_each (used files) card.files; apart = card.apart };
+    lengths = all_of_members (λ (f : LoadFile). f.len ≤ FILE_LIMIT) (used files) (λ file there. (All-contains IsInLoadPages (used files) file card.of.files there).size);
+    pages = record { each = pages_each (used files) card.of.files; apart = card.of.apart };
   }
 
   key_is : (slot : ℕ) (key : KeyRec) → held tables.keys.items slot ≡ Some key → IsCardKey tables slot key
@@ -226,7 +226,7 @@ module _ (page : ℕ → List ℕ) (tables : Tables) (card : IsCard page tables)
 
   pub slots_of_card : HasCardSlots tables
   slots_of_card = record {
-    room = record { entries = card.layout.entries; files = card.layout.files; keys = card.layout.keys; objects = card.layout.objects };
+    room = record { entries = card.of.layout.entries; files = card.of.layout.files; keys = card.of.layout.keys; objects = card.of.layout.objects };
     issuer = used_from IsIssuerEntry (held entries 0) first_entry.0 first_entry.1 issuer_is;
     factory_file = used_from IsFactoryLoadFile (held files 0) first_file.0 first_file.1 factory_is;
     entries = record { at = entry_is };

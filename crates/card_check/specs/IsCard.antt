@@ -27,13 +27,17 @@ pub record IsInLoadPages (file : LoadFile) : Type 0 where
 abbrev pub HasPages : (ℕ → List ℕ) → Type 0
 HasPages page = (number : ℕ) → length (page number) ≡ 256
 
--- the tables lay out a registry that a card may have: the Issuer Security Domain and the factory's Executable Load File
--- are in the first slots, and no load page is named twice
-pub record IsCard (page : ℕ → List ℕ) (tables : Tables) : Type 0 where
+-- The tables lay out this registry, which a card may have: the Issuer Security Domain and the factory's Executable Load File
+-- are in the first slots, and no load page is named twice.
+pub record IsCardOf (page : ℕ → List ℕ) (tables : Tables) (registry : Registry) : Type 0 where
   pub layout : HasLayout tables
   pub factory_file : MatchOption (held tables.files.items 0) ⊥ (λ file. (file.aid ≡ FACTORY_FILE) × (file.len ≡ 0))
   pub files : All IsInLoadPages (used tables.files.items)
   pub apart : IsDistinct nat_eq (concat (map pages_named (used tables.files.items)))
+  pub says : Represents page tables registry
+  pub well : Well registry
+
+-- the tables lay out a registry that a card may have
+pub record IsCard (page : ℕ → List ℕ) (tables : Tables) : Type 0 where
   pub said : Registry
-  pub says : Represents page tables said
-  pub well : Well said
+  pub of : IsCardOf page tables said

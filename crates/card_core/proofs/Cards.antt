@@ -26,7 +26,7 @@ pub in_order : (tables : Tables) → AreCards tables → IsInOrder tables
 in_order tables cards =
     let page : ℕ → List ℕ = λ n. replicate 256 0 in
     let is = cards page (λ n. length-replicate {A = ℕ} 256 0) in
-    record { layout = is.layout; page = page; said = is.said; says = is.says; well = is.well }
+    record { layout = is.of.layout; page = page; said = is.said; says = is.of.says; well = is.of.well }
 
 -- tables with the same entries and Executable Load Files are a card's too, where they say a registry that a card may have
 module _ (before after : Tables) (entries : after.entries.items ≡ before.entries.items) (files : after.files.items ≡ before.files.items)
@@ -35,22 +35,21 @@ module _ (before after : Tables) (entries : after.entries.items ≡ before.entri
       → AreCards before → AreCards after
   cards_after each cards page whole =
       let is = cards page whole in
-      let now = each page is.said is.says is.well in
-      record {
+      let now = each page is.said is.of.says is.of.well in
+      record { said = now.0; of = record {
         layout = record {
-          entries = ap (λ (slots : List (Option Entry)). length slots) entries ∙ is.layout.entries;
-          files = ap (λ (slots : List (Option LoadFile)). length slots) files ∙ is.layout.files;
-          keys = keys ∙ is.layout.keys;
-          objects = objects ∙ is.layout.objects;
-          issuer = subst HasIssuer (sym entries) is.layout.issuer;
+          entries = ap (λ (slots : List (Option Entry)). length slots) entries ∙ is.of.layout.entries;
+          files = ap (λ (slots : List (Option LoadFile)). length slots) files ∙ is.of.layout.files;
+          keys = keys ∙ is.of.layout.keys;
+          objects = objects ∙ is.of.layout.objects;
+          issuer = subst HasIssuer (sym entries) is.of.layout.issuer;
         };
-        factory_file = subst (λ slots. MatchOption (held slots 0) ⊥ (λ file. (file.aid ≡ FACTORY_FILE) × (file.len ≡ 0))) (sym files) is.factory_file;
-        files = subst (λ slots. All IsInLoadPages (used slots)) (sym files) is.files;
-        apart = subst (λ slots. IsDistinct nat_eq (concat (map pages_named (used slots)))) (sym files) is.apart;
-        said = now.0;
+        factory_file = subst (λ slots. MatchOption (held slots 0) ⊥ (λ file. (file.aid ≡ FACTORY_FILE) × (file.len ≡ 0))) (sym files) is.of.factory_file;
+        files = subst (λ slots. All IsInLoadPages (used slots)) (sym files) is.of.files;
+        apart = subst (λ slots. IsDistinct nat_eq (concat (map pages_named (used slots)))) (sym files) is.of.apart;
         says = now.1;
         well = now.2;
-      }
+      } }
 
 -- and so they are after a sequence counter was drawn
 pub drawn_cards : (before after : Tables) (slot : ℕ) (key : KeyRec) → held before.keys.items slot ≡ Some key → keeps_counter key ≡ true

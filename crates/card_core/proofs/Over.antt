@@ -27,14 +27,14 @@ module _ {F : Type 0} (device : Flash F) (live : Live) (all : List ChannelSessio
   mounted_stands old new tables cards read =
       let page : ℕ → List ℕ = load_page (device.pages new) in
       let is = cards page (has_pages (stored (device.pages new))) in
-      let same = λ (told : device.tells). said_once page tables (read told).0 is.said (read told).2 is.says in (
+      let same = λ (told : device.tells). said_once page tables (read told).0 is.said (read told).2 is.of.says in (
         is.said,
         (λ told. subst (Reopens (device.pages old)) (same told) (read told).1),
         record {
           up = refl;
           page = page;
           whole = has_pages (stored (device.pages new));
-          on = powered_on_stands page tables live all is.said is.layout is.says is.well first nothing;
+          on = powered_on_stands page tables live all is.said is.of.layout is.of.says is.of.well first nothing;
           load = λ told. refl;
           keeps = λ told. subst (Keeps device new) (same told) (read told).3;
         },

@@ -42,7 +42,7 @@ pub line_of_file : (page : ℕ → List ℕ) → HasPages page → (tables seen 
     → line ≡ file_line (file_of page tables.entries.items file)
 line_of_file page whole tables seen same cards slot file at array digest names line is named spelled =
     let card = subst AreCards same cards page whole in
-    let size = (All-contains IsInLoadPages (used tables.files.items) file card.files (used_from_held tables.files.items slot file at)).size in
+    let size = (All-contains IsInLoadPages (used tables.files.items) file card.of.files (used_from_held tables.files.items slot file at)).size in
     let digested : digest ≡ sha256 (file_of page tables.entries.items file).bytes = rw at at is in
     spelled ∙ ap (λ front. front ++ file_content file.len digest ++ 10 ∷ []) (named ∙ ap (λ (t : Tables). file_names file.aid (domain_aid t.entries.items file.domain)) same)
     ∙ file_line_is page whole tables.entries.items file size array digest digested

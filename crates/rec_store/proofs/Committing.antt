@@ -2,9 +2,8 @@
 use Rattle.std.proofs.Common.{◌≡◌, ◌⊎◌, inl, inr, ⊎_elim, ℕ, ◌<◌, List, [], ◌∷◌, length, refl, sym, subst, arith}
 use Rattle.flash_core.specs.Device.{Only}
 use Rattle.flash_core.specs.declared.page.Page.{Page}
-use Rattle.card_check.specs.IsCard.{IsCard}
+use Rattle.card_check.specs.IsCard.{IsCardOf}
 use Rattle.card_types.specs.Registry.{Registry}
-use Rattle.card_types.specs.Represents.{Represents}
 use Rattle.card_types.specs.declared.tables.Tables.{Tables}
 use Rattle.page_journal.specs.Journal.{stored}
 use Rattle.page_journal.specs.Moments.{Leaves, current}
@@ -24,32 +23,29 @@ some_or_none [] = inl refl
 some_or_none (first ∷ rest) = inr (omega arith)
 
 module _ (pool : List (ℕ × Page)) (pages : List Page) (may_leave : List Page → Type 0) (t : Tables) (before after : Registry) (none : NoLoadPage pool) (held : HoldsTables (current_page pool pages) t)
-    (card : IsCard (load_page pages) t) (says : Represents (load_page pages) t after) (was : KeepsPages pages may_leave before) where
-  list_card : IsCard (load_in (current pool pages)) t
-  list_card = subst (λ load. IsCard load t) (sym (load_now pool pages none)) card
-
-  list_says : Represents (load_in (current pool pages)) t after
-  list_says = subst (λ load. Represents load t after) (sym (load_now pool pages none)) says
+    (card : IsCardOf (load_page pages) t after) (was : KeepsPages pages may_leave before) where
+  list_card : IsCardOf (load_in (current pool pages)) t after
+  list_card = subst (λ load. IsCardOf load t after) (sym (load_now pool pages none)) card
 
   -- a commit's pages
   abbrev pub Either : List Page → Type 0
   Either outcome = Leaves (stored pages) was.loose outcome ⊎ Leaves (current pool pages) [] outcome
 
   pub either : (outcome : List Page) → Either outcome → Reopens outcome before ⊎ Reopens outcome after
-  either outcome (inl leaves) = inl (left (stored pages) was.loose outcome was.now.holds.tables leaves was.free was.now.holds.card before was.now.holds.held was.now.holds.says)
-  either outcome (inr leaves) = inr (left (current pool pages) [] outcome t leaves (none_loose t) list_card after held list_says)
+  either outcome (inl leaves) = inl (left (stored pages) was.loose outcome was.now.holds.tables leaves was.free before was.now.holds.card was.now.holds.held)
+  either outcome (inr leaves) = inr (left (current pool pages) [] outcome t leaves (none_loose t) after list_card held)
 
   -- with nothing staged the two are one
   pub idle : pool ≡ [] → KeepsPages pages may_leave after
   idle empty = subst (KeepsPages pages may_leave) (one_registry (store_page pages) (load_page pages) before after was.now.holds now) was
     where
       now : HoldsRegistry (store_page pages) (load_page pages) after
-      now = record { tables = t; held = subst (λ staged. HoldsTables (current_page staged pages) t) empty held; card = card; says = says }
+      now = record { tables = t; held = subst (λ staged. HoldsTables (current_page staged pages) t) empty held; card = card }
 
   -- once the pages are committed
   pub done : (new : List Page) (later : List Page → Type 0) → Either new → IsListed (current pool pages) new → Only new later → KeepsPages new later after
   done new later either_new listed only =
-      keeps_left (current pool pages) [] t after (none_loose t) held list_card list_says new later leaves (λ outcome possible. subst (Leaves (current pool pages) []) (sym (only outcome possible)) leaves)
+      keeps_left (current pool pages) [] t after (none_loose t) held list_card new later leaves (λ outcome possible. subst (Leaves (current pool pages) []) (sym (only outcome possible)) leaves)
     where
       leaves : Leaves (current pool pages) [] new
       leaves = record {

@@ -13,7 +13,7 @@ use Rattle.std.proofs.lemmas.List.{get_or_past}
 use Rattle.std.proofs.lemmas.Nat.{and_le_r}
 use Rattle.std.proofs.lemmas.List.Elements.{All-contains}
 use Rattle.std.proofs.lemmas.List.Sorted.{IsPermutation-sym, IsPermutation-trans}
-use Rattle.card_check.specs.IsCard.{IsCard, IsInLoadPages, pages_named}
+use Rattle.card_check.specs.IsCard.{IsCard, IsCardOf, IsInLoadPages, pages_named}
 use Rattle.card_types.proofs.ChangeExists.{one_order}
 use Rattle.card_types.proofs.KeyNames.{counter_order_total, key_order_total}
 use Rattle.card_types.proofs.LeastOfList.{sorted_by_name}
@@ -84,16 +84,20 @@ said_once load t a b says other =
     let life : a.life ≡ b.life = sym says.life ∙ other.life in
     λ i. record { life = life i; entries = entries i; files = files i; keys = keys i; counters = counters i; objects = objects i }
 
+-- a card's tables are those of a card with the registry that they say
+pub card_of_said : (load : ℕ → List ℕ) (t : Tables) (said : registry.Registry) → IsCard load t → Represents load t said → IsCardOf load t said
+card_of_said load t said card says = subst (IsCardOf load t) (said_once load t card.said said card.of.says says) card.of
+
 -- entries of a card have privileges with names
-card_entry : (load : ℕ → List ℕ) (tables : Tables) → IsCard load tables → (i : ℕ) → AreThreeBytes (held tables.entries.items i)
-card_entry load tables card i = of (held tables.entries.items i) refl
+card_entry : (load : ℕ → List ℕ) (tables : Tables) (said : registry.Registry) → IsCardOf load tables said → (i : ℕ) → AreThreeBytes (held tables.entries.items i)
+card_entry load tables said card i = of (held tables.entries.items i) refl
   where
     of : (entry : Option Entry) → held tables.entries.items i ≡ entry → AreThreeBytes entry
     of None is = tt
     of (Some entry) is =
         let view = entry_of tables.entries.items tables.files.items in
-        let shown = (shows_used view tables.entries.items card.said.entries card.says.entries).there i entry is refl in
-        let named = (All-contains (IsWellEntry card.said) card.said.entries (view entry) card.well.entries shown).proper.named_privileges in
+        let shown = (shows_used view tables.entries.items said.entries card.says.entries).there i entry is refl in
+        let named = (All-contains (IsWellEntry said) said.entries (view entry) card.well.entries shown).proper.named_privileges in
         omega (arith, named, and_le_r (bits_of entry.privileges) named_bits)
 
 module _ (store load : ℕ → List ℕ) (t u : Tables) (first : HoldsTables store t) (second : HoldsTables store u) where
@@ -183,23 +187,22 @@ module _ (store load : ℕ → List ℕ) (t u : Tables) (first : HoldsTables sto
     }
 
     -- where the one are a card's, so are the others
-    pub card_alike : IsCard load u → IsCard load t
-    card_alike card = record {
+    pub card_alike : (said : registry.Registry) → IsCardOf load u said → IsCardOf load t said
+    card_alike said card = record {
       layout = record { entries = first.slots.entries; files = first.slots.files; keys = first.slots.keys; objects = first.slots.objects; issuer = subst HasIssuer (sym same) card.layout.issuer };
       factory_file = factory_alike (held t.files.items 0) (held u.files.items 0) (same_file 0 (omega (arith, first.slots.files))) card.factory_file;
       files = of_all IsInLoadPages t.files.items (λ i lt. loaded_alike (held t.files.items i) (held u.files.items i) (same_file i lt) (of_slot IsInLoadPages u.files.items i card.files));
       apart = subst (λ pages. IsDistinct nat_eq (concat pages)) (sym same_pages) card.apart;
-      said = card.said;
-      says = says_alike card.said card.says;
+      says = says_alike said card.says;
       well = card.well;
     }
 
 -- tables that were read, where the store pages hold a card's
-pub read_card : (store load : ℕ → List ℕ) (t u : Tables) → HoldsTables store t → All HasThreeBytes (used t.entries.items) → HoldsTables store u → IsCard load u → IsCard load t
-read_card store load t u read three held_u card =
-    card_alike store load t u read held_u (same_entries store load t u read held_u (λ i. of_slot HasThreeBytes t.entries.items i three) (card_entry load u card)) card
+pub read_card : (store load : ℕ → List ℕ) (t u : Tables) (said : registry.Registry) → HoldsTables store t → All HasThreeBytes (used t.entries.items) → HoldsTables store u → IsCardOf load u said → IsCardOf load t said
+read_card store load t u said read three held_u card =
+    card_alike store load t u read held_u (same_entries store load t u read held_u (λ i. of_slot HasThreeBytes t.entries.items i three) (card_entry load u said card)) said card
 
 pub one_registry : (store load : ℕ → List ℕ) (a b : registry.Registry) → HoldsRegistry store load a → HoldsRegistry store load b → a ≡ b
 one_registry store load a b first second =
     one_said store load first.tables second.tables first.held second.held
-    (same_entries store load first.tables second.tables first.held second.held (card_entry load first.tables first.card) (card_entry load second.tables second.card)) a b first.says second.says
+    (same_entries store load first.tables second.tables first.held second.held (card_entry load first.tables a first.card) (card_entry load second.tables b second.card)) a b first.card.says second.card.says

@@ -7,7 +7,7 @@ use Rattle.std.proofs.lemmas.Bool.{cases_lt}
 use Rattle.std.proofs.lemmas.Bool.Decides.{nat_tests}
 use Rattle.std.proofs.lemmas.List.{length-append, length-replicate, length-take-le, take-append-le, take_all}
 use Rattle.std.proofs.lemmas.List.Elements.{All-cons, All-contains, All-head, All-map, All-nil, All-tail}
-use Rattle.card_check.specs.IsCard.{HasPages, IsCard, pages_named}
+use Rattle.card_check.specs.IsCard.{HasPages, IsCardOf, pages_named}
 use Rattle.card_types.proofs.Members.{contains_first, contains_later}
 use Rattle.card_types.specs.Registry.{Registry}
 use Rattle.card_types.specs.Represents.{Represents, domain_aid, file_of, used}
@@ -70,14 +70,13 @@ module _ (old new : ℕ → List ℕ) (t : Tables) (same : (file : LoadFile) →
     ascending = says.ascending;
   }
 
-  pub card_same : IsCard old t → IsCard new t
-  card_same card = record {
+  pub card_same : (registry : Registry) → IsCardOf old t registry → IsCardOf new t registry
+  card_same registry card = record {
     layout = card.layout;
     factory_file = card.factory_file;
     files = card.files;
     apart = card.apart;
-    said = card.said;
-    says = says_same card.said card.says;
+    says = says_same registry card.says;
     well = card.well;
   }
 
@@ -100,7 +99,7 @@ load_same a b n same = elim (cases_lt n 96) [
 ]
 
 -- what power loss leaves of a list of pages that hold tables
-module _ (list : ℕ → Option Page) (loose : List ℕ) (outcome : List Page) (t : Tables) (leaves : Leaves list loose outcome) (free : (n : ℕ) → Contains loose n → IsFree t n) (card : IsCard (load_in list) t) where
+module _ (list : ℕ → Option Page) (loose : List ℕ) (outcome : List Page) (t : Tables) (leaves : Leaves list loose outcome) (free : (n : ℕ) → Contains loose n → IsFree t n) (registry : Registry) (card : IsCardOf (load_in list) t registry) where
   left_store : (n : ℕ) → n < 45 → store_page outcome n ≡ store_in list n
   left_store n lt = ap bytes_of (leaves.store n lt)
 
@@ -110,24 +109,18 @@ module _ (list : ℕ → Option Page) (loose : List ℕ) (outcome : List Page) (
   pub left_tables : HoldsTables (store_in list) t → HoldsTables (store_page outcome) t
   left_tables held = tables_same (store_in list) (store_page outcome) left_store t held
 
-  pub left_card : IsCard (load_page outcome) t
-  left_card = card_same (load_in list) (load_page outcome) t left_load card
+  pub left_card : IsCardOf (load_page outcome) t registry
+  left_card = card_same (load_in list) (load_page outcome) t left_load registry card
 
-  pub left_says : (registry : Registry) → Represents (load_in list) t registry → Represents (load_page outcome) t registry
-  left_says registry says = says_same (load_in list) (load_page outcome) t left_load registry says
-
-  pub left : (registry : Registry) → HoldsTables (store_in list) t → Represents (load_in list) t registry → Reopens outcome registry
-  left registry held says = record {
-    sound = leaves.sound;
-    holds = record { tables = t; held = left_tables held; card = left_card; says = left_says registry says };
-  }
+  pub left : HoldsTables (store_in list) t → Reopens outcome registry
+  left held = record { sound = leaves.sound; holds = record { tables = t; held = left_tables held; card = left_card } }
 
 -- pages that hold a registry, of which all else that power loss leaves are loose pages
-pub keeps : (pages : List Page) (may_leave : List Page → Type 0) (registry : Registry) (t : Tables) → HasValidJournal pages → HoldsTables (store_page pages) t → IsCard (load_page pages) t → Represents (load_page pages) t registry
+pub keeps : (pages : List Page) (may_leave : List Page → Type 0) (registry : Registry) (t : Tables) → HasValidJournal pages → HoldsTables (store_page pages) t → IsCardOf (load_page pages) t registry
     → (loose : List ℕ) → Always may_leave (Leaves (stored pages) loose) → ((n : ℕ) → Contains loose n → IsFree t n) → KeepsPages pages may_leave registry
-keeps pages may_leave registry t sound held card says loose leaves free = record {
-  reopens = λ outcome possible. left (stored pages) loose outcome t (leaves outcome possible) free card registry held says;
-  now = record { sound = sound; holds = record { tables = t; held = held; card = card; says = says } };
+keeps pages may_leave registry t sound held card loose leaves free = record {
+  reopens = λ outcome possible. left (stored pages) loose outcome t (leaves outcome possible) free registry card held;
+  now = record { sound = sound; holds = record { tables = t; held = held; card = card } };
   loose = loose;
   leaves = leaves;
   free = free;
@@ -173,10 +166,10 @@ pub free_of_held : (store : ℕ → List ℕ) (t u : Tables) (page : ℕ) → Ho
 free_of_held store t u page first second = free_same t u page (same_pages store (λ _. []) t u first second)
 
 -- pages that power loss leaves of a list, and what it leaves then
-pub keeps_left : (list : ℕ → Option Page) (loose : List ℕ) (t : Tables) (registry : Registry) → ((n : ℕ) → Contains loose n → IsFree t n) → HoldsTables (store_in list) t → IsCard (load_in list) t → Represents (load_in list) t registry
+pub keeps_left : (list : ℕ → Option Page) (loose : List ℕ) (t : Tables) (registry : Registry) → ((n : ℕ) → Contains loose n → IsFree t n) → HoldsTables (store_in list) t → IsCardOf (load_in list) t registry
     → (pages : List Page) (may_leave : List Page → Type 0) → Leaves list loose pages → Always may_leave (Leaves list loose) → KeepsPages pages may_leave registry
-keeps_left list loose t registry free held card says pages may_leave now later =
-    keeps pages may_leave registry t now.sound (left_tables list loose pages t now free card held) (left_card list loose pages t now free card) (left_says list loose pages t now free card registry says) loose
+keeps_left list loose t registry free held card pages may_leave now later =
+    keeps pages may_leave registry t now.sound (left_tables list loose pages t now free registry card held) (left_card list loose pages t now free registry card) loose
     (λ outcome possible.
     let leaves = later outcome possible in
     record {

@@ -1,8 +1,8 @@
 -- Which registry pages hold.
 use Rattle.std.specs.Prelude.{◌≡◌, ◌⊎◌, ℕ, ◌≤◌, ◌++◌, List, [], Option, None, Contains, All, take, replicate, nat_lt, if◌then◌else◌}
-use Rattle.card_check.specs.IsCard.{IsCard, pages_named}
+use Rattle.card_check.specs.IsCard.{IsCardOf, pages_named}
 use Rattle.card_types.specs.Registry.{Registry}
-use Rattle.card_types.specs.Represents.{Represents, used}
+use Rattle.card_types.specs.Represents.{used}
 use Rattle.card_types.specs.declared.tables.Tables.{Tables}
 use Rattle.flash_core.specs.declared.flash.Flash.{Ghosts as Flash}
 use Rattle.flash_core.specs.declared.page.Page.{Page}
@@ -11,12 +11,11 @@ use Rattle.page_journal.specs.Journal.{HasValidJournal, bytes_of, stored}
 use Rattle.page_journal.specs.Moments.{Always, Leaves, current}
 use Rattle.rec_store.specs.StoredTables.{HoldsTables}
 
--- Store pages and load pages hold a registry: the store pages hold tables that are a card's, and these say it.
+-- Store pages and load pages hold a registry: the store pages hold tables that are those of a card with it.
 pub record HoldsRegistry (store load : ℕ → List ℕ) (registry : Registry) : Type 0 where
   pub tables : Tables
   pub held : HoldsTables store tables
-  pub card : IsCard load tables
-  pub says : Represents load tables registry
+  pub card : IsCardOf load tables registry
 
 -- the bytes of a list of pages: those of a store page
 abbrev pub store_in : (ℕ → Option Page) → ℕ → List ℕ

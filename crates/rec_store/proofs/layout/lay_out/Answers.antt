@@ -1,7 +1,8 @@
 use Rattle.std.proofs.Common.{refl}
 use Rattle.flash_core.specs.Device.{Only}
-use Rattle.rec_store.specs.Reopens.{Keeps}
+use Rattle.rec_store.specs.Reopens.{Keeps, load_page}
 use Rattle.rec_store.proofs.LaidOut.{laid_out}
+use Rattle.rec_store.proofs.OneRegistry.{card_of_said}
 use Rattle.rec_store.proofs.Reopening.{on_ok}
 use Rattle.rec_store.proofs.layout.lay_out.Goals as goal
 
@@ -14,5 +15,5 @@ returns-clause-keeps g c told tables registry first card says =
     let gate = c.in_ok-write.ensures in
     let synced = c.sync.ensures in
     on_ok c.sync.result (Only shut (F.may_leave device)) (Keeps F device registry)
-    (λ only. laid_out written shut (F.pages device) _ (F.may_leave device) tables registry (c.in_ok-write_tables.ensures.held told tables first) (gate.torn told) (gate.written told) refl (synced.torn told) only card says)
+    (λ only. laid_out written shut (F.pages device) _ (F.may_leave device) tables registry (c.in_ok-write_tables.ensures.held told tables first) (gate.torn told) (gate.written told) refl (synced.torn told) only (card_of_said (load_page (F.pages device)) tables registry card says))
     (synced.written told)

@@ -12,8 +12,8 @@ returns-then-not-is_card-clause-err g c told =
     let pages = g.F.Flash.pages c.args.store.now.flash in
     let read = c.in_ok-read_tables.ensures in (
       λ registry reopens.
-          let card = read_card (store_page pages) (load_page pages) c.read_tables.new.tables reopens.holds.tables (read.held told) read.entries reopens.holds.held reopens.holds.card in
-          let is = (c.is_card.ensures (load_page pages) (has_pages (stored pages))).1 card in
+          let card = read_card (store_page pages) (load_page pages) c.read_tables.new.tables reopens.holds.tables registry (read.held told) read.entries reopens.holds.held reopens.holds.card in
+          let is = (c.is_card.ensures (load_page pages) (has_pages (stored pages))).1 (record { said = registry; of = card }) in
           let not_it = c.if-not-is_card.true in
           absurd (cc (is, not_it)),
       c.read_tables.ensures.read.seen told,

@@ -14,7 +14,7 @@ pub digest_of-requires-clause-file : goal.digest_of-requires-clause-file
 digest_of-requires-clause-file g c =
     let pages = g.F.Flash.pages c.self.inside.records.flash in
     let files = c.self.inside.records.tables.files.items in
-    let all = (c.self.invariant.0 (load_page pages) (has_pages (stored pages))).files in
+    let all = (c.self.invariant.0 (load_page pages) (has_pages (stored pages))).of.files in
     let there = rw c.unwrap-file.ensures at c.in_slot.ensures in
     let same : c.deref.result.now ≡ files = c.deref.ensures.value ∙ ap (λ t. t.files.items) c.tables.ensures.tables in
     let at : held files c.args.slot ≡ Some c.unwrap-file.result.now = subst (λ slots. held slots c.args.slot ≡ Some c.unwrap-file.result.now) same there in

@@ -10,6 +10,7 @@ use Rattle.rec_store.specs.Contents.{Contents}
 use Rattle.rec_store.specs.Reopens.{Keeps, Reopens, load_in, load_page}
 use Rattle.rec_store.proofs.Committing.{Either, done, either, idle, load_now, some_or_none}
 use Rattle.rec_store.proofs.Leaving.{weaker}
+use Rattle.rec_store.proofs.OneRegistry.{card_of_said}
 use Rattle.rec_store.proofs.Readings.{now_left}
 use Rattle.rec_store.proofs.Reopening.{always_ok, both_ok, load_same, on_ok}
 use Rattle.rec_store.proofs.records.Records.commit.Goals as goal
@@ -26,9 +27,10 @@ returns-clause-moments g c told before after =
     subst (λ (r : Contents g.row.F.Denot). Keeps F r.flash before → Represents (load_page (F.pages r.flash)) r.tables after
     → LeavesOnly F r.flash new (λ outcome. Reopens outcome before ⊎ Reopens outcome after)) c.self.view_is
     (λ was says.
-    weaker F old new (Either store.staged (F.pages old) (F.may_leave old) tables before after c.self.invariant.2 held card says was)
+    let of = card_of_said (load_page (F.pages old)) tables after card says in
+    weaker F old new (Either store.staged (F.pages old) (F.may_leave old) tables before after c.self.invariant.2 held of was)
     (λ outcome. Reopens outcome before ⊎ Reopens outcome after) (c.commit.ensures.moments told was.loose was.leaves)
-    (either store.staged (F.pages old) (F.may_leave old) tables before after c.self.invariant.2 held card says was))
+    (either store.staged (F.pages old) (F.may_leave old) tables before after c.self.invariant.2 held of was))
 
 pub returns-clause-keeps : goal.returns-clause-keeps
 returns-clause-keeps g c told before after =
@@ -43,14 +45,14 @@ returns-clause-keeps g c told before after =
     let card = subst (λ (r : Contents g.row.F.Denot). IsCard (load_page (F.pages r.flash)) r.tables) (sym c.self.view_is) (c.requires.card told) in
     let K = Keeps F new after in
     subst (λ (r : Contents g.row.F.Denot). Keeps F r.flash before → Represents (load_page (F.pages r.flash)) r.tables after → OnOk c.commit.result K) c.self.view_is
-    (λ was says. ⊎_elim
+    (λ was says. let of = card_of_said (load_page (F.pages old)) tables after card says in ⊎_elim
     (λ (empty : store.staged ≡ []). always_ok c.commit.result K
-    (subst (λ (s : Store g.row.F.Denot). Keeps F s.flash after) (sym (e.idle empty).1) (idle store.staged (F.pages old) (F.may_leave old) tables before after c.self.invariant.2 held card says was empty)))
+    (subst (λ (s : Store g.row.F.Denot). Keeps F s.flash after) (sym (e.idle empty).1) (idle store.staged (F.pages old) (F.may_leave old) tables before after c.self.invariant.2 held of was empty)))
     (λ (some : 0 < length store.staged).
-    let leaves = now_left F old new (Either store.staged (F.pages old) (F.may_leave old) tables before after c.self.invariant.2 held card says was)
+    let leaves = now_left F old new (Either store.staged (F.pages old) (F.may_leave old) tables before after c.self.invariant.2 held of was)
     (e.moments told was.loose was.leaves) told g.met.F.Flash.counts_now (F.pages new) (g.met.F.Flash.as_read new told) in
     on_ok c.commit.result (IsListed list (F.pages new) × Only (F.pages new) (F.may_leave new)) K
-    (λ committed. done store.staged (F.pages old) (F.may_leave old) tables before after c.self.invariant.2 held card says was (F.pages new) (F.may_leave new) leaves committed.0 committed.1)
+    (λ committed. done store.staged (F.pages old) (F.may_leave old) tables before after c.self.invariant.2 held of was (F.pages new) (F.may_leave new) leaves committed.0 committed.1)
     (both_ok c.commit.result (IsListed list (F.pages new)) (Only (F.pages new) (F.may_leave new)) (e.list told) (e.only told some)))
     (some_or_none store.staged))
 

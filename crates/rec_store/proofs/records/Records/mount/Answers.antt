@@ -23,7 +23,7 @@ returns-in-Ok-mount-clause-in_order g c =
     (λ r card.
     let page : ℕ → List ℕ = λ n. replicate 256 0 in
     let is = card page (λ n. length-replicate {A = ℕ} 256 0) in
-    record { layout = is.layout; page = page; said = is.said; says = is.says; well = is.well })
+    record { layout = is.of.layout; page = page; said = is.said; says = is.of.says; well = is.of.well })
     c.open.ensures.card
 
 pub returns-in-Ok-mount-clause-says : goal.returns-in-Ok-mount-clause-says
@@ -45,9 +45,9 @@ returns-in-Ok-mount-clause-says g c told =
     let now = later (F.pages r.flash) (g.met.F.Flash.as_read r.flash told) in
     let loads : load_page (F.pages r.flash) ≡ load_page pages = λ i n. load_same (stored (F.pages r.flash)) list n (λ high. now.load n high (λ loose. absurd (omega (arith, loose.1)))) i in (
       card.said,
-      record { sound = c.in-Ok-mount.ensures.sound told; holds = record { tables = r.tables; held = is.1.0; card = card; says = card.says } },
-      subst (λ load. Represents load r.tables card.said) (sym loads) card.says,
-      keeps_left list [] r.tables card.said (none_loose r.tables) is.1.0 card card.says (F.pages r.flash) (F.may_leave r.flash) now later,
+      record { sound = c.in-Ok-mount.ensures.sound told; holds = record { tables = r.tables; held = is.1.0; card = card.of } },
+      subst (λ load. Represents load r.tables card.said) (sym loads) card.of.says,
+      keeps_left list [] r.tables card.said (none_loose r.tables) is.1.0 card.of (F.pages r.flash) (F.may_leave r.flash) now later,
     ))
     (also_ok c.open.result (λ r. (page : ℕ → List ℕ) → HasPages page → IsCard page r.tables) (λ r. HoldsTables (store_page pages) r.tables × LeavesOnly F store.flash r.flash (Leaves list []))
     c.open.ensures.card (also_ok c.open.result (λ r. HoldsTables (store_page pages) r.tables) (λ r. LeavesOnly F store.flash r.flash (Leaves list [])) held moments))
@@ -56,7 +56,7 @@ returns-in-Ok-mount-clause-says g c told =
 one_of : (pages outcome : List Page) (registries : List Registry) → ReopensAsOne registries pages → Leaves (stored pages) [] outcome → ReopensAsOne registries outcome
 one_of pages outcome registries was leaves =
     let on = was.2.holds in
-    (was.0, was.1, left (stored pages) [] outcome on.tables leaves (none_loose on.tables) on.card was.0 on.held on.says)
+    (was.0, was.1, left (stored pages) [] outcome on.tables leaves (none_loose on.tables) was.0 on.card on.held)
 
 pub returns-in-Ok-mount-clause-moments : goal.returns-in-Ok-mount-clause-moments
 returns-in-Ok-mount-clause-moments g c told registries always =

@@ -51,7 +51,7 @@ returns-clause-moments g c told none registry =
     let free = freed (F.pages old) (F.may_leave old) c.self.inside.tables page (held_now g c told none) free_now was in
     weaker F old new (Leaves (stored (F.pages old)) (page ∷ was.loose)) (λ outcome. Reopens outcome registry)
     (c.write_free.ensures.moments told was.loose was.leaves)
-    (λ outcome leaves. left (stored (F.pages old)) (page ∷ was.loose) outcome on.tables leaves free on.card registry on.held on.says))
+    (λ outcome leaves. left (stored (F.pages old)) (page ∷ was.loose) outcome on.tables leaves free registry on.card on.held))
 
 pub returns-clause-keeps : goal.returns-clause-keeps
 returns-clause-keeps g c told none registry =
@@ -65,7 +65,7 @@ returns-clause-keeps g c told none registry =
     let on = was.now.holds in
     let free = freed (F.pages old) (F.may_leave old) c.self.inside.tables page (held_now g c told none) free_now was in
     let later = now_left F old new (Leaves (stored (F.pages old)) (page ∷ was.loose)) (c.write_free.ensures.moments told was.loose was.leaves) told g.met.F.Flash.counts_now in
-    keeps_left (stored (F.pages old)) (page ∷ was.loose) on.tables registry free on.held on.card on.says (F.pages new) (F.may_leave new) (later (F.pages new) (g.met.F.Flash.as_read new told)) later)
+    keeps_left (stored (F.pages old)) (page ∷ was.loose) on.tables registry free on.held on.card (F.pages new) (F.may_leave new) (later (F.pages new) (g.met.F.Flash.as_read new told)) later)
 
 pub returns-clause-says : goal.returns-clause-says
 returns-clause-says g c told registry says =
