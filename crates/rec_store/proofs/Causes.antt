@@ -1,12 +1,13 @@
 -- Causes of refusals.
-use Rattle.std.proofs.Common.{◌≡◌, ℕ, ◌≤◌, List, Result, Ok, Err, sym, subst, ◌∙◌, arith}
+use Rattle.std.proofs.Common.{◌≡◌, ℕ, ◌≤◌, Result, Ok, Err, sym, subst, arith}
 use Rattle.std.specs.Prelude.{IfErr, IfOk, IsErrAnd}
+use Rattle.flash_core.specs.Device.{NoneNew}
 use Rattle.flash_core.specs.declared.flash.Flash.{Ghosts as Flash}
-use Rattle.flash_core.specs.declared.page.Page.{Page}
-use Rattle.rec_store.specs.Contents.{CardFails, OpenFails, SlotsFail}
+use Rattle.rec_store.specs.Contents.{CardFails, IsUnwritten, OpenFails, SlotsFail}
 use Rattle.rec_store.specs.Reopens.{Reopens}
 use Rattle.rec_store.specs.declared.open.OpenCause.{OpenCause}
 use Rattle.rec_store.specs.declared.open.OpenCause.TheVariants.{Memory, FlashFailed, NotACard}
+use Rattle.rec_store.proofs.Leaving.{unwritten_on}
 
 pub no_card : {T : Type 0} (result : Result T OpenCause) (tells : Type 0) (before now : ℕ) (bad : Type 0) → IsErrAnd result (λ cause. cause ≡ NotACard) → (tells → bad) → IfErr result (SlotsFail tells before now bad)
 no_card (Ok value) tells before now bad is why = tt
@@ -27,12 +28,15 @@ fails_later tells before mid now bad also later step (Memory refused) why = absu
 fails_later tells before mid now bad also later step FlashFailed why = omega (arith, why, later)
 fails_later tells before mid now bad also later step NotACard why = λ told. step told (why told)
 
--- why a card is not opened, where the store is what the device was
-pub opens_later : {F : Type 0} (device : Flash F) (old mid new : F) → device.faults old ≤ device.faults mid → (device.tells → device.pages mid ≡ device.pages old)
+-- why a card is not opened, where nothing was written before
+pub opens_later : {F : Type 0} (device : Flash F) (old mid new : F) → device.faults old ≤ device.faults mid → (device.tells → IsUnwritten device old mid × NoneNew (device.may_leave old) (device.may_leave mid))
     → (cause : OpenCause) → CardFails device mid cause new → OpenFails device old cause new
 opens_later device old mid new later same (Memory refused) why = absurd why
 opens_later device old mid new later same FlashFailed why = omega (arith, why, later)
-opens_later device old mid new later same NotACard why = λ told. (λ registry reopens. (why told).0 registry (subst (λ p. Reopens p registry) (sym (same told)) reopens), (why told).1 ∙ same told)
+opens_later device old mid new later same NotACard why = λ told. record {
+  none = λ registry reopens. (why told).none registry (subst (λ pages. Reopens pages registry) (sym (same told).0.pages) reopens);
+  unwritten = unwritten_on device old mid new (same told).0 (same told).1 (why told).unwritten;
+}
 
 module _ {T E : Type 0} where
   pub each_ok : (result : Result T E) (P Q : T → Type 0) → ((value : T) → P value → Q value) → IfOk result P → IfOk result Q

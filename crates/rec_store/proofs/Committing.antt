@@ -10,6 +10,7 @@ use Rattle.page_journal.specs.Moments.{Leaves, current}
 use Rattle.page_journal.specs.Store.{IsListed}
 use Rattle.rec_store.specs.Reopens.{HoldsRegistry, KeepsPages, NoLoadPage, Reopens, current_page, load_in, load_page, store_page}
 use Rattle.rec_store.specs.StoredTables.{HoldsTables}
+use Rattle.rec_store.specs.declared.store_layout.Layout.TheVariants.{Third}
 use Rattle.rec_store.proofs.OneRegistry.{one_registry}
 use Rattle.rec_store.proofs.Reopening.{keeps_left, left, load_current, load_same, none_loose}
 
@@ -22,7 +23,7 @@ pub some_or_none : (pool : List (ℕ × Page)) → (pool ≡ []) ⊎ (0 < length
 some_or_none [] = inl refl
 some_or_none (first ∷ rest) = inr (omega arith)
 
-module _ (pool : List (ℕ × Page)) (pages : List Page) (may_leave : List Page → Type 0) (t : Tables) (before after : Registry) (none : NoLoadPage pool) (held : HoldsTables (current_page pool pages) t)
+module _ (pool : List (ℕ × Page)) (pages : List Page) (may_leave : List Page → Type 0) (t : Tables) (before after : Registry) (none : NoLoadPage pool) (held : HoldsTables Third (current_page pool pages) t)
     (card : IsCardOf (load_page pages) t after) (was : KeepsPages pages may_leave before) where
   list_card : IsCardOf (load_in (current pool pages)) t after
   list_card = subst (λ load. IsCardOf load t after) (sym (load_now pool pages none)) card
@@ -40,7 +41,7 @@ module _ (pool : List (ℕ × Page)) (pages : List Page) (may_leave : List Page 
   idle empty = subst (KeepsPages pages may_leave) (one_registry (store_page pages) (load_page pages) before after was.now.holds now) was
     where
       now : HoldsRegistry (store_page pages) (load_page pages) after
-      now = record { tables = t; held = subst (λ staged. HoldsTables (current_page staged pages) t) empty held; card = card }
+      now = record { layout = Third; tables = t; held = subst (λ staged. HoldsTables Third (current_page staged pages) t) empty held; card = card }
 
   -- once the pages are committed
   pub done : (new : List Page) (later : List Page → Type 0) → Either new → IsListed (current pool pages) new → Only new later → KeepsPages new later after

@@ -9,6 +9,7 @@ use Rattle.flash_core.specs.declared.page.Page.{Page}
 use Rattle.page_journal.specs.Journal.{HasValidJournal, bytes_of, copied_place, descriptor, is_open, stored}
 use Rattle.rec_store.specs.Reopens.{KeepsPages, load_page, store_in, store_page}
 use Rattle.rec_store.specs.StoredTables.{HoldsTables}
+use Rattle.rec_store.specs.declared.store_layout.Layout.TheVariants.{Third}
 use Rattle.rec_store.proofs.Reopening.{keeps, none_loose, only_leaves, tables_same}
 
 module _ (pages : List Page) (closed : is_open pages ≡ false) where
@@ -19,18 +20,18 @@ module _ (pages : List Page) (closed : is_open pages ≡ false) where
   sound : HasValidJournal pages
   sound opened = absurd (false≢true (sym closed ∙ opened))
 
-  keeps_shut : (may_leave : List Page → Type 0) (t : Tables) (registry : Registry) → HoldsTables (store_in (slice_get pages)) t → Only pages may_leave → IsCardOf (load_page pages) t registry → KeepsPages pages may_leave registry
+  keeps_shut : (may_leave : List Page → Type 0) (t : Tables) (registry : Registry) → HoldsTables Third (store_in (slice_get pages)) t → Only pages may_leave → IsCardOf (load_page pages) t registry → KeepsPages pages may_leave registry
   keeps_shut may_leave t registry held only card =
       keeps pages may_leave registry t sound (tables_same (store_in (slice_get pages)) (store_page pages) (λ n lt. ap bytes_of (at_home n)) t held) card [] (only_leaves pages may_leave sound only) (none_loose t)
 
 -- the gate is written behind the store pages, and all pages are synced
-pub laid_out : (written shut pages : List Page) (gate : Page) (may_leave : List Page → Type 0) (t : Tables) (registry : Registry) → HoldsTables (store_in (slice_get written)) t
+pub laid_out : (written shut pages : List Page) (gate : Page) (may_leave : List Page → Type 0) (t : Tables) (registry : Registry) → HoldsTables Third (store_in (slice_get written)) t
     → SameBut 45 written shut → slice_get shut 45 ≡ Some gate → get_or gate.bytes 0 0 ≡ 0 → pages ≡ shut → Only shut may_leave → IsCardOf (load_page pages) t registry → KeepsPages pages may_leave registry
 laid_out written shut pages gate may_leave t registry held others there zero same only card =
-    keeps_shut pages (subst (λ list. is_open list ≡ false) (sym same) closed) may_leave t registry (subst (λ list. HoldsTables (store_in (slice_get list)) t) (sym same) kept) (subst (λ list. Only list may_leave) (sym same) only) card
+    keeps_shut pages (subst (λ list. is_open list ≡ false) (sym same) closed) may_leave t registry (subst (λ list. HoldsTables Third (store_in (slice_get list)) t) (sym same) kept) (subst (λ list. Only list may_leave) (sym same) only) card
   where
     closed : is_open shut ≡ false
     closed = ap (λ one. get_or (bytes_of one) 0 0 == 165) there ∙ ap (λ byte. byte == 165) zero
 
-    kept : HoldsTables (store_in (slice_get shut)) t
+    kept : HoldsTables Third (store_in (slice_get shut)) t
     kept = tables_same (store_in (slice_get written)) (store_in (slice_get shut)) (λ n lt. ap bytes_of (others.others n (λ is. omega (arith, is, lt)))) t held

@@ -1,8 +1,10 @@
 -- What power lost between two moments may leave.
-use Rattle.std.proofs.Common.{inl, inr, ⊎_elim, ℕ, List, arith}
+use Rattle.std.proofs.Common.{inl, inr, ⊎_elim, List, ◌∙◌, arith}
+use Rattle.flash_core.specs.Device.{NoneNew}
 use Rattle.flash_core.specs.declared.flash.Flash.{Ghosts as Flash}
 use Rattle.flash_core.specs.declared.page.Page.{Page}
 use Rattle.page_journal.specs.Moments.{Always, LeavesOnly}
+use Rattle.rec_store.specs.Contents.{IsUnwritten}
 
 module _ {F : Type 0} (device : Flash F) where
   -- where no call was made, it leaves what it leaves now
@@ -28,4 +30,11 @@ module _ {F : Type 0} (device : Flash F) where
     later = was.later;
     each = λ c left. step c (was.each c left);
     before = λ t c le left. ⊎_elim (λ earlier. inl earlier) (λ p. inr (step c p)) (was.before t c le left);
+  }
+
+  -- nothing was written before, and nothing since
+  pub unwritten_on : (old mid new : F) → IsUnwritten device old mid → NoneNew (device.may_leave old) (device.may_leave mid) → IsUnwritten device mid new → IsUnwritten device old new
+  unwritten_on old mid new first none second = record {
+    pages = second.pages ∙ first.pages;
+    moments = joined old mid new (device.may_leave old) (device.may_leave mid) first.moments second.moments none;
   }

@@ -9,6 +9,7 @@ pub mod Leaving
 pub mod OneRegistry
 mod OneThing
 mod Places
+mod Raising
 pub mod Readings
 pub mod Reopening
 pub mod Rooms

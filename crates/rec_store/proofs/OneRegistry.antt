@@ -28,13 +28,17 @@ use Rattle.card_types.specs.Represents.{Represents, counter_of, domain_aid, entr
 use Rattle.card_types.specs.Slots.{held}
 use Rattle.card_types.specs.Well.{IsWellEntry}
 use Rattle.card_types.specs.declared.factory.TheConstants.{FACTORY_FILE}
+use Rattle.card_types.specs.declared.limits.TheConstants.{KEYS}
 use Rattle.card_types.specs.declared.tables.Entry.{Entry}
+use Rattle.card_types.specs.declared.tables.KeyRec.{KeyRec}
 use Rattle.card_types.specs.declared.tables.LoadFile.{LoadFile}
 use Rattle.card_types.specs.declared.tables.Tables.{Tables}
 use Rattle.rec_store.specs.EntrySlot.{HasThreeBytes}
 use Rattle.rec_store.specs.Reopens.{HoldsRegistry}
+use Rattle.rec_store.specs.KeySlot.{HoldsKey}
 use Rattle.rec_store.specs.Places.{entry_slot, file_slot, key_slot, object_slot}
-use Rattle.rec_store.specs.StoredTables.{HoldsTables}
+use Rattle.rec_store.specs.StoredTables.{AreHeld, HoldsTables}
+use Rattle.rec_store.specs.declared.store_layout.Layout.{Layout}
 use Rattle.rec_store.proofs.Roomy.{of_all, of_slot}
 use Rattle.rec_store.proofs.OneThing.{AreThreeBytes, AreSameFiles, SameFile, one_card_life, one_entry, one_file, one_key, one_object}
 
@@ -100,7 +104,12 @@ card_entry load tables said card i = of (held tables.entries.items i) refl
         let named = (All-contains (IsWellEntry said) said.entries (view entry) card.well.entries shown).proper.named_privileges in
         omega (arith, named, and_le_r (bits_of entry.privileges) named_bits)
 
-module _ (store load : ℕ → List ℕ) (t u : Tables) (first : HoldsTables store t) (second : HoldsTables store u) where
+-- slots hold one list of keys
+pub one_keys : (store : ℕ → List ℕ) (xs ys : List (Option KeyRec)) → length xs ≡ KEYS → length ys ≡ KEYS → AreHeld HoldsKey (key_slot store) KEYS xs → AreHeld HoldsKey (key_slot store) KEYS ys → xs ≡ ys
+one_keys store xs ys count also first second =
+    same_slots xs ys (count ∙ sym also) (λ i lt. one_key (key_slot store i) (held xs i) (held ys i) (first i (omega (arith, lt, count))) (second i (omega (arith, lt, count))))
+
+module _ (store load : ℕ → List ℕ) (t u : Tables) {a b : Layout} (first : HoldsTables a store t) (second : HoldsTables b store u) where
   same_file : (i : ℕ) → i < length t.files.items → AreSameFiles (held t.files.items i) (held u.files.items i)
   same_file i lt = let n = first.slots.files in one_file (file_slot store i) (held t.files.items i) (held u.files.items i) (first.files i (omega (arith, lt, n))) (second.files i (omega (arith, lt, n)))
 
@@ -136,9 +145,7 @@ module _ (store load : ℕ → List ℕ) (t u : Tables) (first : HoldsTables sto
 
   module _ (same : t.entries.items ≡ u.entries.items) where
     same_keys : t.keys.items ≡ u.keys.items
-    same_keys =
-        same_slots t.keys.items u.keys.items (first.slots.keys ∙ sym second.slots.keys)
-        (λ i lt. one_key (key_slot store i) (held t.keys.items i) (held u.keys.items i) (first.keys i (omega (arith, lt, first.slots.keys))) (second.keys i (omega (arith, lt, first.slots.keys))))
+    same_keys = one_keys store t.keys.items u.keys.items first.slots.keys second.slots.keys first.keys second.keys
 
     same_objects : t.objects.items ≡ u.objects.items
     same_objects =
@@ -160,7 +167,7 @@ module _ (store load : ℕ → List ℕ) (t u : Tables) (first : HoldsTables sto
     -- what the one say, the others do
     says_alike : (said : registry.Registry) → Represents load u said → Represents load t said
     says_alike said says = record {
-      life = one_card_life (store 0) t.life u.life first.life second.life ∙ says.life;
+      life = one_card_life (store 0) t.life u.life first.superblock second.superblock ∙ says.life;
       entries = subst (λ all. IsPermutation all said.entries) (sym shown_entries) says.entries;
       files = subst (λ all. IsPermutation all said.files) (sym shown_files) says.files;
       keys = subst (λ all. IsPermutation all said.keys) (sym (ap (λ entries. map (key_of entries) (used t.keys.items)) same ∙ ap (λ keys. map (key_of u.entries.items) (used keys)) same_keys)) says.keys;
@@ -198,7 +205,7 @@ module _ (store load : ℕ → List ℕ) (t u : Tables) (first : HoldsTables sto
     }
 
 -- tables that were read, where the store pages hold a card's
-pub read_card : (store load : ℕ → List ℕ) (t u : Tables) (said : registry.Registry) → HoldsTables store t → All HasThreeBytes (used t.entries.items) → HoldsTables store u → IsCardOf load u said → IsCardOf load t said
+pub read_card : (store load : ℕ → List ℕ) (t u : Tables) (said : registry.Registry) {a b : Layout} → HoldsTables a store t → All HasThreeBytes (used t.entries.items) → HoldsTables b store u → IsCardOf load u said → IsCardOf load t said
 read_card store load t u said read three held_u card =
     card_alike store load t u read held_u (same_entries store load t u read held_u (λ i. of_slot HasThreeBytes t.entries.items i three) (card_entry load u said card)) said card
 

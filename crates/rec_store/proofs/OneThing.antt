@@ -23,7 +23,10 @@ use Rattle.rec_store.specs.EntrySlot.{HasThreeBytes, HoldsEntry}
 use Rattle.rec_store.specs.FileSlot.{HoldsFile, IsFileIn}
 use Rattle.rec_store.specs.KeySlot.{HoldsKey}
 use Rattle.rec_store.specs.ObjectSlot.{HoldsObject}
+use Rattle.rec_store.specs.StoreLayout.{layout_code}
 use Rattle.rec_store.specs.Superblock.{IsSuperblock}
+use Rattle.rec_store.specs.declared.store_layout.Layout.{Layout}
+use Rattle.rec_store.specs.declared.store_layout.Layout.TheVariants.{Second, Third}
 
 -- the card's life of a code
 card_life_of : ℕ → CardLife
@@ -37,8 +40,15 @@ card_life_back Secured = refl
 card_life_back Locked = refl
 card_life_back Terminated = refl
 
-pub one_card_life : (bytes : List ℕ) (a b : CardLife) → IsSuperblock bytes a → IsSuperblock bytes b → a ≡ b
+pub one_card_life : (bytes : List ℕ) (a b : CardLife) {x y : Layout} → IsSuperblock bytes x a → IsSuperblock bytes y b → a ≡ b
 one_card_life bytes a b first second = sym (card_life_back a) ∙ ap card_life_of (sym first.code ∙ second.code) ∙ card_life_back b
+
+-- a number is that of one layout
+pub one_layout : (a b : Layout) → layout_code a ≡ layout_code b → a ≡ b
+one_layout Second Second same = refl
+one_layout Second Third same = absurd (omega (arith, same))
+one_layout Third Second same = absurd (omega (arith, same))
+one_layout Third Third same = refl
 
 life_of : ℕ → Life
 life_of n = if n == 0x03 then Installed else (if n == 0x07 then Selectable else Personalized)

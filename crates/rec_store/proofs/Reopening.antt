@@ -27,6 +27,7 @@ use Rattle.rec_store.specs.ObjectSlot.{HoldsObject}
 use Rattle.rec_store.specs.Places.{slot_at, slot_from}
 use Rattle.rec_store.specs.StoredTables.{AreHeld, HoldsTables}
 use Rattle.rec_store.specs.Superblock.{IsSuperblock}
+use Rattle.rec_store.specs.declared.store_layout.Layout.{Layout}
 use Rattle.rec_store.proofs.OneRegistry.{same_pages}
 
 -- store pages that are the same hold the same tables
@@ -35,14 +36,15 @@ module _ (old new : ℕ → List ℕ) (same : (n : ℕ) → n < 45 → new n ≡
   held_same holds first size count things within was i lt =
       subst (λ bytes. holds bytes (held things i)) (sym (ap (λ page. slot_at page size (i % (256 / size))) (same (first + i / (256 / size)) (within i lt)))) (was i lt)
 
-  pub tables_same : (t : Tables) → HoldsTables old t → HoldsTables new t
-  tables_same t was = record {
+  pub tables_same : {layout : Layout} (t : Tables) → HoldsTables layout old t → HoldsTables layout new t
+  tables_same {layout = layout} t was = record {
     slots = was.slots;
-    life = subst (λ bytes. IsSuperblock bytes t.life) (sym (same 0 (omega arith))) was.life;
+    superblock = subst (λ bytes. IsSuperblock bytes layout t.life) (sym (same 0 (omega arith))) was.superblock;
     entries = held_same HoldsEntry 1 64 ENTRIES t.entries.items (λ i lt. omega (arith, lt)) was.entries;
     files = held_same HoldsFile 9 256 FILES t.files.items (λ i lt. omega (arith, lt)) was.files;
     keys = held_same HoldsKey 25 64 KEYS t.keys.items (λ i lt. omega (arith, lt)) was.keys;
     objects = held_same HoldsObject 37 128 OBJECTS t.objects.items (λ i lt. omega (arith, lt)) was.objects;
+    fits = was.fits;
   }
 
 map_same : {X Y : Type 0} (f g : X → Y) (xs : List X) → ((x : X) → Contains xs x → f x ≡ g x) → map f xs ≡ map g xs
@@ -106,21 +108,21 @@ module _ (list : ℕ → Option Page) (loose : List ℕ) (outcome : List Page) (
   left_load : (file : LoadFile) → Contains (used t.files.items) file → (n : ℕ) → Contains (pages_named file) n → load_page outcome n ≡ load_in list n
   left_load file among n named = load_same (stored outcome) list n (λ high. leaves.load n high (λ is_loose. All-contains (λ file. Contains (pages_named file) n → ⊥) (used t.files.items) file (free n is_loose) among named))
 
-  pub left_tables : HoldsTables (store_in list) t → HoldsTables (store_page outcome) t
+  pub left_tables : {layout : Layout} → HoldsTables layout (store_in list) t → HoldsTables layout (store_page outcome) t
   left_tables held = tables_same (store_in list) (store_page outcome) left_store t held
 
   pub left_card : IsCardOf (load_page outcome) t registry
   left_card = card_same (load_in list) (load_page outcome) t left_load registry card
 
-  pub left : HoldsTables (store_in list) t → Reopens outcome registry
-  left held = record { sound = leaves.sound; holds = record { tables = t; held = left_tables held; card = left_card } }
+  pub left : {layout : Layout} → HoldsTables layout (store_in list) t → Reopens outcome registry
+  left {layout = layout} held = record { sound = leaves.sound; holds = record { layout = layout; tables = t; held = left_tables held; card = left_card } }
 
 -- pages that hold a registry, of which all else that power loss leaves are loose pages
-pub keeps : (pages : List Page) (may_leave : List Page → Type 0) (registry : Registry) (t : Tables) → HasValidJournal pages → HoldsTables (store_page pages) t → IsCardOf (load_page pages) t registry
+pub keeps : (pages : List Page) (may_leave : List Page → Type 0) (registry : Registry) {layout : Layout} (t : Tables) → HasValidJournal pages → HoldsTables layout (store_page pages) t → IsCardOf (load_page pages) t registry
     → (loose : List ℕ) → Always may_leave (Leaves (stored pages) loose) → ((n : ℕ) → Contains loose n → IsFree t n) → KeepsPages pages may_leave registry
-keeps pages may_leave registry t sound held card loose leaves free = record {
+keeps pages may_leave registry {layout = layout} t sound held card loose leaves free = record {
   reopens = λ outcome possible. left (stored pages) loose outcome t (leaves outcome possible) free registry card held;
-  now = record { sound = sound; holds = record { tables = t; held = held; card = card } };
+  now = record { sound = sound; holds = record { layout = layout; tables = t; held = held; card = card } };
   loose = loose;
   leaves = leaves;
   free = free;
@@ -162,11 +164,11 @@ free_same t u page same free =
         (All-from_map files (All-tail (λ named. Contains named page → ⊥) (pages_named file) (map pages_named files) all))
 
 -- the same tables, as other tables that the same store pages hold: no file has a page of which none of theirs has it
-pub free_of_held : (store : ℕ → List ℕ) (t u : Tables) (page : ℕ) → HoldsTables store t → HoldsTables store u → IsFree t page → IsFree u page
+pub free_of_held : (store : ℕ → List ℕ) (t u : Tables) (page : ℕ) → {first second : Layout} → HoldsTables first store t → HoldsTables second store u → IsFree t page → IsFree u page
 free_of_held store t u page first second = free_same t u page (same_pages store (λ _. []) t u first second)
 
 -- pages that power loss leaves of a list, and what it leaves then
-pub keeps_left : (list : ℕ → Option Page) (loose : List ℕ) (t : Tables) (registry : Registry) → ((n : ℕ) → Contains loose n → IsFree t n) → HoldsTables (store_in list) t → IsCardOf (load_in list) t registry
+pub keeps_left : (list : ℕ → Option Page) (loose : List ℕ) (t : Tables) (registry : Registry) → ((n : ℕ) → Contains loose n → IsFree t n) → {layout : Layout} → HoldsTables layout (store_in list) t → IsCardOf (load_in list) t registry
     → (pages : List Page) (may_leave : List Page → Type 0) → Leaves list loose pages → Always may_leave (Leaves list loose) → KeepsPages pages may_leave registry
 keeps_left list loose t registry free held card pages may_leave now later =
     keeps pages may_leave registry t now.sound (left_tables list loose pages t now free registry card held) (left_card list loose pages t now free registry card) loose

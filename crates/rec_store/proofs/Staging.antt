@@ -18,6 +18,7 @@ use Rattle.rec_store.specs.Reopens.{NoLoadPage, current_page}
 use Rattle.rec_store.specs.Places.{slot_at, slot_from}
 use Rattle.rec_store.specs.Room.{HasFrame, with_staged}
 use Rattle.rec_store.specs.StoredTables.{AreHeld, AreRoomy, HoldsPage, HoldsTables}
+use Rattle.rec_store.specs.declared.store_layout.Layout.TheVariants.{Third}
 
 abbrev Pages : Type 0
 Pages = List (ℕ × Page)
@@ -123,8 +124,8 @@ module _ {F : Type 0} (store new : Store F) (page : ℕ) (x : Page) (anew : new 
 
   -- what is kept of records, where it holds the tables
   pub kept_anew : (device : Flash F) (t : Tables) → page < 45 → AreRoomy t → store.settled ≡ true → NoLoadPage store.staged
-      → (device.tells → HoldsTables (current_page (with_page store.staged page x) (device.pages store.flash)) t)
-      → AreRoomy t × (new.settled ≡ true) × NoLoadPage new.staged × (device.tells → new.live ≡ true → HoldsTables (current_page new.staged (device.pages new.flash)) t)
+      → (device.tells → HoldsTables Third (current_page (with_page store.staged page x) (device.pages store.flash)) t)
+      → AreRoomy t × (new.settled ≡ true) × NoLoadPage new.staged × (device.tells → new.live ≡ true → HoldsTables Third (current_page new.staged (device.pages new.flash)) t)
   kept_anew device t lt roomy settled none held =
-      subst (λ (s : Store F). AreRoomy t × (s.settled ≡ true) × NoLoadPage s.staged × (device.tells → s.live ≡ true → HoldsTables (current_page s.staged (device.pages s.flash)) t)) (sym anew)
+      subst (λ (s : Store F). AreRoomy t × (s.settled ≡ true) × NoLoadPage s.staged × (device.tells → s.live ≡ true → HoldsTables Third (current_page s.staged (device.pages s.flash)) t)) (sym anew)
       (roomy, settled, none_loaded store.staged page x lt none, λ told live. held told)

@@ -4,6 +4,7 @@ pub mod EntrySlot
 pub mod FileSlot
 pub mod KeySlot
 pub mod ObjectSlot
+pub mod StoreLayout
 pub mod Superblock
 pub mod StoredTables
 pub mod FirstSlots

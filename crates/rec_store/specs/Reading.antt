@@ -1,7 +1,6 @@
 -- A run of reads of a store: nothing is written, and what is staged stays.
-use Rattle.std.specs.Prelude.{◌≡◌, ℕ, ◌≤◌, List}
+use Rattle.std.specs.Prelude.{◌≡◌, ◌≤◌}
 use Rattle.flash_core.specs.declared.flash.Flash.{Ghosts as Flash}
-use Rattle.flash_core.specs.declared.page.Page.{Page}
 use Rattle.flash_core.specs.Device.{NoneNew}
 use Rattle.page_journal.specs.Moments.{LeavesOnly}
 use Rattle.page_journal.specs.Store.{Store}

@@ -1,5 +1,5 @@
 -- Which registry pages hold.
-use Rattle.std.specs.Prelude.{◌≡◌, ◌⊎◌, ℕ, ◌≤◌, ◌++◌, List, [], Option, None, Contains, All, take, replicate, nat_lt, if◌then◌else◌}
+use Rattle.std.specs.Prelude.{◌≡◌, ◌⊎◌, ℕ, ◌≤◌, ◌++◌, List, [], Option, None, Contains, All, false, take, replicate, nat_lt, slice_index, if◌then◌else◌}
 use Rattle.card_check.specs.IsCard.{IsCardOf, pages_named}
 use Rattle.card_types.specs.Registry.{Registry}
 use Rattle.card_types.specs.Represents.{used}
@@ -7,14 +7,19 @@ use Rattle.card_types.specs.declared.tables.Tables.{Tables}
 use Rattle.flash_core.specs.declared.flash.Flash.{Ghosts as Flash}
 use Rattle.flash_core.specs.declared.page.Page.{Page}
 use Rattle.frame_pool.specs.Staged.{staged}
-use Rattle.page_journal.specs.Journal.{HasValidJournal, bytes_of, stored}
+use Rattle.page_journal.specs.Journal.{HasValidJournal, bytes_of, is_open, stored}
 use Rattle.page_journal.specs.Moments.{Always, Leaves, current}
+use Rattle.rec_store.specs.StoreLayout.{layout_code}
 use Rattle.rec_store.specs.StoredTables.{HoldsTables}
+use Rattle.rec_store.specs.declared.store_layout.Layout.{Layout}
+use Rattle.rec_store.specs.declared.store_layout.Layout.TheVariants.{Third}
 
--- Store pages and load pages hold a registry: the store pages hold tables that are those of a card with it.
+-- Store pages and load pages hold a registry: the store pages hold tables that are those of a card with it, in one of the
+-- layouts.
 pub record HoldsRegistry (store load : ℕ → List ℕ) (registry : Registry) : Type 0 where
+  pub layout : Layout
   pub tables : Tables
-  pub held : HoldsTables store tables
+  pub held : HoldsTables layout store tables
   pub card : IsCardOf load tables registry
 
 -- the bytes of a list of pages: those of a store page
@@ -32,6 +37,15 @@ store_page pages = store_in (stored pages)
 
 abbrev pub load_page : List Page → ℕ → List ℕ
 load_page pages = load_in (stored pages)
+
+-- the number of this layout is in the superblock
+abbrev pub IsInLayout : Layout → List Page → Type 0
+IsInLayout layout pages = slice_index (store_page pages 0) 4 ≡ layout_code layout
+
+-- there is nothing to write when they are mounted: no commit was cut off, and the layout is the present one
+pub record IsAtRest (pages : List Page) : Type 0 where
+  pub closed : is_open pages ≡ false
+  pub layout : IsInLayout Third pages
 
 -- and with staged pages in their places
 abbrev pub current_page : List (ℕ × Page) → List Page → ℕ → List ℕ

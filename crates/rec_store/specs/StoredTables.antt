@@ -10,7 +10,9 @@ use Rattle.rec_store.specs.FileSlot.{HoldsFile}
 use Rattle.rec_store.specs.KeySlot.{HoldsKey, IsRoomyKey}
 use Rattle.rec_store.specs.ObjectSlot.{HoldsObject}
 use Rattle.rec_store.specs.Places.{entry_slot, file_slot, key_slot, object_slot, slot_at}
+use Rattle.rec_store.specs.StoreLayout.{FitsLayout}
 use Rattle.rec_store.specs.Superblock.{IsSuperblock}
+use Rattle.rec_store.specs.declared.store_layout.Layout.{Layout}
 
 -- the first so many slots hold these things
 abbrev pub AreHeld : {T : Type 0} → (List ℕ → Option T → Type 0) → (ℕ → List ℕ) → ℕ → List (Option T) → Type 0
@@ -27,14 +29,15 @@ pub record HasSlots (tables : Tables) : Type 0 where
   pub keys : length tables.keys.items ≡ KEYS
   pub objects : length tables.objects.items ≡ OBJECTS
 
--- the store pages hold these tables
-pub record HoldsTables (store : ℕ → List ℕ) (tables : Tables) : Type 0 where
+-- the store pages hold these tables, in this layout
+pub record HoldsTables (layout : Layout) (store : ℕ → List ℕ) (tables : Tables) : Type 0 where
   pub slots : HasSlots tables
-  pub life : IsSuperblock (store 0) tables.life
+  pub superblock : IsSuperblock (store 0) layout tables.life
   pub entries : AreHeld HoldsEntry (entry_slot store) ENTRIES tables.entries.items
   pub files : AreHeld HoldsFile (file_slot store) FILES tables.files.items
   pub keys : AreHeld HoldsKey (key_slot store) KEYS tables.keys.items
   pub objects : AreHeld HoldsObject (object_slot store) OBJECTS tables.objects.items
+  pub fits : FitsLayout layout tables.keys.items
 
 -- slots have room for all that is in the tables
 pub record AreRoomy (tables : Tables) : Type 0 where

@@ -10,6 +10,7 @@ ghost use Rattle.rec_store.specs.FirstSlots.{HasFirst, HaveRoom};
 ghost use Rattle.rec_store.specs.KeySlot.{IsRoomyKey};
 ghost use Rattle.rec_store.specs.Reopens.{Keeps, load_page, store_in};
 ghost use Rattle.rec_store.specs.StoredTables.{HoldsTables};
+ghost use Rattle.rec_store.specs.declared.store_layout.Layout.TheVariants.{Third};
 
 use crate::slots::write_slots;
 use crate::superblock::superblock;
@@ -54,7 +55,7 @@ fn write_tables<F: Flash>(
     requires roomy_files { All IsInLoadPages (used files.now) }
     requires roomy_keys { All IsRoomyKey (used keys.now) }
     ensures held { F.tells → (tables : Tables) → HasFirst tables life entries.now files.now keys.now objects.now
-        → OnOk result (HoldsTables (store_in (slice_get (F.pages flash.new))) tables) }
+        → OnOk result (HoldsTables Third (store_in (slice_get (F.pages flash.new))) tables) }
     ensures others { F.tells → (page : ℕ) → 45 ≤ page → slice_get (F.pages flash.new) page ≡ slice_get (F.pages flash.old) page }
     ensures cause { HasCause (F.faults flash.old) (F.faults flash.new) result }
 {

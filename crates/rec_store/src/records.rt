@@ -22,13 +22,14 @@ impl<F: Flash> Model for Records<F> {
     ghost use Rattle.rec_store.specs.Contents.{Contents};
     ghost use Rattle.rec_store.specs.Reopens.{NoLoadPage, current_page};
     ghost use Rattle.rec_store.specs.StoredTables.{AreRoomy, HoldsTables};
+    ghost use Rattle.rec_store.specs.declared.store_layout.Layout.TheVariants.{Third};
 
     ghost Value = { Contents F };
 
     ghost view = { λ r. record { flash = r.store.flash; tables = r.tables; staged = map (λ page. page.0) r.store.staged; live = r.store.live } };
 
     ghost invariant = { λ r. AreRoomy r.tables × (r.store.settled ≡ true) × NoLoadPage r.store.staged
-        × (F.tells → r.store.live ≡ true → HoldsTables (current_page r.store.staged (F.pages r.store.flash)) r.tables) };
+        × (F.tells → r.store.live ≡ true → HoldsTables Third (current_page r.store.staged (F.pages r.store.flash)) r.tables) };
 }
 
 impl<F: Flash> Records<F> {

@@ -1,49 +1,85 @@
-use Rattle.std.proofs.Common.{[], subst}
+use Rattle.std.proofs.Common.{sym, subst, ◌∙◌}
+use Rattle.card_types.specs.Represents.{Represents}
 use Rattle.page_journal.specs.Journal.{stored}
-use Rattle.page_journal.specs.Moments.{Always, Leaves, LeavesOnly}
-use Rattle.rec_store.specs.Reopens.{load_page, store_page}
+use Rattle.rec_store.specs.Reopens.{Reopens, load_page, store_page}
 use Rattle.rec_store.proofs.OneRegistry.{read_card}
-use Rattle.rec_store.proofs.Leaving.{joined, weaker}
-use Rattle.rec_store.proofs.Reopening.{has_pages, only_leaves}
+use Rattle.rec_store.proofs.Raising.{left_load, left_registry, left_tables, settled_first, settled_now, settled_registry}
+use Rattle.rec_store.proofs.Reopening.{has_pages}
 use Rattle.rec_store.proofs.mount.read_card.Goals as goal
 
 pub returns-then-not-is_card-clause-err : goal.returns-then-not-is_card-clause-err
 returns-then-not-is_card-clause-err g c told =
     let pages = g.F.Flash.pages c.args.store.now.flash in
-    let read = c.in_ok-read_tables.ensures in (
-      λ registry reopens.
+    let read = c.in_ok-layout.ensures in
+    record {
+      none = λ registry reopens.
           let card = read_card (store_page pages) (load_page pages) c.read_tables.new.tables reopens.holds.tables registry (read.held told) read.entries reopens.holds.held reopens.holds.card in
           let is = (c.is_card.ensures (load_page pages) (has_pages (stored pages))).1 (record { said = registry; of = card }) in
           let not_it = c.if-not-is_card.true in
-          absurd (cc (is, not_it)),
-      c.read_tables.ensures.read.seen told,
-    )
+          absurd (cc (is, not_it));
+      unwritten = record { pages = read.read.seen told; moments = read.read.moments told };
+    }
 
 pub returns-in_err-settle-clause-moments : goal.returns-in_err-settle-clause-moments
 returns-in_err-settle-clause-moments g c told =
     let F = g.F.Flash in
-    let s0 = c.args.store.now.flash in
-    let s1 = c.read_tables.new.store.flash in
+    let s0 = c.args.store.now in
     let s2 = c.settle.new.self.flash in
-    let read = c.read_tables.ensures.read in
-    let P = Leaves (stored (F.pages s0)) [] in
-    let leaves : Always (F.may_leave s0) P = only_leaves (F.pages s0) (F.may_leave s0) (c.requires.sound told) (c.requires.only told) in
-    let first = weaker F s0 s1 (F.may_leave s0) P (read.moments told) leaves in
-    let second = subst (λ pages. Always (F.may_leave s1) (Leaves (stored pages) []) → LeavesOnly F s1 s2 (Leaves (stored pages) [])) (read.seen told) (c.settle.ensures.moments told []) (λ outcome possible. leaves outcome (read.loss told outcome possible)) in
-    joined F s0 s1 s2 P P first second (λ outcome p. p)
+    settled_registry F s0 c.read_tables.new.store s2 told (c.requires.sound told) (c.requires.only told) c.read_tables.ensures.read (c.settle.ensures.moments told)
 
-pub returns-clause-card : goal.returns-clause-card
-returns-clause-card g c page whole = let it = c.if-not-is_card.false in (c.is_card.ensures page whole).0 (cc it)
+pub raise-requires-clause-sound : goal.raise-requires-clause-sound
+raise-requires-clause-sound g c told =
+    let F = g.F.Flash in
+    let s0 = c.args.store.now in
+    let s2 = c.settle.new.self.flash in
+    (settled_now F s0 c.read_tables.new.store s2 told (c.requires.sound told) (c.requires.only told) c.read_tables.ensures.read (c.settle.ensures.moments told) g.met.F.Flash.counts_now g.met.F.Flash.as_read).sound
+
+pub returns-in_err-raise-clause-moments : goal.returns-in_err-raise-clause-moments
+returns-in_err-raise-clause-moments g c told registry was =
+    let F = g.F.Flash in
+    let s0 = c.args.store.now in
+    let s2 = c.settle.new.self.flash in
+    settled_first F s0 c.read_tables.new.store s2 told (c.requires.sound told) (c.requires.only told) c.read_tables.ensures.read (c.settle.ensures.moments told) g.met.F.Flash.counts_now g.met.F.Flash.as_read
+    c.raise.new.store.flash registry was (c.raise.ensures.moments told registry)
 
 pub returns-clause-moments : goal.returns-clause-moments
-returns-clause-moments g c told =
+returns-clause-moments g c told registry was =
     let F = g.F.Flash in
-    let s0 = c.args.store.now.flash in
-    let s1 = c.read_tables.new.store.flash in
+    let s0 = c.args.store.now in
     let s2 = c.settle.new.self.flash in
-    let read = c.read_tables.ensures.read in
-    let P = Leaves (stored (F.pages s0)) [] in
-    let leaves : Always (F.may_leave s0) P = only_leaves (F.pages s0) (F.may_leave s0) (c.requires.sound told) (c.requires.only told) in
-    let first = weaker F s0 s1 (F.may_leave s0) P (read.moments told) leaves in
-    let second = subst (λ pages. Always (F.may_leave s1) (Leaves (stored pages) []) → LeavesOnly F s1 s2 (Leaves (stored pages) [])) (read.seen told) (c.settle.ensures.moments told []) (λ outcome possible. leaves outcome (read.loss told outcome possible)) in
-    joined F s0 s1 s2 P P first second (λ outcome p. p)
+    settled_first F s0 c.read_tables.new.store s2 told (c.requires.sound told) (c.requires.only told) c.read_tables.ensures.read (c.settle.ensures.moments told) g.met.F.Flash.counts_now g.met.F.Flash.as_read
+    c.raise.new.store.flash registry was (c.raise.ensures.moments told registry)
+
+pub returns-clause-held : goal.returns-clause-held
+returns-clause-held g c told =
+    let F = g.F.Flash in
+    let s0 = c.args.store.now in
+    let s2 = c.settle.new.self.flash in
+    let now = settled_now F s0 c.read_tables.new.store s2 told (c.requires.sound told) (c.requires.only told) c.read_tables.ensures.read (c.settle.ensures.moments told) g.met.F.Flash.counts_now g.met.F.Flash.as_read in
+    c.in_ok-raise.ensures.held told c.read_tables.new.tables (left_tables (F.pages s0.flash) (F.pages s2) now c.read_tables.new.tables (c.in_ok-layout.ensures.held told))
+
+pub returns-clause-load : goal.returns-clause-load
+returns-clause-load g c told =
+    let F = g.F.Flash in
+    let s0 = c.args.store.now in
+    let s2 = c.settle.new.self.flash in
+    let now = settled_now F s0 c.read_tables.new.store s2 told (c.requires.sound told) (c.requires.only told) c.read_tables.ensures.read (c.settle.ensures.moments told) g.met.F.Flash.counts_now g.met.F.Flash.as_read in
+    c.in_ok-raise.ensures.load told ∙ left_load (F.pages s0.flash) (F.pages s2) now
+
+pub returns-clause-says : goal.returns-clause-says
+returns-clause-says g c told =
+    let F = g.F.Flash in
+    let s0 = c.args.store.now in
+    let s2 = c.settle.new.self.flash in
+    let tables = c.read_tables.new.tables in
+    let pages = F.pages s0.flash in
+    let now = settled_now F s0 c.read_tables.new.store s2 told (c.requires.sound told) (c.requires.only told) c.read_tables.ensures.read (c.settle.ensures.moments told) g.met.F.Flash.counts_now g.met.F.Flash.as_read in
+    let it = c.if-not-is_card.false in
+    let card = (c.is_card.ensures (load_page pages) (has_pages (stored pages))).0 (cc it) in
+    let loads = c.in_ok-raise.ensures.load told ∙ left_load pages (F.pages s2) now in
+    let reopens : Reopens pages card.said = record { sound = c.requires.sound told; holds = record { layout = c.in_ok-layout.layout; tables = tables; held = c.in_ok-layout.ensures.held told; card = card.of } } in (
+      card.said,
+      reopens,
+      subst (λ load. Represents load tables card.said) (sym loads) card.of.says,
+      c.in_ok-raise.ensures.keeps told card.said (left_registry pages (F.pages s2) now card.said reopens),
+    )

@@ -15,22 +15,25 @@ use Rattle.rec_store.specs.KeySlot.{HoldsKey}
 use Rattle.rec_store.specs.ObjectSlot.{HoldsObject}
 use Rattle.rec_store.specs.Places.{slot_from}
 use Rattle.rec_store.specs.StoredTables.{AreHeld, HoldsTables}
+use Rattle.rec_store.specs.StoreLayout.{FitsLayout}
 use Rattle.rec_store.specs.Superblock.{IsSuperblock}
-use Rattle.rec_store.proofs.Causes.{each_err, fails_later, handed_on}
-use Rattle.rec_store.proofs.Reopening.{always_ok, on_ok}
+use Rattle.rec_store.specs.declared.store_layout.Layout.{Layout}
+use Rattle.rec_store.proofs.Causes.{fails_later, handed_on, no_card}
+use Rattle.rec_store.proofs.OneRegistry.{one_keys}
+use Rattle.rec_store.proofs.OneThing.{one_layout}
 use Rattle.rec_store.proofs.mount.read_tables.Goals as goal
 
 abbrev NoTables : (ℕ → List ℕ) → Type 0
-NoTables store = (t : Tables) → HoldsTables store t → ⊥
+NoTables store = (layout : Layout) (t : Tables) → HoldsTables layout store t → ⊥
 
 abbrev BadSlot : {T : Type 0} → (List ℕ → Option T → Type 0) → ℕ → ℕ → ℕ → List Page → Type 0
 BadSlot {T} holds first size count pages = (slot : ℕ) × (slot < count) × ((thing : Option T) → holds (slot_from (store_page pages) first size slot) thing → ⊥)
 
 -- a slot that holds nothing is one of no tables
 no_tables : {T : Type 0} (holds : List ℕ → Option T → Type 0) (first size count all : ℕ) (old now : List Page) (items : Tables → List (Option T)) → now ≡ old → count ≡ all
-    → ((t : Tables) → HoldsTables (store_page old) t → AreHeld holds (slot_from (store_page old) first size) all (items t)) → BadSlot holds first size count now → NoTables (store_page old)
-no_tables holds first size count all old now items same is are bad t held_all =
-    bad.2 (held (items t) bad.0) (subst (λ pages. holds (slot_from (store_page pages) first size bad.0) (held (items t) bad.0)) (sym same) (are t held_all bad.0 (omega (arith, bad.1, is))))
+    → ((layout : Layout) (t : Tables) → HoldsTables layout (store_page old) t → AreHeld holds (slot_from (store_page old) first size) all (items t)) → BadSlot holds first size count now → NoTables (store_page old)
+no_tables holds first size count all old now items same is are bad layout t held_all =
+    bad.2 (held (items t) bad.0) (subst (λ pages. holds (slot_from (store_page pages) first size bad.0) (held (items t) bad.0)) (sym same) (are layout t held_all bad.0 (omega (arith, bad.1, is))))
 
 -- the slots in the place of a table's
 filled : {T : Type 0} (count : ℕ) (items slots : List (Option T)) → count ≡ length items → length slots ≡ length items → take count (slots ++ drop (length slots) items) ≡ slots
@@ -46,7 +49,7 @@ returns-in_err-read_slots-clause-err g c =
     let first = c.args.store.now.flash in
     handed_on (SlotsFail F.tells (F.faults first) (F.faults c.read_slots.new.store.flash) (NoTables (store_page (F.pages first)))) c.from_residual-in_err-read_slots.result c.in_err-read_slots.field-0.0 c.from_residual-in_err-read_slots.ensures.1
     (fails_later F.tells (F.faults first) (F.faults c.read_store.new.store.flash) (F.faults c.read_slots.new.store.flash) (BadSlot HoldsEntry 1 64 (length c.deref_mut.result.now) (F.pages c.read_store.new.store.flash)) (NoTables (store_page (F.pages first))) c.read_store.ensures.read.later
-    (λ told. no_tables HoldsEntry 1 64 (length c.deref_mut.result.now) ENTRIES (F.pages first) (F.pages c.read_store.new.store.flash) (λ t. t.entries.items) (c.read_store.ensures.read.seen told) (ap length c.deref_mut.ensures.value ∙ c.requires.slots.entries) (λ t held_all. held_all.entries))
+    (λ told. no_tables HoldsEntry 1 64 (length c.deref_mut.result.now) ENTRIES (F.pages first) (F.pages c.read_store.new.store.flash) (λ t. t.entries.items) (c.read_store.ensures.read.seen told) (ap length c.deref_mut.ensures.value ∙ c.requires.slots.entries) (λ layout t held_all. held_all.entries))
     c.in_err-read_slots.field-0.0 c.in_err-read_slots.ensures.err)
 
 pub returns-in_err-read_slots-2-clause-err : goal.returns-in_err-read_slots-2-clause-err
@@ -55,7 +58,7 @@ returns-in_err-read_slots-2-clause-err g c =
     let first = c.args.store.now.flash in
     handed_on (SlotsFail F.tells (F.faults first) (F.faults c.read_slots-2.new.store.flash) (NoTables (store_page (F.pages first)))) c.from_residual-in_err-read_slots-2.result c.in_err-read_slots-2.field-0.0 c.from_residual-in_err-read_slots-2.ensures.1
     (fails_later F.tells (F.faults first) (F.faults c.read_slots.new.store.flash) (F.faults c.read_slots-2.new.store.flash) (BadSlot HoldsFile 9 256 (length c.deref_mut-2.result.now) (F.pages c.read_slots.new.store.flash)) (NoTables (store_page (F.pages first))) (omega (arith, c.read_store.ensures.read.later, c.in_ok-read_slots.ensures.read.later))
-    (λ told. no_tables HoldsFile 9 256 (length c.deref_mut-2.result.now) FILES (F.pages first) (F.pages c.read_slots.new.store.flash) (λ t. t.files.items) (c.in_ok-read_slots.ensures.read.seen told ∙ c.read_store.ensures.read.seen told) (ap length c.deref_mut-2.ensures.value ∙ c.requires.slots.files) (λ t held_all. held_all.files))
+    (λ told. no_tables HoldsFile 9 256 (length c.deref_mut-2.result.now) FILES (F.pages first) (F.pages c.read_slots.new.store.flash) (λ t. t.files.items) (c.in_ok-read_slots.ensures.read.seen told ∙ c.read_store.ensures.read.seen told) (ap length c.deref_mut-2.ensures.value ∙ c.requires.slots.files) (λ layout t held_all. held_all.files))
     c.in_err-read_slots-2.field-0.0 c.in_err-read_slots-2.ensures.err)
 
 pub returns-in_err-read_slots-3-clause-err : goal.returns-in_err-read_slots-3-clause-err
@@ -64,24 +67,24 @@ returns-in_err-read_slots-3-clause-err g c =
     let first = c.args.store.now.flash in
     handed_on (SlotsFail F.tells (F.faults first) (F.faults c.read_slots-3.new.store.flash) (NoTables (store_page (F.pages first)))) c.from_residual-in_err-read_slots-3.result c.in_err-read_slots-3.field-0.0 c.from_residual-in_err-read_slots-3.ensures.1
     (fails_later F.tells (F.faults first) (F.faults c.read_slots-2.new.store.flash) (F.faults c.read_slots-3.new.store.flash) (BadSlot HoldsKey 25 64 (length c.deref_mut-3.result.now) (F.pages c.read_slots-2.new.store.flash)) (NoTables (store_page (F.pages first))) (omega (arith, c.read_store.ensures.read.later, c.in_ok-read_slots.ensures.read.later, c.in_ok-read_slots-2.ensures.read.later))
-    (λ told. no_tables HoldsKey 25 64 (length c.deref_mut-3.result.now) KEYS (F.pages first) (F.pages c.read_slots-2.new.store.flash) (λ t. t.keys.items) (c.in_ok-read_slots-2.ensures.read.seen told ∙ c.in_ok-read_slots.ensures.read.seen told ∙ c.read_store.ensures.read.seen told) (ap length c.deref_mut-3.ensures.value ∙ c.requires.slots.keys) (λ t held_all. held_all.keys))
+    (λ told. no_tables HoldsKey 25 64 (length c.deref_mut-3.result.now) KEYS (F.pages first) (F.pages c.read_slots-2.new.store.flash) (λ t. t.keys.items) (c.in_ok-read_slots-2.ensures.read.seen told ∙ c.in_ok-read_slots.ensures.read.seen told ∙ c.read_store.ensures.read.seen told) (ap length c.deref_mut-3.ensures.value ∙ c.requires.slots.keys) (λ layout t held_all. held_all.keys))
     c.in_err-read_slots-3.field-0.0 c.in_err-read_slots-3.ensures.err)
 
-pub returns-clause-err : goal.returns-clause-err
-returns-clause-err g c =
+pub returns-in_err-read_slots-4-clause-err : goal.returns-in_err-read_slots-4-clause-err
+returns-in_err-read_slots-4-clause-err g c =
     let F = g.F.Flash in
     let first = c.args.store.now.flash in
-    each_err (SlotsFail F.tells (F.faults c.read_slots-3.new.store.flash) (F.faults c.read_slots-4.new.store.flash) (BadSlot HoldsObject 37 128 (length c.deref_mut-4.result.now) (F.pages c.read_slots-3.new.store.flash))) (SlotsFail F.tells (F.faults first) (F.faults c.read_slots-4.new.store.flash) (NoTables (store_page (F.pages first))))
+    handed_on (SlotsFail F.tells (F.faults first) (F.faults c.read_slots-4.new.store.flash) (NoTables (store_page (F.pages first)))) c.from_residual-in_err-read_slots-4.result c.in_err-read_slots-4.field-0.0 c.from_residual-in_err-read_slots-4.ensures.1
     (fails_later F.tells (F.faults first) (F.faults c.read_slots-3.new.store.flash) (F.faults c.read_slots-4.new.store.flash) (BadSlot HoldsObject 37 128 (length c.deref_mut-4.result.now) (F.pages c.read_slots-3.new.store.flash)) (NoTables (store_page (F.pages first))) (omega (arith, c.read_store.ensures.read.later, c.in_ok-read_slots.ensures.read.later, c.in_ok-read_slots-2.ensures.read.later, c.in_ok-read_slots-3.ensures.read.later))
-    (λ told. no_tables HoldsObject 37 128 (length c.deref_mut-4.result.now) OBJECTS (F.pages first) (F.pages c.read_slots-3.new.store.flash) (λ t. t.objects.items) (c.in_ok-read_slots-3.ensures.read.seen told ∙ c.in_ok-read_slots-2.ensures.read.seen told ∙ c.in_ok-read_slots.ensures.read.seen told ∙ c.read_store.ensures.read.seen told) (ap length c.deref_mut-4.ensures.value ∙ c.requires.slots.objects) (λ t held_all. held_all.objects)))
-    c.read_slots-4.result c.read_slots-4.ensures.err
+    (λ told. no_tables HoldsObject 37 128 (length c.deref_mut-4.result.now) OBJECTS (F.pages first) (F.pages c.read_slots-3.new.store.flash) (λ t. t.objects.items) (c.in_ok-read_slots-3.ensures.read.seen told ∙ c.in_ok-read_slots-2.ensures.read.seen told ∙ c.in_ok-read_slots.ensures.read.seen told ∙ c.read_store.ensures.read.seen told) (ap length c.deref_mut-4.ensures.value ∙ c.requires.slots.objects) (λ layout t held_all. held_all.objects))
+    c.in_err-read_slots-4.field-0.0 c.in_err-read_slots-4.ensures.err)
 
 pub returns-clause-held : goal.returns-clause-held
 returns-clause-held g c told =
     let F = g.F.Flash in
     let first = F.pages c.args.store.now.flash in
     let before = c.args.tables.now in
-    let after : Tables = record { life = c.in_ok-tables.field-0; entries = with_items before.entries c.read_slots.new.slots; files = with_items before.files c.read_slots-2.new.slots; keys = with_items before.keys c.read_slots-3.new.slots; objects = with_items before.objects c.read_slots-4.new.slots } in
+    let after : Tables = record { life = c.in_ok-layout.life; entries = with_items before.entries c.read_slots.new.slots; files = with_items before.files c.read_slots-2.new.slots; keys = with_items before.keys c.read_slots-3.new.slots; objects = with_items before.objects c.read_slots-4.new.slots } in
     let entries_long : length c.read_slots.new.slots ≡ length before.entries.items = c.read_slots.auto.slots ∙ ap length c.deref_mut.ensures.value in
     let entries_are : after.entries.items ≡ c.read_slots.new.slots = filled before.entries.len before.entries.items c.read_slots.new.slots before.entries.ok.0 entries_long in
     let files_long : length c.read_slots-2.new.slots ≡ length before.files.items = c.read_slots-2.auto.slots ∙ ap length c.deref_mut-2.ensures.value in
@@ -90,21 +93,41 @@ returns-clause-held g c told =
     let keys_are : after.keys.items ≡ c.read_slots-3.new.slots = filled before.keys.len before.keys.items c.read_slots-3.new.slots before.keys.ok.0 keys_long in
     let objects_long : length c.read_slots-4.new.slots ≡ length before.objects.items = c.read_slots-4.auto.slots ∙ ap length c.deref_mut-4.ensures.value in
     let objects_are : after.objects.items ≡ c.read_slots-4.new.slots = filled before.objects.len before.objects.items c.read_slots-4.new.slots before.objects.ok.0 objects_long in
-    on_ok c.read_slots-4.result (AreHeld HoldsObject (slot_from (store_page (F.pages c.read_slots-3.new.store.flash)) 37 128) (length c.read_slots-4.new.slots) c.read_slots-4.new.slots) (HoldsTables (store_page first) after)
-    (λ last. record {
+    record {
       slots = record { entries = ap length entries_are ∙ entries_long ∙ c.requires.slots.entries; files = ap length files_are ∙ files_long ∙ c.requires.slots.files; keys = ap length keys_are ∙ keys_long ∙ c.requires.slots.keys; objects = ap length objects_are ∙ objects_long ∙ c.requires.slots.objects };
-      life = subst (λ bytes. IsSuperblock bytes after.life) (sym (c.in_ok-read_store.ensures.page told)) c.in_ok-tables.ensures.ok;
+      superblock = subst (λ bytes. IsSuperblock bytes c.in_ok-layout.layout c.in_ok-layout.life) (sym (c.in_ok-read_store.ensures.page told)) c.in_ok-layout.ensures.ok;
       entries = subst (AreHeld HoldsEntry (slot_from (store_page first) 1 64) ENTRIES) (sym entries_are) (are_held HoldsEntry 1 64 (length c.read_slots.new.slots) ENTRIES first (F.pages c.read_store.new.store.flash) c.read_slots.new.slots (c.read_store.ensures.read.seen told) (entries_long ∙ c.requires.slots.entries) (c.in_ok-read_slots.ensures.ok told));
       files = subst (AreHeld HoldsFile (slot_from (store_page first) 9 256) FILES) (sym files_are) (are_held HoldsFile 9 256 (length c.read_slots-2.new.slots) FILES first (F.pages c.read_slots.new.store.flash) c.read_slots-2.new.slots (c.in_ok-read_slots.ensures.read.seen told ∙ c.read_store.ensures.read.seen told) (files_long ∙ c.requires.slots.files) (c.in_ok-read_slots-2.ensures.ok told));
       keys = subst (AreHeld HoldsKey (slot_from (store_page first) 25 64) KEYS) (sym keys_are) (are_held HoldsKey 25 64 (length c.read_slots-3.new.slots) KEYS first (F.pages c.read_slots-2.new.store.flash) c.read_slots-3.new.slots (c.in_ok-read_slots-2.ensures.read.seen told ∙ c.in_ok-read_slots.ensures.read.seen told ∙ c.read_store.ensures.read.seen told) (keys_long ∙ c.requires.slots.keys) (c.in_ok-read_slots-3.ensures.ok told));
-      objects = subst (AreHeld HoldsObject (slot_from (store_page first) 37 128) OBJECTS) (sym objects_are) (are_held HoldsObject 37 128 (length c.read_slots-4.new.slots) OBJECTS first (F.pages c.read_slots-3.new.store.flash) c.read_slots-4.new.slots (c.in_ok-read_slots-3.ensures.read.seen told ∙ c.in_ok-read_slots-2.ensures.read.seen told ∙ c.in_ok-read_slots.ensures.read.seen told ∙ c.read_store.ensures.read.seen told) (objects_long ∙ c.requires.slots.objects) last);
-    })
-    (c.read_slots-4.ensures.ok told)
+      objects = subst (AreHeld HoldsObject (slot_from (store_page first) 37 128) OBJECTS) (sym objects_are) (are_held HoldsObject 37 128 (length c.read_slots-4.new.slots) OBJECTS first (F.pages c.read_slots-3.new.store.flash) c.read_slots-4.new.slots (c.in_ok-read_slots-3.ensures.read.seen told ∙ c.in_ok-read_slots-2.ensures.read.seen told ∙ c.in_ok-read_slots.ensures.read.seen told ∙ c.read_store.ensures.read.seen told) (objects_long ∙ c.requires.slots.objects) (c.in_ok-read_slots-4.ensures.ok told));
+      fits = subst (FitsLayout c.in_ok-layout.layout) c.deref.ensures.value (let it = c.if-not-fits_layout.false in c.fits_layout.ensures.0 (cc it));
+    }
 
 pub returns-clause-entries : goal.returns-clause-entries
 returns-clause-entries g c =
     let before = c.args.tables.now in
     let long : length c.read_slots.new.slots ≡ length before.entries.items = c.read_slots.auto.slots ∙ ap length c.deref_mut.ensures.value in
     let are : take before.entries.len (c.read_slots.new.slots ++ drop (length c.read_slots.new.slots) before.entries.items) ≡ c.read_slots.new.slots = filled before.entries.len before.entries.items c.read_slots.new.slots before.entries.ok.0 long in
-    always_ok c.read_slots-4.result (All HasThreeBytes (used (take before.entries.len (c.read_slots.new.slots ++ drop (length c.read_slots.new.slots) before.entries.items))))
-    (subst (λ slots. All HasThreeBytes (used slots)) (sym are) c.in_ok-read_slots.ensures.read_each)
+    subst (λ slots. All HasThreeBytes (used slots)) (sym are) c.in_ok-read_slots.ensures.read_each
+
+pub returns-then-not-fits_layout-clause-err : goal.returns-then-not-fits_layout-clause-err
+returns-then-not-fits_layout-clause-err g c told layout t held_all =
+    let first = g.F.Flash.pages c.args.store.now.flash in
+    let slots = c.read_slots-3.new.slots in
+    let long : length slots ≡ length c.args.tables.now.keys.items = c.read_slots-3.auto.slots ∙ ap length c.deref_mut-3.ensures.value in
+    let seen = c.in_ok-read_slots-2.ensures.read.seen told ∙ c.in_ok-read_slots.ensures.read.seen told ∙ c.read_store.ensures.read.seen told in
+    let are = are_held HoldsKey 25 64 (length slots) KEYS first (g.F.Flash.pages c.read_slots-2.new.store.flash) slots seen (long ∙ c.requires.slots.keys) (c.in_ok-read_slots-3.ensures.ok told) in
+    let keys : t.keys.items ≡ slots = one_keys (store_page first) t.keys.items slots held_all.slots.keys (long ∙ c.requires.slots.keys) held_all.keys are in
+    let here : slots ≡ c.deref.result.now = sym (filled c.args.tables.now.keys.len c.args.tables.now.keys.items slots c.args.tables.now.keys.ok.0 long) ∙ sym c.deref.ensures.value in
+    let superblock = subst (λ bytes. IsSuperblock bytes c.in_ok-layout.layout c.in_ok-layout.life) (sym (c.in_ok-read_store.ensures.page told)) c.in_ok-layout.ensures.ok in
+    let same = one_layout layout c.in_ok-layout.layout (sym held_all.superblock.number ∙ superblock.number) in
+    let is = c.fits_layout.ensures.1 (subst (FitsLayout c.in_ok-layout.layout) (keys ∙ here) (subst (λ l. FitsLayout l t.keys.items) same held_all.fits)) in
+    let not_it = c.if-not-fits_layout.true in
+    absurd (cc (is, not_it))
+
+pub returns-in_err-layout-clause-err : goal.returns-in_err-layout-clause-err
+returns-in_err-layout-clause-err g c =
+    let F = g.F.Flash in
+    let first = c.args.store.now.flash in
+    no_card c.from_residual-in_err-layout.result F.tells (F.faults first) (F.faults c.read_store.new.store.flash) (NoTables (store_page (F.pages first))) c.from_residual-in_err-layout.ensures.1
+    (λ told layout t held_all. c.in_err-layout.ensures.err layout t.life (subst (λ bytes. IsSuperblock bytes layout t.life) (c.in_ok-read_store.ensures.page told) held_all.superblock))

@@ -11,6 +11,7 @@ use Rattle.page_journal.specs.Moments.{Leaves, LeavesOnly}
 use Rattle.rec_store.specs.Contents.{Contents}
 use Rattle.rec_store.specs.Reopens.{IsFree, Keeps, KeepsPages, Reopens, current_page, load_page, store_page}
 use Rattle.rec_store.specs.StoredTables.{HoldsTables}
+use Rattle.rec_store.specs.declared.store_layout.Layout.TheVariants.{Third}
 use Rattle.rec_store.proofs.Leaving.{weaker}
 use Rattle.rec_store.proofs.Readings.{now_left}
 use Rattle.rec_store.proofs.Reopening.{free_of_held, keeps_left, left, load_read, load_same, on_ok, says_same}
@@ -25,7 +26,7 @@ returns-clause-bytes g c told =
     (λ is. sym (load_read (stored pages) c.args.page c.args.from.now c.requires.range.0 is c.if-prove.false)) (c.write_free.ensures.written told)
 
 -- with the page that is written, which no file has, no loose page is one of a file
-freed : (pages : List Page) (may_leave : List Page → Type 0) (t : Tables) (page : ℕ) → HoldsTables (store_page pages) t → IsFree t page → {registry : _} → (was : KeepsPages pages may_leave registry)
+freed : (pages : List Page) (may_leave : List Page → Type 0) (t : Tables) (page : ℕ) → HoldsTables Third (store_page pages) t → IsFree t page → {registry : _} → (was : KeepsPages pages may_leave registry)
     → (n : ℕ) → Contains (page ∷ was.loose) n → IsFree was.now.holds.tables n
 freed pages may_leave t page held free was n among = elim (contains_cases page was.loose n among) [
   | inl same ↦ subst (IsFree was.now.holds.tables) same (free_of_held (store_page pages) t was.now.holds.tables page held was.now.holds.held free)
@@ -33,9 +34,9 @@ freed pages may_leave t page held free was n among = elim (contains_cases page w
 ]
 
 -- the store pages hold the tables, where nothing is staged
-held_now : (g : given.Over) (c : goal.After-write_free g) → g.F.Flash.tells → c.args.self.now.staged ≡ [] → HoldsTables (store_page (g.F.Flash.pages c.self.inside.store.flash)) c.self.inside.tables
+held_now : (g : given.Over) (c : goal.After-write_free g) → g.F.Flash.tells → c.args.self.now.staged ≡ [] → HoldsTables Third (store_page (g.F.Flash.pages c.self.inside.store.flash)) c.self.inside.tables
 held_now g c told none =
-    subst (λ staged. HoldsTables (current_page staged (g.F.Flash.pages c.self.inside.store.flash)) c.self.inside.tables)
+    subst (λ staged. HoldsTables Third (current_page staged (g.F.Flash.pages c.self.inside.store.flash)) c.self.inside.tables)
     (none_staged c.self.inside.store.staged (ap (λ r. r.staged) c.self.view_is ∙ none)) (c.self.invariant.3 told (ap (λ r. r.live) c.self.view_is ∙ c.requires.live))
 
 pub returns-clause-moments : goal.returns-clause-moments
