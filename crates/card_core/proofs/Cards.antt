@@ -36,20 +36,23 @@ module _ (before after : Tables) (entries : after.entries.items ≡ before.entri
   cards_after each cards page whole =
       let is = cards page whole in
       let now = each page is.said is.of.says is.of.well in
-      record { said = now.0; of = record {
-        layout = record {
-          entries = ap (λ (slots : List (Option Entry)). length slots) entries ∙ is.of.layout.entries;
-          files = ap (λ (slots : List (Option LoadFile)). length slots) files ∙ is.of.layout.files;
-          keys = keys ∙ is.of.layout.keys;
-          objects = objects ∙ is.of.layout.objects;
-          issuer = subst HasIssuer (sym entries) is.of.layout.issuer;
+      record {
+        said = now.0;
+        of = record {
+          layout = record {
+            entries = ap (λ (slots : List (Option Entry)). length slots) entries ∙ is.of.layout.entries;
+            files = ap (λ (slots : List (Option LoadFile)). length slots) files ∙ is.of.layout.files;
+            keys = keys ∙ is.of.layout.keys;
+            objects = objects ∙ is.of.layout.objects;
+            issuer = subst HasIssuer (sym entries) is.of.layout.issuer;
+          };
+          factory_file = subst (λ slots. MatchOption (held slots 0) ⊥ (λ file. (file.aid ≡ FACTORY_FILE) × (file.len ≡ 0))) (sym files) is.of.factory_file;
+          files = subst (λ slots. All IsInLoadPages (used slots)) (sym files) is.of.files;
+          apart = subst (λ slots. IsDistinct nat_eq (concat (map pages_named (used slots)))) (sym files) is.of.apart;
+          says = now.1;
+          well = now.2;
         };
-        factory_file = subst (λ slots. MatchOption (held slots 0) ⊥ (λ file. (file.aid ≡ FACTORY_FILE) × (file.len ≡ 0))) (sym files) is.of.factory_file;
-        files = subst (λ slots. All IsInLoadPages (used slots)) (sym files) is.of.files;
-        apart = subst (λ slots. IsDistinct nat_eq (concat (map pages_named (used slots)))) (sym files) is.of.apart;
-        says = now.1;
-        well = now.2;
-      } }
+      }
 
 -- and so they are after a sequence counter was drawn
 pub drawn_cards : (before after : Tables) (slot : ℕ) (key : KeyRec) → held before.keys.items slot ≡ Some key → keeps_counter key ≡ true

@@ -14,7 +14,8 @@ ghost use Rattle.page_journal.specs.Moments.{Always, LeavesOnly};
 ghost use Rattle.policy_rules.specs.Changes.{Changes, OpensInSession};
 ghost use Rattle.policy_rules.specs.State.{State, powered_on};
 ghost use Rattle.policy_rules.specs.Step.{Outcome, Step};
-ghost use Rattle.rec_store.specs.Reopens.{Reopens, ReopensAsOne};
+ghost use Rattle.rec_store.specs.Contents.{IsUnwritten};
+ghost use Rattle.rec_store.specs.Reopens.{IsAtRest, Reopens, ReopensAsOne};
 
 use crate::channel_session::ChannelSession;
 use crate::power::{PowerCause, PowerError};
@@ -63,19 +64,21 @@ fn nothing_held() -> [ChannelSession; CHANNELS]
 }
 
 impl<F: Flash> Card<F> {
-    /// Powers a card on: its registry is read from a device, where a commit that was cut off is ended first, and channel 0
-    /// alone is open, with the Issuer Security Domain selected. `PowerCause::Memory` is want of memory for the tables and the
-    /// staged pages, before any call on the device.
+    /// Powers a card on: its registry is read from a device, where a commit that was cut off is ended first and a card in layout
+    /// 02 is brought into layout 03, and channel 0 alone is open, with the Issuer Security Domain selected.
+    /// `PowerCause::Memory` is want of memory for the tables and the staged pages, before any call on the device.
     pub fn power_on(alloc: Global, flash: F) -> Result<Card<F>, PowerError<F>>
         ensures stands { IfOk result (λ card. (registry : Registry) × (F.tells → Reopens (F.pages flash) registry)
             × CardRepresents F.Flash card (powered_on registry)) }
         // Power lost at any moment leaves no registry that it could not leave before.
         ensures moments { F.tells → (registries : List Registry) → Always (F.may_leave flash) (ReopensAsOne registries)
             → IfOk result (λ card. LeavesOnly F.Flash flash card.flash (ReopensAsOne registries)) }
+        ensures idle { F.tells → IsAtRest (F.pages flash) → IfOk result (λ card. IsUnwritten F.Flash flash card.flash) }
         ensures later { IfOk result (λ card. F.faults flash ≤ F.faults card.flash) }
         ensures err_later { IfErr result (λ e. F.faults flash ≤ F.faults e.flash) }
         ensures err_moments { F.tells → (registries : List Registry) → Always (F.may_leave flash) (ReopensAsOne registries)
             → IfErr result (λ e. LeavesOnly F.Flash flash e.flash (ReopensAsOne registries)) }
+        ensures err_idle { F.tells → IsAtRest (F.pages flash) → IfErr result (λ e. IsUnwritten F.Flash flash e.flash) }
         ensures err { IfErr result (λ e. PowerFails F.Flash flash e.cause e.flash) }
     {
         match Records::mount(alloc, flash) {

@@ -8,6 +8,7 @@ use Rattle.flash_core.specs.declared.flash.Flash.{Ghosts as Flash}
 use Rattle.page_journal.specs.Moments.{Always, LeavesOnly}
 use Rattle.policy_rules.specs.State.{State}
 use Rattle.policy_rules.specs.Step.{Outcome}
+use Rattle.rec_store.specs.Contents.{IsNoCard}
 use Rattle.rec_store.specs.Reopens.{Keeps, Reopens, ReopensAsOne}
 
 -- the registries that a run goes through: the one before it, and the one after each command
@@ -28,12 +29,12 @@ refusal_status NotACard = 4
 abbrev pub HoldsCard : {F : Type 0} → Flash F → F → Type 0
 HoldsCard device flash = (registry : Registry) × Reopens (device.pages flash) registry
 
--- The card was not powered on: the device failed, or its pages hold no registry. No command was processed, and power lost
+-- The card was not powered on: the device failed, or its pages are no card's. No command was processed, and power lost
 -- leaves no registry that it could not leave before.
 pub record IsNotPowered {F : Type 0} (device : Flash F) (status count : ℕ) (old new : F) : Type 0 where
   pub none : count ≡ 0
   pub why : ((status ≡ 3) × Rose (device.faults old) (device.faults new))
-      ⊎ ((status ≡ 4) × (device.tells → ((registry : Registry) → Reopens (device.pages old) registry → ⊥) × (device.pages new ≡ device.pages old)))
+      ⊎ ((status ≡ 4) × (device.tells → IsNoCard device old new))
   pub moments : device.tells → (all : List Registry) → Always (device.may_leave old) (ReopensAsOne all) → LeavesOnly device old new (ReopensAsOne all)
 
 -- The device after a run of commands: power lost now leaves the last registry, and left at no moment one that is not of the

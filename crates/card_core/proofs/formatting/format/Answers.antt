@@ -71,14 +71,17 @@ module _ (domain : Entry) (file : LoadFile) (first second third : KeyRec) where
 -- the tables of the factory card are a card's
 factory_card : (load : ℕ → List ℕ) (t : Tables) → IsFactory t → IsCard load t
 unfolding IsDistinct
-factory_card load t is = record { said = factory_registry; of = record {
-  layout = factory_layout t is;
-  factory_file = rw is.files (refl, refl);
-  files = rw is.files (All-cons IsInLoadPages factory_file [] (record { size = omega arith; pages = All-nil IsLoadPage }) (All-nil IsInLoadPages));
-  apart = rw is.files tt;
-  says = factory_says load t is;
-  well = factory_well;
-} }
+factory_card load t is = record {
+  said = factory_registry;
+  of = record {
+    layout = factory_layout t is;
+    factory_file = rw is.files (refl, refl);
+    files = rw is.files (All-cons IsInLoadPages factory_file [] (record { size = omega arith; pages = All-nil IsLoadPage }) (All-nil IsInLoadPages));
+    apart = rw is.files tt;
+    says = factory_says load t is;
+    well = factory_well;
+  };
+}
 
 pub returns-clause-keeps : goal.returns-clause-keeps
 returns-clause-keeps g c told =
