@@ -65,8 +65,8 @@ fn nothing_held() -> [ChannelSession; CHANNELS]
 
 impl<F: Flash> Card<F> {
     /// Powers a card on: its registry is read from a device, where a commit that was cut off is ended first and a card in layout
-    /// 02 is brought into layout 03, and channel 0 alone is open, with the Issuer Security Domain selected. `PowerCause::Memory` is want of memory for the tables and the
-    /// staged pages, before any call on the device.
+    /// 02 is brought into layout 03, and channel 0 alone is open, with the Issuer Security Domain selected.
+    /// `PowerCause::Memory` is want of memory for the tables and the staged pages, before any call on the device.
     pub fn power_on(alloc: Global, flash: F) -> Result<Card<F>, PowerError<F>>
         ensures stands { IfOk result (λ card. (registry : Registry) × (F.tells → Reopens (F.pages flash) registry)
             × CardRepresents F.Flash card (powered_on registry)) }

@@ -53,4 +53,4 @@ pub no_other_cause : {F : Type 0} (device : Flash F) (old new : F) (cause : Powe
     → (Rose (device.faults old) (device.faults new) → ⊥) → (status ≡ 0) ⊎ (status ≡ 7)
 no_other_cause device old new (Memory refused) status fails is told registry reopens no_flash = inr is
 no_other_cause device old new FlashFailed status fails is told registry reopens no_flash = absurd (no_flash fails)
-no_other_cause device old new NotACard status fails is told registry reopens no_flash = (let none = fails told in absurd (none.0 registry reopens))
+no_other_cause device old new NotACard status fails is told registry reopens no_flash = absurd ((fails told).none registry reopens)
