@@ -29,6 +29,7 @@ pub fn judge_offer(held: &ChannelSession, ins: u8) -> Result<(), Rule>
 }
 
 /// Makes the offer that the channel holds a session. A refused answer loses the offer.
+#[inline(never)]
 pub fn external_authenticate(
     held: &mut ChannelSession,
     level: Level,
