@@ -5,8 +5,11 @@ use Rattle.policy_rules.specs.CommandForm.{CommandForm}
 use Rattle.policy_rules.specs.Delegation.{receipt_rule_name, receipt_rule_status, token_rule_name, token_rule_status}
 use Rattle.policy_rules.specs.DeleteKey.{delete_key_rule_name, delete_key_rule_status}
 use Rattle.policy_rules.specs.ExternalAuthenticate.{external_authenticate_rule_name, external_authenticate_rule_status}
+use Rattle.policy_rules.specs.Extradition.{extradition_rule_name, extradition_rule_status}
 use Rattle.policy_rules.specs.GetData.{get_data_rule_name, get_data_rule_status}
 use Rattle.policy_rules.specs.InitializeUpdate.{initialize_update_rule_name, initialize_update_rule_status}
+use Rattle.policy_rules.specs.InstallApplication.{install_rule_name, install_rule_status}
+use Rattle.policy_rules.specs.MakeSelectable.{selectable_rule_name, selectable_rule_status}
 use Rattle.policy_rules.specs.ManageChannel.{manage_channel_rule_name, manage_channel_rule_status}
 use Rattle.policy_rules.specs.Management.{management_rule_name, management_rule_status}
 use Rattle.policy_rules.specs.PutKey.{put_key_rule_name, put_key_rule_status}
@@ -37,6 +40,9 @@ name_of (group.EA rule) = external_authenticate_rule_name rule
 name_of (group.PK rule) = put_key_rule_name rule
 name_of (group.DK rule) = delete_key_rule_name rule
 name_of (group.SD rule) = store_data_rule_name rule
+name_of (group.II rule) = install_rule_name rule
+name_of (group.MS rule) = selectable_rule_name rule
+name_of (group.EX rule) = extradition_rule_name rule
 name_of (group.TK rule) = token_rule_name rule
 name_of (group.RC rule) = receipt_rule_name rule
 
@@ -60,6 +66,9 @@ status_of (group.EA rule) = external_authenticate_rule_status rule
 status_of (group.PK rule) = put_key_rule_status rule
 status_of (group.DK rule) = delete_key_rule_status rule
 status_of (group.SD rule) = store_data_rule_status rule
+status_of (group.II rule) = install_rule_status rule
+status_of (group.MS rule) = selectable_rule_status rule
+status_of (group.EX rule) = extradition_rule_status rule
 status_of (group.TK rule) = token_rule_status rule
 status_of (group.RC rule) = receipt_rule_status rule
 

@@ -5,13 +5,16 @@ mod class;
 mod delegation;
 mod delete_key;
 mod external_authenticate;
+mod extradition;
 mod get_data;
 mod initialize_update;
+mod install_application;
 mod instruction;
 mod key_order;
 mod laws;
 mod literals;
 mod live;
+mod make_selectable;
 mod manage_channel;
 mod management;
 mod own_rules;
@@ -26,8 +29,10 @@ pub use class::{Class, channel_of, is_plain_management, is_protected};
 pub use delegation::{RuleRC, RuleTK, Signed, holds, judge_delegated};
 pub use delete_key::{RuleDK, judge_delete_key};
 pub use external_authenticate::RuleEA;
+pub use extradition::RuleEX;
 pub use get_data::{Datum, RuleGD, judge_get_data};
 pub use initialize_update::{OfferedSet, RuleIU, judge_initialize_update};
+pub use install_application::RuleII;
 pub use instruction::{
     EXTERNAL_AUTHENTICATE, GET_DATA, INITIALIZE_UPDATE, LOAD, MANAGE_CHANNEL, SELECT,
     instruction_bytes,
@@ -39,6 +44,7 @@ pub use laws::{
 };
 pub use literals::{classes, constants, key_fields, status_words};
 pub use live::{CHANNELS, Live, LoadName, Place};
+pub use make_selectable::RuleMS;
 pub use manage_channel::{RuleMC, judge_more_channel};
 pub use management::RuleM;
 pub use own_rules::judge;

@@ -7,8 +7,11 @@ ghost use Rattle.policy_rules.specs.Step.{keeps_load as keeps_load_by};
 use crate::delegation::{RuleRC, RuleTK};
 use crate::delete_key::RuleDK;
 use crate::external_authenticate::RuleEA;
+use crate::extradition::RuleEX;
 use crate::get_data::RuleGD;
 use crate::initialize_update::RuleIU;
+use crate::install_application::RuleII;
+use crate::make_selectable::RuleMS;
 use crate::manage_channel::RuleMC;
 use crate::management::RuleM;
 use crate::put_key::RulePK;
@@ -30,6 +33,9 @@ pub enum Rule {
     PK(RulePK),
     DK(RuleDK),
     SD(RuleSD),
+    II(RuleII),
+    MS(RuleMS),
+    EX(RuleEX),
     TK(RuleTK),
     RC(RuleRC),
 }
@@ -89,6 +95,9 @@ impl Rule {
             Rule::PK(rule) => rule.status(),
             Rule::DK(rule) => rule.status(),
             Rule::SD(rule) => rule.status(),
+            Rule::II(rule) => rule.status(),
+            Rule::MS(rule) => rule.status(),
+            Rule::EX(rule) => rule.status(),
             Rule::TK(rule) => rule.status(),
             Rule::RC(rule) => rule.status(),
         }
@@ -125,6 +134,9 @@ impl Rule {
             Rule::PK(rule) => rule.name(),
             Rule::DK(rule) => rule.name(),
             Rule::SD(rule) => rule.name(),
+            Rule::II(rule) => rule.name(),
+            Rule::MS(rule) => rule.name(),
+            Rule::EX(rule) => rule.name(),
             Rule::TK(rule) => rule.name(),
             Rule::RC(rule) => rule.name(),
         }

@@ -1,0 +1,99 @@
+-- INSTALL [for make selectable] (GlobalPlatform Card Specification 2.3.1, 9.3.3 and 11.5): an application that is installed can be
+-- selected from then on.
+use Rattle.std.specs.Prelude.{◌≡◌, ◌≢◌, ◌⊎◌, ℕ, List, [], ◌∷◌, MatchOption, None, codes, false}
+use Rattle.card_types.specs.Aid.{IsAid}
+use Rattle.card_types.specs.Privileges.{ArePrivilegeBytes, delegated_management}
+use Rattle.card_types.specs.Registry.{Entry, Registry, entry_named}
+use Rattle.card_types.specs.RegistryChange.{with_life}
+use Rattle.card_types.specs.declared.life.Life.TheVariants.{Installed, Selectable}
+use Rattle.card_types.specs.declared.life.LifeMark.{LifeMark}
+use Rattle.card_types.specs.declared.privileges.Privileges.{Privileges}
+use Rattle.domain_tree.specs.AboveLaws.{IsAboveIn}
+use Rattle.policy_rules.specs.Admission.{Admitted}
+use Rattle.policy_rules.specs.CommandForm.{CommandForm}
+use Rattle.policy_rules.specs.Delegation.{DelegatedFails, Holds, IsAnswered, MayManage, delegation_rules}
+use Rattle.policy_rules.specs.InstallFields.{InstallData, IsInstallData, approval_in}
+use Rattle.policy_rules.specs.Management.{ManagementFails, acting}
+use Rattle.policy_rules.specs.State.{Effect}
+use Rattle.policy_rules.specs.declared.make_selectable.RuleMS.{RuleMS}
+use Rattle.policy_rules.specs.declared.make_selectable.RuleMS.TheVariants.{MS1, MS2, MS3, MS4, MS5}
+use Rattle.policy_rules.specs.declared.management.RuleM.TheVariants.{M1, M2}
+use Rattle.policy_rules.specs.declared.rule.Rule.{Rule}
+use Rattle.policy_rules.specs.declared.rule.Rule.TheVariants.{M, MS, RC, TK}
+
+abbrev pub MakeSelectableParameters : ℕ → ℕ → Type 0
+MakeSelectableParameters p1 p2 = (p1 ≡ 0x08) × (p2 ≡ 0x00)
+
+-- the application's AID, its privileges or none, parameters that are not read, and a token
+pub record AsksToMakeSelectable (body : List ℕ) (given : InstallData) : Type 0 where
+  pub fields : IsInstallData given body
+  pub no_file : given.first ≡ []
+  pub no_module : given.second ≡ []
+  pub aid : IsAid given.third
+  pub privileges : (given.privileges ≡ []) ⊎ ((privileges : Privileges) × ArePrivilegeBytes privileges given.privileges)
+
+-- installed, and not locked
+abbrev pub is_installed : LifeMark
+is_installed = record { life = Installed; locked = false }
+
+abbrev pub selectable_rule_name : RuleMS → List ℕ
+selectable_rule_name MS1 = codes "MS1"
+selectable_rule_name MS2 = codes "MS2"
+selectable_rule_name MS3 = codes "MS3"
+selectable_rule_name MS4 = codes "MS4"
+selectable_rule_name MS5 = codes "MS5"
+
+abbrev pub selectable_rule_status : RuleMS → ℕ
+selectable_rule_status MS1 = 0x6982
+selectable_rule_status MS2 = 0x6A88
+selectable_rule_status MS3 = 0x6982
+selectable_rule_status MS4 = 0x6985
+selectable_rule_status MS5 = 0x6A80
+
+abbrev pub selectable_rules : List Rule
+selectable_rules = M M1 ∷ M M2 ∷ MS MS1 ∷ MS MS2 ∷ MS MS3 ∷ MS MS4 ∷ MS MS5 ∷ delegation_rules
+
+abbrev pub MakingSelectableFails : Admitted → InstallData → RuleMS → Type 0
+-- the domain does not manage content
+MakingSelectableFails admitted given MS1 = MayManage admitted → ⊥
+-- no entry has the AID
+MakingSelectableFails admitted given MS2 = entry_named admitted.at.registry given.third ≡ None
+-- it is not below the domain
+MakingSelectableFails admitted given MS3 = IsAboveIn admitted.at.registry (acting admitted) given.third → ⊥
+-- it is not just installed
+MakingSelectableFails admitted given MS4 = MatchOption (entry_named admitted.at.registry given.third) ⊥ (λ entry. entry.life ≢ is_installed)
+-- other privileges are given than it has
+MakingSelectableFails admitted given MS5 =
+    (privileges : Privileges) × ArePrivilegeBytes privileges given.privileges
+    × MatchOption (entry_named admitted.at.registry given.third) ⊥ (λ entry. entry.privileges ≢ privileges)
+
+abbrev pub SelectableAskedFails : Admitted → InstallData → Rule → Type 0
+SelectableAskedFails admitted given (MS rule) = MakingSelectableFails admitted given rule
+SelectableAskedFails admitted given (TK rule) = Holds admitted delegated_management × DelegatedFails admitted (approval_in given) (TK rule)
+SelectableAskedFails admitted given (RC rule) = Holds admitted delegated_management × DelegatedFails admitted (approval_in given) (RC rule)
+SelectableAskedFails admitted given rule = ⊥
+
+abbrev pub MakeSelectableFails : Admitted → Rule → Type 0
+MakeSelectableFails admitted (M rule) = ManagementFails admitted rule
+MakeSelectableFails admitted rule =
+    (given : InstallData) × AsksToMakeSelectable admitted.command.body given × SelectableAskedFails admitted given rule
+
+-- The application is selectable, and the command is answered about it.
+pub record MakeSelectableEffect (admitted : Admitted) (done : Effect) : Type 0 where
+  pub given : InstallData
+  pub asks : AsksToMakeSelectable admitted.command.body given
+  pub answered : IsAnswered (Holds admitted delegated_management) admitted (given.third ∷ [])
+      (with_life admitted.at.registry given.third (record { life = Selectable; locked = false })) done
+  pub volatile : done.state.volatile ≡ admitted.at.volatile
+  pub status : done.status ≡ 0x9000
+
+-- INSTALL [for make selectable]
+abbrev pub make_selectable : CommandForm
+make_selectable = record {
+  instruction = 0xE6;
+  takes = MakeSelectableParameters;
+  takes_field = λ p1 p2 body. (given : InstallData) × AsksToMakeSelectable body given;
+  rules = selectable_rules;
+  fails = MakeSelectableFails;
+  does = MakeSelectableEffect;
+}
