@@ -1,6 +1,6 @@
 -- The keys of a key set, by names.
-use Rattle.std.specs.Prelude.{◌≡◌, ℕ, List, Option, Some, Contains, length}
-use Rattle.card_types.specs.Registry.{Counter, Registry, counter_named, key_named}
+use Rattle.std.specs.Prelude.{◌≡◌, ℕ, List, Option, Some, length}
+use Rattle.card_types.specs.Registry.{Registry, counter_named, key_named}
 use Rattle.card_types.specs.Represents.{counter_of, key_of}
 use Rattle.card_types.specs.Well.{IsKeyLength}
 use Rattle.card_types.specs.declared.key_set.KeySet.{KeySet}

@@ -49,9 +49,9 @@ module _ {A : Type 0} (step : A → Option A) where
   one_first_above fits b x y line is one other = elim (one.lowest y other.above other.fitting) [
     | inl same ↦ sym same
     | inr over ↦ elim (other.lowest x one.above one.fitting) [
-        | inl same ↦ same
-        | inr under ↦ lead_to_each_other x y line over.path under.path is over.leads under.leads
-      ]
+      | inl same ↦ same
+      | inr under ↦ lead_to_each_other x y line over.path under.path is over.leads under.leads
+    ]
   ]
 
   -- each one of a line has a line that is no longer

@@ -1,6 +1,6 @@
 -- Receipts of delegated management (GlobalPlatform Card Specification 2.3.1, 9.1.3.4, 11.1.6 and C.5), by CMAC under an AES key.
 -- Which AIDs a receipt covers, and that it covers the card's unique data, is this profile's own.
-use Rattle.std.specs.Prelude.{ℕ, ◌+◌, List, [], ◌∷◌, ◌++◌, Option, None, Some, length}
+use Rattle.std.specs.Prelude.{ℕ, List, [], ◌∷◌, ◌++◌, Option, None, Some, length}
 use Rattle.std.specs.Int.{to_be_bytes, w16}
 use Rattle.std.specs.List.{flat_map}
 use Rattle.cmac_kdf.specs.Cmac.{cmac}
