@@ -14,6 +14,7 @@ use Rattle.policy_rules.specs.Admission.{Admitted}
 use Rattle.policy_rules.specs.Charge.{HoldsPrivilege, is_privileged}
 use Rattle.policy_rules.specs.Management.{acting}
 use Rattle.policy_rules.specs.State.{Effect}
+use Rattle.policy_rules.specs.Refusal.{Refusal, refusal}
 use Rattle.policy_rules.specs.declared.delegation.RuleRC.{RuleRC}
 use Rattle.policy_rules.specs.declared.delegation.RuleRC.TheVariants.{RC1}
 use Rattle.policy_rules.specs.declared.delegation.RuleTK.{RuleTK}
@@ -60,21 +61,13 @@ pub record Approval : Type 0 where
   pub before : List ℕ
   pub token : List ℕ
 
-abbrev pub token_rule_name : RuleTK → List ℕ
-token_rule_name TK1 = codes "TK1"
-token_rule_name TK2 = codes "TK2"
-token_rule_name TK3 = codes "TK3"
+abbrev pub token_refusal : RuleTK → Refusal
+token_refusal TK1 = refusal (codes "TK1") 0x6A80
+token_refusal TK2 = refusal (codes "TK2") 0x6982
+token_refusal TK3 = refusal (codes "TK3") 0x6982
 
-abbrev pub token_rule_status : RuleTK → ℕ
-token_rule_status TK1 = 0x6A80
-token_rule_status TK2 = 0x6982
-token_rule_status TK3 = 0x6982
-
-abbrev pub receipt_rule_name : RuleRC → List ℕ
-receipt_rule_name RC1 = codes "RC1"
-
-abbrev pub receipt_rule_status : RuleRC → ℕ
-receipt_rule_status RC1 = 0x6985
+abbrev pub receipt_refusal : RuleRC → Refusal
+receipt_refusal RC1 = refusal (codes "RC1") 0x6985
 
 abbrev pub token_rules : List RuleTK
 token_rules = TK1 ∷ TK2 ∷ TK3 ∷ []

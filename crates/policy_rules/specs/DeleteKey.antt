@@ -7,6 +7,7 @@ use Rattle.policy_rules.specs.CommandForm.{CommandForm}
 use Rattle.policy_rules.specs.KeyVersions.{counters_but, has_key_version, keys_but, with_keys}
 use Rattle.policy_rules.specs.Management.{ManagementFails, acting}
 use Rattle.policy_rules.specs.State.{Effect}
+use Rattle.policy_rules.specs.Refusal.{Refusal, refusal}
 use Rattle.policy_rules.specs.declared.delete_key.RuleDK.{RuleDK}
 use Rattle.policy_rules.specs.declared.delete_key.RuleDK.TheVariants.{DK1, DK2}
 use Rattle.policy_rules.specs.declared.management.RuleM.TheVariants.{M1, M2}
@@ -26,13 +27,9 @@ Chooses body version (Some identifier) =
 abbrev pub DeleteField : List ℕ → Type 0
 DeleteField body = (version : ℕ) × (identifier : Option ℕ) × Chooses body version identifier
 
-abbrev pub delete_key_rule_name : RuleDK → List ℕ
-delete_key_rule_name DK1 = codes "DK1"
-delete_key_rule_name DK2 = codes "DK2"
-
-abbrev pub delete_key_rule_status : RuleDK → ℕ
-delete_key_rule_status DK1 = 0x6A88
-delete_key_rule_status DK2 = 0x6985
+abbrev pub delete_key_refusal : RuleDK → Refusal
+delete_key_refusal DK1 = refusal (codes "DK1") 0x6A88
+delete_key_refusal DK2 = refusal (codes "DK2") 0x6985
 
 abbrev pub deletion_rules : List Rule
 deletion_rules = M M1 ∷ M M2 ∷ DK DK1 ∷ DK DK2 ∷ []

@@ -8,6 +8,7 @@ use Rattle.policy_rules.specs.Admission.{Admitted}
 use Rattle.policy_rules.specs.CommandForm.{CommandForm}
 use Rattle.policy_rules.specs.State.{Effect}
 use Rattle.policy_rules.specs.Volatile.{Secured, offer_on, with_secure_channel}
+use Rattle.policy_rules.specs.Refusal.{Refusal, refusal}
 use Rattle.policy_rules.specs.declared.external_authenticate.RuleEA.{RuleEA}
 use Rattle.policy_rules.specs.declared.external_authenticate.RuleEA.TheVariants.{EA1, EA2, EA3}
 use Rattle.policy_rules.specs.declared.rule.Rule.{Rule}
@@ -21,15 +22,10 @@ ExternalAuthenticateParameters p1 p2 = ((level : Level) × (code_of level ≡ p1
 abbrev pub ExternalAuthenticateField : List ℕ → Type 0
 ExternalAuthenticateField body = length body ≡ 16
 
-abbrev pub external_authenticate_rule_name : RuleEA → List ℕ
-external_authenticate_rule_name EA1 = codes "EA1"
-external_authenticate_rule_name EA2 = codes "EA2"
-external_authenticate_rule_name EA3 = codes "EA3"
-
-abbrev pub external_authenticate_rule_status : RuleEA → ℕ
-external_authenticate_rule_status EA1 = 0x6985
-external_authenticate_rule_status EA2 = 0x6300
-external_authenticate_rule_status EA3 = 0x6982
+abbrev pub external_authenticate_refusal : RuleEA → Refusal
+external_authenticate_refusal EA1 = refusal (codes "EA1") 0x6985
+external_authenticate_refusal EA2 = refusal (codes "EA2") 0x6300
+external_authenticate_refusal EA3 = refusal (codes "EA3") 0x6982
 
 abbrev pub external_authenticate_rules : List Rule
 external_authenticate_rules = EA EA2 ∷ EA EA3 ∷ []

@@ -18,6 +18,7 @@ use Rattle.policy_rules.specs.Delegation.{DelegatedFails, Holds, IsAnswered, IsV
 use Rattle.policy_rules.specs.InstallFields.{InstallData, IsInstallData, approval_in}
 use Rattle.policy_rules.specs.Management.{ManagementFails, acting}
 use Rattle.policy_rules.specs.State.{Effect}
+use Rattle.policy_rules.specs.Refusal.{Refusal, refusal}
 use Rattle.policy_rules.specs.declared.extradition.RuleEX.{RuleEX}
 use Rattle.policy_rules.specs.declared.extradition.RuleEX.TheVariants.{EX1, EX2, EX3, EX4, EX5, EX6, EX7}
 use Rattle.policy_rules.specs.declared.management.RuleM.TheVariants.{M1, M2}
@@ -51,23 +52,14 @@ entry_domain (Some domain) = domain
 abbrev pub domain_of_thing : Registry → List ℕ → List ℕ
 domain_of_thing registry aid = file_domain (file_named registry aid) (entry_domain (domain_of registry aid))
 
-abbrev pub extradition_rule_name : RuleEX → List ℕ
-extradition_rule_name EX1 = codes "EX1"
-extradition_rule_name EX2 = codes "EX2"
-extradition_rule_name EX3 = codes "EX3"
-extradition_rule_name EX4 = codes "EX4"
-extradition_rule_name EX5 = codes "EX5"
-extradition_rule_name EX6 = codes "EX6"
-extradition_rule_name EX7 = codes "EX7"
-
-abbrev pub extradition_rule_status : RuleEX → ℕ
-extradition_rule_status EX1 = 0x6982
-extradition_rule_status EX2 = 0x6A88
-extradition_rule_status EX3 = 0x6985
-extradition_rule_status EX4 = 0x6982
-extradition_rule_status EX5 = 0x6985
-extradition_rule_status EX6 = 0x6985
-extradition_rule_status EX7 = 0x6982
+abbrev pub extradition_refusal : RuleEX → Refusal
+extradition_refusal EX1 = refusal (codes "EX1") 0x6982
+extradition_refusal EX2 = refusal (codes "EX2") 0x6A88
+extradition_refusal EX3 = refusal (codes "EX3") 0x6985
+extradition_refusal EX4 = refusal (codes "EX4") 0x6982
+extradition_refusal EX5 = refusal (codes "EX5") 0x6985
+extradition_refusal EX6 = refusal (codes "EX6") 0x6985
+extradition_refusal EX7 = refusal (codes "EX7") 0x6982
 
 abbrev pub extradition_rules : List Rule
 extradition_rules = M M1 ∷ M M2 ∷ EX EX1 ∷ EX EX2 ∷ EX EX3 ∷ EX EX4 ∷ EX EX5 ∷ EX EX6 ∷ EX EX7 ∷ delegation_rules

@@ -9,6 +9,7 @@ use Rattle.policy_rules.specs.CommandForm.{CommandForm}
 use Rattle.policy_rules.specs.KeySets.{UsesCounter}
 use Rattle.policy_rules.specs.State.{Effect}
 use Rattle.policy_rules.specs.Volatile.{selected_on}
+use Rattle.policy_rules.specs.Refusal.{Refusal, refusal}
 use Rattle.policy_rules.specs.declared.rule.Rule.{Rule}
 use Rattle.policy_rules.specs.declared.rule.Rule.TheVariants.{GD}
 use Rattle.policy_rules.specs.declared.get_data.RuleGD.{RuleGD}
@@ -50,11 +51,8 @@ abbrev pub AsksFor : Admitted → List ℕ → Type 0
 AsksFor admitted value =
     HasData admitted.at.registry (selected_on admitted.at.volatile admitted.channel) (tag_of admitted.command.p1 admitted.command.p2) value
 
-abbrev pub get_data_rule_name : RuleGD → List ℕ
-get_data_rule_name GD1 = codes "GD1"
-
-abbrev pub get_data_rule_status : RuleGD → ℕ
-get_data_rule_status GD1 = 0x6A88
+abbrev pub get_data_refusal : RuleGD → Refusal
+get_data_refusal GD1 = refusal (codes "GD1") 0x6A88
 
 abbrev pub get_data_rules : List Rule
 get_data_rules = GD GD1 ∷ []

@@ -12,6 +12,7 @@ use Rattle.policy_rules.specs.Management.{ManagementFails, acting}
 use Rattle.policy_rules.specs.Select.{is_card_locked}
 use Rattle.policy_rules.specs.State.{Effect}
 use Rattle.policy_rules.specs.Volatile.{Offered, with_secure_channel}
+use Rattle.policy_rules.specs.Refusal.{Refusal, refusal}
 use Rattle.policy_rules.specs.declared.initialize_update.RuleIU.{RuleIU}
 use Rattle.policy_rules.specs.declared.initialize_update.RuleIU.TheVariants.{IU1, IU2, IU3}
 use Rattle.policy_rules.specs.declared.management.RuleM.TheVariants.{M2}
@@ -26,15 +27,10 @@ InitializeUpdateParameters p2 = p2 ≡ 0x00
 abbrev pub InitializeUpdateField : List ℕ → Type 0
 InitializeUpdateField body = length body ≡ 8
 
-abbrev pub initialize_update_rule_name : RuleIU → List ℕ
-initialize_update_rule_name IU1 = codes "IU1"
-initialize_update_rule_name IU2 = codes "IU2"
-initialize_update_rule_name IU3 = codes "IU3"
-
-abbrev pub initialize_update_rule_status : RuleIU → ℕ
-initialize_update_rule_status IU1 = 0x6985
-initialize_update_rule_status IU2 = 0x6A88
-initialize_update_rule_status IU3 = 0x6985
+abbrev pub initialize_update_refusal : RuleIU → Refusal
+initialize_update_refusal IU1 = refusal (codes "IU1") 0x6985
+initialize_update_refusal IU2 = refusal (codes "IU2") 0x6A88
+initialize_update_refusal IU3 = refusal (codes "IU3") 0x6985
 
 abbrev pub offer_rules : List Rule
 offer_rules = M M2 ∷ IU IU1 ∷ IU IU2 ∷ IU IU3 ∷ []

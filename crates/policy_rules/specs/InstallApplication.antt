@@ -20,6 +20,7 @@ use Rattle.policy_rules.specs.Delegation.{DelegatedFails, Holds, IsAnswered, May
 use Rattle.policy_rules.specs.InstallFields.{InstallData, IsInstallData, approval_in}
 use Rattle.policy_rules.specs.Management.{ManagementFails, acting}
 use Rattle.policy_rules.specs.State.{Effect}
+use Rattle.policy_rules.specs.Refusal.{Refusal, refusal}
 use Rattle.policy_rules.specs.declared.install_application.RuleII.{RuleII}
 use Rattle.policy_rules.specs.declared.install_application.RuleII.TheVariants.{II1, II2, II3, II4, II5, II6, II7}
 use Rattle.policy_rules.specs.declared.management.RuleM.TheVariants.{M1, M2}
@@ -84,23 +85,14 @@ IsTakenAid admitted aid =
     IsSome (entry_named admitted.at.registry aid) ⊎ IsSome (file_named admitted.at.registry aid)
     ⊎ MatchOption admitted.at.volatile.load ⊥ (λ load. load.aid ≡ aid)
 
-abbrev pub install_rule_name : RuleII → List ℕ
-install_rule_name II1 = codes "II1"
-install_rule_name II2 = codes "II2"
-install_rule_name II3 = codes "II3"
-install_rule_name II4 = codes "II4"
-install_rule_name II5 = codes "II5"
-install_rule_name II6 = codes "II6"
-install_rule_name II7 = codes "II7"
-
-abbrev pub install_rule_status : RuleII → ℕ
-install_rule_status II1 = 0x6982
-install_rule_status II2 = 0x6A88
-install_rule_status II3 = 0x6982
-install_rule_status II4 = 0x6A80
-install_rule_status II5 = 0x6A80
-install_rule_status II6 = 0x6982
-install_rule_status II7 = 0x6A84
+abbrev pub install_refusal : RuleII → Refusal
+install_refusal II1 = refusal (codes "II1") 0x6982
+install_refusal II2 = refusal (codes "II2") 0x6A88
+install_refusal II3 = refusal (codes "II3") 0x6982
+install_refusal II4 = refusal (codes "II4") 0x6A80
+install_refusal II5 = refusal (codes "II5") 0x6A80
+install_refusal II6 = refusal (codes "II6") 0x6982
+install_refusal II7 = refusal (codes "II7") 0x6A84
 
 abbrev pub install_rules : List Rule
 install_rules = M M1 ∷ M M2 ∷ II II1 ∷ II II2 ∷ II II3 ∷ II II4 ∷ II II5 ∷ II II6 ∷ II II7 ∷ delegation_rules

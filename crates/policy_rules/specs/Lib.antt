@@ -29,6 +29,7 @@ pub mod Management
 pub mod ObjectsFound
 pub mod PutKey
 pub mod PutRules
+pub mod Refusal
 pub mod Requests
 pub mod Rules
 pub mod Run

@@ -15,6 +15,7 @@ use Rattle.policy_rules.specs.Delegation.{DelegatedFails, Holds, IsAnswered, May
 use Rattle.policy_rules.specs.InstallFields.{InstallData, IsInstallData, approval_in}
 use Rattle.policy_rules.specs.Management.{ManagementFails, acting}
 use Rattle.policy_rules.specs.State.{Effect}
+use Rattle.policy_rules.specs.Refusal.{Refusal, refusal}
 use Rattle.policy_rules.specs.declared.make_selectable.RuleMS.{RuleMS}
 use Rattle.policy_rules.specs.declared.make_selectable.RuleMS.TheVariants.{MS1, MS2, MS3, MS4, MS5}
 use Rattle.policy_rules.specs.declared.management.RuleM.TheVariants.{M1, M2}
@@ -36,19 +37,12 @@ pub record AsksToMakeSelectable (body : List ℕ) (given : InstallData) : Type 0
 abbrev pub is_installed : LifeMark
 is_installed = record { life = Installed; locked = false }
 
-abbrev pub selectable_rule_name : RuleMS → List ℕ
-selectable_rule_name MS1 = codes "MS1"
-selectable_rule_name MS2 = codes "MS2"
-selectable_rule_name MS3 = codes "MS3"
-selectable_rule_name MS4 = codes "MS4"
-selectable_rule_name MS5 = codes "MS5"
-
-abbrev pub selectable_rule_status : RuleMS → ℕ
-selectable_rule_status MS1 = 0x6982
-selectable_rule_status MS2 = 0x6A88
-selectable_rule_status MS3 = 0x6982
-selectable_rule_status MS4 = 0x6985
-selectable_rule_status MS5 = 0x6A80
+abbrev pub selectable_refusal : RuleMS → Refusal
+selectable_refusal MS1 = refusal (codes "MS1") 0x6982
+selectable_refusal MS2 = refusal (codes "MS2") 0x6A88
+selectable_refusal MS3 = refusal (codes "MS3") 0x6982
+selectable_refusal MS4 = refusal (codes "MS4") 0x6985
+selectable_refusal MS5 = refusal (codes "MS5") 0x6A80
 
 abbrev pub selectable_rules : List Rule
 selectable_rules = M M1 ∷ M M2 ∷ MS MS1 ∷ MS MS2 ∷ MS MS3 ∷ MS MS4 ∷ MS MS5 ∷ delegation_rules

@@ -6,6 +6,7 @@ use Rattle.policy_rules.specs.Admission.{Admitted}
 use Rattle.policy_rules.specs.CommandForm.{CommandForm}
 use Rattle.policy_rules.specs.State.{Effect}
 use Rattle.policy_rules.specs.Volatile.{Channel, channel_at, fresh, with_channel, without_channel}
+use Rattle.policy_rules.specs.Refusal.{Refusal, refusal}
 use Rattle.policy_rules.specs.declared.rule.Rule.{Rule}
 use Rattle.policy_rules.specs.declared.rule.Rule.TheVariants.{MC}
 use Rattle.policy_rules.specs.declared.manage_channel.RuleMC.{RuleMC}
@@ -25,11 +26,8 @@ is_closed (Some channel) = false
 abbrev pub lowest_closed : List (Option Channel) → Option ℕ
 lowest_closed channels = position is_closed channels
 
-abbrev pub manage_channel_rule_name : RuleMC → List ℕ
-manage_channel_rule_name MC1 = codes "MC1"
-
-abbrev pub manage_channel_rule_status : RuleMC → ℕ
-manage_channel_rule_status MC1 = 0x6A81
+abbrev pub manage_channel_refusal : RuleMC → Refusal
+manage_channel_refusal MC1 = refusal (codes "MC1") 0x6A81
 
 abbrev pub manage_channel_rules : List Rule
 manage_channel_rules = MC MC1 ∷ []

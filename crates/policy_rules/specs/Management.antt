@@ -4,16 +4,13 @@ use Rattle.card_types.specs.Registry.{entry_named}
 use Rattle.policy_rules.specs.Admission.{Admitted}
 use Rattle.policy_rules.specs.Select.{is_card_locked}
 use Rattle.policy_rules.specs.Volatile.{selected_on}
+use Rattle.policy_rules.specs.Refusal.{Refusal, refusal}
 use Rattle.policy_rules.specs.declared.management.RuleM.{RuleM}
 use Rattle.policy_rules.specs.declared.management.RuleM.TheVariants.{M1, M2}
 
-abbrev pub management_rule_name : RuleM → List ℕ
-management_rule_name M1 = codes "M1"
-management_rule_name M2 = codes "M2"
-
-abbrev pub management_rule_status : RuleM → ℕ
-management_rule_status M1 = 0x6985
-management_rule_status M2 = 0x6985
+abbrev pub management_refusal : RuleM → Refusal
+management_refusal M1 = refusal (codes "M1") 0x6985
+management_refusal M2 = refusal (codes "M2") 0x6985
 
 -- the security domain that the command acts for: the one that is selected on its channel
 abbrev pub acting : Admitted → List ℕ

@@ -17,6 +17,7 @@ use Rattle.policy_rules.specs.KeyVersions.{counters_but, has_key_version, keys_b
 use Rattle.policy_rules.specs.Management.{ManagementFails, acting}
 use Rattle.policy_rules.specs.State.{Effect}
 use Rattle.policy_rules.specs.Volatile.{session_on}
+use Rattle.policy_rules.specs.Refusal.{Refusal, refusal}
 use Rattle.policy_rules.specs.declared.management.RuleM.TheVariants.{M1, M2}
 use Rattle.policy_rules.specs.declared.put_key.RulePK.{RulePK}
 use Rattle.policy_rules.specs.declared.put_key.RulePK.TheVariants.{PK1, PK2, PK3, PK4}
@@ -101,17 +102,11 @@ pub record Brings (admitted : Admitted) (version : ℕ) (sent : List SentKey) (k
 abbrev pub ChecksFit : List SentKey → List (List ℕ) → Type 0
 ChecksFit sent keys = map check_value keys ≡ map (λ one. one.check) sent
 
-abbrev pub put_key_rule_name : RulePK → List ℕ
-put_key_rule_name PK1 = codes "PK1"
-put_key_rule_name PK2 = codes "PK2"
-put_key_rule_name PK3 = codes "PK3"
-put_key_rule_name PK4 = codes "PK4"
-
-abbrev pub put_key_rule_status : RulePK → ℕ
-put_key_rule_status PK1 = 0x6A88
-put_key_rule_status PK2 = 0x6A80
-put_key_rule_status PK3 = 0x6A80
-put_key_rule_status PK4 = 0x6A84
+abbrev pub put_key_refusal : RulePK → Refusal
+put_key_refusal PK1 = refusal (codes "PK1") 0x6A88
+put_key_refusal PK2 = refusal (codes "PK2") 0x6A80
+put_key_refusal PK3 = refusal (codes "PK3") 0x6A80
+put_key_refusal PK4 = refusal (codes "PK4") 0x6A84
 
 abbrev pub put_rules : List Rule
 put_rules = M M1 ∷ M M2 ∷ PK PK1 ∷ PK PK2 ∷ PK PK3 ∷ PK PK4 ∷ []

@@ -14,6 +14,7 @@ use Rattle.policy_rules.specs.Admission.{Admitted}
 use Rattle.policy_rules.specs.CommandForm.{CommandForm}
 use Rattle.policy_rules.specs.State.{Effect}
 use Rattle.policy_rules.specs.Volatile.{with_selected}
+use Rattle.policy_rules.specs.Refusal.{Refusal, refusal}
 use Rattle.policy_rules.specs.declared.rule.Rule.{Rule}
 use Rattle.policy_rules.specs.declared.rule.Rule.TheVariants.{SE}
 use Rattle.policy_rules.specs.declared.select.RuleSE.{RuleSE}
@@ -55,11 +56,8 @@ fits_select card_life partial entry = fits_as card_life partial entry.aid entry.
 abbrev pub least_fitting : Registry → List ℕ → Option Entry
 least_fitting registry partial = find (fits_select registry.life partial) registry.entries
 
-abbrev pub select_rule_name : RuleSE → List ℕ
-select_rule_name SE1 = codes "SE1"
-
-abbrev pub select_rule_status : RuleSE → ℕ
-select_rule_status SE1 = 0x6A82
+abbrev pub select_refusal : RuleSE → Refusal
+select_refusal SE1 = refusal (codes "SE1") 0x6A82
 
 abbrev pub select_rules : List Rule
 select_rules = SE SE1 ∷ []

@@ -12,6 +12,7 @@ use Rattle.policy_rules.specs.CommandForm.{CommandForm}
 use Rattle.policy_rules.specs.DataObjects.{with_data, with_objects}
 use Rattle.policy_rules.specs.Management.{ManagementFails, acting}
 use Rattle.policy_rules.specs.State.{Effect}
+use Rattle.policy_rules.specs.Refusal.{Refusal, refusal}
 use Rattle.policy_rules.specs.declared.management.RuleM.TheVariants.{M1, M2}
 use Rattle.policy_rules.specs.declared.rule.Rule.{Rule}
 use Rattle.policy_rules.specs.declared.rule.Rule.TheVariants.{M, SD}
@@ -31,11 +32,8 @@ pub record HasObjects (body : List ℕ) (elements : List Element) : Type 0 where
 abbrev pub StoreDataField : List ℕ → Type 0
 StoreDataField body = (elements : List Element) × HasObjects body elements
 
-abbrev pub store_data_rule_name : RuleSD → List ℕ
-store_data_rule_name SD1 = codes "SD1"
-
-abbrev pub store_data_rule_status : RuleSD → ℕ
-store_data_rule_status SD1 = 0x6A84
+abbrev pub store_data_refusal : RuleSD → Refusal
+store_data_refusal SD1 = refusal (codes "SD1") 0x6A84
 
 abbrev pub store_rules : List Rule
 store_rules = M M1 ∷ M M2 ∷ SD SD1 ∷ []

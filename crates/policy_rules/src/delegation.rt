@@ -10,7 +10,7 @@ ghost use Rattle.card_types.specs.Slots.{held};
 ghost use Rattle.card_types.specs.Well.{IsKeyLength};
 ghost use Rattle.domain_tree.specs.Holders.{entry_has};
 ghost use Rattle.policy_rules.specs.Admission.{Admitted};
-ghost use Rattle.policy_rules.specs.Delegation.{DelegatedFails, IsNearestHolder, NoHolder, ReceiptFails, TokenFails, delegation_rules, receipt_rule_name, receipt_rule_status, token_rule_name, token_rule_status, token_rules};
+ghost use Rattle.policy_rules.specs.Delegation.{DelegatedFails, IsNearestHolder, NoHolder, ReceiptFails, TokenFails, delegation_rules, receipt_refusal, token_refusal, token_rules};
 ghost use Rattle.policy_rules.specs.FirstFailing.{IsFirst};
 ghost use Rattle.policy_rules.specs.HoldersFound.{FindsReceipter, IsSignedFor, approval_of, has_with_key_in, holds_lone_key as holds_lone_key_by};
 ghost use Rattle.policy_rules.specs.Management.{acting};
@@ -53,7 +53,7 @@ pub enum RuleRC {
 impl RuleTK {
     /// The status word of a command that the rule refuses.
     pub fn status(&self) -> Status
-        ensures { result.0 ≡ token_rule_status self.now }
+        ensures { result.0 ≡ (token_refusal self.now).status }
     {
         match self {
             RuleTK::TK1 => Status(0x6A80),
@@ -64,7 +64,7 @@ impl RuleTK {
 
     /// The rule's name.
     pub fn name(&self) -> &'static str
-        ensures { result.now ≡ token_rule_name self.now }
+        ensures { result.now ≡ (token_refusal self.now).name }
     {
         match self {
             RuleTK::TK1 => "TK1",
@@ -77,7 +77,7 @@ impl RuleTK {
 impl RuleRC {
     /// The status word of a command that the rule refuses.
     pub fn status(&self) -> Status
-        ensures { result.0 ≡ receipt_rule_status self.now }
+        ensures { result.0 ≡ (receipt_refusal self.now).status }
     {
         match self {
             RuleRC::RC1 => Status(0x6985),
@@ -86,7 +86,7 @@ impl RuleRC {
 
     /// The rule's name.
     pub fn name(&self) -> &'static str
-        ensures { result.now ≡ receipt_rule_name self.now }
+        ensures { result.now ≡ (receipt_refusal self.now).name }
     {
         match self {
             RuleRC::RC1 => "RC1",

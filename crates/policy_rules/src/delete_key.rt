@@ -5,7 +5,7 @@ ghost use Rattle.std.specs.List.{list_any};
 ghost use Rattle.card_types.specs.InOrder.{IsInOrder};
 ghost use Rattle.card_types.specs.Represents.{domain_slot};
 ghost use Rattle.policy_rules.specs.Admission.{Admitted};
-ghost use Rattle.policy_rules.specs.DeleteKey.{Chooses, DeleteField, IsLastSet, NamesPart, delete_key_rule_name, delete_key_rule_status};
+ghost use Rattle.policy_rules.specs.DeleteKey.{Chooses, DeleteField, IsLastSet, NamesPart, delete_key_refusal};
 ghost use Rattle.policy_rules.specs.Commands.{Judges};
 ghost use Rattle.policy_rules.specs.KeyOrder.{holds_counter_but as holds_counter_but_by};
 ghost use Rattle.policy_rules.specs.Requests.{ActsIn, IsRequestOf, Parses};
@@ -32,7 +32,7 @@ pub enum RuleDK {
 impl RuleDK {
     /// The status word of a DELETE of a key that the rule refuses.
     pub fn status(&self) -> Status
-        ensures { result.0 ≡ delete_key_rule_status self.now }
+        ensures { result.0 ≡ (delete_key_refusal self.now).status }
     {
         match self {
             RuleDK::DK1 => Status(0x6A88),
@@ -42,7 +42,7 @@ impl RuleDK {
 
     /// The rule's name.
     pub fn name(&self) -> &'static str
-        ensures { result.now ≡ delete_key_rule_name self.now }
+        ensures { result.now ≡ (delete_key_refusal self.now).name }
     {
         match self {
             RuleDK::DK1 => "DK1",

@@ -1,7 +1,7 @@
 //! EXTERNAL AUTHENTICATE (GlobalPlatform Amendment D, 7.1.2).
 
 ghost use Rattle.std.specs.Prelude.{◌≡◌};
-ghost use Rattle.policy_rules.specs.ExternalAuthenticate.{external_authenticate_rule_name, external_authenticate_rule_status};
+ghost use Rattle.policy_rules.specs.ExternalAuthenticate.{external_authenticate_refusal};
 ghost use Rattle.policy_rules.specs.Requests.{Parses};
 ghost use Rattle.policy_rules.specs.declared.instruction.TheConstants.{EXTERNAL_AUTHENTICATE};
 
@@ -24,7 +24,7 @@ pub enum RuleEA {
 impl RuleEA {
     /// The status word of an EXTERNAL AUTHENTICATE that the rule refuses.
     pub fn status(&self) -> Status
-        ensures { result.0 ≡ external_authenticate_rule_status self.now }
+        ensures { result.0 ≡ (external_authenticate_refusal self.now).status }
     {
         match self {
             RuleEA::EA1 => Status(0x6985),
@@ -35,7 +35,7 @@ impl RuleEA {
 
     /// The rule's name.
     pub fn name(&self) -> &'static str
-        ensures { result.now ≡ external_authenticate_rule_name self.now }
+        ensures { result.now ≡ (external_authenticate_refusal self.now).name }
     {
         match self {
             RuleEA::EA1 => "EA1",

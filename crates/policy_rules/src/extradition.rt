@@ -1,7 +1,7 @@
 //! INSTALL [for extradition] (GlobalPlatform Card Specification 2.3.1, 9.4.1 and 11.5).
 
 ghost use Rattle.std.specs.Prelude.{◌≡◌};
-ghost use Rattle.policy_rules.specs.Extradition.{extradition_rule_name, extradition_rule_status};
+ghost use Rattle.policy_rules.specs.Extradition.{extradition_refusal};
 
 use apdu_core::Status;
 
@@ -27,7 +27,7 @@ pub enum RuleEX {
 impl RuleEX {
     /// The status word of a command that the rule refuses.
     pub fn status(&self) -> Status
-        ensures { result.0 ≡ extradition_rule_status self.now }
+        ensures { result.0 ≡ (extradition_refusal self.now).status }
     {
         match self {
             RuleEX::EX1 => Status(0x6982),
@@ -42,7 +42,7 @@ impl RuleEX {
 
     /// The rule's name.
     pub fn name(&self) -> &'static str
-        ensures { result.now ≡ extradition_rule_name self.now }
+        ensures { result.now ≡ (extradition_refusal self.now).name }
     {
         match self {
             RuleEX::EX1 => "EX1",

@@ -11,7 +11,7 @@ ghost use Rattle.card_types.specs.Slots.{held};
 ghost use Rattle.card_types.specs.Well.{Well};
 ghost use Rattle.card_types.specs.declared.tables.Entry.{Entry};
 ghost use Rattle.policy_rules.specs.Found.{IsFor};
-ghost use Rattle.policy_rules.specs.GetData.{HasData, get_data_rule_name, get_data_rule_status};
+ghost use Rattle.policy_rules.specs.GetData.{HasData, get_data_refusal};
 ghost use Rattle.policy_rules.specs.Requests.{Parses};
 ghost use Rattle.policy_rules.specs.declared.instruction.TheConstants.{GET_DATA};
 
@@ -32,7 +32,7 @@ pub enum RuleGD {
 impl RuleGD {
     /// The status word of a GET DATA that the rule refuses.
     pub fn status(&self) -> Status
-        ensures { result.0 ≡ get_data_rule_status self.now }
+        ensures { result.0 ≡ (get_data_refusal self.now).status }
     {
         match self {
             RuleGD::GD1 => Status(0x6A88),
@@ -41,7 +41,7 @@ impl RuleGD {
 
     /// The rule's name.
     pub fn name(&self) -> &'static str
-        ensures { result.now ≡ get_data_rule_name self.now }
+        ensures { result.now ≡ (get_data_refusal self.now).name }
     {
         match self {
             RuleGD::GD1 => "GD1",

@@ -13,7 +13,7 @@ ghost use Rattle.card_types.specs.declared.factory.TheConstants.{ISSUER};
 ghost use Rattle.card_types.specs.declared.tables.Entry.{Entry};
 ghost use Rattle.policy_rules.specs.Admission.{Admitted};
 ghost use Rattle.policy_rules.specs.FirstFailing.{IsFirst};
-ghost use Rattle.policy_rules.specs.InitializeUpdate.{InitializeUpdateFails, offer_rules, initialize_update_rule_name, initialize_update_rule_status};
+ghost use Rattle.policy_rules.specs.InitializeUpdate.{InitializeUpdateFails, offer_rules, initialize_update_refusal};
 ghost use Rattle.policy_rules.specs.KeySets.{UsesSetOfKey};
 ghost use Rattle.policy_rules.specs.Requests.{ActsIn, Parses};
 ghost use Rattle.policy_rules.specs.Select.{is_card_locked};
@@ -41,7 +41,7 @@ pub enum RuleIU {
 impl RuleIU {
     /// The status word of an INITIALIZE UPDATE that the rule refuses.
     pub fn status(&self) -> Status
-        ensures { result.0 ≡ initialize_update_rule_status self.now }
+        ensures { result.0 ≡ (initialize_update_refusal self.now).status }
     {
         match self {
             RuleIU::IU1 => Status(0x6985),
@@ -52,7 +52,7 @@ impl RuleIU {
 
     /// The rule's name.
     pub fn name(&self) -> &'static str
-        ensures { result.now ≡ initialize_update_rule_name self.now }
+        ensures { result.now ≡ (initialize_update_refusal self.now).name }
     {
         match self {
             RuleIU::IU1 => "IU1",

@@ -1,7 +1,7 @@
 //! INSTALL [for install] (GlobalPlatform Card Specification 2.3.1, 9.3.2 and 11.5).
 
 ghost use Rattle.std.specs.Prelude.{◌≡◌};
-ghost use Rattle.policy_rules.specs.InstallApplication.{install_rule_name, install_rule_status};
+ghost use Rattle.policy_rules.specs.InstallApplication.{install_refusal};
 
 use apdu_core::Status;
 
@@ -27,7 +27,7 @@ pub enum RuleII {
 impl RuleII {
     /// The status word of a command that the rule refuses.
     pub fn status(&self) -> Status
-        ensures { result.0 ≡ install_rule_status self.now }
+        ensures { result.0 ≡ (install_refusal self.now).status }
     {
         match self {
             RuleII::II1 => Status(0x6982),
@@ -42,7 +42,7 @@ impl RuleII {
 
     /// The rule's name.
     pub fn name(&self) -> &'static str
-        ensures { result.now ≡ install_rule_name self.now }
+        ensures { result.now ≡ (install_refusal self.now).name }
     {
         match self {
             RuleII::II1 => "II1",

@@ -1,7 +1,7 @@
 //! INSTALL [for make selectable] (GlobalPlatform Card Specification 2.3.1, 9.3.3 and 11.5).
 
 ghost use Rattle.std.specs.Prelude.{◌≡◌};
-ghost use Rattle.policy_rules.specs.MakeSelectable.{selectable_rule_name, selectable_rule_status};
+ghost use Rattle.policy_rules.specs.MakeSelectable.{selectable_refusal};
 
 use apdu_core::Status;
 
@@ -23,7 +23,7 @@ pub enum RuleMS {
 impl RuleMS {
     /// The status word of a command that the rule refuses.
     pub fn status(&self) -> Status
-        ensures { result.0 ≡ selectable_rule_status self.now }
+        ensures { result.0 ≡ (selectable_refusal self.now).status }
     {
         match self {
             RuleMS::MS1 => Status(0x6982),
@@ -36,7 +36,7 @@ impl RuleMS {
 
     /// The rule's name.
     pub fn name(&self) -> &'static str
-        ensures { result.now ≡ selectable_rule_name self.now }
+        ensures { result.now ≡ (selectable_refusal self.now).name }
     {
         match self {
             RuleMS::MS1 => "MS1",

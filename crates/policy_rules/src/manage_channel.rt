@@ -2,7 +2,7 @@
 
 ghost use Rattle.std.specs.Prelude.{◌≡◌, ◌<◌, ℕ, List, None, Some, IfOk, IfErr, length};
 ghost use Rattle.card_types.specs.declared.tables.Tables.{Tables};
-ghost use Rattle.policy_rules.specs.ManageChannel.{lowest_closed, manage_channel_rule_name, manage_channel_rule_status};
+ghost use Rattle.policy_rules.specs.ManageChannel.{lowest_closed, manage_channel_refusal};
 ghost use Rattle.policy_rules.specs.Requests.{Parses, RepresentsState};
 ghost use Rattle.policy_rules.specs.State.{State};
 ghost use Rattle.policy_rules.specs.declared.instruction.TheConstants.{MANAGE_CHANNEL};
@@ -22,7 +22,7 @@ pub enum RuleMC {
 impl RuleMC {
     /// The status word of a MANAGE CHANNEL that the rule refuses.
     pub fn status(&self) -> Status
-        ensures { result.0 ≡ manage_channel_rule_status self.now }
+        ensures { result.0 ≡ (manage_channel_refusal self.now).status }
     {
         match self {
             RuleMC::MC1 => Status(0x6A81),
@@ -31,7 +31,7 @@ impl RuleMC {
 
     /// The rule's name.
     pub fn name(&self) -> &'static str
-        ensures { result.now ≡ manage_channel_rule_name self.now }
+        ensures { result.now ≡ (manage_channel_refusal self.now).name }
     {
         match self {
             RuleMC::MC1 => "MC1",

@@ -4,7 +4,7 @@ ghost use Rattle.std.specs.Prelude.{◌≡◌, ◌⊎◌, ℕ, List, Some, IfErr
 ghost use Rattle.card_types.specs.Slots.{held};
 ghost use Rattle.card_types.specs.declared.tables.Entry.{Entry};
 ghost use Rattle.policy_rules.specs.Admission.{Admitted};
-ghost use Rattle.policy_rules.specs.Management.{ManagementFails, management_rule_name, management_rule_status};
+ghost use Rattle.policy_rules.specs.Management.{ManagementFails, management_refusal};
 ghost use Rattle.policy_rules.specs.Requests.{ActsIn};
 ghost use Rattle.policy_rules.specs.declared.management.RuleM.TheVariants.{M1, M2};
 ghost use Rattle.policy_rules.specs.declared.rule.Rule.TheVariants.{M};
@@ -25,7 +25,7 @@ pub enum RuleM {
 impl RuleM {
     /// The status word of a command that the rule refuses.
     pub fn status(&self) -> Status
-        ensures { result.0 ≡ management_rule_status self.now }
+        ensures { result.0 ≡ (management_refusal self.now).status }
     {
         match self {
             RuleM::M1 => Status(0x6985),
@@ -35,7 +35,7 @@ impl RuleM {
 
     /// The rule's name.
     pub fn name(&self) -> &'static str
-        ensures { result.now ≡ management_rule_name self.now }
+        ensures { result.now ≡ (management_refusal self.now).name }
     {
         match self {
             RuleM::M1 => "M1",

@@ -9,7 +9,7 @@ ghost use Rattle.policy_rules.specs.Admission.{Admitted};
 ghost use Rattle.policy_rules.specs.FirstFailing.{IsFirst};
 ghost use Rattle.policy_rules.specs.KeyFields.{AreFields, BeginsWithKey, NoFields};
 ghost use Rattle.policy_rules.specs.Requests.{ActsIn, IsRequestOf, Parses, sent_key, sent_keys};
-ghost use Rattle.policy_rules.specs.PutKey.{HasKeyFields, IsNewVersion, PutKeyFails, PutKeyField, PutKeyParameters, SaysChecks, SentKey, key_count, put_key_rule_name, put_key_rule_status, put_rules, sealed_size};
+ghost use Rattle.policy_rules.specs.PutKey.{HasKeyFields, IsNewVersion, PutKeyFails, PutKeyField, PutKeyParameters, SaysChecks, SentKey, key_count, put_key_refusal, put_rules, sealed_size};
 ghost use Rattle.policy_rules.specs.PutRules.{key_rules, version_rules};
 ghost use Rattle.policy_rules.specs.declared.instruction.TheConstants.{PUT_KEY};
 ghost use Rattle.policy_rules.specs.declared.put_key.PutKeys.{PutKeys as Keys};
@@ -38,7 +38,7 @@ pub enum RulePK {
 impl RulePK {
     /// The status word of a PUT KEY that the rule refuses.
     pub fn status(&self) -> Status
-        ensures { result.0 ≡ put_key_rule_status self.now }
+        ensures { result.0 ≡ (put_key_refusal self.now).status }
     {
         match self {
             RulePK::PK1 => Status(0x6A88),
@@ -50,7 +50,7 @@ impl RulePK {
 
     /// The rule's name.
     pub fn name(&self) -> &'static str
-        ensures { result.now ≡ put_key_rule_name self.now }
+        ensures { result.now ≡ (put_key_refusal self.now).name }
     {
         match self {
             RulePK::PK1 => "PK1",

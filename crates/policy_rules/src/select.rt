@@ -9,7 +9,7 @@ ghost use Rattle.card_types.specs.Represents.{Represents, entry_of};
 ghost use Rattle.card_types.specs.Slots.{held};
 ghost use Rattle.card_types.specs.declared.factory.TheConstants.{ISSUER};
 ghost use Rattle.policy_rules.specs.Requests.{Parses};
-ghost use Rattle.policy_rules.specs.Select.{fits_as, least_fitting, select_rule_name, select_rule_status};
+ghost use Rattle.policy_rules.specs.Select.{fits_as, least_fitting, select_refusal};
 ghost use Rattle.policy_rules.specs.declared.instruction.TheConstants.{SELECT};
 
 use crate::request::Request;
@@ -27,7 +27,7 @@ pub enum RuleSE {
 impl RuleSE {
     /// The status word of a SELECT that the rule refuses.
     pub fn status(&self) -> Status
-        ensures { result.0 ≡ select_rule_status self.now }
+        ensures { result.0 ≡ (select_refusal self.now).status }
     {
         match self {
             RuleSE::SE1 => Status(0x6A82),
@@ -36,7 +36,7 @@ impl RuleSE {
 
     /// The rule's name.
     pub fn name(&self) -> &'static str
-        ensures { result.now ≡ select_rule_name self.now }
+        ensures { result.now ≡ (select_refusal self.now).name }
     {
         match self {
             RuleSE::SE1 => "SE1",

@@ -10,7 +10,7 @@ ghost use Rattle.policy_rules.specs.Admission.{Admitted};
 ghost use Rattle.policy_rules.specs.Commands.{Judges};
 ghost use Rattle.policy_rules.specs.Requests.{ActsIn, IsRequestOf, Parses};
 ghost use Rattle.policy_rules.specs.ObjectsFound.{AreObjects, has_object_in, has_tag_in, is_tagged_in, new_tags};
-ghost use Rattle.policy_rules.specs.StoreData.{StoreDataField, StoreDataParameters, store_data_rule_name, store_data_rule_status};
+ghost use Rattle.policy_rules.specs.StoreData.{StoreDataField, StoreDataParameters, store_data_refusal};
 ghost use Rattle.policy_rules.specs.declared.instruction.TheConstants.{STORE_DATA};
 ghost use Rattle.policy_rules.specs.declared.request.Request.TheVariants.{Store};
 
@@ -31,7 +31,7 @@ pub enum RuleSD {
 impl RuleSD {
     /// The status word of a STORE DATA that the rule refuses.
     pub fn status(&self) -> Status
-        ensures { result.0 ≡ store_data_rule_status self.now }
+        ensures { result.0 ≡ (store_data_refusal self.now).status }
     {
         match self {
             RuleSD::SD1 => Status(0x6A84),
@@ -40,7 +40,7 @@ impl RuleSD {
 
     /// The rule's name.
     pub fn name(&self) -> &'static str
-        ensures { result.now ≡ store_data_rule_name self.now }
+        ensures { result.now ≡ (store_data_refusal self.now).name }
     {
         match self {
             RuleSD::SD1 => "SD1",
