@@ -1,10 +1,13 @@
 //! Scripts: what each line sends to a card, by the host at the other end, and what it prints.
 
+mod aes_kind;
+mod aes_session;
 mod card;
 mod channel;
 mod form;
 mod host;
 mod key_fields;
+mod keys;
 mod outcome;
 mod player;
 

@@ -1,6 +1,7 @@
 //! The forms of a script line.
 
 use crate::script::channel::Channel;
+use crate::script::keys::{Keys, NewKeys, are_three, read_keys, read_new_keys};
 use crate::words::{array, byte, bytes, cut};
 use apdu_core::{Command, Status};
 use arrayvec::ArrayVec;
@@ -27,14 +28,6 @@ pub enum Form {
     Want(Status),
 }
 
-/// The static keys of a host.
-#[derive(Clone, Copy)]
-pub struct Keys {
-    pub enc: [u8; 16],
-    pub mac: [u8; 16],
-    pub dek: [u8; 16],
-}
-
 /// A session to begin: key version, level and host challenge.
 #[derive(Clone, Copy)]
 pub struct Opening {
@@ -55,7 +48,7 @@ pub struct Plain {
 impl Plain {
     /// A PUT KEY of these key fields.
     pub fn put_key(putting: &Putting, fields: ArrayVec<u8, 255>) -> Plain {
-        let p2 = if putting.keys.len() == 1 { 0x01 } else { 0x81 };
+        let p2 = if are_three(&putting.keys) { 0x81 } else { 0x01 };
         Plain {
             ins: 0xd8,
             p1: putting.replaced,
@@ -82,7 +75,7 @@ impl Plain {
 pub struct Putting {
     pub replaced: u8,
     pub version: u8,
-    pub keys: ArrayVec<[u8; 16], 3>,
+    pub keys: NewKeys,
 }
 
 /// A line: what it asks for, and whether of the reply the status alone is printed.
@@ -146,16 +139,6 @@ fn sending(line: &[u8]) -> Option<Form> {
     }
 }
 
-fn read_keys(words: &[u8]) -> Option<Keys> {
-    let (enc, rest) = cut(words)?;
-    let (mac, dek) = cut(rest)?;
-    Some(Keys {
-        enc: array(enc)?,
-        mac: array(mac)?,
-        dek: array(dek)?,
-    })
-}
-
 fn read_opening(words: &[u8]) -> Option<Opening> {
     let (version, rest) = cut(words)?;
     let (level, challenge) = cut(rest)?;
@@ -198,19 +181,6 @@ fn read_putting(words: &[u8]) -> Option<Putting> {
     Some(Putting {
         replaced: byte(replaced)?,
         version: byte(version)?,
-        keys: read_one_or_three(rest)?,
+        keys: read_new_keys(rest)?,
     })
-}
-
-fn read_one_or_three(words: &[u8]) -> Option<ArrayVec<[u8; 16], 3>> {
-    let mut keys = ArrayVec::new();
-    let Some((first, rest)) = cut(words) else {
-        keys.try_push(array(words)?).ok()?;
-        return Some(keys);
-    };
-    let (second, third) = cut(rest)?;
-    keys.try_push(array(first)?).ok()?;
-    keys.try_push(array(second)?).ok()?;
-    keys.try_push(array(third)?).ok()?;
-    Some(keys)
 }

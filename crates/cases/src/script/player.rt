@@ -1,10 +1,10 @@
 //! A host and a card, with a script between them.
 
+use crate::script::aes_session::AesSession;
 use crate::script::card::CardEnd;
 use crate::script::channel::Channel;
 use crate::script::form::{Form, Line, Opening, Plain, Putting};
 use crate::script::host::Host;
-use crate::script::key_fields::key_fields;
 use crate::script::outcome::{Outcome, Text};
 use apdu_core::{Command, Reply, Status};
 use arrayvec::ArrayVec;
@@ -185,10 +185,8 @@ impl<F: Flash> Player<F> {
             return Outcome::Word(b"short");
         };
         let counter = [*high, *middle, *low];
-        let session = match self
-            .host
-            .begin(opening, update, self.channel, &mut self.sent)
-        {
+        let keys = self.host.keys();
+        let session = match AesSession::begin(keys, opening, update, self.channel, &mut self.sent) {
             Ok(session) => session,
             Err(BeginRefusal::Short) => return Outcome::Word(b"short"),
             Err(BeginRefusal::CardCryptogram) => return Outcome::Cryptogram { counter },
@@ -210,7 +208,7 @@ impl<F: Flash> Player<F> {
             return Outcome::Word(b"no session");
         };
         if session
-            .wrap(&plain.command(), channel.number(), &mut self.sent)
+            .wrap(&plain.command(), channel, &mut self.sent)
             .is_err()
         {
             return Outcome::Word(b"too long");
@@ -233,7 +231,7 @@ impl<F: Flash> Player<F> {
         let Some(session) = self.host.session(self.channel) else {
             return Outcome::Word(b"no session");
         };
-        let fields = key_fields(putting, session.dek());
+        let fields = session.key_fields(putting);
         self.send(&Plain::put_key(putting, fields), false)
     }
 
