@@ -30,6 +30,7 @@ pub mod KeysArranged
 pub mod KeysByName
 pub mod LastSet
 pub mod Lawful
+pub mod LengthFields
 pub mod ManageChannelLaws
 pub mod ManagementFirst
 pub mod NearestHolder

@@ -10,6 +10,7 @@ pub mod Delegation
 pub mod DeleteKey
 pub mod ExternalAuthenticate
 pub mod Extradition
+pub mod FieldsRead
 pub mod FirstFailing
 pub mod Found
 pub mod GetData
