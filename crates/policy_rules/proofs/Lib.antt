@@ -21,6 +21,7 @@ pub mod GetDataLaws
 pub mod InitializeUpdateJudging
 pub mod InitializeUpdateLaws
 pub mod InitializeUpdateOffer
+pub mod InstallAsking
 pub mod Instructed
 pub mod Judging
 pub mod KeepsSound

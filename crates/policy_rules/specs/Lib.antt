@@ -18,6 +18,7 @@ pub mod HoldersFound
 pub mod InitializeUpdate
 pub mod InstallApplication
 pub mod InstallFields
+pub mod InstallRequests
 pub mod KeyFields
 pub mod KeyOrder
 pub mod KeySets
