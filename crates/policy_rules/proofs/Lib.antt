@@ -14,6 +14,7 @@ pub mod DeleteKeyOnce
 pub mod ExternalAuthenticateLaws
 pub mod Filtered
 pub mod FirstJoined
+pub mod FirstLike
 pub mod FirstUnique
 pub mod FormTaken
 pub mod FreshChannel
@@ -22,6 +23,7 @@ pub mod InitializeUpdateJudging
 pub mod InitializeUpdateLaws
 pub mod InitializeUpdateOffer
 pub mod InstallAsking
+pub mod InstallJudging
 pub mod Instructed
 pub mod Judging
 pub mod KeepsSound
