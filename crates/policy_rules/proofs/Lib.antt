@@ -14,6 +14,7 @@ pub mod DeleteKeyOnce
 pub mod ExternalAuthenticateLaws
 pub mod Filtered
 pub mod FirstJoined
+pub mod FirstLike
 pub mod FirstUnique
 pub mod FormTaken
 pub mod FreshChannel
@@ -21,6 +22,8 @@ pub mod GetDataLaws
 pub mod InitializeUpdateJudging
 pub mod InitializeUpdateLaws
 pub mod InitializeUpdateOffer
+pub mod InstallAsking
+pub mod InstallJudging
 pub mod Instructed
 pub mod Judging
 pub mod KeepsSound
@@ -30,6 +33,7 @@ pub mod KeysArranged
 pub mod KeysByName
 pub mod LastSet
 pub mod Lawful
+pub mod LengthFields
 pub mod ManageChannelLaws
 pub mod ManagementFirst
 pub mod NearestHolder

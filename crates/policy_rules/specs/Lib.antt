@@ -10,6 +10,7 @@ pub mod Delegation
 pub mod DeleteKey
 pub mod ExternalAuthenticate
 pub mod Extradition
+pub mod FieldsRead
 pub mod FirstFailing
 pub mod Found
 pub mod GetData
@@ -17,6 +18,7 @@ pub mod HoldersFound
 pub mod InitializeUpdate
 pub mod InstallApplication
 pub mod InstallFields
+pub mod InstallRequests
 pub mod KeyFields
 pub mod KeyOrder
 pub mod KeySets

@@ -1,9 +1,45 @@
 //! INSTALL [for install] (GlobalPlatform Card Specification 2.3.1, 9.3.2 and 11.5).
 
-ghost use Rattle.std.specs.Prelude.{◌≡◌};
-ghost use Rattle.policy_rules.specs.InstallApplication.{install_refusal};
+ghost use Rattle.std.specs.Prelude.{◌≡◌, ◌↔◌, ◌≢◌, ◌≤◌, ◌⊎◌, ◌&&◌, ℕ, List, None, Some, IfErr, IfNone, IfOk, IfSome, IsSome, IsTrue, OnOk, length};
+ghost use Rattle.std.specs.List.{list_any};
+ghost use Rattle.bertlv.specs.Spelling.{AreElements, Element};
+ghost use Rattle.card_types.specs.AidOrder.{same_aid};
+ghost use Rattle.card_types.specs.First.{NoneFree};
+ghost use Rattle.card_types.specs.Found.{aid_of};
+ghost use Rattle.card_types.specs.InOrder.{IsInOrder};
+ghost use Rattle.card_types.specs.Privileges.{authorized_management, delegated_management, has};
+ghost use Rattle.card_types.specs.Registry.{Entry, Registry, file_named};
+ghost use Rattle.card_types.specs.Represents.{Represents, file_of};
+ghost use Rattle.card_types.specs.Slots.{held};
+ghost use Rattle.card_types.specs.Well.{Well, has_domain_privilege as has_domain_privilege_by};
+ghost use Rattle.card_types.specs.declared.factory.TheConstants.{FACTORY_FILE, FACTORY_MODULE};
+ghost use Rattle.card_types.specs.declared.found.Found.{Found as Thing};
+ghost use Rattle.card_types.specs.declared.found.Found.TheVariants.{File};
+ghost use Rattle.card_types.specs.declared.tables.LoadFile.{LoadFile};
+ghost use Rattle.policy_rules.specs.Admission.{Admitted};
+ghost use Rattle.policy_rules.specs.Charge.{IsFileInCharge};
+ghost use Rattle.policy_rules.specs.Delegation.{delegation_rules};
+ghost use Rattle.policy_rules.specs.FirstFailing.{IsFirst};
+ghost use Rattle.policy_rules.specs.InstallApplication.{AreInstallParameters, AsksToInstall, InstallAsked, InstallFails, InstallParameters, InstallingFails, IsTakenAid, MayBeMade, install_application, install_refusal, install_rules};
+ghost use Rattle.policy_rules.specs.HoldersFound.{IsSignedFor, approval_of};
+ghost use Rattle.policy_rules.specs.InstallRequests.{ApprovalFails, FindsConfirmer, IsInstallOf, IsInstallRequest, IsOutOfCharge, IsRefusedBy, application_rules, exceeds_by, is_loaded_as, may_manage_by};
+ghost use Rattle.policy_rules.specs.Management.{acting};
+ghost use Rattle.policy_rules.specs.Requests.{ActsIn, RepresentsState};
 
+use crate::delegation::{Signed, holds, judge_delegated};
+use crate::install_fields::read_fields;
+use crate::live::Live;
+use crate::management::judge_management;
+use crate::rule::{Rule, RulePS};
+use crate::store_data::has_tag;
 use apdu_core::Status;
+use bertlv::read;
+use bitflags::Flags;
+use card_types::{
+    Aid, Entry as Slot, FACTORY_FILE, FACTORY_MODULE, Found, Privileges, Tables, find, first_free,
+    in_slot,
+};
+use domain_tree::above;
 
 /// The rules of INSTALL [for install].
 #[derive(Clone, Copy, Debug, PartialEq, Eq)]
@@ -54,4 +90,330 @@ impl RuleII {
             RuleII::II7 => "II7",
         }
     }
+}
+
+/// What an INSTALL [for install] asks for: the AIDs of the Executable Load File, of its Module and of the application, the
+/// privileges, whether it is made selectable too, and what approves it.
+#[derive(Clone, Copy, Debug)]
+pub struct InstallRequest<'a> {
+    pub selectable: bool,
+    pub file: Aid,
+    pub module: Aid,
+    pub aid: Aid,
+    pub privileges: Privileges,
+    pub signed: Signed<'a>,
+}
+
+/// The tag of the parameters of the application.
+const APPLICATION_PARAMETERS: u16 = 0xC9;
+
+// Whether the bytes are data objects, none or more.
+fn are_elements(bytes: &[u8]) -> bool
+    ensures { IsTrue result ↔ ((elements : List Element) × AreElements elements bytes.now) }
+{
+    let mut rest = bytes;
+    while !rest.is_empty() {
+        let Ok((_, after)) = read(rest) else {
+            return false;
+        };
+        rest = after;
+    }
+    true
+}
+
+// Whether the bytes are install parameters.
+fn are_parameters(bytes: &[u8]) -> bool
+    ensures { IsTrue result ↔ AreInstallParameters bytes.now }
+{
+    are_elements(bytes) && has_tag(bytes, APPLICATION_PARAMETERS)
+}
+
+// Whether INSTALL [for install] takes a P1 and a P2.
+fn takes_parameters(p1: u8, p2: u8) -> bool
+    ensures { IsTrue result ↔ InstallParameters p1 p2 }
+{
+    matches!(p1, 0x04 | 0x0C) && p2 == 0x00
+}
+
+// What the data field asks for.
+fn read_request(p1: u8, p2: u8, body: &[u8]) -> Option<InstallRequest<'_>>
+    ensures some { IfSome result (λ request. IsInstallRequest request p1 p2 body.now) }
+    ensures none { IfNone result ((asked : InstallAsked) → AsksToInstall body.now asked → ⊥) }
+{
+    let fields = read_fields(body)?;
+    let file = Aid::new(fields.first)?;
+    let module = Aid::new(fields.second)?;
+    let aid = Aid::new(fields.third)?;
+    let privileges = Privileges::from_bytes(fields.privileges)?;
+    if !are_parameters(fields.parameters) {
+        return None;
+    }
+    Some(InstallRequest {
+        selectable: p1 == 0x0C,
+        file,
+        module,
+        aid,
+        privileges,
+        signed: Signed {
+            p1,
+            p2,
+            before: fields.before,
+            token: fields.token,
+        },
+    })
+}
+
+/// Reads P1, P2 and the data field of an INSTALL [for install].
+pub(crate) fn parse_install(p1: u8, p2: u8, body: &[u8]) -> Result<InstallRequest<'_>, Rule>
+    ensures form { IfOk result (λ request. InstallParameters p1 p2) }
+    ensures means { IfOk result (λ request. IsInstallRequest request p1 p2 body.now) }
+    ensures refused { IfErr result (IsRefusedBy install_application p1 p2 body.now) }
+{
+    if !takes_parameters(p1, p2) {
+        return Err(Rule::PS(RulePS::P));
+    }
+    match read_request(p1, p2, body) {
+        Some(request) => Ok(request),
+        None => Err(Rule::PS(RulePS::S)),
+    }
+}
+
+/// What the judgement of an INSTALL [for install] found: the slot of the Executable Load File, and that of the domain that
+/// confirms the command, or none where nobody does.
+#[derive(Clone, Copy, Debug)]
+pub struct Installation {
+    pub file: u8,
+    pub receipter: Option<u8>,
+}
+
+/// The privileges that are granted to nobody: DAP Verification, Mandated DAP, Final Application and Ciphered Load File Data Block.
+const REFUSED: u32 = 0x41_02_40;
+
+/// The privileges that only a holder grants.
+const GUARDED: [Privileges; 8] = [
+    Privileges::AUTHORIZED_MANAGEMENT,
+    Privileges::TOKEN_VERIFICATION,
+    Privileges::RECEIPT_GENERATION,
+    Privileges::GLOBAL_DELETE,
+    Privileges::GLOBAL_LOCK,
+    Privileges::GLOBAL_REGISTRY,
+    Privileges::CARD_LOCK,
+    Privileges::CARD_TERMINATE,
+];
+
+// Whether the domain in a slot manages content, in its own right or as it is delegated to.
+fn may_manage(entries: &[Option<Slot>], domain: u8) -> bool
+    ensures { result ≡ may_manage_by (held entries.now domain) }
+{
+    holds(entries, domain, Privileges::AUTHORIZED_MANAGEMENT)
+        || holds(entries, domain, Privileges::DELEGATED_MANAGEMENT)
+}
+
+fn is_factory_file(aid: &Aid) -> bool
+    ensures { result ≡ same_aid aid.now FACTORY_FILE }
+{
+    aid.as_bytes() == FACTORY_FILE.as_slice()
+}
+
+fn is_factory_module(aid: &Aid) -> bool
+    ensures { result ≡ same_aid aid.now FACTORY_MODULE }
+{
+    aid.as_bytes() == FACTORY_MODULE.as_slice()
+}
+
+// The slot of the Executable Load File with an AID.
+fn find_file(tables: &Tables, aid: &Aid) -> Option<u8>
+    requires in_order { IsInOrder tables.now }
+    ensures some { IfSome result (λ slot. aid_of tables.now (File slot) ≡ Some aid.now) }
+    ensures none { (page : ℕ → List ℕ) (said : Registry) → Represents page tables.now said → Well said → IfNone result (file_named said aid.now ≡ None) }
+{
+    match find(tables, aid) {
+        Some(Found::File(slot)) => Some(slot),
+        Some(Found::Entry(_)) => None,
+        None => None,
+    }
+}
+
+// Whether the factory's Executable Load File is asked for, and another Module than it has.
+fn lacks_module(request: &InstallRequest<'_>) -> bool
+    ensures { IsTrue result ↔ ((request.now.file ≡ FACTORY_FILE) × (request.now.«module» ≢ FACTORY_MODULE)) }
+{
+    is_factory_file(&request.file) && !is_factory_module(&request.module)
+}
+
+// Whether the Executable Load File in a slot is in the charge of the domain in another.
+fn is_in_charge(tables: &Tables, domain: u8, slot: u8) -> bool
+    requires in_order { IsInOrder tables.now }
+    ensures { (page : ℕ → List ℕ) (admitted : Admitted) (file : LoadFile) → ActsIn page tables.now domain admitted
+        → held tables.now.files.items slot ≡ Some file
+        → IsTrue result ↔ IsFileInCharge admitted.at.registry (acting admitted) (file_of page tables.now.entries.items file) }
+{
+    match in_slot(&tables.files, slot) {
+        Some(file) => file.domain == domain || above(&tables.entries, domain, file.domain),
+        None => false,
+    }
+}
+
+// Whether the Executable Load File with an AID, in a slot, is neither the factory's nor in the charge of the domain in another.
+fn is_out_of_charge(tables: &Tables, domain: u8, aid: &Aid, slot: u8) -> bool
+    requires in_order { IsInOrder tables.now }
+    requires there { aid_of tables.now (File slot) ≡ Some aid.now }
+    ensures { (page : ℕ → List ℕ) (admitted : Admitted) → ActsIn page tables.now domain admitted → IsTrue result ↔ IsOutOfCharge admitted aid.now }
+{
+    !is_factory_file(aid) && !is_in_charge(tables, domain, slot)
+}
+
+// Whether the load session is for this AID.
+fn is_loading(live: &Live, aid: &Aid) -> bool
+    ensures { result ≡ is_loaded_as aid.now live.now.load }
+{
+    match &live.load {
+        Some(load) => load.aid == *aid,
+        None => false,
+    }
+}
+
+// Whether the AID is taken, or will be once the load session ends.
+fn is_taken(tables: &Tables, live: &Live, aid: &Aid) -> bool
+    requires in_order { IsInOrder tables.now }
+    ensures taken { (page : ℕ → List ℕ) (admitted : Admitted) → RepresentsState page tables.now live.now admitted.at → IsTrue result ↔ IsTakenAid admitted aid.now }
+    ensures free { (IsTrue result) ⊎ ((thing : Thing) → aid_of tables.now thing ≢ Some aid.now) }
+{
+    find(tables, aid).is_some() || is_loading(live, aid)
+}
+
+fn has_domain_privilege(privileges: Privileges) -> bool
+    ensures { (entry : Entry) → entry.privileges ≡ privileges → result ≡ has_domain_privilege_by entry }
+{
+    privileges.contains(Privileges::AUTHORIZED_MANAGEMENT)
+        || privileges.contains(Privileges::DELEGATED_MANAGEMENT)
+        || privileges.contains(Privileges::TOKEN_VERIFICATION)
+        || privileges.contains(Privileges::RECEIPT_GENERATION)
+}
+
+fn has_both_managements(privileges: Privileges) -> bool
+    ensures { (entry : Entry) → entry.privileges ≡ privileges
+        → result ≡ (has authorized_management entry.privileges && has delegated_management entry.privileges) }
+{
+    privileges.contains(Privileges::AUTHORIZED_MANAGEMENT)
+        && privileges.contains(Privileges::DELEGATED_MANAGEMENT)
+}
+
+// Whether privileges go together, and with the Executable Load File.
+fn may_be_made(file: &Aid, privileges: Privileges) -> bool
+    ensures { (entry : Entry) → entry.file ≡ file.now → entry.privileges ≡ privileges → IsTrue result ↔ MayBeMade entry }
+{
+    let domain = privileges.contains(Privileges::SECURITY_DOMAIN);
+    domain == is_factory_file(file)
+        && (domain || !has_domain_privilege(privileges))
+        && !has_both_managements(privileges)
+        && !privileges.intersects(Privileges::from_bits_retain(REFUSED))
+}
+
+fn exceeds(
+    entries: &[Option<Slot>],
+    domain: u8,
+    privileges: Privileges,
+    privilege: Privileges,
+) -> bool
+    ensures { result ≡ exceeds_by privileges (held entries.now domain) privilege }
+{
+    privileges.contains(privilege) && !holds(entries, domain, privilege)
+}
+
+// Whether a guarded one of the privileges is none of the domain in a slot.
+fn exceeds_domain(entries: &[Option<Slot>], domain: u8, privileges: Privileges) -> bool
+    ensures { result ≡ list_any (exceeds_by privileges (held entries.now domain)) GUARDED }
+{
+    GUARDED.iter().any(|privilege| exceeds(entries, domain, privileges, *privilege))
+}
+
+// The rules of INSTALL [for install] itself, for the domain in a slot: the slot of the Executable Load File.
+fn judge_application(
+    tables: &Tables,
+    live: &Live,
+    domain: u8,
+    request: &InstallRequest<'_>,
+) -> Result<u8, RuleII>
+    requires in_order { IsInOrder tables.now }
+    ensures passed { (page : ℕ → List ℕ) (admitted : Admitted) → ActsIn page tables.now domain admitted → RepresentsState page tables.now live.now admitted.at
+        → (is : IsInstallOf request.now admitted.command) → OnOk result (IsFirst (InstallingFails admitted is.asked) application_rules None) }
+    ensures refused { (page : ℕ → List ℕ) (admitted : Admitted) → ActsIn page tables.now domain admitted → RepresentsState page tables.now live.now admitted.at
+        → (is : IsInstallOf request.now admitted.command) → IfErr result (λ rule. IsFirst (InstallingFails admitted is.asked) application_rules (Some rule)) }
+    ensures file { IfOk result (λ slot. aid_of tables.now (File slot) ≡ Some request.now.file) }
+    ensures free { OnOk result ((thing : Thing) → aid_of tables.now thing ≢ Some request.now.aid) }
+    ensures room { OnOk result (NoneFree tables.now.entries.items → ⊥) }
+{
+    if !may_manage(&tables.entries, domain) {
+        return Err(RuleII::II1);
+    }
+    let Some(file) = find_file(tables, &request.file) else {
+        return Err(RuleII::II2);
+    };
+    if lacks_module(request) {
+        return Err(RuleII::II2);
+    }
+    if is_out_of_charge(tables, domain, &request.file, file) {
+        return Err(RuleII::II3);
+    }
+    if is_taken(tables, live, &request.aid) {
+        return Err(RuleII::II4);
+    }
+    if !may_be_made(&request.file, request.privileges) {
+        return Err(RuleII::II5);
+    }
+    if exceeds_domain(&tables.entries, domain, request.privileges) {
+        return Err(RuleII::II6);
+    }
+    match first_free(&tables.entries) {
+        Some(_) => Ok(file),
+        None => Err(RuleII::II7),
+    }
+}
+
+// The rules on the approval of a command of the domain in a slot, which are for a delegated one: the slot of the domain that confirms
+// it, or none where nobody does.
+fn judge_approval(tables: &Tables, domain: u8, signed: &Signed<'_>) -> Result<Option<u8>, Rule>
+    requires in_order { IsInOrder tables.now }
+    requires short { length signed.now.before.now ≤ 255 }
+    ensures passed { (page : ℕ → List ℕ) (admitted : Admitted) → ActsIn page tables.now domain admitted → IsSignedFor admitted signed.now
+        → OnOk result (IsFirst (ApprovalFails admitted (approval_of signed.now)) delegation_rules None) }
+    ensures refused { (page : ℕ → List ℕ) (admitted : Admitted) → ActsIn page tables.now domain admitted → IsSignedFor admitted signed.now
+        → IfErr result (λ rule. IsFirst (ApprovalFails admitted (approval_of signed.now)) delegation_rules (Some rule)) }
+    ensures found { (page : ℕ → List ℕ) (admitted : Admitted) → ActsIn page tables.now domain admitted → IfOk result (FindsConfirmer tables.now admitted) }
+    ensures used { IfOk result (λ found. IfSome found (λ slot. IsSome (held tables.now.entries.items slot))) }
+{
+    if !holds(&tables.entries, domain, Privileges::DELEGATED_MANAGEMENT) {
+        return Ok(None);
+    }
+    judge_delegated(tables, domain, signed)
+}
+
+/// Judges an INSTALL [for install] for the domain in a slot. What is kept of the state beside the tables tells the load session.
+pub fn judge_install(
+    tables: &Tables,
+    live: &Live,
+    domain: u8,
+    request: &InstallRequest<'_>,
+) -> Result<Installation, Rule>
+    requires in_order { IsInOrder tables.now }
+    requires short { length request.now.signed.before.now ≤ 255 }
+    ensures passed { (page : ℕ → List ℕ) (admitted : Admitted) → ActsIn page tables.now domain admitted → RepresentsState page tables.now live.now admitted.at
+        → IsInstallOf request.now admitted.command → OnOk result (IsFirst (InstallFails admitted) install_rules None) }
+    ensures refused { (page : ℕ → List ℕ) (admitted : Admitted) → ActsIn page tables.now domain admitted → RepresentsState page tables.now live.now admitted.at
+        → IsInstallOf request.now admitted.command → IfErr result (λ rule. IsFirst (InstallFails admitted) install_rules (Some rule)) }
+    ensures file { IfOk result (λ found. aid_of tables.now (File found.file) ≡ Some request.now.file) }
+    ensures free { OnOk result ((thing : Thing) → aid_of tables.now thing ≢ Some request.now.aid) }
+    ensures room { OnOk result (NoneFree tables.now.entries.items → ⊥) }
+    ensures receipter { (page : ℕ → List ℕ) (admitted : Admitted) → ActsIn page tables.now domain admitted
+        → IfOk result (λ found. FindsConfirmer tables.now admitted found.receipter) }
+    ensures used { IfOk result (λ found. IfSome found.receipter (λ slot. IsSome (held tables.now.entries.items slot))) }
+{
+    judge_management(tables, domain)?;
+    let file = match judge_application(tables, live, domain, request) {
+        Ok(file) => file,
+        Err(rule) => return Err(Rule::II(rule)),
+    };
+    let receipter = judge_approval(tables, domain, &request.signed)?;
+    Ok(Installation { file, receipter })
 }

@@ -9,6 +9,7 @@ mod extradition;
 mod get_data;
 mod initialize_update;
 mod install_application;
+mod install_fields;
 mod instruction;
 mod key_order;
 mod laws;
@@ -32,7 +33,8 @@ pub use external_authenticate::RuleEA;
 pub use extradition::RuleEX;
 pub use get_data::{Datum, RuleGD, judge_get_data};
 pub use initialize_update::{OfferedSet, RuleIU, judge_initialize_update};
-pub use install_application::RuleII;
+pub use install_application::{InstallRequest, Installation, RuleII, judge_install};
+pub use install_fields::InstallFields;
 pub use instruction::{
     EXTERNAL_AUTHENTICATE, GET_DATA, INITIALIZE_UPDATE, LOAD, MANAGE_CHANNEL, SELECT,
     instruction_bytes,

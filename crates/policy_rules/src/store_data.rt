@@ -121,8 +121,8 @@ fn has_object(objects: &[Option<Object>], owner: u8, tag: u16) -> bool
     objects.iter().any(|held| is_tagged(held, owner, tag))
 }
 
-// Whether one of the elements has a tag.
-fn has_tag(elements: &[u8], tag: u16) -> bool
+/// Whether one of the elements has a tag.
+pub(crate) fn has_tag(elements: &[u8], tag: u16) -> bool
     ensures { (are : List Element) → AreElements are elements.now → result ≡ has_tag_in are tag }
 {
     let mut rest = elements;

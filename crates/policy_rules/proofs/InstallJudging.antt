@@ -1,0 +1,285 @@
+-- What the judgement of an INSTALL [for install] finds by slots is what its rules say by names.
+use Rattle.std.proofs.Common.{◌≡◌, ◌≢◌, ◌⊎◌, ◌↔◌, inl, inr, ℕ, List, ◌++◌, Bool, true, false, not, ◌||◌, Option, None, Some, length, refl, sym, ap, subst, ◌∙◌, arith}
+use Rattle.std.specs.Prelude.{Contains, Err, IfNone, IfOk, IfSome, IsSome, Ok, Result, IsTrue, MatchOption, is_some, map}
+use Rattle.std.specs.List.{list_any}
+use Rattle.std.specs.Option.{option_map}
+use Rattle.std.proofs.lemmas.Bool.{and_from, and_parts, not-true, not_from_false, false_from_ne_true}
+use Rattle.std.proofs.lemmas.List.Elements.{All-contains}
+use Rattle.card_types.proofs.Domains.{file_domain_is_used, same_domain}
+use Rattle.card_types.proofs.FoundNames.{found_entry_named, found_file_named, none_found_none_named}
+use Rattle.card_types.proofs.LeastOfList.{found_fits}
+use Rattle.card_types.proofs.Members.{contains_map, mapped}
+use Rattle.card_types.proofs.Room.{entry_room, no_entry_room}
+use Rattle.card_types.proofs.SameAid.{same_aid_decides}
+use Rattle.card_types.specs.AidOrder.{same_aid}
+use Rattle.card_types.specs.First.{IsFirstFree, NoneFree}
+use Rattle.card_types.specs.Found.{aid_of}
+use Rattle.card_types.specs.Privileges.{authorized_management, bits_of, delegated_management, has}
+use Rattle.card_types.specs.Registry as registry
+use Rattle.card_types.specs.Registry.{entry_named, file_named}
+use Rattle.card_types.specs.Represents.{Represents, domain_aid, domain_slot, file_of}
+use Rattle.card_types.specs.Slots.{held}
+use Rattle.card_types.specs.Well.{IsWellFile, Well}
+use Rattle.card_types.specs.declared.factory.TheConstants.{FACTORY_FILE, FACTORY_MODULE}
+use Rattle.card_types.specs.declared.found.Found.{Found}
+use Rattle.card_types.specs.declared.found.Found.TheVariants as found
+use Rattle.card_types.specs.declared.limits.TheConstants.{ENTRIES}
+use Rattle.card_types.specs.declared.privileges.Privileges.{Privileges}
+use Rattle.card_types.specs.declared.tables.Entry.{Entry}
+use Rattle.card_types.specs.declared.tables.LoadFile.{LoadFile}
+use Rattle.card_types.specs.declared.tables.Tables.{Tables}
+use Rattle.domain_tree.proofs.AboveNamed.{above_in_slots, above_named}
+use Rattle.domain_tree.specs.Above.{Above}
+use Rattle.domain_tree.specs.Holders.{entry_has}
+use Rattle.policy_rules.proofs.Filtered.{any_there, there_any}
+use Rattle.policy_rules.proofs.FirstJoined.{first_behind, first_within}
+use Rattle.policy_rules.proofs.FirstLike.{first_like, first_of_group}
+use Rattle.policy_rules.proofs.InstallAsking.{one_asked}
+use Rattle.policy_rules.proofs.ManagementFirst.{behind_management}
+use Rattle.policy_rules.proofs.NearestHolder.{privilege_named}
+use Rattle.policy_rules.specs.Admission.{Admitted}
+use Rattle.policy_rules.specs.Charge.{IsFileInCharge, is_privileged}
+use Rattle.policy_rules.specs.Delegation.{Holds, MayManage, delegation_rules}
+use Rattle.policy_rules.specs.FirstFailing.{IsFirst}
+use Rattle.policy_rules.specs.HoldersFound.{FindsReceipter}
+use Rattle.policy_rules.specs.InstallApplication.{AskedFails, AsksToInstall, InstallAsked, InstallFails, InstallingFails, IsTakenAid, guarded_privileges, install_rules}
+use Rattle.policy_rules.specs.InstallFields.{approval_in}
+use Rattle.policy_rules.specs.InstallRequests.{ApprovalFails, FindsConfirmer, IsInstallOf, IsOutOfCharge, application_rules, exceeds_by, is_loaded_as, may_manage_by}
+use Rattle.policy_rules.specs.Management.{ManagementFails, acting}
+use Rattle.policy_rules.specs.Requests.{ActsIn, IsLoadNamed}
+use Rattle.policy_rules.specs.Volatile.{LoadSession}
+use Rattle.policy_rules.specs.declared.install_application.InstallRequest.{InstallRequest}
+use Rattle.policy_rules.specs.declared.install_application.RuleII.{RuleII}
+use Rattle.policy_rules.specs.declared.install_application.RuleII.TheVariants.{II2, II3, II4, II6, II7}
+use Rattle.policy_rules.specs.declared.install_application.TheConstants.{GUARDED}
+use Rattle.policy_rules.specs.declared.management.RuleM.TheVariants.{M1, M2}
+use Rattle.policy_rules.specs.declared.rule.Rule.{Rule}
+use Rattle.policy_rules.specs.declared.rule.Rule.TheVariants.{II}
+use Rattle.policy_rules.specs.declared.live.LoadName.{LoadName}
+
+one_true : (a b : Bool) → (a || b) ≡ true → (a ≡ true) ⊎ (b ≡ true)
+one_true true b is = inl refl
+one_true false b is = inr is
+
+or_true : (b : Bool) → (b || true) ≡ true
+or_true true = refl
+or_true false = refl
+
+-- an entry's AID is that of no Executable Load File
+pub apart_from_entry : (said : registry.Registry) → Well said → (aid : List ℕ) (entry : registry.Entry) → entry_named said aid ≡ Some entry → file_named said aid ≡ None
+apart_from_entry said well aid entry named = by (file_named said aid) refl
+  where
+    by : (o : Option registry.LoadFile) → file_named said aid ≡ o → file_named said aid ≡ None
+    by None is = is
+    by (Some file) is =
+        let found = found_fits (λ f. same_aid f.aid aid) said.files file is in
+        let apart = (All-contains (IsWellFile said) said.files file well.files found.0).apart in
+        let same = ap (entry_named said) ((same_aid_decides file.aid aid).0 found.1) in
+        let clash : Some entry ≡ None = sym named ∙ sym same ∙ apart in
+        absurd (cc)
+
+-- none is found
+pub none_found : (A : Type 0) (P : Type 0) (found : Option A) → is_some found ≡ false → IfNone found P → P
+none_found A P None none is = is
+none_found A P (Some x) none is = cc
+
+-- a thing with an AID is an entry or an Executable Load File, or there is none
+module _ (page : ℕ → List ℕ) (tables : Tables) (said : registry.Registry) (says : Represents page tables said) (aid : List ℕ) where
+  abbrev pub IsThere : Type 0
+  IsThere = IsSome (entry_named said aid) ⊎ IsSome (file_named said aid)
+
+  pub there : (found : Option Found) → IfSome found (λ f. aid_of tables f ≡ Some aid) → is_some found ≡ true → IsThere
+  there None is some = cc
+  there (Some (found.Entry slot)) is some = inl (subst IsSome (sym (found_entry_named page tables said says slot aid is).2) refl)
+  there (Some (found.File slot)) is some = inr (subst IsSome (sym (found_file_named page tables said says slot aid is).2) refl)
+
+  pub not_there : ((thing : Found) → aid_of tables thing ≢ Some aid) → IsThere → ⊥
+  not_there none (inl some) = (let gone = (none_found_none_named page tables said says aid none).0 in let is = subst IsSome gone some in cc)
+  not_there none (inr some) = (let gone = (none_found_none_named page tables said says aid none).1 in let is = subst IsSome gone some in cc)
+
+  pub entry_no_file : Well said → (slot : ℕ) → aid_of tables (found.Entry slot) ≡ Some aid → file_named said aid ≡ None
+  entry_no_file well slot is = (let named = found_entry_named page tables said says slot aid is in apart_from_entry said well aid _ named.2)
+
+-- the load session by its AID
+pub loaded : (entries : List (Option Entry)) (aid : List ℕ) (name : Option LoadName) (load : Option LoadSession) → IsLoadNamed entries name load
+    → (is_loaded_as aid name ≡ true) ↔ MatchOption load ⊥ (λ l. l.aid ≡ aid)
+loaded entries aid None None named = (λ is. cc, λ is. absurd is)
+loaded entries aid None (Some load) named = absurd named
+loaded entries aid (Some name) None named = absurd named
+loaded entries aid (Some name) (Some load) named = (
+  λ is. sym named.1 ∙ (same_aid_decides name.aid aid).0 is,
+  λ is. (same_aid_decides name.aid aid).1 (named.1 ∙ is),
+)
+
+module _ (page : ℕ → List ℕ) (tables : Tables) (domain : ℕ) (admitted : Admitted) (acts : ActsIn page tables domain admitted) where
+  -- what the acting domain holds, by its slot
+  pub holds_named : (privilege : Privileges) → entry_has privilege (held tables.entries.items domain) ≡ is_privileged (bits_of privilege) (entry_named admitted.at.registry (acting admitted))
+  holds_named privilege =
+      privilege_named page tables admitted.at.registry acts.says privilege domain acts.entry acts.at
+      ∙ ap (λ (aid : List ℕ). is_privileged (bits_of privilege) (entry_named admitted.at.registry aid)) (sym acts.on)
+
+  pub may_manage : may_manage_by (held tables.entries.items domain) ≡ true → MayManage admitted
+  may_manage may = elim (one_true (entry_has (record { 0 = authorized_management }) (held tables.entries.items domain)) (entry_has (record { 0 = delegated_management }) (held tables.entries.items domain)) may) [
+    | inl one ↦ inl (sym (holds_named (record { 0 = authorized_management })) ∙ one)
+    | inr other ↦ inr (sym (holds_named (record { 0 = delegated_management })) ∙ other)
+  ]
+
+  pub manages : MayManage admitted → may_manage_by (held tables.entries.items domain) ≡ true
+  manages (inl one) = (let is = holds_named (record { 0 = authorized_management }) ∙ one in rw is refl)
+  manages (inr other) =
+      (let is = holds_named (record { 0 = delegated_management }) ∙ other in
+      let second = entry_has (record { 0 = authorized_management }) (held tables.entries.items domain) in
+      rw is (or_true second))
+
+  -- a guarded privilege that the domain does not hold
+  pub exceeding : (privileges : Privileges) → list_any (exceeds_by privileges (held tables.entries.items domain)) GUARDED ≡ true
+      → (privilege : ℕ) × Contains guarded_privileges privilege × (has privilege privileges ≡ true) × (Holds admitted privilege → ⊥)
+  exceeding privileges some =
+      let found = there_any (exceeds_by privileges (held tables.entries.items domain)) GUARDED some in
+      let parts = and_parts (has (bits_of found.0) privileges) (not (entry_has found.0 (held tables.entries.items domain))) found.2 in (
+        bits_of found.0,
+        contains_map bits_of GUARDED found.0 found.1,
+        parts.0,
+        λ holds. (let by_slot = holds_named found.0 ∙ holds in let clash = not-true (entry_has found.0 (held tables.entries.items domain)) parts.1 in cc),
+      )
+
+  pub exceeds_some : (privileges : Privileges) → (privilege : ℕ) × Contains guarded_privileges privilege × (has privilege privileges ≡ true) × (Holds admitted privilege → ⊥)
+      → list_any (exceeds_by privileges (held tables.entries.items domain)) GUARDED ≡ true
+  exceeds_some privileges (privilege, among, given, lacks) =
+      let one = mapped bits_of GUARDED privilege among in
+      any_there (exceeds_by privileges (held tables.entries.items domain)) GUARDED one.0 one.1
+      (and_from _ _ (ap (λ (bit : ℕ). has bit privileges) one.2 ∙ given)
+      (not_from_false (entry_has one.0 (held tables.entries.items domain)) (false_from_ne_true (entry_has one.0 (held tables.entries.items domain))
+      (λ holds. lacks (subst (λ (bit : ℕ). is_privileged bit (entry_named admitted.at.registry (acting admitted)) ≡ true) one.2 (sym (holds_named one.0) ∙ holds))))))
+
+  -- the charge of an Executable Load File, by slots
+  module _ (slot : ℕ) (file : LoadFile) (at : held tables.files.items slot ≡ Some file) where
+    abbrev InCharge : Type 0
+    InCharge = IsFileInCharge admitted.at.registry (acting admitted) (file_of page tables.entries.items file)
+
+    pub own_file : file.domain ≡ domain → InCharge
+    own_file same = inl (ap (domain_aid tables.entries.items) same ∙ sym acts.on)
+
+    pub file_below : Above (domain_slot tables.entries.items) domain file.domain → InCharge
+    file_below above =
+        let owner = file_domain_is_used page tables admitted.at.registry acts.says acts.well slot file at in
+        inr (subst (λ (aid : List ℕ). IsAbove aid) (sym acts.on)
+        (above_named page tables admitted.at.registry acts.says domain file.domain acts.entry owner.0 acts.at owner.1 above))
+      where
+        IsAbove : List ℕ → Type 0
+        IsAbove aid = Above (registry.domain_of admitted.at.registry) aid (domain_aid tables.entries.items file.domain)
+
+    pub by_slots : InCharge → (file.domain ≡ domain) ⊎ Above (domain_slot tables.entries.items) domain file.domain
+    by_slots (inl same) =
+        let owner = file_domain_is_used page tables admitted.at.registry acts.says acts.well slot file at in
+        inl (same_domain page tables admitted.at.registry acts.says file.domain domain owner.0 acts.entry owner.1 acts.at (same ∙ acts.on))
+    by_slots (inr above) =
+        let owner = file_domain_is_used page tables admitted.at.registry acts.says acts.well slot file at in
+        inr (above_in_slots page tables admitted.at.registry acts.says acts.well domain file.domain acts.entry owner.0 acts.at owner.1
+        (subst (λ (aid : List ℕ). Above (registry.domain_of admitted.at.registry) aid (domain_aid tables.entries.items file.domain)) acts.on above))
+
+  -- an Executable Load File that is not the factory's
+  pub charge_told : (slot : ℕ) (aid : List ℕ) (within : Bool) → aid_of tables (found.File slot) ≡ Some aid → same_aid aid FACTORY_FILE ≡ false
+      → ((file : LoadFile) → held tables.files.items slot ≡ Some file → IsTrue within ↔ IsFileInCharge admitted.at.registry (acting admitted) (file_of page tables.entries.items file))
+      → IsTrue (not within) ↔ IsOutOfCharge admitted aid
+  charge_told slot aid within at other told =
+      let named = found_file_named page tables admitted.at.registry acts.says slot aid at in
+      let charge = told named.0 named.1 in
+      let out : Option registry.LoadFile → Type 0 = λ (o : Option registry.LoadFile). MatchOption o ⊥ (λ file. IsFileInCharge admitted.at.registry (acting admitted) file → ⊥) in (
+        λ is. (
+          λ same. (let clash = sym ((same_aid_decides aid FACTORY_FILE).1 same) ∙ other in cc),
+          subst out (sym named.2) (λ in_charge. (let clash = charge.1 in_charge in let off = not-true within is in cc)),
+        ),
+        λ outside. not_from_false within (false_from_ne_true within (λ is. subst out named.2 outside.1 (charge.0 is))),
+      )
+
+  -- the rules
+  module _ (request : InstallRequest) (is : IsInstallOf request admitted.command) where
+    abbrev Fails : RuleII → Type 0
+    Fails = InstallingFails admitted is.asked
+
+    pub no_file : file_named admitted.at.registry request.file ≡ None → Fails II2
+    no_file none = inl (ap (file_named admitted.at.registry) (sym is.file) ∙ none)
+
+    pub no_module : (request.file ≡ FACTORY_FILE) × (request.«module» ≢ FACTORY_MODULE) → Fails II2
+    no_module (file, other) = inr (sym is.file ∙ file, λ same. other (is.module_ ∙ same))
+
+    pub source : (slot : ℕ) → aid_of tables (found.File slot) ≡ Some request.file → ((request.file ≡ FACTORY_FILE) × (request.«module» ≢ FACTORY_MODULE) → ⊥)
+        → Fails II2 → ⊥
+    source slot at has (inl none) =
+        let named = found_file_named page tables admitted.at.registry acts.says slot request.file at in
+        let clash = sym named.2 ∙ ap (file_named admitted.at.registry) is.file ∙ none in
+        cc
+    source slot at has (inr (file, other)) = has (is.file ∙ file, λ same. other (sym is.module_ ∙ same))
+
+    pub out_of_charge : IsOutOfCharge admitted request.file → Fails II3
+    out_of_charge out = subst (IsOutOfCharge admitted) is.file out
+
+    pub in_charge : (IsOutOfCharge admitted request.file → ⊥) → Fails II3 → ⊥
+    in_charge within fails = within (subst (IsOutOfCharge admitted) (sym is.file) fails)
+
+    pub taken : IsTakenAid admitted request.aid → Fails II4
+    taken there = subst (IsTakenAid admitted) is.aid there
+
+    pub free : (IsTakenAid admitted request.aid → ⊥) → Fails II4 → ⊥
+    free none fails = none (subst (IsTakenAid admitted) (sym is.aid) fails)
+
+    pub exceeds : list_any (exceeds_by request.privileges (held tables.entries.items domain)) GUARDED ≡ true → Fails II6
+    exceeds some = subst Exceeds is.privileges (exceeding request.privileges some)
+      where
+        Exceeds : Privileges → Type 0
+        Exceeds privileges = (privilege : ℕ) × Contains guarded_privileges privilege × (has privilege privileges ≡ true) × (Holds admitted privilege → ⊥)
+
+    pub within : list_any (exceeds_by request.privileges (held tables.entries.items domain)) GUARDED ≡ false → Fails II6 → ⊥
+    within none fails =
+        let some = exceeds_some is.asked.privileges fails in
+        let same = ap (λ (privileges : Privileges). list_any (exceeds_by privileges (held tables.entries.items domain)) GUARDED) is.privileges in
+        let clash : true ≡ false = sym some ∙ sym same ∙ none in
+        cc
+
+    module _ (whole : length tables.entries.items ≡ ENTRIES) where
+      pub full : NoneFree tables.entries.items → Fails II7
+      full none = (let all = no_entry_room page tables admitted.at.registry acts.says none in omega (arith, all, whole))
+
+      pub roomy : (slot : ℕ) → IsFirstFree tables.entries.items slot → Fails II7 → ⊥
+      roomy slot first fails = (let below = entry_room page tables admitted.at.registry acts.says slot first.within first.free in omega (arith, below, whole, fails))
+
+-- the rules of the application, and those on its approval, are rules of the command
+module _ (admitted : Admitted) (asked : InstallAsked) (asks : AsksToInstall admitted.command.body asked) where
+  abbrev FailsAsked : Rule → Type 0
+  FailsAsked rule = (other : InstallAsked) × AsksToInstall admitted.command.body other × AskedFails admitted other rule
+
+  of_command : (rules : List Rule) (found : Option Rule) → IsFirst (AskedFails admitted asked) rules found → IsFirst FailsAsked rules found
+  of_command rules found first =
+      first_like (AskedFails admitted asked) FailsAsked (λ rule fails. (asked, asks, fails))
+      (λ rule fails. subst (λ (a : InstallAsked). AskedFails admitted a rule) (one_asked fails.0 asked admitted.command.body fails.1 asks) fails.2) rules found first
+
+  pub application_first : (found : Option RuleII) → IsFirst (InstallingFails admitted asked) application_rules found
+      → IsFirst (InstallFails admitted) (map II application_rules) (option_map II found)
+  application_first found first =
+      of_command (map II application_rules) (option_map II found) (first_of_group II (AskedFails admitted asked) application_rules found first)
+
+  pub approval_first : (found : Option Rule) → IsFirst (ApprovalFails admitted (approval_in asked.given)) delegation_rules found
+      → IsFirst (InstallFails admitted) delegation_rules found
+  approval_first found first = of_command delegation_rules found first
+
+  module _ (managed : (ManagementFails admitted M1 → ⊥) × (ManagementFails admitted M2 → ⊥)) where
+    -- a rule of the application fails first
+    pub refused_first : (rule : RuleII) → IsFirst (InstallingFails admitted asked) application_rules (Some rule)
+        → IsFirst (InstallFails admitted) install_rules (Some (II rule))
+    refused_first rule first =
+        behind_management (InstallFails admitted) (map II application_rules ++ delegation_rules) (Some (II rule)) managed.0 managed.1
+        (first_within (InstallFails admitted) delegation_rules (map II application_rules) (II rule) (application_first (Some rule) first))
+
+    -- none of them does
+    pub behind_application : (found : Option Rule) → IsFirst (InstallingFails admitted asked) application_rules None
+        → IsFirst (ApprovalFails admitted (approval_in asked.given)) delegation_rules found → IsFirst (InstallFails admitted) install_rules found
+    behind_application found none first =
+        behind_management (InstallFails admitted) (map II application_rules ++ delegation_rules) found managed.0 managed.1
+        (first_behind (InstallFails admitted) delegation_rules (map II application_rules) found (application_first None none) (approval_first found first))
+
+-- who confirms a delegated command
+pub confirms : (tables : Tables) (admitted : Admitted) → Holds admitted delegated_management → (result : Result (Option ℕ) Rule)
+    → IfOk result (FindsReceipter tables admitted) → IfOk result (FindsConfirmer tables admitted)
+confirms tables admitted holds (Ok slot) finds = (λ so. finds, λ lacks. absurd (lacks holds))
+confirms tables admitted holds (Err rule) finds = finds

@@ -1,0 +1,80 @@
+-- What the code reads of an INSTALL [for install], and what it finds.
+use Rattle.std.specs.Prelude.{◌≡◌, ◌⊎◌, ℕ, ◌≤◌, ◌==◌, ◌&&◌, List, [], ◌∷◌, Bool, false, not, Option, None, Some, MatchOption, ◌≢◌, ◌||◌, length}
+use Rattle.apdu_core.specs.Apdu.{Apdu}
+use Rattle.card_types.specs.AidOrder.{same_aid}
+use Rattle.card_types.specs.Privileges.{authorized_management, bits_of, delegated_management, has}
+use Rattle.card_types.specs.Registry.{file_named}
+use Rattle.card_types.specs.declared.factory.TheConstants.{FACTORY_FILE}
+use Rattle.card_types.specs.declared.privileges.Privileges.{Privileges}
+use Rattle.card_types.specs.declared.tables.Entry.{Entry as Slot}
+use Rattle.card_types.specs.declared.tables.Tables.{Tables}
+use Rattle.domain_tree.specs.Holders.{entry_has}
+use Rattle.policy_rules.specs.Admission.{Admitted}
+use Rattle.policy_rules.specs.Charge.{IsFileInCharge}
+use Rattle.policy_rules.specs.CommandForm.{CommandForm}
+use Rattle.policy_rules.specs.Delegation.{Approval, DelegatedFails, Holds}
+use Rattle.policy_rules.specs.HoldersFound.{FindsReceipter, approval_of}
+use Rattle.policy_rules.specs.InstallApplication.{AsksToInstall, InstallAsked}
+use Rattle.policy_rules.specs.InstallFields.{approval_in}
+use Rattle.policy_rules.specs.Management.{acting}
+use Rattle.policy_rules.specs.declared.install_application.InstallRequest.{InstallRequest}
+use Rattle.policy_rules.specs.declared.install_application.RuleII.{RuleII}
+use Rattle.policy_rules.specs.declared.install_application.RuleII.TheVariants.{II1, II2, II3, II4, II5, II6, II7}
+use Rattle.policy_rules.specs.declared.live.LoadName.{LoadName}
+use Rattle.policy_rules.specs.declared.rule.Rule.{Rule}
+use Rattle.policy_rules.specs.declared.rule.Rule.TheVariants.{PS}
+use Rattle.policy_rules.specs.declared.rule.RulePS.TheVariants.{P, S}
+
+-- the form does not take this P1 and P2, or with these not this data field
+abbrev pub IsRefusedBy : CommandForm → ℕ → ℕ → List ℕ → Rule → Type 0
+IsRefusedBy form p1 p2 body found =
+    ((found ≡ PS P) × (form.takes p1 p2 → ⊥))
+    ⊎ ((found ≡ PS S) × form.takes p1 p2 × (form.takes_field p1 p2 body → ⊥))
+
+-- The request is that of a command with this P1, P2 and data field.
+pub record IsInstallRequest (request : InstallRequest) (p1 p2 : ℕ) (body : List ℕ) : Type 0 where
+  pub asked : InstallAsked
+  pub asks : AsksToInstall body asked
+  pub selectable : request.selectable ≡ (p1 == 0x0C)
+  pub file : request.file ≡ asked.given.first
+  pub module_ : request.«module» ≡ asked.given.second
+  pub aid : request.aid ≡ asked.given.third
+  pub privileges : request.privileges ≡ asked.privileges
+  pub parameters : (request.signed.p1 ≡ p1) × (request.signed.p2 ≡ p2)
+  pub approval : approval_of request.signed ≡ approval_in asked.given
+  pub short : length request.signed.before.now ≤ length body
+
+-- and that of this command
+abbrev pub IsInstallOf : InstallRequest → Apdu → Type 0
+IsInstallOf request command = IsInstallRequest request command.p1 command.p2 command.body
+
+-- its rules but for those on its approval
+abbrev pub application_rules : List RuleII
+application_rules = II1 ∷ II2 ∷ II3 ∷ II4 ∷ II5 ∷ II6 ∷ II7 ∷ []
+
+-- the load session is for this AID
+abbrev pub is_loaded_as : List ℕ → Option LoadName → Bool
+is_loaded_as aid None = false
+is_loaded_as aid (Some load) = same_aid load.aid aid
+
+-- the privileges have one that the entry in a slot does not hold
+abbrev pub exceeds_by : Privileges → Option Slot → Privileges → Bool
+exceeds_by privileges entry privilege = has (bits_of privilege) privileges && not (entry_has privilege entry)
+
+-- the entry in a slot manages content
+abbrev pub may_manage_by : Option Slot → Bool
+may_manage_by entry = entry_has (record { 0 = authorized_management }) entry || entry_has (record { 0 = delegated_management }) entry
+
+-- an Executable Load File is not the factory's, and not in the charge of the domain
+abbrev pub IsOutOfCharge : Admitted → List ℕ → Type 0
+IsOutOfCharge admitted aid =
+    (aid ≢ FACTORY_FILE) × MatchOption (file_named admitted.at.registry aid) ⊥ (λ file. IsFileInCharge admitted.at.registry (acting admitted) file → ⊥)
+
+-- the rules on the approval fail for a delegated command alone
+abbrev pub ApprovalFails : Admitted → Approval → Rule → Type 0
+ApprovalFails admitted approval rule = Holds admitted delegated_management × DelegatedFails admitted approval rule
+
+-- a delegated command is confirmed by the domain in the slot or by none, and another by none
+abbrev pub FindsConfirmer : Tables → Admitted → Option ℕ → Type 0
+FindsConfirmer tables admitted found =
+    (Holds admitted delegated_management → FindsReceipter tables admitted found) × ((Holds admitted delegated_management → ⊥) → found ≡ None)
