@@ -1,5 +1,6 @@
 pub mod ActingDomain
 pub mod AllLawful
+pub mod AnsweredKeeps
 pub mod AnySlot
 pub mod Approved
 pub mod Channels
@@ -13,6 +14,7 @@ pub mod DeleteKeyLaws
 pub mod DeleteKeyOnce
 pub mod ExternalAuthenticateLaws
 pub mod Filtered
+pub mod FitsKept
 pub mod FirstJoined
 pub mod FirstLike
 pub mod FirstUnique
