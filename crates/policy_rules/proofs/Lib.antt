@@ -24,6 +24,7 @@ pub mod GetDataLaws
 pub mod InitializeUpdateJudging
 pub mod InitializeUpdateLaws
 pub mod InitializeUpdateOffer
+pub mod InstallApplicationLaws
 pub mod InstallAsking
 pub mod InstallJudging
 pub mod Instructed
