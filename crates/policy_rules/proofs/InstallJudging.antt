@@ -50,7 +50,7 @@ use Rattle.policy_rules.specs.Requests.{ActsIn, IsLoadNamed}
 use Rattle.policy_rules.specs.Volatile.{LoadSession}
 use Rattle.policy_rules.specs.declared.install_application.InstallRequest.{InstallRequest}
 use Rattle.policy_rules.specs.declared.install_application.RuleII.{RuleII}
-use Rattle.policy_rules.specs.declared.install_application.RuleII.TheVariants.{II2, II3, II4, II6, II7}
+use Rattle.policy_rules.specs.declared.install_application.RuleII.TheVariants.{II1, II2, II3, II4, II6, II7}
 use Rattle.policy_rules.specs.declared.install_application.TheConstants.{GUARDED}
 use Rattle.policy_rules.specs.declared.management.RuleM.TheVariants.{M1, M2}
 use Rattle.policy_rules.specs.declared.rule.Rule.{Rule}
@@ -118,13 +118,13 @@ module _ (page : ℕ → List ℕ) (tables : Tables) (domain : ℕ) (admitted : 
       privilege_named page tables admitted.at.registry acts.says privilege domain acts.entry acts.at
       ∙ ap (λ (aid : List ℕ). is_privileged (bits_of privilege) (entry_named admitted.at.registry aid)) (sym acts.on)
 
-  pub may_manage : may_manage_by (held tables.entries.items domain) ≡ true → MayManage admitted
+  may_manage : may_manage_by (held tables.entries.items domain) ≡ true → MayManage admitted
   may_manage may = elim (one_true (entry_has (record { 0 = authorized_management }) (held tables.entries.items domain)) (entry_has (record { 0 = delegated_management }) (held tables.entries.items domain)) may) [
     | inl one ↦ inl (sym (holds_named (record { 0 = authorized_management })) ∙ one)
     | inr other ↦ inr (sym (holds_named (record { 0 = delegated_management })) ∙ other)
   ]
 
-  pub manages : MayManage admitted → may_manage_by (held tables.entries.items domain) ≡ true
+  manages : MayManage admitted → may_manage_by (held tables.entries.items domain) ≡ true
   manages (inl one) = (let is = holds_named (record { 0 = authorized_management }) ∙ one in rw is refl)
   manages (inr other) =
       (let is = holds_named (record { 0 = delegated_management }) ∙ other in
@@ -132,7 +132,7 @@ module _ (page : ℕ → List ℕ) (tables : Tables) (domain : ℕ) (admitted : 
       rw is (or_true second))
 
   -- a guarded privilege that the domain does not hold
-  pub exceeding : (privileges : Privileges) → list_any (exceeds_by privileges (held tables.entries.items domain)) GUARDED ≡ true
+  exceeding : (privileges : Privileges) → list_any (exceeds_by privileges (held tables.entries.items domain)) GUARDED ≡ true
       → (privilege : ℕ) × Contains guarded_privileges privilege × (has privilege privileges ≡ true) × (Holds admitted privilege → ⊥)
   exceeding privileges some =
       let found = there_any (exceeds_by privileges (held tables.entries.items domain)) GUARDED some in
@@ -143,7 +143,7 @@ module _ (page : ℕ → List ℕ) (tables : Tables) (domain : ℕ) (admitted : 
         λ holds. (let by_slot = holds_named found.0 ∙ holds in let clash = not-true (entry_has found.0 (held tables.entries.items domain)) parts.1 in cc),
       )
 
-  pub exceeds_some : (privileges : Privileges) → (privilege : ℕ) × Contains guarded_privileges privilege × (has privilege privileges ≡ true) × (Holds admitted privilege → ⊥)
+  exceeds_some : (privileges : Privileges) → (privilege : ℕ) × Contains guarded_privileges privilege × (has privilege privileges ≡ true) × (Holds admitted privilege → ⊥)
       → list_any (exceeds_by privileges (held tables.entries.items domain)) GUARDED ≡ true
   exceeds_some privileges (privilege, among, given, lacks) =
       let one = mapped bits_of GUARDED privilege among in
@@ -198,6 +198,12 @@ module _ (page : ℕ → List ℕ) (tables : Tables) (domain : ℕ) (admitted : 
     abbrev Fails : RuleII → Type 0
     Fails = InstallingFails admitted is.asked
 
+    pub unmanaged : (b : Bool) → b ≡ may_manage_by (held tables.entries.items domain) → b ≡ false → Fails II1
+    unmanaged b told none may = (let is_so = manages may in let clash = sym is_so ∙ sym told ∙ none in cc)
+
+    pub managing : (b : Bool) → b ≡ may_manage_by (held tables.entries.items domain) → b ≡ true → Fails II1 → ⊥
+    managing b told some fails = fails (may_manage (sym told ∙ some))
+
     pub no_file : file_named admitted.at.registry request.file ≡ None → Fails II2
     no_file none = inl (ap (file_named admitted.at.registry) (sym is.file) ∙ none)
 
@@ -224,17 +230,17 @@ module _ (page : ℕ → List ℕ) (tables : Tables) (domain : ℕ) (admitted : 
     pub free : (IsTakenAid admitted request.aid → ⊥) → Fails II4 → ⊥
     free none fails = none (subst (IsTakenAid admitted) (sym is.aid) fails)
 
-    pub exceeds : list_any (exceeds_by request.privileges (held tables.entries.items domain)) GUARDED ≡ true → Fails II6
-    exceeds some = subst Exceeds is.privileges (exceeding request.privileges some)
+    pub exceeds : (b : Bool) → b ≡ list_any (exceeds_by request.privileges (held tables.entries.items domain)) GUARDED → b ≡ true → Fails II6
+    exceeds b told some = subst Exceeds is.privileges (exceeding request.privileges (sym told ∙ some))
       where
         Exceeds : Privileges → Type 0
         Exceeds privileges = (privilege : ℕ) × Contains guarded_privileges privilege × (has privilege privileges ≡ true) × (Holds admitted privilege → ⊥)
 
-    pub within : list_any (exceeds_by request.privileges (held tables.entries.items domain)) GUARDED ≡ false → Fails II6 → ⊥
-    within none fails =
+    pub within : (b : Bool) → b ≡ list_any (exceeds_by request.privileges (held tables.entries.items domain)) GUARDED → b ≡ false → Fails II6 → ⊥
+    within b told none fails =
         let some = exceeds_some is.asked.privileges fails in
         let same = ap (λ (privileges : Privileges). list_any (exceeds_by privileges (held tables.entries.items domain)) GUARDED) is.privileges in
-        let clash : true ≡ false = sym some ∙ sym same ∙ none in
+        let clash : true ≡ false = sym some ∙ sym same ∙ sym told ∙ none in
         cc
 
     module _ (whole : length tables.entries.items ≡ ENTRIES) where

@@ -1,5 +1,6 @@
 pub mod ActingDomain
 pub mod AllLawful
+pub mod AnsweredKeeps
 pub mod AnySlot
 pub mod Approved
 pub mod Channels
@@ -13,6 +14,7 @@ pub mod DeleteKeyLaws
 pub mod DeleteKeyOnce
 pub mod ExternalAuthenticateLaws
 pub mod Filtered
+pub mod FitsKept
 pub mod FirstJoined
 pub mod FirstLike
 pub mod FirstUnique
@@ -22,6 +24,7 @@ pub mod GetDataLaws
 pub mod InitializeUpdateJudging
 pub mod InitializeUpdateLaws
 pub mod InitializeUpdateOffer
+pub mod InstallApplicationLaws
 pub mod InstallAsking
 pub mod InstallJudging
 pub mod Instructed
