@@ -16,7 +16,7 @@ use slot::{
 use std::alloc::Global;
 
 /// The front of the superblock: the mark of a card, and its layout.
-const SUPERBLOCK: [u8; 5] = [0x47, 0x50, 0x43, 0x44, 0x02];
+const SUPERBLOCK: [u8; 5] = [0x47, 0x50, 0x43, 0x44, 0x03];
 
 const PAGE_SIZE: usize = 256;
 
