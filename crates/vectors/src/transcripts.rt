@@ -2,21 +2,23 @@
 
 ghost use Rattle.std.specs.Prelude.{◌<◌, ◌≤◌, length};
 
+mod keys_of_16;
+mod keys_of_24;
+mod keys_of_32;
 mod table;
 
 use crate::digits::bytes;
-use aes_block::{Aes128, BlockKey};
+use aes_block::{Aes128, Aes192, Aes256, BlockKey};
 use apdu_core::{Command, Status};
 use arrayvec::ArrayVec;
-use card_types::Aid;
+use card_types::{Aid, Level};
 use cmac_kdf::derive;
+use keys_of_16::KEYS_OF_16;
+use keys_of_24::KEYS_OF_24;
+use keys_of_32::KEYS_OF_32;
 use scp03_card::{Offer, Session, StaticKeys, offer};
 use scp03_host::{HostSession, begin};
-use std::test::Fail;
-use table::{
-    AID, CARD_CHALLENGE, CARD_CRYPTOGRAM, HOST_CHALLENGE, HOST_CRYPTOGRAM, PLAIN, Plain, S_ENC,
-    S_MAC, S_RMAC, STATIC_KEY, Sent, TRANSCRIPTS, Transcript, ZEROS,
-};
+use table::{AID, HOST_CHALLENGE, PLAIN, Plain, STATIC_KEY, Sent, Transcript, Values};
 
 type Told<T> = Result<T, &'static str>;
 
@@ -24,112 +26,176 @@ fn told(holds: bool, what: &'static str) -> Told<()> {
     if holds { Ok(()) } else { Err(what) }
 }
 
+fn key<K: BlockKey>(bytes: &[u8]) -> Told<K> {
+    if bytes.len() != K::LEN {
+        return Err("a key");
+    }
+    Ok(K::from_key(bytes))
+}
+
+fn static_key<K: BlockKey>() -> Told<K> {
+    let bytes: ArrayVec<u8, 32> = bytes(STATIC_KEY);
+    key(bytes.get(..K::LEN).ok_or("a key")?)
+}
+
 /// What is derived from a key.
-fn derived<const N: usize>(key: [u8; 16], constant: u8, context: &[u8]) -> [u8; N]
+fn derived<K: BlockKey, const N: usize>(key: &K, constant: u8, context: &[u8]) -> [u8; N]
     requires some { 0 < N }
     requires most { N ≤ 32 }
     requires short_context { length context.now ≤ 32 }
 {
     let mut out = [0; N];
-    derive(&Aes128::from_key(&key), constant, context, &mut out);
+    derive(key, constant, context, &mut out);
     out
 }
 
-fn card_challenge() -> u64 {
+fn card_challenge<K: BlockKey>() -> Told<u64> {
     let mut counter_and_aid = [0; 11];
     counter_and_aid[3..].copy_from_slice(&AID);
-    u64::from_be_bytes(derived(STATIC_KEY, 0x02, &counter_and_aid))
+    Ok(u64::from_be_bytes(derived(&static_key::<K>()?, 0x02, &counter_and_aid)))
 }
 
-fn both_challenges() -> [u8; 16] {
+fn both_challenges(values: &Values) -> [u8; 16] {
     let mut context = [0; 16];
     context[..8].copy_from_slice(&HOST_CHALLENGE);
-    context[8..].copy_from_slice(&CARD_CHALLENGE.to_be_bytes());
+    context[8..].copy_from_slice(&values.card_challenge.to_be_bytes());
     context
 }
 
-fn session_key(constant: u8) -> u128 {
-    u128::from_be_bytes(derived(STATIC_KEY, constant, &both_challenges()))
+/// Whether these digits are those of a session key of `N` bytes.
+fn is_session_key<K: BlockKey, const N: usize>(
+    values: &Values,
+    constant: u8,
+    digits: &[u8],
+) -> Told<bool>
+    requires some { 0 < N }
+    requires most { N ≤ 32 }
+{
+    let session_key: [u8; N] = derived(&static_key::<K>()?, constant, &both_challenges(values));
+    Ok(bytes::<32>(digits).as_slice() == session_key.as_slice())
 }
 
-fn cryptogram(constant: u8) -> u64 {
-    u64::from_be_bytes(derived(S_MAC.to_be_bytes(), constant, &both_challenges()))
+fn cryptogram<K: BlockKey>(values: &Values, constant: u8) -> Told<u64> {
+    let s_mac: K = key(&bytes::<32>(values.s_mac))?;
+    Ok(u64::from_be_bytes(derived(&s_mac, constant, &both_challenges(values))))
 }
 
-fn derivations() -> Told<()> {
-    told(card_challenge() == CARD_CHALLENGE, "card challenge")?;
-    told(session_key(0x04) == S_ENC, "S-ENC")?;
-    told(session_key(0x06) == S_MAC, "S-MAC")?;
-    told(session_key(0x07) == S_RMAC, "S-RMAC")?;
-    told(cryptogram(0x00) == CARD_CRYPTOGRAM, "card cryptogram")?;
-    told(cryptogram(0x01) == HOST_CRYPTOGRAM, "host cryptogram")
+/// The keys have `N` bytes.
+fn derivations<K: BlockKey, const N: usize>(values: &Values) -> Told<()>
+    requires some { 0 < N }
+    requires most { N ≤ 32 }
+{
+    told(
+        card_challenge::<K>()? == values.card_challenge,
+        "card challenge",
+    )?;
+    told(is_session_key::<K, N>(values, 0x04, values.s_enc)?, "S-ENC")?;
+    told(is_session_key::<K, N>(values, 0x06, values.s_mac)?, "S-MAC")?;
+    told(
+        is_session_key::<K, N>(values, 0x07, values.s_rmac)?,
+        "S-RMAC",
+    )?;
+    told(
+        cryptogram::<K>(values, 0x00)? == values.card_cryptogram,
+        "card cryptogram",
+    )?;
+    told(
+        cryptogram::<K>(values, 0x01)? == values.host_cryptogram,
+        "host cryptogram",
+    )
 }
 
 #[test]
 fn derived_values(rt: HostRuntime) {
-    assert!(rt; derivations() == Ok(()));
+    let told = [
+        derivations::<Aes128, 16>(&KEYS_OF_16),
+        derivations::<Aes192, 24>(&KEYS_OF_24),
+        derivations::<Aes256, 32>(&KEYS_OF_32),
+    ];
+    assert!(rt; told == [Ok(()), Ok(()), Ok(())]);
 }
 
-fn keys() -> StaticKeys<Aes128> {
-    StaticKeys {
-        enc: Aes128::from_key(&STATIC_KEY),
-        mac: Aes128::from_key(&STATIC_KEY),
-        dek: Aes128::from_key(&STATIC_KEY),
-    }
+fn keys<K: BlockKey>() -> Told<StaticKeys<K>> {
+    Ok(StaticKeys {
+        enc: static_key()?,
+        mac: static_key()?,
+        dek: static_key()?,
+    })
 }
 
-fn offered() -> Told<Offer<Aes128>> {
+fn offered<K: BlockKey>(values: &Values) -> Told<Offer<K>> {
     let aid = Aid::new(&AID).ok_or("an AID")?;
-    let offer = offer(keys(), 0, &aid, &HOST_CHALLENGE);
+    let offer = offer(keys()?, 0, &aid, &HOST_CHALLENGE);
     told(
-        u64::from_be_bytes(offer.challenge()) == CARD_CHALLENGE,
+        u64::from_be_bytes(offer.challenge()) == values.card_challenge,
         "card challenge",
     )?;
     told(
-        u64::from_be_bytes(offer.cryptogram()) == CARD_CRYPTOGRAM,
+        u64::from_be_bytes(offer.cryptogram()) == values.card_cryptogram,
         "card cryptogram",
     )?;
     Ok(offer)
 }
 
 /// The data field of the reply to INITIALIZE UPDATE.
-fn update_reply() -> [u8; 32] {
+fn update_reply(values: &Values) -> [u8; 32] {
     let mut reply = [0; 32];
     reply[10..13].copy_from_slice(&[0x30, 0x03, 0x70]);
-    reply[13..21].copy_from_slice(&CARD_CHALLENGE.to_be_bytes());
-    reply[21..29].copy_from_slice(&CARD_CRYPTOGRAM.to_be_bytes());
+    reply[13..21].copy_from_slice(&values.card_challenge.to_be_bytes());
+    reply[21..29].copy_from_slice(&values.card_cryptogram.to_be_bytes());
     reply
 }
 
-fn enciphered_zeros(key: &Aes128) -> u128 {
+fn enciphered_zeros<K: BlockKey>(key: &K) -> u128 {
     let mut block = [0; 16];
     key.seal(&mut block);
     u128::from_be_bytes(block)
 }
 
 /// The host side, with EXTERNAL AUTHENTICATE in `out`.
-fn begun_host(transcript: &Transcript, out: &mut ArrayVec<u8, 261>) -> Told<HostSession<Aes128>> {
+fn begun_host<K: BlockKey>(
+    values: &Values,
+    transcript: &Transcript,
+    out: &mut ArrayVec<u8, 261>,
+) -> Told<HostSession<K>> {
     let level = transcript.level;
-    let host = begin(keys(), &HOST_CHALLENGE, &update_reply(), level, 0, out)
-        .ok()
-        .ok_or("card cryptogram at the host")?;
+    let host = begin(
+        keys()?,
+        &HOST_CHALLENGE,
+        &update_reply(values),
+        level,
+        0,
+        out,
+    )
+    .ok()
+    .ok_or("card cryptogram at the host")?;
     told(*out == bytes(transcript.authenticate), "authenticate")?;
     told(host.level() == level, "the level at the host")?;
-    told(enciphered_zeros(host.dek()) == ZEROS, "Key-DEK at the host")?;
+    told(
+        enciphered_zeros(host.dek()) == values.zeros,
+        "Key-DEK at the host",
+    )?;
     Ok(host)
 }
 
 /// The card side, after it.
-fn begun_card(transcript: &Transcript, sent: &[u8]) -> Told<Session<Aes128>> {
+fn begun_card<K: BlockKey>(
+    values: &Values,
+    transcript: &Transcript,
+    sent: &[u8],
+) -> Told<Session<K>> {
     let level = transcript.level;
     let command = Command::read(sent).ok().ok_or("a command")?;
     let body = command.body.try_into().ok().ok_or("a body")?;
-    let card = offered()?
+    let card = offered(values)?
         .authenticate(level, body)
         .ok()
         .ok_or("host cryptogram and C-MAC at the card")?;
     told(card.level() == level, "the level at the card")?;
-    told(enciphered_zeros(card.dek()) == ZEROS, "Key-DEK at the card")?;
+    told(
+        enciphered_zeros(card.dek()) == values.zeros,
+        "Key-DEK at the card",
+    )?;
     Ok(card)
 }
 
@@ -151,9 +217,9 @@ fn sent_reply(sent: &Sent, status: u16) -> ArrayVec<u8, 258> {
 }
 
 /// The host sends a command, and the card opens it.
-fn command_sent(
-    host: &mut HostSession<Aes128>,
-    card: &mut Session<Aes128>,
+fn command_sent<K: BlockKey>(
+    host: &mut HostSession<K>,
+    card: &mut Session<K>,
     plain: &Plain,
     sent: &Sent,
 ) -> Told<()> {
@@ -181,9 +247,9 @@ fn command_sent(
 }
 
 /// The card sends the reply, and the host unwraps it. Where nothing of a data field was sent, the host has none.
-fn reply_sent(
-    host: &mut HostSession<Aes128>,
-    card: &mut Session<Aes128>,
+fn reply_sent<K: BlockKey>(
+    host: &mut HostSession<K>,
+    card: &mut Session<K>,
     plain: &Plain,
     sent: &Sent,
 ) -> Told<()> {
@@ -211,10 +277,10 @@ fn reply_sent(
     told(field == bytes(wanted), "the data field at the host")
 }
 
-fn play(transcript: &Transcript) -> Told<()> {
+fn play<K: BlockKey>(values: &Values, transcript: &Transcript) -> Told<()> {
     let mut sent = ArrayVec::new();
-    let mut host = begun_host(transcript, &mut sent)?;
-    let mut card = begun_card(transcript, &sent)?;
+    let mut host: HostSession<K> = begun_host(values, transcript, &mut sent)?;
+    let mut card = begun_card(values, transcript, &sent)?;
     for (plain, sent) in PLAIN.iter().zip(&transcript.sent) {
         command_sent(&mut host, &mut card, plain, sent)?;
         reply_sent(&mut host, &mut card, plain, sent)?;
@@ -222,10 +288,19 @@ fn play(transcript: &Transcript) -> Told<()> {
     Ok(())
 }
 
-#[test]
-fn transcripts_at_each_level(rt: HostRuntime) -> Result<(), Fail> {
-    for line in &TRANSCRIPTS {
-        assert!(rt; play(line) == Ok(()), "{:?}", line.level);
+fn play_all<K: BlockKey>(values: &Values) -> Result<(), (Level, &'static str)> {
+    for transcript in &values.transcripts {
+        play::<K>(values, transcript).map_err(|what| (transcript.level, what))?;
     }
     Ok(())
+}
+
+#[test]
+fn transcripts_at_each_level(rt: HostRuntime) {
+    let told = [
+        play_all::<Aes128>(&KEYS_OF_16),
+        play_all::<Aes192>(&KEYS_OF_24),
+        play_all::<Aes256>(&KEYS_OF_32),
+    ];
+    assert!(rt; told == [Ok(()), Ok(()), Ok(())]);
 }
