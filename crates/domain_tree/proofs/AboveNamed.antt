@@ -96,6 +96,10 @@ module _ (page : ℕ → List ℕ) (tables : Tables) (said : registry.Registry) 
                   | inl same ↦ inl (sym to.3 ∙ ap (domain_aid entries) same)
                   | inr higher ↦ inr (subst (λ (n : List ℕ). Above (domain_of said) n (domain_aid entries first)) to.3 (above_named to.0 first to.1 used.0 to.2 used.1 higher))
                 ]);
+            none_lower = λ aid above fit lower.
+                (let to = slot_above b y aid at_b above in
+                is.none_lower to.0 to.4 (alike to.0 to.1 to.2 ∙ ap named to.3 ∙ fit)
+                (above_in_slots first to.0 used.0 to.1 used.1 to.2 (subst (λ (n : List ℕ). Above (domain_of said) (domain_aid entries first) n) (sym to.3) lower)));
           }
 
       pub none_above_named : (b : ℕ) (y : Entry) → held tables.entries.items b ≡ Some y → NoneAbove (domain_slot tables.entries.items) fits b

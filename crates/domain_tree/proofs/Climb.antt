@@ -131,6 +131,14 @@ module _ (entries : List (Option Entry)) (fits : ℕ → Bool) (free : IsFreeOfL
     above = climbs from at count entry here on reached;
     fitting = fit;
     lowest = λ a above fits_too. above_next (domain_slot entries) a at entry.domain (step_from_used entries at entry here) (reached.rest a above fits_too);
+    none_lower = λ a above fits_too lower.
+        (let steps = step_from_used entries at entry here in
+        let line = free at entry here in
+        let rest = line_behind (domain_slot entries) at entry.domain line.0 line.1 steps on in
+        elim (above_next (domain_slot entries) a at entry.domain steps (reached.rest a above fits_too)) [
+          | inl same ↦ lower.other (sym same)
+          | inr higher ↦ lower.other (lead_to_each_other (domain_slot entries) entry.domain a rest.0 higher.path lower.path rest.1 higher.leads lower.leads)
+        ]);
   }
 
   pub none_above_reached : (from at count : ℕ) (entry : Entry) → held entries at ≡ Some entry → entry.domain ≡ at

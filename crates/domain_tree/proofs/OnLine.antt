@@ -48,6 +48,7 @@ module _ (step : ℕ → Option ℕ) where
           above = goes_on;
           fitting = above.fitting;
           lowest = λ a higher fit. above.lowest a (above_lower from next a (x ∷ next ∷ rest) is is.2 is.1 higher) fit;
+          none_lower = λ a higher fit. above.none_lower a (above_lower from next a (x ∷ next ∷ rest) is is.2 is.1 higher) fit;
         }))
       where
         by : (fit : Bool) → fits next ≡ fit → (fits next ≡ false → Above step first next → find fits (next ∷ rest) ≡ Some first)

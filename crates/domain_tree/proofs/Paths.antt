@@ -45,13 +45,10 @@ module _ {A : Type 0} (step : A → Option A) where
       ]
 
   -- one of those above that fit is the first
-  pub one_first_above : (fits : A → Bool) (b x y : A) (line : List A) → IsLine step x line → IsFirstAbove step fits b x → IsFirstAbove step fits b y → x ≡ y
-  one_first_above fits b x y line is one other = elim (one.lowest y other.above other.fitting) [
+  pub one_first_above : (fits : A → Bool) (b x y : A) → IsFirstAbove step fits b x → IsFirstAbove step fits b y → x ≡ y
+  one_first_above fits b x y one other = elim (one.lowest y other.above other.fitting) [
     | inl same ↦ sym same
-    | inr over ↦ elim (other.lowest x one.above one.fitting) [
-      | inl same ↦ same
-      | inr under ↦ lead_to_each_other x y line over.path under.path is over.leads under.leads
-    ]
+    | inr over ↦ absurd (other.none_lower x one.above one.fitting over)
   ]
 
   -- each one of a line has a line that is no longer

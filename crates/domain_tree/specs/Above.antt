@@ -9,11 +9,12 @@ pub record Above {A : Type 0} (step : A → Option A) (a b : A) : Type 0 where
   pub path : List A
   pub leads : IsPath step b path a
 
--- the first above b of those that fit: it is above b, and each other one is above it
+-- the first above b of those that fit: it is above b, each other one is above it, and it is above none of them
 pub record IsFirstAbove {A : Type 0} (step : A → Option A) (fits : A → Bool) (b first : A) : Type 0 where
   pub above : Above step first b
   pub fitting : fits first ≡ true
   pub lowest : (a : A) → Above step a b → fits a ≡ true → (a ≡ first) ⊎ Above step a first
+  pub none_lower : (a : A) → Above step a b → fits a ≡ true → Above step first a → ⊥
 
 -- none above b fits
 abbrev pub NoneAbove : {A : Type 0} → (A → Option A) → (A → Bool) → A → Type 0

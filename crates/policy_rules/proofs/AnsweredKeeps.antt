@@ -1,5 +1,5 @@
 -- A command that is answered leaves a card sound, where the registry but for a receipt number is, and there is one answer.
-use Rattle.std.proofs.Common.{◌≡◌, ◌≢◌, ◌⊎◌, inl, inr, ℕ, ◌+◌, ◌≤◌, List, [], ◌∷◌, Option, None, Some, cond, refl, sym, ap, subst, ◌∙◌, arith}
+use Rattle.std.proofs.Common.{◌≡◌, ◌≢◌, inl, inr, ℕ, ◌+◌, ◌≤◌, List, Option, None, Some, cond, refl, sym, ap, subst, ◌∙◌, arith}
 use Rattle.std.specs.Prelude.{IsSome, MatchOption}
 use Rattle.std.specs.Option.{option_map}
 use Rattle.std.proofs.lemmas.List.Elements.{All-contains}
@@ -8,16 +8,15 @@ use Rattle.card_types.proofs.LifeChanges.{receipts_keep}
 use Rattle.card_types.proofs.MappedEntries.{KeepsNames, domain_still, entry_changed, some_keep, unnamed_still}
 use Rattle.card_types.specs.AidOrder.{same_aid}
 use Rattle.card_types.specs.ChangeLaws.{IsOfCard}
-use Rattle.card_types.specs.Registry.{Entry, Key, Registry, entry_named}
+use Rattle.card_types.specs.Registry.{Entry, Registry, entry_named}
 use Rattle.card_types.specs.RegistryChange.{with_receipts}
 use Rattle.card_types.specs.Well.{IsWellEntry, Well}
 use Rattle.card_types.specs.declared.limits.TheConstants.{RECEIPT_LIMIT}
 use Rattle.tokens_receipts.specs.Receipt.{receipt}
 use Rattle.policy_rules.proofs.Approved.{one_holder}
 use Rattle.policy_rules.proofs.FitsKept.{KeepsThings, fits_kept}
-use Rattle.policy_rules.proofs.SameEffect.{effect_same, state_same}
 use Rattle.policy_rules.specs.Admission.{Admitted}
-use Rattle.policy_rules.specs.Delegation.{IsAnswered, IsConfirmed, IsUnconfirmed, NoReceipter, ReceiptFails, unique_data}
+use Rattle.policy_rules.specs.Delegation.{IsAnswered, IsConfirmed, ReceiptFails, unique_data}
 use Rattle.policy_rules.specs.Management.{acting}
 use Rattle.policy_rules.specs.Sound.{Fits}
 use Rattle.policy_rules.specs.State.{Effect}
@@ -83,11 +82,11 @@ module _ (delegated : Type 0) (admitted : Admitted) (aids : List (List ℕ)) (ch
       still_free (Some l) free = receipts_leave_free changed confirmed.receipter (confirmed.entry.receipts + 1) l.aid free
   answered_fits (inr (so, unconfirmed)) volatile free fits = subst (λ (r : Registry). Fits r volatile) (sym unconfirmed.registry) fits
 
--- A registry that a card may have has one receipter at most, so there is one answer.
-module _ (delegated : Type 0) (admitted : Admitted) (aids : List (List ℕ)) (changed : Registry) (well : Well admitted.at.registry) (a b : Effect) where
+-- there is one receipter at most, so there is one answer
+module _ (delegated : Type 0) (admitted : Admitted) (aids : List (List ℕ)) (changed : Registry) (a b : Effect) where
   confirmed_once : IsConfirmed admitted aids changed a → IsConfirmed admitted aids changed b → (a.state.registry ≡ b.state.registry) × (a.body ≡ b.body)
   confirmed_once one other =
-      let same = one_holder admitted.at.registry well _ _ (acting admitted) one.receipter other.receipter one.key other.key one.is_receipter other.is_receipter in
+      let same = one_holder admitted.at.registry _ _ (acting admitted) one.receipter other.receipter one.key other.key one.is_receipter other.is_receipter in
       let entries : Some one.entry ≡ Some other.entry = sym one.named ∙ ap (entry_named admitted.at.registry) same.0 ∙ other.named in
       let entry : one.entry ≡ other.entry = cc in
       let aid = same.0 in

@@ -1,23 +1,16 @@
 -- Which rule on the approval of a delegated command fails first.
-use Rattle.std.proofs.Common.{◌≡◌, ◌≢◌, inl, inr, true, ◌&&◌, List, [], ◌∷◌, Option, None, Some, ℕ, length, refl, ap, sym, subst, ◌∙◌, arith}
-use Rattle.std.specs.Prelude.{MatchOption, is_some}
+use Rattle.std.proofs.Common.{◌≡◌, ◌≢◌, inl, inr, List, [], ◌∷◌, Option, None, Some, ℕ, length, refl, ap, sym, subst, ◌∙◌}
+use Rattle.std.specs.Prelude.{MatchOption}
 use Rattle.std.specs.Option.{option_map}
-use Rattle.std.proofs.lemmas.Bool.{and_parts}
-use Rattle.std.proofs.lemmas.List.Elements.{All-contains}
-use Rattle.card_types.proofs.LeastOfList.{found_fits}
-use Rattle.card_types.proofs.SameAid.{same_aid_decides}
-use Rattle.card_types.specs.AidOrder.{same_aid}
 use Rattle.card_types.specs.Registry.{Entry, Key, Registry, domain_of, entry_named, key_named}
 use Rattle.card_types.specs.Represents.{domain_aid, key_of}
 use Rattle.card_types.specs.Slots.{held}
 use Rattle.card_types.specs.declared.limits.TheConstants.{RECEIPT_LIMIT}
 use Rattle.card_types.specs.declared.tables.Entry.{Entry as Slot}
 use Rattle.card_types.specs.declared.tables.Tables.{Tables}
-use Rattle.card_types.specs.Well.{IsWellEntry, LeadsToRoot, Well}
 use Rattle.domain_tree.proofs.Paths.{one_first_above}
 use Rattle.tokens_receipts.specs.Token.{token}
 use Rattle.policy_rules.specs.Admission.{Admitted}
-use Rattle.policy_rules.specs.Charge.{is_privileged}
 use Rattle.policy_rules.specs.Delegation.{Approval, DelegatedFails, IsNearestHolder, IsVerifier, NoVerifier, ReceiptFails, TokenFails, delegation_rules, has_with_key, token_rules}
 use Rattle.policy_rules.specs.FirstFailing.{IsFirst}
 use Rattle.policy_rules.specs.HoldersFound.{FindsReceipter}
@@ -31,27 +24,11 @@ use Rattle.policy_rules.specs.declared.delegation.RuleTK.TheVariants.{TK2, TK3}
 use Rattle.policy_rules.specs.declared.rule.Rule.{Rule}
 use Rattle.policy_rules.specs.declared.rule.Rule.TheVariants.{RC, TK}
 
--- an entry that is found has its AID, and a line up to a root
-entry_leads : (registry : Registry) → Well registry → (aid : List ℕ) (entry : Entry) → entry_named registry aid ≡ Some entry → LeadsToRoot registry aid
-entry_leads registry well aid entry named =
-    let found = found_fits (λ (e : Entry). same_aid e.aid aid) registry.entries entry named in
-    let is = All-contains (IsWellEntry registry) registry.entries entry well.entries found.0 in
-    subst (LeadsToRoot registry) ((same_aid_decides entry.aid aid).0 found.1) is.line
-
-privileged_leads : (registry : Registry) → Well registry → (privilege : ℕ) (aid : List ℕ) → is_privileged privilege (entry_named registry aid) ≡ true → LeadsToRoot registry aid
-privileged_leads registry well privilege aid holds = by (entry_named registry aid) refl holds
-  where
-    by : (o : Option Entry) → entry_named registry aid ≡ o → is_privileged privilege o ≡ true → LeadsToRoot registry aid
-    by None is none = cc
-    by (Some entry) is some = entry_leads registry well aid entry is
-
 -- there is one nearest holder, and one key of it
-pub one_holder : (registry : Registry) → Well registry → (privilege version : ℕ) (domain x y : List ℕ) (key other : Key)
+pub one_holder : (registry : Registry) (privilege version : ℕ) (domain x y : List ℕ) (key other : Key)
     → IsNearestHolder registry privilege version domain x key → IsNearestHolder registry privilege version domain y other → (x ≡ y) × (key ≡ other)
-one_holder registry well privilege version domain x y key other one another =
-    let holds = and_parts (is_privileged privilege (entry_named registry x)) (is_some (key_named registry x version 1)) one.above.fitting in
-    let leads = privileged_leads registry well privilege x holds.0 in
-    let same = one_first_above (domain_of registry) (has_with_key registry privilege version) domain x y leads.0 leads.1 one.above another.above in
+one_holder registry privilege version domain x y key other one another =
+    let same = one_first_above (domain_of registry) (has_with_key registry privilege version) domain x y one.above another.above in
     let keys : Some key ≡ Some other = sym one.key_is ∙ ap (λ (aid : List ℕ). key_named registry aid version 1) same ∙ another.key_is in
     (same, cc)
 
@@ -64,15 +41,15 @@ module _ (admitted : Admitted) (approval : Approval) (long : length approval.tok
         → IsFirst (TokenFails admitted approval) token_rules (Some TK3)
     unfitting differs = inr (λ other. other long, inr (λ none. none verifier is.above.above is.above.fitting, inl ((verifier, key, is, differs), refl)))
 
-    pub approved : Well admitted.at.registry → approval.token ≡ token key.bytes admitted.command.p1 admitted.command.p2 approval.before
+    pub approved : approval.token ≡ token key.bytes admitted.command.p1 admitted.command.p2 approval.before
         → IsFirst (TokenFails admitted approval) token_rules None
-    approved well fits = inr (
+    approved fits = inr (
       λ other. other long,
       inr (
         λ none. none verifier is.above.above is.above.fitting,
         inr (
           λ fails.
-              (let same = one_holder admitted.at.registry well _ _ (acting admitted) verifier fails.0 key fails.1 is fails.2 in
+              (let same = one_holder admitted.at.registry _ _ (acting admitted) verifier fails.0 key fails.1 is fails.2 in
               fails.3 (fits ∙ ap (λ (k : Key). token k.bytes admitted.command.p1 admitted.command.p2 approval.before) same.1)),
           refl,
         ),
@@ -108,6 +85,6 @@ receipt_passes page tables domain admitted acts (Some slot) is fails = by (held 
     by : (o : Option Slot) → held tables.entries.items slot ≡ o → MatchOption o ⊥ (λ entry. entry.receipts ≢ RECEIPT_LIMIT) → ⊥
     by None at below = below
     by (Some entry) at below =
-        let same = one_holder admitted.at.registry acts.well _ _ (acting admitted) fails.0 (domain_aid tables.entries.items slot) fails.1 (key_of tables.entries.items is.key) fails.2 is.is in
+        let same = one_holder admitted.at.registry _ _ (acting admitted) fails.0 (domain_aid tables.entries.items slot) fails.1 (key_of tables.entries.items is.key) fails.2 is.is in
         let named = ap (entry_named admitted.at.registry) same.0 ∙ slot_named page tables admitted.at.registry acts.says slot entry at in
         below (subst (λ (o : Option Entry). MatchOption o ⊥ (λ e. e.receipts ≡ RECEIPT_LIMIT)) named fails.3)

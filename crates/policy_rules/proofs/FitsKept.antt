@@ -1,5 +1,5 @@
 -- What a card holds while it has power goes with a registry that has more entries, or the same with other receipt numbers.
-use Rattle.std.proofs.Common.{◌≡◌, List, Option, None, Some, ℕ, ◌+◌, ◌<◌, ◌≤◌, length, ap, sym, subst}
+use Rattle.std.proofs.Common.{◌≡◌, List, Option, None, Some, ℕ, ◌+◌, ◌<◌, ◌≤◌, length, sym, subst}
 use Rattle.std.specs.Prelude.{IsSome, MatchOption}
 use Rattle.std.specs.List.{sum_by}
 use Rattle.card_types.specs.Registry.{LoadFile, Registry, entry_named, file_named}
@@ -53,3 +53,9 @@ module _ (before after : Registry) (keeps : KeepsThings before after) where
     each = λ number. channel_still (channel_at volatile number) (fits.each number);
     load = load_still volatile volatile.load free fits.load;
   }
+
+-- the load session has an AID of its own
+pub load_unnamed : (registry : Registry) (volatile : Volatile) (load : Option LoadSession) → MatchOption load (Unit {0}) (IsWellLoad registry volatile)
+    → MatchOption load (Unit {0}) (λ l. entry_named registry l.aid ≡ None)
+load_unnamed registry volatile None well = tt
+load_unnamed registry volatile (Some load) well = well.no_entry

@@ -1,5 +1,5 @@
 -- The laws of INSTALL [for install].
-use Rattle.std.proofs.Common.{◌≡◌, ◌≢◌, ◌⊎◌, inl, inr, ℕ, ◌≤◌, ◌<◌, List, [], ◌∷◌, Bool, true, false, ◌&&◌, Option, None, Some, length, refl, sym, ap, subst, ◌∙◌, arith, if◌then◌else◌}
+use Rattle.std.proofs.Common.{◌≡◌, ◌≢◌, inl, inr, ℕ, List, [], ◌∷◌, Bool, true, false, ◌&&◌, Option, None, Some, length, refl, sym, ap, subst, ◌∙◌, arith, if◌then◌else◌}
 use Rattle.std.specs.Prelude.{Contains, IsSome, MatchOption, ◌==◌}
 use Rattle.std.proofs.lemmas.Bool.{cases_Bool, cases_lt}
 use Rattle.std.proofs.lemmas.Bool.Decides.{eqb_tells}
@@ -11,28 +11,29 @@ use Rattle.card_types.proofs.ChangeExists.{one_order}
 use Rattle.card_types.proofs.NamedThings.{beside_found, still_found}
 use Rattle.card_types.proofs.SameAid.{same_aid_decides}
 use Rattle.card_types.specs.AidOrder.{aid_order, same_aid}
-use Rattle.card_types.specs.ChangeLaws.{IsFreeAid, IsOfCard, MayAddEntry}
+use Rattle.card_types.specs.ChangeLaws.{IsOfCard, MayAddEntry}
 use Rattle.card_types.specs.Privileges.{authorized_management, bits_of, delegated_management, has}
-use Rattle.card_types.specs.Registry.{Entry, LoadFile, Registry, entry_named, file_named, is_domain}
+use Rattle.card_types.specs.Registry.{Entry, Registry, entry_named, file_named, is_domain}
 use Rattle.card_types.specs.RegistryChange.{IsEntryAdded}
-use Rattle.card_types.specs.Well.{IsDomainNamed, IsProperEntry, Well, has_domain_privilege, has_life}
+use Rattle.card_types.specs.Well.{IsDomainNamed, IsProperEntry, has_domain_privilege, has_life}
 use Rattle.card_types.specs.declared.factory.TheConstants.{FACTORY_FILE, FACTORY_MODULE}
 use Rattle.card_types.specs.declared.life.Life.TheVariants.{Installed, Selectable}
 use Rattle.card_types.specs.declared.limits.TheConstants.{ENTRIES}
 use Rattle.policy_rules.proofs.AnsweredKeeps.{answered_fits, answered_keeps, answered_once}
 use Rattle.policy_rules.proofs.FirstUnique.{none_fails}
-use Rattle.policy_rules.proofs.FitsKept.{KeepsThings, fits_kept}
+use Rattle.policy_rules.proofs.FitsKept.{KeepsThings, fits_kept, load_unnamed}
 use Rattle.policy_rules.proofs.InstallAsking.{one_asked}
-use Rattle.policy_rules.proofs.Lawful.{IsReady, fits_as, managed_apart, placeless_same}
+use Rattle.policy_rules.proofs.Lawful.{IsLawful, IsReady, fits_as, managed_apart, placeless_same}
 use Rattle.policy_rules.proofs.SameEffect.{effect_same, state_same}
 use Rattle.policy_rules.specs.Admission.{Admitted}
+use Rattle.policy_rules.specs.Classes.{managing}
 use Rattle.policy_rules.specs.Commands.{JudgesAs}
 use Rattle.policy_rules.specs.Delegation.{Holds, IsAnswered, ReceiptFails}
 use Rattle.policy_rules.specs.FirstFailing.{IsFirst}
 use Rattle.policy_rules.specs.InstallApplication.{AsksToInstall, InstallAsked, InstallEffect, InstallFails, InstallingFails, MayBeMade, entry_made, install_application, install_rules, refused_privileges}
 use Rattle.policy_rules.specs.Management.{acting}
-use Rattle.policy_rules.specs.Sound.{IsSound, IsWellLoad}
-use Rattle.policy_rules.specs.State.{Effect, State}
+use Rattle.policy_rules.specs.Sound.{IsSound}
+use Rattle.policy_rules.specs.State.{Effect}
 use Rattle.policy_rules.specs.Volatile.{LoadSession}
 use Rattle.policy_rules.specs.declared.delegation.RuleRC.TheVariants.{RC1}
 use Rattle.policy_rules.specs.declared.install_application.RuleII.{RuleII}
@@ -165,7 +166,7 @@ install_keeps admitted done ready (takes, first) does =
     let after = entry_added_keeps (entry_made admitted does.asked) registry does.changed of may does.added in
     let kept = answered_keeps (Holds admitted delegated_management) admitted (does.asked.given.first ∷ does.asked.given.third ∷ []) does.changed done ready.sound.well receipts does.answered after in
     let free = load_free admitted does.asked passes of does.asks domain does.changed does.added admitted.at.volatile.load (λ loading. passes II4 (inr (inr loading)))
-    (unnamed_load admitted.at ready.sound) in
+    (load_unnamed registry admitted.at.volatile admitted.at.volatile.load ready.sound.fits.load) in
     let fits = answered_fits (Holds admitted delegated_management) admitted (does.asked.given.first ∷ does.asked.given.third ∷ []) does.changed done ready.sound.well receipts does.answered admitted.at.volatile free
     (fits_kept registry does.changed (added_keeps_things admitted does.asked passes of does.asks domain does.changed does.added) admitted.at.volatile free ready.sound.fits) in
     record { well = kept.well; ascending = kept.ascending; fits = fits_as refl (sym does.volatile) fits }
@@ -182,16 +183,9 @@ install_keeps admitted done ready (takes, first) does =
         among II6 = (7, omega arith, refl)
         among II7 = (8, omega arith, refl)
 
-    unnamed_load : (state : State) → IsSound state → MatchOption state.volatile.load (Unit {0}) (λ l. entry_named state.registry l.aid ≡ None)
-    unnamed_load state sound = by state.volatile.load sound.fits.load
-      where
-        by : (load : Option LoadSession) → MatchOption load (Unit {0}) (IsWellLoad state.registry state.volatile) → MatchOption load (Unit {0}) (λ l. entry_named state.registry l.aid ≡ None)
-        by None well = tt
-        by (Some l) well = well.no_entry
-
--- It does one thing on a registry that a card may have. On another, with domains in a circle, each could be the nearest above.
-pub install_one : (admitted : Admitted) → Well admitted.at.registry → (a b : Effect) → InstallEffect admitted a → InstallEffect admitted b → a ≡ b
-install_one admitted well a b one other =
+-- it does one thing
+install_one : (admitted : Admitted) (a b : Effect) → InstallEffect admitted a → InstallEffect admitted b → a ≡ b
+install_one admitted a b one other =
     let asked = one_asked one.asked other.asked admitted.command.body one.asks other.asks in
     let added : IsEntryAdded (entry_made admitted other.asked) admitted.at.registry one.changed = subst (λ (q : InstallAsked). IsEntryAdded (entry_made admitted q) admitted.at.registry one.changed) asked one.added in
     let entries : one.changed.entries ≡ other.changed.entries =
@@ -202,5 +196,14 @@ install_one admitted well a b one other =
     let changed : one.changed ≡ other.changed = one.added.same ∙ ap (λ (es : List Entry). record admitted.at.registry { entries = es }) entries ∙ sym other.added.same in
     let Answer : InstallAsked → Registry → Type 0 = (λ (q : InstallAsked) (r : Registry). IsAnswered (Holds admitted delegated_management) admitted (q.given.first ∷ q.given.third ∷ []) r a) in
     let answered : Answer other.asked other.changed = subst (λ (r : Registry). Answer other.asked r) changed (subst (λ (q : InstallAsked). Answer q one.changed) asked one.answered) in
-    let same = answered_once (Holds admitted delegated_management) admitted (other.asked.given.first ∷ other.asked.given.third ∷ []) other.changed well a b answered other.answered in
+    let same = answered_once (Holds admitted delegated_management) admitted (other.asked.given.first ∷ other.asked.given.third ∷ []) other.changed a b answered other.answered in
     effect_same a b (state_same a.state b.state same.0 (one.volatile ∙ sym other.volatile)) same.1 (one.status ∙ sym other.status)
+
+-- once its instruction is one of those that manage content
+pub install_application_lawful : Contains managing install_application.instruction → IsLawful install_application
+install_application_lawful managed = record {
+  keeps = install_keeps;
+  one = install_one;
+  quiet = λ unmanaged. absurd (unmanaged managed);
+  without_place = λ other admitted done none does. placeless_same admitted.at.volatile done.state.volatile admitted.channel does.volatile none;
+}

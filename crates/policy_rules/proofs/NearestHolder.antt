@@ -1,13 +1,13 @@
 -- The nearest domain above that holds a privilege and a key, by slots and by names.
-use Rattle.std.proofs.Common.{◌≡◌, inl, inr, ℕ, Bool, true, false, ◌==◌, ◌&&◌, List, Option, None, Some, refl, ap, sym, subst, ◌∙◌}
+use Rattle.std.proofs.Common.{◌≡◌, ℕ, Bool, true, false, ◌==◌, ◌&&◌, List, Option, None, Some, refl, ap, sym, ◌∙◌}
 use Rattle.std.specs.Prelude.{IfNone, IsSome, MatchOption, is_some}
 use Rattle.std.specs.List.{list_any}
-use Rattle.std.proofs.lemmas.Bool.{and_parts, cases_Bool, eq-eqb, eqb-true}
+use Rattle.std.proofs.lemmas.Bool.{and_parts, eq-eqb, eqb-true}
 use Rattle.card_types.proofs.Domains.{domain_aid_is}
 use Rattle.card_types.proofs.EntryNames.{entry_in_slot}
 use Rattle.card_types.proofs.LeastOfList.{found_fits}
 use Rattle.card_types.proofs.SameAid.{same_aid_decides}
-use Rattle.card_types.proofs.SetNames.{has_from_held, has_key_named, key_length_in_slot, slot_of_key}
+use Rattle.card_types.proofs.SetNames.{has_from_held, has_key_named, slot_of_key}
 use Rattle.card_types.specs.AidOrder.{same_aid}
 use Rattle.card_types.specs.KeySets.{HasKey, IsKeyOf, is_key}
 use Rattle.card_types.specs.Privileges.{bits_of}

@@ -1,8 +1,7 @@
 -- Domains above that hold a privilege and a key, by slots, and what the code found of them.
-use Rattle.std.specs.Prelude.{◌≡◌, ◌≢◌, ℕ, Bool, false, List, [], ◌∷◌, Option, None, Some, MatchOption, ◌&&◌}
+use Rattle.std.specs.Prelude.{◌≡◌, ◌≢◌, ℕ, Bool, false, Option, None, Some, MatchOption, ◌&&◌}
 use Rattle.std.specs.List.{list_any}
 use Rattle.card_types.specs.KeySets.{is_key}
-use Rattle.card_types.specs.Privileges.{bits_of}
 use Rattle.card_types.specs.Slots.{held}
 use Rattle.card_types.specs.declared.limits.TheConstants.{RECEIPT_LIMIT}
 use Rattle.card_types.specs.declared.privileges.Privileges.{Privileges}

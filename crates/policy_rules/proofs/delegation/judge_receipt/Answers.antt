@@ -1,4 +1,4 @@
-use Rattle.std.proofs.Common.{rules, ◌≡◌, ◌≢◌, ℕ, List, Option, Some, refl, ap, sym, subst, ◌∙◌}
+use Rattle.std.proofs.Common.{rules, ◌≡◌, ◌≢◌, Option, Some, sym, subst}
 use Rattle.std.specs.Prelude.{MatchOption}
 use Rattle.card_types.specs.Registry as registry
 use Rattle.card_types.specs.Represents.{domain_aid, key_of}

@@ -1,11 +1,7 @@
-use Rattle.std.proofs.Common.{◌≡◌, ℕ, List, true, false, refl, ap, sym, subst, ◌∙◌}
-use Rattle.std.specs.Prelude.{IfNone}
+use Rattle.std.proofs.Common.{sym, ◌∙◌}
 use Rattle.card_types.specs.Represents.{domain_aid, key_of}
 use Rattle.policy_rules.proofs.Approved.{approved, unfitting, unverified}
 use Rattle.policy_rules.specs.HoldersFound.{approval_of}
-use Rattle.policy_rules.specs.Delegation.{IsVerifier, NoVerifier}
-use Rattle.policy_rules.specs.Management.{acting}
-use Rattle.tokens_receipts.specs.Token.{token}
 use Rattle.policy_rules.proofs.delegation.judge_token.Goals as goal
 
 pub returns-in_default-clause-refused : goal.returns-in_default-clause-refused
@@ -24,5 +20,5 @@ returns-clause-passed c page admitted acts signed =
     let key = key_of c.args.tables.now.entries.items c.in-Some.key.now in
     let fits = c.is_token.ensures.0 c.if-not-is_token.false in
     approved admitted (approval_of c.args.signed.now) c.if-signed-ne16.false
-    (domain_aid c.args.tables.now.entries.items c.in-Some.field-0-0) key (c.in-Some.ensures.some page admitted acts) acts.well
+    (domain_aid c.args.tables.now.entries.items c.in-Some.field-0-0) key (c.in-Some.ensures.some page admitted acts)
     (rw (signed.0, signed.1) at fits)

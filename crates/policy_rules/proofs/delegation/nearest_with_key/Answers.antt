@@ -1,6 +1,4 @@
-use Rattle.std.proofs.Common.{rules, ◌≡◌, ◌&&◌, ℕ, List, Option, None, Some, refl, ap, sym, subst, ◌∙◌}
-use Rattle.std.specs.Prelude.{IfNone, IfSome, IsSome}
-use Rattle.std.specs.List.{list_any}
+use Rattle.std.proofs.Common.{rules, ◌≡◌, ℕ, List, Some, sym, subst}
 use Rattle.card_types.proofs.DomainLines.{line_in_slots}
 use Rattle.card_types.proofs.SetNames.{key_length_in_slot}
 use Rattle.card_types.specs.KeySets.{IsKeyOf}
@@ -9,7 +7,6 @@ use Rattle.card_types.specs.Represents.{domain_aid, domain_slot, key_of}
 use Rattle.card_types.specs.Slots.{held}
 use Rattle.domain_tree.specs.Above.{IsFirstAbove, NoneAbove}
 use Rattle.policy_rules.proofs.NearestHolder.{holder_named, lone_key, no_holder_named, some_found}
-use Rattle.policy_rules.proofs.Options.{none_of_none}
 use Rattle.policy_rules.specs.Delegation.{IsNearestHolder, NoHolder}
 use Rattle.policy_rules.specs.HoldersFound.{has_with_key_in}
 use Rattle.policy_rules.proofs.delegation.nearest_with_key.Goals as goal
