@@ -118,13 +118,13 @@ module _ (page : ℕ → List ℕ) (tables : Tables) (domain : ℕ) (admitted : 
       privilege_named page tables admitted.at.registry acts.says privilege domain acts.entry acts.at
       ∙ ap (λ (aid : List ℕ). is_privileged (bits_of privilege) (entry_named admitted.at.registry aid)) (sym acts.on)
 
-  may_manage : may_manage_by (held tables.entries.items domain) ≡ true → MayManage admitted
+  pub may_manage : may_manage_by (held tables.entries.items domain) ≡ true → MayManage admitted
   may_manage may = elim (one_true (entry_has (record { 0 = authorized_management }) (held tables.entries.items domain)) (entry_has (record { 0 = delegated_management }) (held tables.entries.items domain)) may) [
     | inl one ↦ inl (sym (holds_named (record { 0 = authorized_management })) ∙ one)
     | inr other ↦ inr (sym (holds_named (record { 0 = delegated_management })) ∙ other)
   ]
 
-  manages : MayManage admitted → may_manage_by (held tables.entries.items domain) ≡ true
+  pub manages : MayManage admitted → may_manage_by (held tables.entries.items domain) ≡ true
   manages (inl one) = (let is = holds_named (record { 0 = authorized_management }) ∙ one in rw is refl)
   manages (inr other) =
       (let is = holds_named (record { 0 = delegated_management }) ∙ other in

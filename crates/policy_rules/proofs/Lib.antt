@@ -4,6 +4,7 @@ pub mod AnsweredKeeps
 pub mod AnySlot
 pub mod Approved
 pub mod Channels
+pub mod ChargeNamed
 pub mod Chosen
 pub mod DataAsked
 pub mod DataFound
@@ -13,6 +14,8 @@ pub mod DeleteKeyKeeps
 pub mod DeleteKeyLaws
 pub mod DeleteKeyOnce
 pub mod ExternalAuthenticateLaws
+pub mod ExtraditionJudging
+pub mod ExtraditionLaws
 pub mod Filtered
 pub mod FitsKept
 pub mod FirstJoined
@@ -37,8 +40,11 @@ pub mod KeysByName
 pub mod LastSet
 pub mod Lawful
 pub mod LengthFields
+pub mod MakeSelectableJudging
+pub mod MakeSelectableLaws
 pub mod ManageChannelLaws
 pub mod ManagementFirst
+pub mod MovedFits
 pub mod NearestHolder
 pub mod NewTags
 pub mod ObjectStored
@@ -50,6 +56,7 @@ pub mod Options
 pub mod OwnKeys
 pub mod Passing
 pub mod Places
+pub mod PrivilegesGiven
 pub mod PutKeyJudging
 pub mod PutKeyKeeps
 pub mod PutKeyKeys
@@ -65,3 +72,4 @@ pub mod SecureChannelSet
 pub mod StoreDataElements
 pub mod StoreDataLaws
 pub mod StoredCount
+pub mod ThingsFound

@@ -1,7 +1,7 @@
 -- INSTALL [for extradition] (GlobalPlatform Card Specification 2.3.1, 9.4.1 and 11.5): an application, a security domain or an
 -- Executable Load File gets another security domain. A domain that is moved to itself is a root from then on: that, and the order
 -- of the rules, are this profile's own.
-use Rattle.std.specs.Prelude.{◌≡◌, ◌≢◌, ◌⊎◌, ℕ, List, [], ◌∷◌, ◌++◌, Option, MatchOption, None, Some, codes, false}
+use Rattle.std.specs.Prelude.{◌≡◌, ◌≢◌, ◌⊎◌, ℕ, List, [], ◌∷◌, Option, MatchOption, None, Some, codes, false}
 use Rattle.card_types.specs.Aid.{IsAid}
 use Rattle.card_types.specs.Privileges.{authorized_management, delegated_management}
 use Rattle.card_types.specs.Registry.{Key, LoadFile, Registry, domain_of, entry_named, file_named}

@@ -10,6 +10,7 @@ pub mod Delegation
 pub mod DeleteKey
 pub mod ExternalAuthenticate
 pub mod Extradition
+pub mod ExtraditionRequests
 pub mod FieldsRead
 pub mod FirstFailing
 pub mod Found
@@ -36,6 +37,7 @@ pub mod Requests
 pub mod Rules
 pub mod Run
 pub mod Select
+pub mod SelectableRequests
 pub mod Sound
 pub mod State
 pub mod Step

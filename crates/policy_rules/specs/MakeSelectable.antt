@@ -3,7 +3,7 @@
 use Rattle.std.specs.Prelude.{◌≡◌, ◌≢◌, ◌⊎◌, ℕ, List, [], ◌∷◌, MatchOption, None, codes, false}
 use Rattle.card_types.specs.Aid.{IsAid}
 use Rattle.card_types.specs.Privileges.{ArePrivilegeBytes, delegated_management}
-use Rattle.card_types.specs.Registry.{Entry, Registry, entry_named}
+use Rattle.card_types.specs.Registry.{entry_named}
 use Rattle.card_types.specs.RegistryChange.{with_life}
 use Rattle.card_types.specs.declared.life.Life.TheVariants.{Installed, Selectable}
 use Rattle.card_types.specs.declared.life.LifeMark.{LifeMark}

@@ -27,7 +27,7 @@ use domain_tree::{Wanted, first_above};
 use tokens_receipts::token_fits;
 
 /// The key version number of a token key.
-const TOKEN_KEY: u8 = 0x70;
+pub(crate) const TOKEN_KEY: u8 = 0x70;
 
 /// The key version number of a receipt key.
 const RECEIPT_KEY: u8 = 0x71;
@@ -146,7 +146,7 @@ fn holds_lone_key(held: &Option<KeyRec>, owner: u8, version: u8) -> bool
 }
 
 // The slot of the nearest domain above the one in a slot that holds a privilege and such a key, and the key.
-fn nearest_with_key(
+pub(crate) fn nearest_with_key(
     tables: &Tables,
     domain: u8,
     privilege: Privileges,

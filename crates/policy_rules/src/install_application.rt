@@ -202,14 +202,14 @@ const GUARDED: [Privileges; 8] = [
 ];
 
 // Whether the domain in a slot manages content, in its own right or as it is delegated to.
-fn may_manage(entries: &[Option<Slot>], domain: u8) -> bool
+pub(crate) fn may_manage(entries: &[Option<Slot>], domain: u8) -> bool
     ensures { result ≡ may_manage_by (held entries.now domain) }
 {
     holds(entries, domain, Privileges::AUTHORIZED_MANAGEMENT)
         || holds(entries, domain, Privileges::DELEGATED_MANAGEMENT)
 }
 
-fn is_factory_file(aid: &Aid) -> bool
+pub(crate) fn is_factory_file(aid: &Aid) -> bool
     ensures { result ≡ same_aid aid.now FACTORY_FILE }
 {
     aid.as_bytes() == FACTORY_FILE.as_slice()
@@ -242,7 +242,7 @@ fn lacks_module(request: &InstallRequest<'_>) -> bool
 }
 
 // Whether the Executable Load File in a slot is in the charge of the domain in another.
-fn is_in_charge(tables: &Tables, domain: u8, slot: u8) -> bool
+pub(crate) fn is_in_charge(tables: &Tables, domain: u8, slot: u8) -> bool
     requires in_order { IsInOrder tables.now }
     ensures { (page : ℕ → List ℕ) (admitted : Admitted) (file : LoadFile) → ActsIn page tables.now domain admitted
         → held tables.now.files.items slot ≡ Some file
@@ -373,7 +373,11 @@ fn judge_application(
 
 // The rules on the approval of a command of the domain in a slot, which are for a delegated one: the slot of the domain that confirms
 // it, or none where nobody does.
-fn judge_approval(tables: &Tables, domain: u8, signed: &Signed<'_>) -> Result<Option<u8>, Rule>
+pub(crate) fn judge_approval(
+    tables: &Tables,
+    domain: u8,
+    signed: &Signed<'_>,
+) -> Result<Option<u8>, Rule>
     requires in_order { IsInOrder tables.now }
     requires short { length signed.now.before.now ≤ 255 }
     ensures passed { (page : ℕ → List ℕ) (admitted : Admitted) → ActsIn page tables.now domain admitted → IsSignedFor admitted signed.now

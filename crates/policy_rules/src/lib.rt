@@ -1,6 +1,7 @@
 //! The policy of a card: which rule refuses a command, and what an accepted one does.
 #![tactic(auto)]
 
+mod charge;
 mod class;
 mod delegation;
 mod delete_key;
@@ -30,7 +31,7 @@ pub use class::{Class, channel_of, is_plain_management, is_protected};
 pub use delegation::{RuleRC, RuleTK, Signed, holds, judge_delegated};
 pub use delete_key::{RuleDK, judge_delete_key};
 pub use external_authenticate::RuleEA;
-pub use extradition::RuleEX;
+pub use extradition::{Extradition, ExtraditionRequest, RuleEX, judge_extradition};
 pub use get_data::{Datum, RuleGD, judge_get_data};
 pub use initialize_update::{OfferedSet, RuleIU, judge_initialize_update};
 pub use install_application::{InstallRequest, Installation, RuleII, judge_install};
@@ -46,7 +47,7 @@ pub use laws::{
 };
 pub use literals::{classes, constants, key_fields, status_words};
 pub use live::{CHANNELS, Live, LoadName, Place};
-pub use make_selectable::RuleMS;
+pub use make_selectable::{RuleMS, SelectableRequest, Selecting, judge_selectable};
 pub use manage_channel::{RuleMC, judge_more_channel};
 pub use management::RuleM;
 pub use own_rules::judge;

@@ -1,0 +1,217 @@
+-- The rules of INSTALL [for extradition] behind its form, by its request.
+use Rattle.std.proofs.Common.{◌≡◌, ◌≢◌, ◌↔◌, ◌⊎◌, inl, inr, ℕ, Bool, true, false, List, ◌++◌, Option, None, Some, refl, ap, sym, subst, ◌∙◌}
+use Rattle.std.specs.Prelude.{IsTrue, MatchOption, map, not}
+use Rattle.std.specs.Option.{option_map}
+use Rattle.std.proofs.lemmas.Bool.{false_from_ne_true, not-true, not_from_false}
+use Rattle.card_types.proofs.FoundNames.{found_entry_named, found_file_named, none_found_none_named}
+use Rattle.card_types.specs.Found.{aid_of}
+use Rattle.card_types.specs.Privileges.{bits_of}
+use Rattle.card_types.specs.Registry as registry
+use Rattle.card_types.specs.Registry.{Key, entry_named}
+use Rattle.card_types.specs.Represents.{Represents}
+use Rattle.card_types.specs.Slots.{held}
+use Rattle.card_types.specs.Well.{IsDomainNamed}
+use Rattle.card_types.specs.declared.factory.TheConstants.{FACTORY_FILE, ISSUER}
+use Rattle.card_types.specs.declared.found.Found.{Found}
+use Rattle.card_types.specs.declared.found.Found.TheVariants as found
+use Rattle.card_types.specs.declared.privileges.Privileges.{Privileges}
+use Rattle.card_types.specs.declared.tables.Entry.{Entry}
+use Rattle.card_types.specs.declared.tables.Tables.{Tables}
+use Rattle.domain_tree.specs.Holders.{entry_has}
+use Rattle.policy_rules.specs.Admission.{Admitted}
+use Rattle.policy_rules.specs.Charge.{IsAtOrAbove}
+use Rattle.policy_rules.specs.Delegation.{Holds, IsVerifier, delegation_rules}
+use Rattle.policy_rules.specs.Extradition.{AsksToExtradite, ExtraditingFails, ExtraditionAskedFails, ExtraditionFails, IsOutOfReach, IsUnapprovable, extradition_rules, is_personalized}
+use Rattle.policy_rules.specs.ExtraditionRequests.{IsExtraditionOf, own_extradition_rules}
+use Rattle.policy_rules.specs.FirstFailing.{IsFirst}
+use Rattle.policy_rules.specs.InstallFields.{InstallData, approval_in}
+use Rattle.policy_rules.specs.InstallRequests.{ApprovalFails, may_manage_by}
+use Rattle.policy_rules.specs.Management.{ManagementFails, acting}
+use Rattle.policy_rules.specs.Requests.{ActsIn}
+use Rattle.policy_rules.specs.declared.extradition.ExtraditionRequest.{ExtraditionRequest}
+use Rattle.policy_rules.specs.declared.extradition.RuleEX.{RuleEX}
+use Rattle.policy_rules.specs.declared.extradition.RuleEX.TheVariants.{EX1, EX2, EX3, EX4, EX5, EX6, EX7}
+use Rattle.policy_rules.specs.declared.management.RuleM.TheVariants.{M1, M2}
+use Rattle.policy_rules.specs.declared.rule.Rule.{Rule}
+use Rattle.policy_rules.specs.declared.rule.Rule.TheVariants.{EX}
+use Rattle.policy_rules.proofs.Approved.{one_holder}
+use Rattle.policy_rules.proofs.FirstJoined.{first_behind, first_within}
+use Rattle.policy_rules.proofs.FirstLike.{first_like, first_of_group}
+use Rattle.policy_rules.proofs.InstallJudging.{holds_named, manages, may_manage}
+use Rattle.policy_rules.proofs.LengthFields.{one_data}
+use Rattle.policy_rules.proofs.ManagementFirst.{behind_management}
+use Rattle.policy_rules.proofs.ThingsFound.{entry_at, named_as}
+
+-- what a negated test tells
+pub not_told : {P : Type 0} (is : Bool) → IsTrue is ↔ P → IsTrue (not is) ↔ (P → ⊥)
+not_told is told = (
+  λ negated so. (let clash = sym (told.1 so) ∙ not-true is negated in cc),
+  λ other. not_from_false is (false_from_ne_true is (λ so. other (told.0 so))),
+)
+
+abbrev Unfit : Option registry.Entry → Type 0
+Unfit o = MatchOption o ⊥ (λ entry. entry.life ≢ is_personalized)
+
+-- the new domain is not personalized, or locked, where its slot says so
+pub fitness_told : (page : ℕ → List ℕ) (tables : Tables) (admitted : Admitted) → Represents page tables admitted.at.registry → (given : InstallData) (to : ℕ)
+    → aid_of tables (found.Entry to) ≡ Some given.first → (entry : Entry) → held tables.entries.items to ≡ Some entry
+    → (fit : Bool) → IsTrue fit ↔ (entry.life ≡ is_personalized) → IsTrue (not fit) ↔ ExtraditingFails admitted given EX5
+fitness_told page tables admitted says given to named entry at fit told =
+    let there = entry_at page tables admitted.at.registry says to given.first named in
+    let is = named_as tables admitted.at.registry to given.first there entry at in
+    let negated = not_told fit told in (
+      λ so. subst Unfit (sym is) (negated.0 so),
+      λ fails. negated.1 (subst Unfit is fails),
+    )
+
+-- the rules of its own, and those on its approval, are rules of the command
+module _ (admitted : Admitted) (given : InstallData) (asks : AsksToExtradite admitted.command.body given) where
+  abbrev FailsAsked : Rule → Type 0
+  FailsAsked rule = (other : InstallData) × AsksToExtradite admitted.command.body other × ExtraditionAskedFails admitted other rule
+
+  of_command : (rules : List Rule) (found : Option Rule) → IsFirst (ExtraditionAskedFails admitted given) rules found → IsFirst FailsAsked rules found
+  of_command rules found first =
+      first_like (ExtraditionAskedFails admitted given) FailsAsked (λ rule fails. (given, asks, fails))
+      (λ rule fails. subst (λ (a : InstallData). ExtraditionAskedFails admitted a rule) (one_data fails.0 given admitted.command.body fails.1.fields asks.fields) fails.2) rules found first
+
+  own_first : (found : Option RuleEX) → IsFirst (ExtraditingFails admitted given) own_extradition_rules found
+      → IsFirst (ExtraditionFails admitted) (map EX own_extradition_rules) (option_map EX found)
+  own_first found first =
+      of_command (map EX own_extradition_rules) (option_map EX found) (first_of_group EX (ExtraditionAskedFails admitted given) own_extradition_rules found first)
+
+  approval_first : (found : Option Rule) → IsFirst (ApprovalFails admitted (approval_in given)) delegation_rules found
+      → IsFirst (ExtraditionFails admitted) delegation_rules found
+  approval_first found first = of_command delegation_rules found first
+
+  module _ (managed : (ManagementFails admitted M1 → ⊥) × (ManagementFails admitted M2 → ⊥)) where
+    -- a rule of its own fails first
+    pub own_refuses : (rule : RuleEX) → IsFirst (ExtraditingFails admitted given) own_extradition_rules (Some rule)
+        → IsFirst (ExtraditionFails admitted) extradition_rules (Some (EX rule))
+    own_refuses rule first =
+        behind_management (ExtraditionFails admitted) (map EX own_extradition_rules ++ delegation_rules) (Some (EX rule)) managed.0 managed.1
+        (first_within (ExtraditionFails admitted) delegation_rules (map EX own_extradition_rules) (EX rule) (own_first (Some rule) first))
+
+    -- none of its own fails, and its approval decides
+    pub approval_decides : (found : Option Rule) → IsFirst (ExtraditingFails admitted given) own_extradition_rules None
+        → IsFirst (ApprovalFails admitted (approval_in given)) delegation_rules found → IsFirst (ExtraditionFails admitted) extradition_rules found
+    approval_decides found none first =
+        behind_management (ExtraditionFails admitted) (map EX own_extradition_rules ++ delegation_rules) found managed.0 managed.1
+        (first_behind (ExtraditionFails admitted) delegation_rules (map EX own_extradition_rules) found (own_first None none) (approval_first found first))
+
+module _ (page : ℕ → List ℕ) (tables : Tables) (domain : ℕ) (admitted : Admitted) (acts : ActsIn page tables domain admitted) where
+  -- the domain holds what its slot holds
+  pub holds_told : (privilege : Privileges) (has : Bool) → has ≡ entry_has privilege (held tables.entries.items domain)
+      → (has ≡ true → Holds admitted (bits_of privilege)) × (Holds admitted (bits_of privilege) → has ≡ true)
+  holds_told privilege has is =
+      let same = is ∙ holds_named page tables domain admitted acts privilege in
+      ((λ there. sym same ∙ there), (λ holds. same ∙ holds))
+
+  pub lacks_told : (privilege : Privileges) (has : Bool) → has ≡ entry_has privilege (held tables.entries.items domain) → has ≡ false
+      → Holds admitted (bits_of privilege) → ⊥
+  lacks_told privilege has is lacks holds = (let clash = sym ((holds_told privilege has is).1 holds) ∙ lacks in cc)
+
+  module _ (request : ExtraditionRequest) (is : IsExtraditionOf request admitted.command) where
+    -- the thing and its new domain are one
+    pub one_thing : request.domain ≡ request.aid → is.given.first ≡ is.given.third
+    one_thing same = sym is.domain ∙ same ∙ is.aid
+
+    pub two_things : (request.domain ≡ request.aid → ⊥) → is.given.first ≢ is.given.third
+    two_things other same = other (is.domain ∙ same ∙ sym is.aid)
+
+    -- what is said of the new domain's AID
+    to_given : (x : List ℕ) (above : Bool) → IsTrue above ↔ IsAtOrAbove admitted.at.registry x request.domain
+        → IsTrue above ↔ IsAtOrAbove admitted.at.registry x is.given.first
+    to_given x above told = subst (λ (y : List ℕ). IsTrue above ↔ IsAtOrAbove admitted.at.registry x y) is.domain told
+
+    pub reach_told : (request.domain ≡ request.aid → ⊥) → (above : Bool) → IsTrue above ↔ IsAtOrAbove admitted.at.registry (acting admitted) request.domain
+        → IsTrue (not above) ↔ IsOutOfReach admitted is.given
+    reach_told other above told =
+        let negated = not_told above (to_given (acting admitted) above told) in
+        ((λ so. (two_things other, negated.0 so)), (λ out. negated.1 out.1))
+
+    pub approver_told : (request.domain ≡ request.aid → ⊥) → (verifier : List ℕ) (key : Key) → IsVerifier admitted.at.registry (acting admitted) verifier key
+        → (above : Bool) → IsTrue above ↔ IsAtOrAbove admitted.at.registry verifier request.domain → IsTrue (not above) ↔ IsUnapprovable admitted is.given
+    approver_told other verifier key verifies above told = (
+      λ so. inr (inr (verifier, key, verifies, negated.0 so)),
+      λ fails. elim fails [
+        | inl same ↦ absurd (two_things other same)
+        | inr (inl none) ↦ absurd (none verifier verifies.above.above verifies.above.fitting)
+        | inr (inr another) ↦
+            (let same = one_holder admitted.at.registry _ _ (acting admitted) another.0 verifier another.1 key another.2 verifies in
+            negated.1 (subst (λ (v : List ℕ). IsAtOrAbove admitted.at.registry v is.given.first → ⊥) same.0 another.3))
+      ],
+    )
+      where
+        negated : IsTrue (not above) ↔ (IsAtOrAbove admitted.at.registry verifier is.given.first → ⊥)
+        negated = not_told above (to_given verifier above told)
+
+-- which of its own rules is the first
+module _ (admitted : Admitted) (given : InstallData) where
+  abbrev Fails : RuleEX → Type 0
+  Fails = ExtraditingFails admitted given
+
+  abbrev Passes : RuleEX → Type 0
+  Passes rule = Fails rule → ⊥
+
+  abbrev First : Option RuleEX → Type 0
+  First found = IsFirst Fails own_extradition_rules found
+
+  pub first_1 : Fails EX1 → First (Some EX1)
+  first_1 fails = inl (fails, refl)
+
+  module _ (one : Passes EX1) where
+    pub first_2 : Fails EX2 → First (Some EX2)
+    first_2 fails = inr (one, inl (fails, refl))
+
+    module _ (two : Passes EX2) where
+      pub first_3 : Fails EX3 → First (Some EX3)
+      first_3 fails = inr (one, inr (two, inl (fails, refl)))
+
+      module _ (three : Passes EX3) where
+        pub first_4 : Fails EX4 → First (Some EX4)
+        first_4 fails = inr (one, inr (two, inr (three, inl (fails, refl))))
+
+        module _ (four : Passes EX4) where
+          pub first_5 : Fails EX5 → First (Some EX5)
+          first_5 fails = inr (one, inr (two, inr (three, inr (four, inl (fails, refl)))))
+
+          module _ (five : Passes EX5) where
+            pub first_6 : Fails EX6 → First (Some EX6)
+            first_6 fails = inr (one, inr (two, inr (three, inr (four, inr (five, inl (fails, refl))))))
+
+            module _ (six : Passes EX6) where
+              pub first_7 : Fails EX7 → First (Some EX7)
+              first_7 fails = inr (one, inr (two, inr (three, inr (four, inr (five, inr (six, inl (fails, refl)))))))
+
+              pub none_first : Passes EX7 → First None
+              none_first seven = inr (one, inr (two, inr (three, inr (four, inr (five, inr (six, inr (seven, refl)))))))
+
+-- what the tests of the code tell of these rules
+module _ (page : ℕ → List ℕ) (tables : Tables) (domain : ℕ) (admitted : Admitted) (acts : ActsIn page tables domain admitted)
+    (request : ExtraditionRequest) (is : IsExtraditionOf request admitted.command) where
+  pub unmanaged : (may : Bool) → may ≡ may_manage_by (held tables.entries.items domain) → may ≡ false → Fails admitted is.given EX1
+  unmanaged may told lacks manages_ = (let clash = sym (told ∙ manages page tables domain admitted acts manages_) ∙ lacks in cc)
+
+  pub managed : (may : Bool) → may ≡ may_manage_by (held tables.entries.items domain) → may ≡ true → Passes admitted is.given EX1
+  managed may told has fails = fails (may_manage page tables domain admitted acts (sym told ∙ has))
+
+  pub unknown : ((thing : Found) → aid_of tables thing ≢ Some request.aid) → Fails admitted is.given EX2
+  unknown none = inl (none_found_none_named page tables admitted.at.registry acts.says is.given.third (λ thing named. none thing (named ∙ ap Some (sym is.aid))))
+
+  pub no_domain : (IsDomainNamed admitted.at.registry request.domain → ⊥) → Fails admitted is.given EX2
+  no_domain none = inr (λ there. none (subst (IsDomainNamed admitted.at.registry) (sym is.domain) there))
+
+  pub known : (thing : Found) → aid_of tables thing ≡ Some request.aid → IsDomainNamed admitted.at.registry request.domain → Passes admitted is.given EX2
+  known (found.Entry slot) named there (inl none) =
+      (let at = found_entry_named page tables admitted.at.registry acts.says slot is.given.third (named ∙ ap Some is.aid) in let missing = none.0 in let clash = at.2 in cc)
+  known (found.File slot) named there (inl none) =
+      (let at = found_file_named page tables admitted.at.registry acts.says slot is.given.third (named ∙ ap Some is.aid) in let missing = none.1 in let clash = at.2 in cc)
+  known thing named there (inr none) = none (subst (IsDomainNamed admitted.at.registry) is.domain there)
+
+  pub fixed : (request.aid ≡ ISSUER) ⊎ (request.aid ≡ FACTORY_FILE) → Fails admitted is.given EX3
+  fixed (inl same) = inl (sym is.aid ∙ same)
+  fixed (inr same) = inr (sym is.aid ∙ same)
+
+  pub free : ((request.aid ≡ ISSUER) ⊎ (request.aid ≡ FACTORY_FILE) → ⊥) → Passes admitted is.given EX3
+  free other (inl same) = other (inl (is.aid ∙ same))
+  free other (inr same) = other (inr (is.aid ∙ same))

@@ -1,0 +1,116 @@
+-- The laws of INSTALL [for make selectable].
+use Rattle.std.proofs.Common.{◌≡◌, ◌≢◌, ℕ, List, [], ◌∷◌, Option, None, Some, true, false, refl, ap, sym, subst, ◌∙◌, arith}
+use Rattle.std.specs.Prelude.{Contains, IfSome, IsSome, MatchOption, cond}
+use Rattle.std.specs.Option.{option_map}
+use Rattle.card_types.proofs.LifeChanges.{life_keeps}
+use Rattle.card_types.proofs.MappedEntries.{KeepsNames, domain_still, entry_changed, some_keep, unnamed_still}
+use Rattle.card_types.specs.AidOrder.{same_aid}
+use Rattle.card_types.specs.ChangeLaws.{IsOfCard, MayHaveLife}
+use Rattle.card_types.specs.Privileges.{delegated_management}
+use Rattle.card_types.specs.Registry.{Entry, Registry, entry_named, is_domain}
+use Rattle.card_types.specs.RegistryChange.{with_life}
+use Rattle.card_types.specs.Well.{IsIssuerDomain, Well, has_life}
+use Rattle.card_types.specs.declared.factory.TheConstants.{ISSUER}
+use Rattle.card_types.specs.declared.life.Life.TheVariants.{Selectable}
+use Rattle.card_types.specs.declared.life.LifeMark.{LifeMark}
+use Rattle.policy_rules.specs.Admission.{Admitted}
+use Rattle.policy_rules.specs.Classes.{managing}
+use Rattle.policy_rules.specs.Commands.{JudgesAs}
+use Rattle.policy_rules.specs.Delegation.{Holds, IsAnswered, ReceiptFails}
+use Rattle.policy_rules.specs.InstallFields.{InstallData}
+use Rattle.policy_rules.specs.MakeSelectable.{MakeSelectableEffect, MakeSelectableFails, MakingSelectableFails, is_installed, make_selectable, selectable_rules}
+use Rattle.policy_rules.specs.Sound.{IsSound}
+use Rattle.policy_rules.specs.State.{Effect}
+use Rattle.policy_rules.specs.Volatile.{LoadSession}
+use Rattle.policy_rules.specs.declared.delegation.RuleRC.TheVariants.{RC1}
+use Rattle.policy_rules.specs.declared.make_selectable.RuleMS.TheVariants.{MS2, MS4}
+use Rattle.policy_rules.specs.declared.rule.Rule.TheVariants.{MS, RC}
+use Rattle.policy_rules.proofs.AnsweredKeeps.{answered_fits, answered_keeps, answered_once}
+use Rattle.policy_rules.proofs.FirstUnique.{none_fails}
+use Rattle.policy_rules.proofs.FitsKept.{KeepsThings, fits_kept, load_unnamed}
+use Rattle.policy_rules.proofs.Lawful.{IsLawful, IsReady, fits_as, placeless_same}
+use Rattle.policy_rules.proofs.LengthFields.{one_data}
+use Rattle.policy_rules.proofs.SameEffect.{effect_same, state_same}
+
+abbrev selectable_life : LifeMark
+selectable_life = record { life = Selectable; locked = false }
+
+-- another life cycle state of an entry keeps what is there
+module _ (registry : Registry) (aid : List ℕ) (life : LifeMark) where
+  names : KeepsNames (λ entry. cond (same_aid entry.aid aid) (record entry { life = life }) entry)
+  names = some_keep (λ other. same_aid other aid) (λ entry. record entry { life = life }) (record { aid = λ _. refl; file = λ _. refl; privileges = λ _. refl })
+
+  life_keeps_things : KeepsThings registry (with_life registry aid life)
+  life_keeps_things = record {
+    entries = λ other some. subst IsSome (sym (entry_changed registry _ registry.files names other)) (some_mapped (entry_named registry other) some);
+    domains = λ other is. domain_still registry _ registry.files names other is;
+    files = refl;
+  }
+    where
+      some_mapped : (o : Option Entry) → IsSome o → IsSome (option_map (λ (entry : Entry). cond (same_aid entry.aid aid) (record entry { life = life }) entry) o)
+      some_mapped None some = some
+      some_mapped (Some entry) some = refl
+
+  life_leaves_free : (load : Option LoadSession) → MatchOption load (Unit {0}) (λ l. entry_named registry l.aid ≡ None)
+      → MatchOption load (Unit {0}) (λ l. entry_named (with_life registry aid life) l.aid ≡ None)
+  life_leaves_free None free = tt
+  life_leaves_free (Some l) free = unnamed_still registry _ registry.files names l.aid free
+
+module _ (admitted : Admitted) (given : InstallData) (well : Well admitted.at.registry) (installed : MakingSelectableFails admitted given MS4 → ⊥)
+    (known : MakingSelectableFails admitted given MS2 → ⊥) where
+  -- it is not the Issuer Security Domain, which is personalized
+  not_issuer : given.third ≢ ISSUER
+  not_issuer same = by (entry_named admitted.at.registry ISSUER) refl well.issuer
+    where
+      by : (o : Option Entry) → entry_named admitted.at.registry ISSUER ≡ o → MatchOption o ⊥ IsIssuerDomain → ⊥
+      by None at is = is
+      by (Some entry) at is =
+          installed (subst (λ (o : Option Entry). MatchOption o ⊥ (λ e. e.life ≢ is_installed)) (sym (ap (entry_named admitted.at.registry) same ∙ at))
+          (λ just. (let clash = sym is.life ∙ ap (λ (l : LifeMark). l.life) just in cc)))
+
+  may_be_selectable : MayHaveLife admitted.at.registry given.third selectable_life
+  may_be_selectable = record { other = not_issuer; fits = any (entry_named admitted.at.registry given.third) }
+    where
+      any : (o : Option Entry) → IfSome o (λ entry. has_life (is_domain entry) Selectable ≡ true)
+      any None = tt
+      any (Some entry) = refl
+
+selecting_keeps : (admitted : Admitted) (done : Effect) → IsReady admitted → JudgesAs make_selectable admitted None → MakeSelectableEffect admitted done → IsSound done.state
+selecting_keeps admitted done ready (takes, first) does =
+    let registry = admitted.at.registry in
+    let given = does.given in
+    let of : IsOfCard registry = record { well = ready.sound.well; ascending = ready.sound.ascending } in
+    let passes = none_fails (MakeSelectableFails admitted) selectable_rules in
+    let may = may_be_selectable admitted given ready.sound.well (λ fails. passes (MS MS4) (5, omega arith, refl) first (given, does.asks, fails))
+    (λ fails. passes (MS MS2) (3, omega arith, refl) first (given, does.asks, fails)) in
+    let changed = with_life registry given.third selectable_life in
+    let receipt : Holds admitted delegated_management → ReceiptFails admitted RC1 → ⊥
+    = (λ delegated fails. passes (RC RC1) (10, omega arith, refl) first (given, does.asks, (delegated, fails))) in
+    let free = life_leaves_free registry given.third selectable_life admitted.at.volatile.load
+    (load_unnamed registry admitted.at.volatile admitted.at.volatile.load ready.sound.fits.load) in
+    let kept = answered_keeps (Holds admitted delegated_management) admitted (given.third ∷ []) changed done ready.sound.well receipt does.answered
+    (life_keeps registry given.third selectable_life of may) in
+    let fits = answered_fits (Holds admitted delegated_management) admitted (given.third ∷ []) changed done ready.sound.well receipt does.answered admitted.at.volatile free
+    (fits_kept registry changed (life_keeps_things registry given.third selectable_life) admitted.at.volatile free ready.sound.fits) in
+    record { well = kept.well; ascending = kept.ascending; fits = fits_as refl (sym does.volatile) fits }
+
+abbrev AnsweredFor : Admitted → InstallData → Effect → Type 0
+AnsweredFor admitted given done =
+    IsAnswered (Holds admitted delegated_management) admitted (given.third ∷ []) (with_life admitted.at.registry given.third selectable_life) done
+
+selecting_one : (admitted : Admitted) (a b : Effect) → MakeSelectableEffect admitted a → MakeSelectableEffect admitted b → a ≡ b
+selecting_one admitted a b one other =
+    let given = one_data one.given other.given admitted.command.body one.asks.fields other.asks.fields in
+    let here = subst (λ (g : InstallData). AnsweredFor admitted g a) given one.answered in
+    let same = answered_once (Holds admitted delegated_management) admitted (other.given.third ∷ []) (with_life admitted.at.registry other.given.third selectable_life) a b
+    here other.answered in
+    effect_same a b (state_same a.state b.state same.0 (one.volatile ∙ sym other.volatile)) same.1 (one.status ∙ sym other.status)
+
+-- once its instruction is one of those that manage content
+pub make_selectable_lawful : Contains managing make_selectable.instruction → IsLawful make_selectable
+make_selectable_lawful managed = record {
+  keeps = selecting_keeps;
+  one = selecting_one;
+  quiet = λ unmanaged. absurd (unmanaged managed);
+  without_place = λ other admitted done none does. placeless_same admitted.at.volatile done.state.volatile admitted.channel does.volatile none;
+}
