@@ -15,6 +15,9 @@ pub record Kept : Type 0 where
   pub live : Live
   pub held : List ChannelSession
 
+abbrev pub kept_of : Tables → Live → List ChannelSession → Kept
+kept_of tables live held = record { tables = tables; live = live; held = held }
+
 -- whatever stands in the load pages, the tables are a card's
 abbrev pub AreCards : Tables → Type 0
 AreCards tables = (page : ℕ → List ℕ) → HasPages page → IsCard page tables

@@ -22,6 +22,10 @@ use Rattle.card_core.specs.declared.channel_session.ChannelSession.{ChannelSessi
 abbrev pub secure_channel_for : Admitted → SecureChannel
 secure_channel_for admitted = secure_channel_of (channel_at admitted.at.volatile admitted.channel)
 
+-- a channel holds what the command's channel does
+abbrev pub HoldsFor : ChannelSession → Admitted → Type 0
+HoldsFor held admitted = RepresentsSecureChannel held (secure_channel_for admitted)
+
 -- a session was offered: the channel holds the offer, and the tables say the registry with the next counter
 pub record IsMade (admitted : Admitted) (page : ℕ → List ℕ) (tables : Tables) (new : ChannelSession) (body : List ℕ) : Type 0 where
   pub owner : List ℕ

@@ -3,7 +3,6 @@
 ghost use Rattle.std.specs.Prelude.{◌≡◌, ◌≤◌, ℕ, List, [], length, true, OnErr};
 ghost use Rattle.card_core.specs.Kept.{AreCards};
 ghost use Rattle.card_core.specs.Manages.{Manages};
-ghost use Rattle.card_types.specs.Ascending.{IsAscending};
 ghost use Rattle.policy_rules.specs.Admission.{Admitted};
 ghost use Rattle.policy_rules.specs.Requests.{ActsIn, IsRequestOf};
 ghost use Rattle.policy_rules.specs.declared.request.Request.TheVariants.{DeleteKey};
@@ -29,7 +28,7 @@ pub fn delete_key<F: Flash>(
     requires clean { records.old.staged ≡ [] }
     requires cards { AreCards records.old.tables }
     requires empty { reply.old.items ≡ [] }
-    ensures done { (page : ℕ → List ℕ) (admitted : Admitted) → ActsIn page records.old.tables domain admitted → IsAscending admitted.at.registry
+    ensures done { (page : ℕ → List ℕ) (admitted : Admitted) → ActsIn page records.old.tables domain admitted
         → IsRequestOf (DeleteKey version identifier) admitted.command
         → Manages admitted page records.old.tables records.new.tables reply.new.items result }
     ensures entries { records.new.tables.entries.items ≡ records.old.tables.entries.items }

@@ -1,8 +1,8 @@
 //! EXTERNAL AUTHENTICATE: an offer becomes a session.
 
 ghost use Rattle.std.specs.Prelude.{◌≡◌, IfErr, OnOk};
-ghost use Rattle.card_core.specs.SecureChannels.{RepresentsSecureChannel, IsOffered};
-ghost use Rattle.card_core.specs.Offers.{AnswersAs, secure_channel_for};
+ghost use Rattle.card_core.specs.SecureChannels.{IsOffered};
+ghost use Rattle.card_core.specs.Offers.{AnswersAs, HoldsFor};
 ghost use Rattle.policy_rules.specs.Admission.{Admitted};
 ghost use Rattle.policy_rules.specs.Requests.{IsRequestOf, IsWellFormed};
 ghost use Rattle.policy_rules.specs.declared.external_authenticate.RuleEA.TheVariants.{EA1};
@@ -37,7 +37,7 @@ pub fn external_authenticate(
 ) -> Result<Status, Rule>
     requires offered { IsOffered held.old }
     requires formed { IsWellFormed (Authenticate level proof) }
-    ensures { (admitted : Admitted) → IsRequestOf (Authenticate level proof.entry) admitted.command → RepresentsSecureChannel held.old (secure_channel_for admitted)
+    ensures { (admitted : Admitted) → IsRequestOf (Authenticate level proof.entry) admitted.command → HoldsFor held.old admitted
         → AnswersAs admitted held.old held.new result }
 {
     let ChannelSession::Offered(offer) = mem::replace(held, ChannelSession::Nothing) else {

@@ -4,16 +4,12 @@ ghost use Rattle.std.specs.Prelude.{◌≡◌, ◌≤◌, ◌<◌, ◌+◌, ◌+
 ghost use Rattle.arrayvec.specs.ArrayVec.{array_vec_len};
 ghost use Rattle.bertlv.specs.Spelling.{Spelling};
 ghost use Rattle.bertlv.specs.Tag.{IsTag};
-ghost use Rattle.card_core.specs.Kept.{RepresentsSoundly};
+ghost use Rattle.card_core.specs.Domains.{ForEntry};
+ghost use Rattle.card_core.specs.Kept.{RepresentsSoundly, kept_of};
 ghost use Rattle.card_core.specs.Serves.{CarriesOutBut};
 ghost use Rattle.card_core.specs.declared.channel_session.ChannelSession.{ChannelSession};
 ghost use Rattle.card_types.specs.InOrder.{IsInOrder};
 ghost use Rattle.card_types.specs.Least.{IsLeast};
-ghost use Rattle.card_types.specs.Registry.{Registry};
-ghost use Rattle.card_types.specs.Represents.{Represents, domain_aid};
-ghost use Rattle.card_types.specs.Slots.{held};
-ghost use Rattle.card_types.specs.Well.{Well};
-ghost use Rattle.card_types.specs.declared.tables.Entry.{Entry};
 ghost use Rattle.policy_rules.specs.Admission.{Admitted};
 ghost use Rattle.policy_rules.specs.Found.{IsFor};
 ghost use Rattle.policy_rules.specs.GetData.{HasData, IsKeyInformation};
@@ -62,10 +58,9 @@ fn write_keys(
 )
     requires few { length keys.now ≤ KEYS }
     requires empty { value.old.items ≡ [] }
-    ensures listed { (page : ℕ → List ℕ) (tables : Tables) (said : Registry) (entry : Entry) → Represents page tables said → Well said
-        → keys.now ≡ tables.keys.items → held tables.entries.items first.now.owner ≡ Some entry
+    ensures listed { (tables : Tables) → keys.now ≡ tables.keys.items
         → ((slot : ℕ) × IsLeast (follows first.now.owner None) name_order keys.now slot first.now)
-        → IsKeyInformation said (domain_aid tables.entries.items first.now.owner) value.new.items }
+        → ForEntry tables first.now.owner (λ said aid. IsKeyInformation said aid value.new.items) }
     ensures size { length value.new.items ≤ 108 }
 {
     let mut key = first;
@@ -83,9 +78,8 @@ fn write_datum(tables: &Tables, tag: u16, datum: Datum<'_>, reply: &mut ArrayVec
     requires in_order { IsInOrder tables.now }
     requires tag { IsTag tag }
     requires empty { reply.old.items ≡ [] }
-    ensures written { (domain : ℕ) (page : ℕ → List ℕ) (said : Registry) (entry : Entry) → Represents page tables.now said → Well said
-        → held tables.now.entries.items domain ≡ Some entry → IsFor tables.now said domain tag datum.entry
-        → (value : List ℕ) × HasData said (domain_aid tables.now.entries.items domain) tag value × Spelling tag value reply.new.items }
+    ensures written { (domain : ℕ) → ForEntry tables.now domain (λ said aid. IsFor tables.now said domain tag datum.entry
+        → (value : List ℕ) × HasData said aid tag value × Spelling tag value reply.new.items) }
     ensures room { length reply.new.items ≤ 239 }
 {
     match datum {
@@ -129,9 +123,9 @@ pub fn get_data(
     requires channel { channel < CHANNELS }
     requires selected { slice_index_or live.now.selected channel None ≡ Some domain }
     requires empty { reply.old.items ≡ [] }
-    ensures done { (page : ℕ → List ℕ) (all : List ChannelSession) (admitted : Admitted) → RepresentsSoundly page (record { tables = tables.now; live = live.now; held = all }) admitted.at
+    ensures done { (page : ℕ → List ℕ) (all : List ChannelSession) (admitted : Admitted) → RepresentsSoundly page (kept_of tables.now live.now all) admitted.at
         → length all ≡ CHANNELS → channel ≡ admitted.channel → IsRequestOf (Get tag) admitted.command
-        → CarriesOutBut page admitted (record { tables = tables.now; live = live.now; held = all }) reply.new.items result }
+        → CarriesOutBut page admitted (kept_of tables.now live.now all) reply.new.items result }
     ensures room { length reply.new.items ≤ 239 }
 {
     match judge_get_data(tables, domain, tag) {

@@ -1,16 +1,13 @@
 //! INITIALIZE UPDATE: a session is offered.
 
 ghost use Rattle.std.specs.Prelude.{◌≡◌, ◌≤◌, ℕ, true, List, [], length, None, Some, IfSome, IfNone, OnErr};
+ghost use Rattle.card_core.specs.Domains.{ForEntry};
 ghost use Rattle.card_core.specs.Kept.{AreCards};
 ghost use Rattle.card_core.specs.Offers.{OffersAs};
-ghost use Rattle.card_types.specs.Ascending.{IsAscending};
 ghost use Rattle.card_types.specs.InOrder.{IsInOrder};
-ghost use Rattle.card_types.specs.Registry.{Registry, object_named};
-ghost use Rattle.card_types.specs.Represents.{Represents, counter_of, domain_aid};
-ghost use Rattle.card_types.specs.Slots.{held as held_in};
-ghost use Rattle.card_types.specs.Well.{Well};
+ghost use Rattle.card_types.specs.Registry.{object_named};
+ghost use Rattle.card_types.specs.Represents.{counter_of};
 ghost use Rattle.card_types.specs.declared.limits.TheConstants.{COUNTER_LIMIT};
-ghost use Rattle.card_types.specs.declared.tables.Entry.{Entry};
 ghost use Rattle.policy_rules.specs.Admission.{Admitted};
 ghost use Rattle.policy_rules.specs.GetData.{IsDataObject};
 ghost use Rattle.policy_rules.specs.InitializeUpdate.{diversification_of, offer_body};
@@ -39,12 +36,8 @@ const PROTOCOL: [u8; 2] = [0x03, 0x70];
 // The key diversification data of a domain, where it has such a data object.
 fn diversification(tables: &Tables, owner: u8) -> Option<&Object>
     requires in_order { IsInOrder tables.now }
-    ensures some { (page : ℕ → List ℕ) (said : Registry) (entry : Entry) → Represents page tables.now said → Well said
-        → held_in tables.now.entries.items owner ≡ Some entry
-        → IfSome result (λ object. IsDataObject said (domain_aid tables.now.entries.items owner) 0xCF object.now.value.items) }
-    ensures none { (page : ℕ → List ℕ) (said : Registry) (entry : Entry) → Represents page tables.now said → Well said
-        → held_in tables.now.entries.items owner ≡ Some entry
-        → IfNone result (object_named said (domain_aid tables.now.entries.items owner) 0xCF ≡ None) }
+    ensures some { ForEntry tables.now owner (λ said aid. IfSome result (λ object. IsDataObject said aid 0xCF object.now.value.items)) }
+    ensures none { ForEntry tables.now owner (λ said aid. IfNone result (object_named said aid 0xCF ≡ None)) }
 {
     match judge_get_data(tables, owner, DIVERSIFICATION) {
         Ok(Datum::Object { object }) => Some(object),
@@ -58,9 +51,7 @@ fn diversification(tables: &Tables, owner: u8) -> Option<&Object>
 fn write_diversification(tables: &Tables, owner: u8, reply: &mut ArrayVec<u8, REPLY_LIMIT>)
     requires in_order { IsInOrder tables.now }
     requires empty { reply.old.items ≡ [] }
-    ensures written { (page : ℕ → List ℕ) (said : Registry) (entry : Entry) → Represents page tables.now said → Well said
-        → held_in tables.now.entries.items owner ≡ Some entry
-        → reply.new.items ≡ diversification_of (object_named said (domain_aid tables.now.entries.items owner) 0xCF) }
+    ensures written { ForEntry tables.now owner (λ said aid. reply.new.items ≡ diversification_of (object_named said aid 0xCF)) }
     ensures size { length reply.new.items ≤ 120 }
 {
     match diversification(tables, owner) {
@@ -79,9 +70,8 @@ fn write_offer(
     requires in_order { IsInOrder tables.now }
     requires counter { enc.now.counter ≤ COUNTER_LIMIT }
     requires empty { reply.old.items ≡ [] }
-    ensures written { (page : ℕ → List ℕ) (said : Registry) (entry : Entry) (made : model.Offer) → Represents page tables.now said → Well said
-        → held_in tables.now.entries.items enc.now.owner ≡ Some entry → RepresentsOffer offer.now made
-        → reply.new.items ≡ offer_body said (domain_aid tables.now.entries.items enc.now.owner) (counter_of tables.now.entries.items enc.now) made }
+    ensures written { ForEntry tables.now enc.now.owner (λ said aid. (made : model.Offer) → RepresentsOffer offer.now made
+        → reply.new.items ≡ offer_body said aid (counter_of tables.now.entries.items enc.now) made) }
     ensures size { length reply.new.items ≤ 142 }
 {
     let [_, high, middle, low] = enc.counter.to_be_bytes();
@@ -108,7 +98,7 @@ pub fn initialize_update<F: Flash>(
     requires cards { AreCards records.old.tables }
     requires challenge { length challenge.now ≡ 8 }
     requires empty { reply.old.items ≡ [] }
-    ensures done { (page : ℕ → List ℕ) (admitted : Admitted) → ActsIn page records.old.tables domain admitted → IsAscending admitted.at.registry
+    ensures done { (page : ℕ → List ℕ) (admitted : Admitted) → ActsIn page records.old.tables domain admitted
         → IsRequestOf (Initialize version challenge.entry) admitted.command
         → OffersAs admitted page records.old.tables records.new.tables held.old held.new reply.new.items result }
     ensures entries { records.new.tables.entries.items ≡ records.old.tables.entries.items }

@@ -1,7 +1,7 @@
 //! MANAGE CHANNEL: a channel is opened or closed.
 
 ghost use Rattle.std.specs.Prelude.{◌≡◌, ◌≤◌, ◌<◌, ℕ, List, [], length};
-ghost use Rattle.card_core.specs.Kept.{RepresentsSoundly};
+ghost use Rattle.card_core.specs.Kept.{RepresentsSoundly, kept_of};
 ghost use Rattle.card_core.specs.Serves.{CarriesOutBut};
 ghost use Rattle.card_core.specs.declared.channel_session.ChannelSession.{ChannelSession};
 ghost use Rattle.card_types.specs.Layout.{HasLayout};
@@ -21,9 +21,9 @@ use policy_rules::{CHANNELS, Live, Rule, judge_more_channel};
 pub fn open_channel(live: &mut Live, reply: &mut ArrayVec<u8, REPLY_LIMIT>) -> Result<Status, Rule>
     requires empty { reply.old.items ≡ [] }
     ensures done { (page : ℕ → List ℕ) (tables : Tables) (all : List ChannelSession) (admitted : Admitted) → HasLayout tables
-        → RepresentsSoundly page (record { tables = tables; live = live.old; held = all }) admitted.at → length all ≡ CHANNELS → admitted.channel < CHANNELS
+        → RepresentsSoundly page (kept_of tables live.old all) admitted.at → length all ≡ CHANNELS → admitted.channel < CHANNELS
         → IsRequestOf MoreChannel admitted.command
-        → CarriesOutBut page admitted (record { tables = tables; live = live.new; held = all }) reply.new.items result }
+        → CarriesOutBut page admitted (kept_of tables live.new all) reply.new.items result }
     ensures room { length reply.new.items ≤ 239 }
 {
     match judge_more_channel(live) {
@@ -44,9 +44,9 @@ pub fn close_channel(
 ) -> Result<Status, Rule>
     requires low { 1 ≤ number }
     requires high { number < CHANNELS }
-    ensures done { (page : ℕ → List ℕ) (tables : Tables) (admitted : Admitted) → RepresentsSoundly page (record { tables = tables; live = live.old; held = held.old }) admitted.at
+    ensures done { (page : ℕ → List ℕ) (tables : Tables) (admitted : Admitted) → RepresentsSoundly page (kept_of tables live.old held.old) admitted.at
         → IsRequestOf (LessChannel number) admitted.command
-        → CarriesOutBut page admitted (record { tables = tables; live = live.new; held = held.new }) [] result }
+        → CarriesOutBut page admitted (kept_of tables live.new held.new) [] result }
 {
     let place = usize::from(number);
     if live.selected[place].is_none() {

@@ -4,9 +4,8 @@ ghost use Rattle.std.specs.Prelude.{◌≡◌, ◌≤◌, ◌+◌, ◌++◌, ◌
 ghost use Rattle.card_core.specs.Domains.{is_domain_in};
 ghost use Rattle.card_core.specs.Kept.{AreCards};
 ghost use Rattle.card_core.specs.Manages.{Manages};
-ghost use Rattle.card_core.specs.SecureChannels.{RepresentsSecureChannel, IsInSession};
-ghost use Rattle.card_core.specs.Offers.{secure_channel_for};
-ghost use Rattle.card_types.specs.Ascending.{IsAscending};
+ghost use Rattle.card_core.specs.SecureChannels.{IsInSession};
+ghost use Rattle.card_core.specs.Offers.{HoldsFor};
 ghost use Rattle.policy_rules.specs.Admission.{Admitted};
 ghost use Rattle.policy_rules.specs.Requests.{ActsIn, IsRequestOf, IsWellFormed};
 ghost use Rattle.policy_rules.specs.declared.request.Request.TheVariants.{PutKey};
@@ -55,8 +54,8 @@ pub fn put_key<F: Flash>(
     requires secured { IsInSession held.now }
     requires formed { IsWellFormed (PutKey replaced version keys.now) }
     requires empty { reply.old.items ≡ [] }
-    ensures done { (page : ℕ → List ℕ) (admitted : Admitted) → ActsIn page records.old.tables domain admitted → IsAscending admitted.at.registry
-        → IsRequestOf (PutKey replaced version keys.now) admitted.command → RepresentsSecureChannel held.now (secure_channel_for admitted)
+    ensures done { (page : ℕ → List ℕ) (admitted : Admitted) → ActsIn page records.old.tables domain admitted
+        → IsRequestOf (PutKey replaced version keys.now) admitted.command → HoldsFor held.now admitted
         → Manages admitted page records.old.tables records.new.tables reply.new.items result }
     ensures entries { records.new.tables.entries.items ≡ records.old.tables.entries.items }
     ensures cards { AreCards records.new.tables }

@@ -2,7 +2,7 @@
 
 ghost use Rattle.std.specs.Prelude.{◌≡◌, ◌≤◌, ◌<◌, ℕ, List, [], length, slice_index_or, slice_set};
 ghost use Rattle.card_types.specs.InOrder.{IsInOrder};
-ghost use Rattle.card_core.specs.Kept.{RepresentsSoundly};
+ghost use Rattle.card_core.specs.Kept.{RepresentsSoundly, kept_of};
 ghost use Rattle.card_core.specs.Serves.{CarriesOutBut};
 ghost use Rattle.card_core.specs.declared.channel_session.ChannelSession.{ChannelSession};
 ghost use Rattle.card_core.specs.declared.channel_session.ChannelSession.TheVariants as holding;
@@ -92,10 +92,10 @@ pub fn select(
     requires in_order { IsInOrder tables.now }
     requires channel { channel < CHANNELS }
     requires empty { reply.old.items ≡ [] }
-    ensures done { (page : ℕ → List ℕ) (all : List ChannelSession) (admitted : Admitted) → RepresentsSoundly page (record { tables = tables.now; live = live.old; held = all }) admitted.at
+    ensures done { (page : ℕ → List ℕ) (all : List ChannelSession) (admitted : Admitted) → RepresentsSoundly page (kept_of tables.now live.old all) admitted.at
         → length all ≡ CHANNELS → channel ≡ admitted.channel → slice_index_or all channel holding.Nothing ≡ held.old
         → IsRequestOf (Select partial.entry) admitted.command
-        → CarriesOutBut page admitted (record { tables = tables.now; live = live.new; held = slice_set all channel held.new }) reply.new.items result }
+        → CarriesOutBut page admitted (kept_of tables.now live.new (slice_set all channel held.new)) reply.new.items result }
     ensures room { length reply.new.items ≤ 239 }
 {
     match judge_select(tables, partial) {

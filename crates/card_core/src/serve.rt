@@ -6,7 +6,7 @@ ghost use Rattle.apdu_core.specs.Reply.{status_bytes};
 ghost use Rattle.card_core.specs.Commits.{MayCommit};
 ghost use Rattle.card_core.specs.Domains.{is_domain_in};
 ghost use Rattle.card_core.specs.SecureChannels.{RepresentsSecureChannel, IsInSession, held_passed, without_offer_held};
-ghost use Rattle.card_core.specs.Kept.{AreCards, RepresentsSoundly};
+ghost use Rattle.card_core.specs.Kept.{AreCards, RepresentsSoundly, kept_of};
 ghost use Rattle.card_core.specs.Serves.{CarriesOut, CarriesOutBut, IsTerminatedFor, Serves, live_passed, live_refused, rule_of, status_word};
 ghost use Rattle.policy_rules.specs.Admission.{Admitted};
 ghost use Rattle.card_core.specs.declared.channel_session.ChannelSession.TheVariants as holding;
@@ -97,9 +97,9 @@ fn carry_out<F: Flash>(
     requires secured { Contains managing command.now.ins → IsInSession (slice_index_or held.old received.now.channel holding.Nothing) }
     requires short { length command.now.body.now ≤ 255 }
     requires empty { reply.old.items ≡ [] }
-    ensures done { (page : ℕ → List ℕ) (judged : Admitted) → RepresentsSoundly page (record { tables = records.old.tables; live = live.old; held = held.old }) judged.at
+    ensures done { (page : ℕ → List ℕ) (judged : Admitted) → RepresentsSoundly page (kept_of records.old.tables live.old held.old) judged.at
         → received.now.channel ≡ judged.channel → judged.command ≡ apdu_of command.now
-        → CarriesOutBut page judged (record { tables = records.new.tables; live = live.new; held = held.new }) reply.new.items result }
+        → CarriesOutBut page judged (kept_of records.new.tables live.new held.new) reply.new.items result }
     ensures cards { AreCards records.new.tables }
     ensures same { (records.new.flash ≡ records.old.flash) × (records.new.live ≡ true) }
     ensures refused { OnErr result (records.new ≡ records.old) }
@@ -175,9 +175,9 @@ fn act<F: Flash>(
     requires secured { Contains managing command.now.ins → IsInSession (slice_index_or held.old received.now.channel holding.Nothing) }
     requires short { length command.now.body.now ≤ 255 }
     requires empty { reply.old.items ≡ [] }
-    ensures done { (page : ℕ → List ℕ) (judged : Admitted) → RepresentsSoundly page (record { tables = records.old.tables; live = live.old; held = held.old }) judged.at
+    ensures done { (page : ℕ → List ℕ) (judged : Admitted) → RepresentsSoundly page (kept_of records.old.tables live.old held.old) judged.at
         → received.now.channel ≡ judged.channel → judged.command ≡ apdu_of command.now
-        → CarriesOut page judged (record { tables = records.new.tables; live = live.new; held = held.new }) reply.new.items result }
+        → CarriesOut page judged (kept_of records.new.tables live.new held.new) reply.new.items result }
     ensures cards { AreCards records.new.tables }
     ensures same { (records.new.flash ≡ records.old.flash) × (records.new.live ≡ true) }
     ensures refused { OnErr result (records.new ≡ records.old) }
@@ -247,8 +247,8 @@ pub fn serve<F: Flash>(
     requires clean { records.old.staged ≡ [] }
     requires cards { AreCards records.old.tables }
     requires empty { reply.old.items ≡ [] }
-    ensures served { (page : ℕ → List ℕ) (state : State) → RepresentsSoundly page (record { tables = records.old.tables; live = live.old; held = held.old }) state
-        → Serves page state bytes.now (record { tables = records.new.tables; live = live.new; held = held.new }) reply.new.items result }
+    ensures served { (page : ℕ → List ℕ) (state : State) → RepresentsSoundly page (kept_of records.old.tables live.old held.old) state
+        → Serves page state bytes.now (kept_of records.new.tables live.new held.new) reply.new.items result }
     ensures cards { AreCards records.new.tables }
     ensures same { (records.new.flash ≡ records.old.flash) × (records.new.live ≡ true) }
     ensures refused { IsSome result → records.new ≡ records.old }

@@ -5,7 +5,6 @@ ghost use Rattle.card_core.specs.Domains.{is_domain_in};
 ghost use Rattle.card_core.specs.Kept.{AreCards};
 ghost use Rattle.card_core.specs.Manages.{Manages};
 ghost use Rattle.card_core.specs.ObjectsPut.{IsSlotFor, PutsObject, object_pages, object_with};
-ghost use Rattle.card_types.specs.Ascending.{IsAscending};
 ghost use Rattle.card_types.specs.Represents.{used};
 ghost use Rattle.card_types.specs.declared.limits.TheConstants.{OBJECTS};
 ghost use Rattle.policy_rules.specs.Admission.{Admitted};
@@ -89,7 +88,7 @@ pub fn store_data<F: Flash>(
     requires cards { AreCards records.old.tables }
     requires domain { is_domain_in records.old.tables.entries.items domain ≡ true }
     requires formed { IsWellFormed (Store objects) }
-    ensures done { (page : ℕ → List ℕ) (admitted : Admitted) → ActsIn page records.old.tables domain admitted → IsAscending admitted.at.registry
+    ensures done { (page : ℕ → List ℕ) (admitted : Admitted) → ActsIn page records.old.tables domain admitted
         → IsRequestOf (Store objects.entry) admitted.command
         → Manages admitted page records.old.tables records.new.tables [] result }
     ensures entries { records.new.tables.entries.items ≡ records.old.tables.entries.items }

@@ -16,14 +16,14 @@ pub judge_delete_key-requires : goal.judge_delete_key-requires
 judge_delete_key-requires g c = record { in_order = subst IsInOrder (sym c.tables.ensures.tables) (in_order c.args.records.now.tables c.requires.cards) }
 
 pub returns-in_err-judge_delete_key-clause-done : goal.returns-in_err-judge_delete_key-clause-done
-returns-in_err-judge_delete_key-clause-done g c page admitted acts ascending request =
+returns-in_err-judge_delete_key-clause-done g c page admitted acts request =
     let here = subst (λ (t : Tables). ActsIn page t c.args.domain admitted) (sym c.tables.ensures.tables) acts in
     refusal_managed admitted page c.args.records.now.tables c.args.reply.now.items c.from_residual.result c.in_err-judge_delete_key.field-0.0 c.from_residual.ensures.1
     (c.in_err-judge_delete_key.ensures.refused page admitted here request)
     c.requires.empty
 
 pub returns-clause-done : goal.returns-clause-done
-returns-clause-done g c page admitted acts ascending request =
+returns-clause-done g c page admitted acts request =
     let here = subst (λ (t : Tables). ActsIn page t c.args.domain admitted) (sym c.tables.ensures.tables) acts in
     let registry = without_version admitted.at.registry (acting admitted) c.args.version in
     let says = deleted_says c.args.records.now c.delete.new.keeper c.delete.ensures.same_else c.args.domain c.args.version c.delete.ensures.deletes page

@@ -19,7 +19,7 @@ returns-in-Keys-clause-written c domain page said entry says well at found =
     let owner = is.1 in
     let here = subst (λ (n : ℕ). held c.args.tables.now.entries.items n ≡ Some entry) (sym owner) at in
     let own = subst (λ (n : ℕ). IsLeast (follows n None) name_order c.args.tables.now.keys.items least.0 c.in-Keys.first.now) (sym owner) least.1 in
-    let listed = c.write_keys.ensures.listed page c.args.tables.now said entry says well c.deref.ensures.value here (least.0, rw c.deref.ensures.value own) in
+    let listed = c.write_keys.ensures.listed c.args.tables.now c.deref.ensures.value (least.0, rw c.deref.ensures.value own) page said entry says well here in
     let spelled = appended c.args.tag c.deref-in-Keys.result.now c.args.reply.now.items c.append.new.out.items c.requires.empty c.append.ensures.appends in (
       c.write_keys.new.value.items,
       inl (is.0, subst (λ (n : ℕ). IsKeyInformation said (domain_aid c.args.tables.now.entries.items n) c.write_keys.new.value.items) owner listed),

@@ -16,7 +16,7 @@ loop-init c = record {
 }
 
 pub returns-in-None-clause-listed : goal.returns-in-None-clause-listed
-returns-in-None-clause-listed c page tables said entry says well keys at least =
+returns-in-None-clause-listed c tables keys least page said entry says well at =
     let listing = c.loop.invariant.listing page tables said entry says well keys at least in
     let none = rw keys at c.in-None.ensures.none in
     let written = c.write_key.ensures.written in
@@ -41,7 +41,7 @@ loop-preserved c = record {
 }
 
 pub returns-clause-listed : goal.returns-clause-listed
-returns-clause-listed c page tables said entry says well keys at least =
+returns-clause-listed c tables keys least page said entry says well at =
     let listing = c.loop.invariant.listing page tables said entry says well keys at least in
     let past = c.loop-test.false in
     too_many page tables said says well c.args.first.now.owner entry at c.loop.key.now c.loop.counter c.loop.value.items listing (omega arith)

@@ -21,7 +21,7 @@ pub write_offer-requires-clause-in_order : goal.write_offer-requires-clause-in_o
 write_offer-requires-clause-in_order g c = subst IsInOrder (sym c.tables-tables.ensures.tables) (in_order c.args.records.now.tables c.requires.cards)
 
 pub returns-in_err-found-clause-done : goal.returns-in_err-found-clause-done
-returns-in_err-found-clause-done g c page admitted acts ascending request =
+returns-in_err-found-clause-done g c page admitted acts request =
     let means = request.means in
     let first = c.in_err-found.ensures.refused page admitted (subst (λ t. ActsIn page t c.args.domain admitted) (sym c.tables-tables.ensures.tables) acts) means.0 in
     refusal_handed admitted page c.args.records.now.tables c.args.held.now c.args.reply.now.items c.from_residual.result c.in_err-found.field-0.0
@@ -36,7 +36,7 @@ returns-clause-cards g c =
     c.in_ok-found.found.slot c.in_ok-found.found.keys.enc.now c.in_ok-found.ensures.at c.in_ok-found.ensures.next c.raise_counter.ensures.raises c.requires.cards
 
 pub returns-clause-done : goal.returns-clause-done
-returns-clause-done g c page admitted acts ascending request =
+returns-clause-done g c page admitted acts request =
     let means = request.means in
     let tables = c.tables-tables.result.now in
     let same = c.tables-tables.ensures.tables in
@@ -72,6 +72,6 @@ returns-clause-done g c page admitted acts ascending request =
       says = says_raised c.args.records.now c.raise_counter.new.keeper else_ tables same found.slot key given.at given.next raises page admitted.at.registry acts.says;
       well = raised_well c.args.records.now c.raise_counter.new.keeper else_ tables same found.slot key given.at given.next raises page admitted.at.registry acts.says acts.well;
       holds = stands;
-      is = c.write_offer.ensures.written page admitted.at.registry owner.0 offer says well owner.1 stands;
+      is = c.write_offer.ensures.written page admitted.at.registry owner.0 says well owner.1 offer stands;
     } in
     (offer_judged admitted None request.form first, made, refl)

@@ -4,7 +4,7 @@ use Rattle.scp03_card.proofs.OfferLemmas.{last_three}
 use Rattle.card_core.proofs.initialize_update.write_offer.Goals as goal
 
 pub returns-clause-written : goal.returns-clause-written
-returns-clause-written c page said entry made says well at stands =
+returns-clause-written c page said entry says well at made stands =
     body_is said _ (counter_of c.args.tables.now.entries.items c.args.enc.now) made _ _ _ _ _ _ _ _ _
     (c.write_diversification.ensures.written page said entry says well at)
     c.push.ensures.items

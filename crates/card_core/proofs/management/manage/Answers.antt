@@ -6,8 +6,8 @@ use Rattle.card_core.proofs.management.manage.Goals as goal
 
 -- STORE DATA, whose reply has no data
 pub returns-in-Store-clause-done : goal.returns-in-Store-clause-done
-returns-in-Store-clause-done g c page admitted acts says ascending request holds =
-    rw c.requires.empty (c.store_data.ensures.done page admitted acts ascending (rw c.in-Store.is at request))
+returns-in-Store-clause-done g c page admitted acts says request holds =
+    rw c.requires.empty (c.store_data.ensures.done page admitted acts (rw c.in-Store.is at request))
 
 -- the entries are the same
 entries_kept : (before after : List (Option Entry)) → after ≡ before → KeepsAids before after

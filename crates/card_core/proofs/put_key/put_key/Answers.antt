@@ -18,7 +18,7 @@ use Rattle.card_core.specs.Offers.{secure_channel_for}
 use Rattle.card_core.proofs.put_key.put_key.Goals as goal
 
 pub returns-in_err-judge_put_versions-clause-done : goal.returns-in_err-judge_put_versions-clause-done
-returns-in_err-judge_put_versions-clause-done g c page admitted acts ascending request holds =
+returns-in_err-judge_put_versions-clause-done g c page admitted acts request holds =
     let rule = c.in_err-judge_put_versions.field-0.0 in
     let refused = c.in_err-judge_put_versions.ensures.refused page admitted c.args.keys.now (subst (λ t. ActsIn page t c.args.domain admitted) (sym c.tables.ensures.tables) acts) request in
     let first = first_within (PutKeyFails admitted) key_rules version_rules rule refused in
@@ -34,7 +34,7 @@ pub judge_put_keys-requires : goal.judge_put_keys-requires
 judge_put_keys-requires g c = record { in_order = subst IsInOrder (sym c.tables-in-One.ensures.tables) (in_order c.args.records.now.tables c.requires.cards) }
 
 pub returns-in_err-judge_put_keys-in-One-clause-done : goal.returns-in_err-judge_put_keys-in-One-clause-done
-returns-in_err-judge_put_keys-in-One-clause-done g c page admitted acts ascending request holds =
+returns-in_err-judge_put_keys-in-One-clause-done g c page admitted acts request holds =
     let sent = c.in-One.sent in
     let key = c.open_key-key.result.bytes.items in
     let asked = subst (λ k. IsRequestOf (PutKey c.args.replaced c.args.version k) admitted.command) c.in-One.is request in
@@ -118,7 +118,7 @@ place_set-requires-clause-judged g c =
     c.in_ok-judge_put_versions.ensures.known c.in_ok-judge_put_versions.ensures.free (c.in_ok-judge_put_keys-in-Three.ensures.roomy c.args.version)
 
 pub returns-in_err-judge_put_keys-in-Three-clause-done : goal.returns-in_err-judge_put_keys-in-Three-clause-done
-returns-in_err-judge_put_keys-in-Three-clause-done g c page admitted acts ascending request holds =
+returns-in_err-judge_put_keys-in-Three-clause-done g c page admitted acts request holds =
     let keys = Three c.in-Three.first c.in-Three.second c.in-Three.third in
     let asked = subst (λ k. IsRequestOf (PutKey c.args.replaced c.args.version k) admitted.command) c.in-Three.is request in
     let secured = subst (λ h. RepresentsSecureChannel h (secure_channel_for admitted)) c.in-Secured.is holds in
@@ -137,7 +137,7 @@ returns-in_err-judge_put_keys-in-Three-clause-done g c page admitted acts ascend
     (put_judged admitted (Some c.in_err-judge_put_keys-in-Three.field-0.0) request.form first) c.requires.empty
 
 pub returns-in_ok-judge_put_keys-in-One-clause-done : goal.returns-in_ok-judge_put_keys-in-One-clause-done
-returns-in_ok-judge_put_keys-in-One-clause-done g c page admitted acts ascending request holds =
+returns-in_ok-judge_put_keys-in-One-clause-done g c page admitted acts request holds =
     let sent = c.in-One.sent in
     let key = c.open_key-key.result.bytes.items in
     let form = formed_one c.args.replaced c.args.version sent (subst (λ k. IsWellFormed (PutKey c.args.replaced c.args.version k)) c.in-One.is c.requires.formed) in
@@ -175,7 +175,7 @@ returns-in_ok-judge_put_keys-in-One-clause-cards g c =
     (c.deref.result.now ∷ []) (key ∷ []) (λ i. c.deref.ensures.0 i ∷ []) c.place_one.ensures.put) (one_length sent key form.lengths c.open_key-key.ensures.length) (inr (form.new, refl)) judged c.requires.domain c.requires.cards
 
 pub returns-in_ok-judge_put_keys-in-Three-clause-done : goal.returns-in_ok-judge_put_keys-in-Three-clause-done
-returns-in_ok-judge_put_keys-in-Three-clause-done g c page admitted acts ascending request holds =
+returns-in_ok-judge_put_keys-in-Three-clause-done g c page admitted acts request holds =
     let keys = Three c.in-Three.first c.in-Three.second c.in-Three.third in
     let bytes = c.open_key-enc.result.bytes.items ∷ c.open_key-mac.result.bytes.items ∷ c.open_key-kek.result.bytes.items ∷ [] in
     let form = formed_set c.args.replaced c.args.version c.in-Three.first c.in-Three.second c.in-Three.third

@@ -124,7 +124,7 @@ returns-in-Initialize-clause-done g c = λ page judged stands at is.
     let here : slice_index_or c.args.held.now c.from-place.result c.index-held-place-in-Initialize.result ≡ slice_index_or c.args.held.now judged.channel held.Nothing =
     ap (λ (n : ℕ). slice_index_or c.args.held.now n c.index-held-place-in-Initialize.result) (c.from-place.ensures ∙ at)
     ∙ get_or_default c.args.held.now judged.channel c.index-held-place-in-Initialize.result held.Nothing (subst (λ (n : ℕ). judged.channel < n) (sym c.told-held) low) in
-    let offers = c.initialize_update.ensures.done page judged acts stands.sound.ascending asked in
+    let offers = c.initialize_update.ensures.done page judged acts asked in
     rw (c.from-place.ensures ∙ at) (offer_carried page c.args.records.now.tables c.args.live.now c.args.held.now judged stands four low c.args.received.now.selected
     c.initialize_update.new.records.tables c.initialize_update.new.held c.initialize_update.new.reply.items c.initialize_update.result
     asked.form opened c.initialize_update.ensures.entries
@@ -161,7 +161,7 @@ returns-in-PutKey-clause-done g c = λ page judged stands at is.
     let here = held_there page tables live all judged stands c.told-held c.args.received.now.channel slot c.requires.channel at c.requires.selected
     c.from-place.result c.index-held-place-in-PutKey.result c.from-place.ensures in
     let acts = acts_for page tables live all judged stands c.told-held c.args.received.now.channel slot c.requires.channel at c.requires.selected in
-    let managed = c.manage.ensures.done page judged acts stands.shows.says stands.sound.ascending (subst (IsRequestOf c.in_ok-request.request) (sym is) request)
+    let managed = c.manage.ensures.done page judged acts stands.shows.says (subst (IsRequestOf c.in_ok-request.request) (sym is) request)
     (subst (λ (h : ChannelSession). RepresentsSecureChannel h (secure_channel_for judged)) (sym here) (stands.shows.holds judged.channel low)) in
     managed_carried page tables live all judged stands (record { held = c.told-held; channels = stands.sound.fits.channels }) low
     c.manage.new.records.tables c.manage.new.reply.items c.manage.result c.manage.ensures.aids managed

@@ -67,7 +67,7 @@ pub judge_store_data-requires : goal.judge_store_data-requires
 judge_store_data-requires g c = record { in_order = subst IsInOrder (sym c.tables.ensures.tables) (in_order c.args.records.now.tables c.requires.cards) }
 
 pub returns-in_err-judge_store_data-clause-done : goal.returns-in_err-judge_store_data-clause-done
-returns-in_err-judge_store_data-clause-done g c page admitted acts ascending request =
+returns-in_err-judge_store_data-clause-done g c page admitted acts request =
     let found = c.in_err-judge_store_data.field-0.0 in
     let first = c.in_err-judge_store_data.ensures.refused page admitted (subst (λ t. ActsIn page t c.args.domain admitted) (sym c.tables.ensures.tables) acts) request in
     refusal_managed admitted page c.args.records.now.tables [] c.from_residual.result found c.from_residual.ensures.1
@@ -131,7 +131,7 @@ loop-element-preserved g c =
     }
 
 pub returns-clause-done : goal.returns-clause-done
-returns-clause-done g c page admitted acts ascending request =
+returns-clause-done g c page admitted acts request =
     let before = c.args.records.now.tables in
     let now = c.loop-element.records.tables in
     let elements = objects_of c.args.objects.now admitted.command request.means request.form.2 in
