@@ -1,6 +1,7 @@
 //! Entries: they are added, and changed in their slots.
 
 ghost use Rattle.std.specs.Prelude.{◌≡◌, ◌↔◌, ℕ, List, true, length, Err, IfOk, OnErr, OnOk, IsSome};
+ghost use Rattle.card_types.specs.First.{NoneFree};
 ghost use Rattle.card_types.specs.Registry.{Registry};
 ghost use Rattle.card_types.specs.RegistryChange.{IsEntryAdded, with_life, with_receipts};
 ghost use Rattle.card_types.specs.Represents.{Represents, domain_aid, entry_of};
@@ -9,15 +10,36 @@ ghost use Rattle.card_types.specs.Well.{Well};
 ghost use Rattle.card_types.specs.declared.limits.TheConstants.{ENTRIES};
 ghost use Rattle.rec_store.specs.Places.{entry_page};
 ghost use Rattle.rec_store.specs.Room.{HasRoomFor, with_staged};
-ghost use Rattle.registry.specs.Adding.{AddsEntry, IsTaken};
+ghost use Rattle.registry.specs.Adding.{AddsEntry, IsTaken, NoneHas};
 ghost use Rattle.registry.specs.Pages.{KeepsRoom, entry_pages};
 ghost use Rattle.registry.specs.Setting.{ChangesEntry};
 
 use crate::place::place;
 use crate::refusal::AddRefusal;
-use card_types::{Entry, LifeMark, in_slot};
+use card_types::{Entry, LifeMark, first_free, in_slot};
 use flash_core::Flash;
 use rec_store::Records;
+
+/// Puts an application or a security domain, whose AID nothing has, into the first free slot, and answers the slot. It commits
+/// nothing.
+pub fn place_entry<F: Flash>(records: &mut Records<F>, value: Entry) -> u8
+    requires live { records.old.live ≡ true }
+    requires domain { IsSome (held records.old.tables.entries.items value.domain) }
+    requires file { IsSome (held records.old.tables.files.items value.file) }
+    requires fresh { NoneHas records.old.tables value.aid }
+    requires free { NoneFree records.old.tables.entries.items → ⊥ }
+    requires room { HasRoomFor entry_pages records.old.staged }
+    ensures said { (page : ℕ → List ℕ) (said : Registry) → Represents page records.old.tables said → Well said → (after : Registry)
+        × IsEntryAdded (entry_of records.old.tables.entries.items records.old.tables.files.items value) said after × Represents page records.new.tables after }
+    ensures slots { AddsEntry records.old.tables records.new.tables result value }
+    ensures same { (records.new.flash ≡ records.old.flash) × (records.new.live ≡ true) }
+    ensures staged { records.new.staged ≡ with_staged records.old.staged (entry_page result) }
+    ensures room { KeepsRoom entry_pages records.old.staged records.new.staged }
+{
+    let slot = first_free(&records.tables().entries).unwrap();
+    records.set_entry(slot, Some(value));
+    slot
+}
 
 /// Adds an application or a security domain. It commits nothing.
 pub fn add_entry<F: Flash>(records: &mut Records<F>, value: Entry) -> Result<u8, AddRefusal>
@@ -37,9 +59,8 @@ pub fn add_entry<F: Flash>(records: &mut Records<F>, value: Entry) -> Result<u8,
     ensures room { KeepsRoom entry_pages records.old.staged records.new.staged }
 {
     let tables = records.tables();
-    let slot = place(tables, &tables.entries, &value.aid)?;
-    records.set_entry(slot, Some(value));
-    Ok(slot)
+    place(tables, &tables.entries, &value.aid)?;
+    Ok(place_entry(records, value))
 }
 
 /// Puts the entry in a slot into another life cycle state, or sets its lock mark. It commits nothing.

@@ -24,7 +24,7 @@ mod place;
 mod refusal;
 mod removal;
 
-pub use entries::{add_entry, set_life, set_receipts};
+pub use entries::{add_entry, place_entry, set_life, set_receipts};
 pub use files::{add_file, remove_file};
 pub use laws::{room_for_command, room_for_parts};
 pub use locking::lock_tree;
