@@ -28,31 +28,53 @@ in_order tables cards =
     let is = cards page (λ n. length-replicate {A = ℕ} 256 0) in
     record { layout = is.of.layout; page = page; said = is.said; says = is.of.says; well = is.of.well }
 
--- tables with the same entries and Executable Load Files are a card's too, where they say a registry that a card may have
-module _ (before after : Tables) (entries : after.entries.items ≡ before.entries.items) (files : after.files.items ≡ before.files.items)
+-- the factory's Executable Load File is in the first slot
+abbrev pub IsFactoryIn : List (Option LoadFile) → Type 0
+IsFactoryIn slots = MatchOption (held slots 0) ⊥ (λ file. (file.aid ≡ FACTORY_FILE) × (file.len ≡ 0))
+
+-- the slots hold Executable Load Files as a card's do
+pub record AreFiles (slots : List (Option LoadFile)) : Type 0 where
+  pub factory : IsFactoryIn slots
+  pub pages : All IsInLoadPages (used slots)
+  pub apart : IsDistinct nat_eq (concat (map pages_named (used slots)))
+
+-- tables with as many slots are a card's too, where the Issuer Security Domain and the Executable Load Files stand as a card's do, and
+-- where they say a registry that a card may have
+module _ (before after : Tables) (entries : length after.entries.items ≡ length before.entries.items) (files : length after.files.items ≡ length before.files.items)
     (keys : length after.keys.items ≡ length before.keys.items) (objects : length after.objects.items ≡ length before.objects.items) where
-  pub cards_after : ((page : ℕ → List ℕ) (said : Registry) → Represents page before said → Well said → (now : Registry) × Represents page after now × Well now)
+  pub cards_from : (HasIssuer before.entries.items → HasIssuer after.entries.items) → (AreFiles before.files.items → AreFiles after.files.items)
+      → ((page : ℕ → List ℕ) (said : Registry) → Represents page before said → Well said → (now : Registry) × Represents page after now × Well now)
       → AreCards before → AreCards after
-  cards_after each cards page whole =
+  cards_from issuer pages each cards page whole =
       let is = cards page whole in
       let now = each page is.said is.of.says is.of.well in
+      let are = pages (record { factory = is.of.factory_file; pages = is.of.files; apart = is.of.apart }) in
       record {
         said = now.0;
         of = record {
           layout = record {
-            entries = ap (λ (slots : List (Option Entry)). length slots) entries ∙ is.of.layout.entries;
-            files = ap (λ (slots : List (Option LoadFile)). length slots) files ∙ is.of.layout.files;
+            entries = entries ∙ is.of.layout.entries;
+            files = files ∙ is.of.layout.files;
             keys = keys ∙ is.of.layout.keys;
             objects = objects ∙ is.of.layout.objects;
-            issuer = subst HasIssuer (sym entries) is.of.layout.issuer;
+            issuer = issuer is.of.layout.issuer;
           };
-          factory_file = subst (λ slots. MatchOption (held slots 0) ⊥ (λ file. (file.aid ≡ FACTORY_FILE) × (file.len ≡ 0))) (sym files) is.of.factory_file;
-          files = subst (λ slots. All IsInLoadPages (used slots)) (sym files) is.of.files;
-          apart = subst (λ slots. IsDistinct nat_eq (concat (map pages_named (used slots)))) (sym files) is.of.apart;
+          factory_file = are.factory;
+          files = are.pages;
+          apart = are.apart;
           says = now.1;
           well = now.2;
         };
       }
+
+-- and so with the same entries and Executable Load Files
+module _ (before after : Tables) (entries : after.entries.items ≡ before.entries.items) (files : after.files.items ≡ before.files.items)
+    (keys : length after.keys.items ≡ length before.keys.items) (objects : length after.objects.items ≡ length before.objects.items) where
+  pub cards_after : ((page : ℕ → List ℕ) (said : Registry) → Represents page before said → Well said → (now : Registry) × Represents page after now × Well now)
+      → AreCards before → AreCards after
+  cards_after =
+      cards_from before after (ap (λ (slots : List (Option Entry)). length slots) entries) (ap (λ (slots : List (Option LoadFile)). length slots) files) keys objects
+      (λ issuer. subst HasIssuer (sym entries) issuer) (λ are. subst AreFiles (sym files) are)
 
 -- and so they are after a sequence counter was drawn
 pub drawn_cards : (before after : Tables) (slot : ℕ) (key : KeyRec) → held before.keys.items slot ≡ Some key → keeps_counter key ≡ true

@@ -1,10 +1,14 @@
 pub mod Acting
 pub mod Admitting
+pub mod Answered
 pub mod Cards
 pub mod Carrying
 pub mod ChannelChanges
+pub mod Confirming
 pub mod CounterRaised
 pub mod DeleteKeyDone
+pub mod EntryCards
+pub mod Installing
 pub mod KeySent
 pub mod KeysSaid
 pub mod Listing
@@ -22,3 +26,5 @@ pub mod PutKeyDone
 pub mod PutKeyTables
 pub mod Serving
 pub mod SetAt
+pub mod SomeAdmitted
+pub mod UniqueData

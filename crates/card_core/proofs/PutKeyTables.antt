@@ -34,6 +34,7 @@ use Rattle.policy_rules.specs.PutKey.{counters_from, keys_from}
 use Rattle.card_core.specs.Domains.{is_domain_held, is_domain_in}
 use Rattle.card_types.specs.declared.tables.Object.{Object}
 use Rattle.card_core.proofs.Cards.{cards_after}
+use Rattle.card_core.proofs.SomeAdmitted.{domain_named, domain_there}
 use Rattle.card_core.specs.Kept.{AreCards}
 
 module _ (domain version : ℕ) where
@@ -69,11 +70,6 @@ some_keys version (bytes ∷ rest) are = (bytes, rest, refl)
 some_keys version [] (inl set) = (let count = set.2 in absurd (omega arith))
 some_keys version [] (inr one) = (let count = one.1 in absurd (omega arith))
 
-used_domain : (entries : List (Option Entry)) (domain : ℕ) (found : Option Entry) → held entries domain ≡ found → is_domain_held found ≡ true
-    → (entry : Entry) × (held entries domain ≡ Some entry) × (has security_domain entry.privileges ≡ true)
-used_domain entries domain None at is = cc
-used_domain entries domain (Some entry) at is = (entry, at, is)
-
 -- keys that are put as slices of what holds them
 pub puts_lent : (domain replaced version : ℕ) (old new : List (Option KeyRec)) (lent keys : List (List ℕ)) → lent ≡ keys
     → Puts domain replaced (slot_keys domain version 1 lent) old new → Puts domain replaced (slot_keys domain version 1 keys) old new
@@ -89,12 +85,10 @@ module _ (old new : Tables) (life : new.life ≡ old.life) (entries : new.entrie
     aid = domain_aid old.entries.items domain
 
     there : (entry : Entry) × (held old.entries.items domain ≡ Some entry) × (has security_domain entry.privileges ≡ true)
-    there = used_domain old.entries.items domain (held old.entries.items domain) refl is_domain
+    there = domain_there old.entries.items domain is_domain
 
-    domain_named : IsDomainNamed said aid
-    domain_named =
-        let named = ap (registry.entry_named said) (domain_aid_is old.entries.items domain there.0 there.1) ∙ entry_in_slot page old said says domain there.0 there.1 in
-        subst (λ (e : Option registry.Entry). MatchOption e ⊥ (λ entry. registry.is_domain entry ≡ true)) (sym named) there.2
+    is_named : IsDomainNamed said aid
+    is_named = domain_named page old said says well domain is_domain
 
     untaken : (version ≢ replaced) × (has_key_version said aid version ≡ true) → ⊥
     untaken taken = none Taken (taken.0, has_version_by_name page old said says well domain there.0 there.1 version ∙ taken.1)
@@ -177,11 +171,11 @@ module _ (old new : Tables) (life : new.life ≡ old.life) (entries : new.entrie
       counters = subst (λ (es : List (Option Entry)). IsPermutation (map (counter_of es) (filter keeps_counter (used new.keys.items))) put_counters.0) (sym entries) says_counters;
       objects = same_all (object_of old.entries.items) (object_of new.entries.items) old.objects.items new.objects.items said.objects says.objects objects
           (λ other object at. rw entries);
-      ascending = new_keys_ascending said well aid domain_named replaced version bytes sizes versioned untaken put_keys.0 put_counters.0 put_keys.1 put_counters.1 room own_room says.ascending;
+      ascending = new_keys_ascending said well aid is_named replaced version bytes sizes versioned untaken put_keys.0 put_counters.0 put_keys.1 put_counters.1 room own_room says.ascending;
     }
 
     pub well_after : Well after
-    well_after = new_keys_well said well aid domain_named replaced version bytes sizes versioned untaken put_keys.0 put_counters.0 put_keys.1 put_counters.1 room own_room
+    well_after = new_keys_well said well aid is_named replaced version bytes sizes versioned untaken put_keys.0 put_counters.0 put_keys.1 put_counters.1 room own_room
 
   -- they are a card's
   pub put_cards : AreCards old → AreCards new

@@ -1,7 +1,9 @@
 pub mod AesKinds
 pub mod Card
 pub mod Commits
+pub mod Confirms
 pub mod Domains
+pub mod Installs
 pub mod Kept
 pub mod LoadRead
 pub mod Manages

@@ -12,6 +12,9 @@ ghost use Rattle.policy_rules.specs.Requests.{ActsIn, IsRequestOf, IsWellFormed,
 
 use crate::channel_session::ChannelSession;
 use crate::delete_key::delete_key;
+use crate::extradition::extradite;
+use crate::install_application::install_application;
+use crate::make_selectable::make_selectable;
 use crate::put_key::put_key;
 use crate::reply::REPLY_LIMIT;
 use crate::store_data::store_data;
@@ -60,6 +63,9 @@ pub fn manage<F: Flash>(
             version,
             identifier,
         } => delete_key(records, domain, *version, *identifier, reply),
+        Request::Install(request) => install_application(records, live, domain, request, reply),
+        Request::MakeSelectable(request) => make_selectable(records, domain, request, reply),
+        Request::Extradite(request) => extradite(records, domain, request, reply),
         _ => unreachable!(),
     }
 }

@@ -110,7 +110,10 @@ fn carry_out<F: Flash>(
     let channel = received.channel;
     let place = usize::from(channel);
     judge_offer(&held[place], command.ins)?;
-    let request = parse(command.ins, command.p1, command.p2, command.body)?;
+    let request = match parse(command.ins, command.p1, command.p2, command.body) {
+        Ok(request) => request,
+        Err(rule) => return Err(rule),
+    };
     match request {
         Request::Select { partial } => {
             select(
@@ -143,7 +146,12 @@ fn carry_out<F: Flash>(
         Request::Authenticate { level, proof } => {
             external_authenticate(&mut held[place], level, proof)
         }
-        Request::PutKey { .. } | Request::Store { .. } | Request::DeleteKey { .. } => {
+        Request::PutKey { .. }
+        | Request::Store { .. }
+        | Request::DeleteKey { .. }
+        | Request::Install(_)
+        | Request::MakeSelectable(_)
+        | Request::Extradite(_) => {
             manage(
                 records,
                 live,

@@ -23,9 +23,9 @@ use rec_store::Records;
 
 // The domain's data object with a tag.
 #[derive(Drop)]
-struct Tagged {
-    owner: u8,
-    tag: u16,
+pub(crate) struct Tagged {
+    pub(crate) owner: u8,
+    pub(crate) tag: u16,
 }
 
 impl Wants<Object> for Tagged {

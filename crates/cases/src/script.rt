@@ -6,10 +6,12 @@ mod card;
 mod channel;
 mod form;
 mod host;
+mod install;
 mod key_fields;
 mod keys;
 mod outcome;
 mod player;
+mod token_key;
 
 pub use outcome::Text;
 pub use player::Player;

@@ -12,6 +12,10 @@ use Rattle.policy_rules.proofs.ExternalAuthenticateLaws.{external_authenticate_l
 use Rattle.policy_rules.proofs.PutKeyLaws.{put_key_lawful}
 use Rattle.policy_rules.proofs.StoreDataLaws.{store_data_lawful}
 use Rattle.policy_rules.proofs.DeleteKeyLaws.{delete_key_lawful}
+use Rattle.policy_rules.proofs.InstallApplicationLaws.{install_application_lawful}
+use Rattle.policy_rules.proofs.InstallForms.{AreApart, install_apart, managed, selectable_apart}
+use Rattle.policy_rules.proofs.MakeSelectableLaws.{make_selectable_lawful}
+use Rattle.policy_rules.proofs.ExtraditionLaws.{extradition_lawful}
 
 -- it holds of all of these forms
 abbrev pub AllOf : (CommandForm → Type 0) → List CommandForm → Type 0
@@ -26,9 +30,16 @@ pub record AreLawful (forms : List CommandForm) : Type 0 where
 none : AreLawful []
 none = record { each = tt; one = λ ins p1 p2 body. tt }
 
+-- a form beside others, none of which takes a command that it takes
+beside : (form : CommandForm) (forms : List CommandForm) → IsLawful form → AreApart form forms → AreLawful forms → AreLawful (form ∷ forms)
+beside form forms lawful apart others = record {
+  each = (lawful, others.each);
+  one = λ ins p1 p2 body. (apart ins p1 p2 body, others.one ins p1 p2 body);
+}
+
 -- the only form of an instruction
 alone : (form : CommandForm) → IsLawful form → AreLawful (form ∷ [])
-alone form lawful = record { each = (lawful, tt); one = λ ins p1 p2 body. ((λ takes other. other), tt) }
+alone form lawful = beside form [] lawful (λ ins p1 p2 body takes other. other) none
 
 -- the instruction has these forms, or it is another
 either : (test : Bool) (these others : List CommandForm) → AreLawful these → AreLawful others → AreLawful (listed test these others)
@@ -45,7 +56,9 @@ all_lawful ins =
     (either _ _ _ (alone _ external_authenticate_lawful)
     (either _ _ _ (alone _ put_key_lawful)
     (either _ _ _ (alone _ store_data_lawful)
-    (either _ _ _ (alone _ delete_key_lawful) none)))))))
+    (either _ _ _ (alone _ delete_key_lawful)
+    (either _ _ _ (beside _ _ (install_application_lawful managed) install_apart
+    (beside _ _ (make_selectable_lawful managed) selectable_apart (alone _ (extradition_lawful managed)))) none))))))))
 
 pub one_form : OneForm
 one_form ins p1 p2 body = (all_lawful ins).one ins p1 p2 body

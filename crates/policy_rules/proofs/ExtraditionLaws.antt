@@ -13,7 +13,8 @@ use Rattle.policy_rules.specs.Admission.{Admitted}
 use Rattle.policy_rules.specs.Classes.{managing}
 use Rattle.policy_rules.specs.Commands.{JudgesAs}
 use Rattle.policy_rules.specs.Delegation.{Holds, IsAnswered, ReceiptFails}
-use Rattle.policy_rules.specs.Extradition.{ExtraditingFails, ExtraditionEffect, ExtraditionFails, domain_of_thing, extradition, extradition_rules}
+use Rattle.policy_rules.specs.Extradition.{AsksToExtradite, ExtraditingFails, ExtraditionEffect, ExtraditionFails, domain_of_thing, extradition, extradition_rules}
+use Rattle.policy_rules.specs.FirstFailing.{IsFirst}
 use Rattle.policy_rules.specs.InstallFields.{InstallData}
 use Rattle.policy_rules.specs.Sound.{IsSound}
 use Rattle.policy_rules.specs.State.{Effect}
@@ -55,24 +56,31 @@ AnsweredFor admitted given done =
     IsAnswered (Holds admitted delegated_management) admitted (domain_of_thing admitted.at.registry given.third ∷ given.third ∷ given.first ∷ [])
     (moved admitted.at.registry given.third given.first) done
 
+-- the registry with the thing in its new domain is one that a card may have
+pub moved_of_card : (admitted : Admitted) (given : InstallData) → AsksToExtradite admitted.command.body given → IsOfCard admitted.at.registry
+    → IsFirst (ExtraditionFails admitted) extradition_rules None → IsOfCard (moved admitted.at.registry given.third given.first)
+moved_of_card admitted given asks of first =
+    let passes = none_fails (ExtraditionFails admitted) extradition_rules in
+    let may = may_move admitted given (λ rule which fails. elim which [
+      | inl two ↦ passes (EX EX2) (3, omega arith, refl) first (given, asks, subst (ExtraditingFails admitted given) two fails)
+      | inr (inl three) ↦ passes (EX EX3) (4, omega arith, refl) first (given, asks, subst (ExtraditingFails admitted given) three fails)
+      | inr (inr six) ↦ passes (EX EX6) (7, omega arith, refl) first (given, asks, subst (ExtraditingFails admitted given) six fails)
+    ]) in
+    moved_keeps admitted.at.registry given.third given.first of may
+
 extraditing_keeps : (admitted : Admitted) (done : Effect) → IsReady admitted → JudgesAs extradition admitted None → ExtraditionEffect admitted done → IsSound done.state
 extraditing_keeps admitted done ready (takes, first) does =
     let registry = admitted.at.registry in
     let given = does.given in
     let of : IsOfCard registry = record { well = ready.sound.well; ascending = ready.sound.ascending } in
     let passes = none_fails (ExtraditionFails admitted) extradition_rules in
-    let may = may_move admitted given (λ rule which fails. elim which [
-      | inl two ↦ passes (EX EX2) (3, omega arith, refl) first (given, does.asks, subst (ExtraditingFails admitted given) two fails)
-      | inr (inl three) ↦ passes (EX EX3) (4, omega arith, refl) first (given, does.asks, subst (ExtraditingFails admitted given) three fails)
-      | inr (inr six) ↦ passes (EX EX6) (7, omega arith, refl) first (given, does.asks, subst (ExtraditingFails admitted given) six fails)
-    ]) in
     let changed = moved registry given.third given.first in
     let aids = domain_of_thing registry given.third ∷ given.third ∷ given.first ∷ [] in
     let receipt : Holds admitted delegated_management → ReceiptFails admitted RC1 → ⊥
     = (λ delegated fails. passes (RC RC1) (12, omega arith, refl) first (given, does.asks, (delegated, fails))) in
     let free = load_unnamed registry admitted.at.volatile admitted.at.volatile.load ready.sound.fits.load in
     let kept = answered_keeps (Holds admitted delegated_management) admitted aids changed done ready.sound.well receipt does.answered
-    (moved_keeps registry given.third given.first of may) in
+    (moved_of_card admitted given does.asks of first) in
     let fits = answered_fits (Holds admitted delegated_management) admitted aids changed done ready.sound.well receipt does.answered admitted.at.volatile
     (moved_leaves_free registry given.third given.first admitted.at.volatile.load free)
     (moved_fits registry given.third given.first admitted.at.volatile free ready.sound.fits) in

@@ -151,6 +151,27 @@ module _ (admitted : Admitted) (asked : InstallAsked) (passes : (rule : RuleII) 
         subst (λ (r : Registry). entry_named r l.aid ≡ None) (sym added.same)
         (beside_found (λ (e : Entry). e.aid) made admitted.at.registry.entries changed.entries of.ascending.entries added.entries l.aid (λ same. other (sym same)) ∙ free)
 
+-- none of its own rules fails where none fails
+no_rule : (admitted : Admitted) → IsFirst (InstallFails admitted) install_rules None → (rule : RuleII) → InstallFails admitted (II rule) → ⊥
+no_rule admitted first rule fails = none_fails (InstallFails admitted) install_rules (II rule) (among rule) first fails
+  where
+    among : (rule : RuleII) → Contains install_rules (II rule)
+    among II1 = (2, omega arith, refl)
+    among II2 = (3, omega arith, refl)
+    among II3 = (4, omega arith, refl)
+    among II4 = (5, omega arith, refl)
+    among II5 = (6, omega arith, refl)
+    among II6 = (7, omega arith, refl)
+    among II7 = (8, omega arith, refl)
+
+-- the registry with the entry is one that a card may have
+pub made_of_card : (admitted : Admitted) (asked : InstallAsked) → AsksToInstall admitted.command.body asked → IsOfCard admitted.at.registry
+    → IsDomainNamed admitted.at.registry (acting admitted) → IsFirst (InstallFails admitted) install_rules None → (changed : Registry)
+    → IsEntryAdded (entry_made admitted asked) admitted.at.registry changed → IsOfCard changed
+made_of_card admitted asked asks of domain first changed added =
+    entry_added_keeps (entry_made admitted asked) admitted.at.registry changed of
+    (may_be_added admitted asked (λ rule fails. no_rule admitted first rule (asked, asks, fails)) asks domain) added
+
 -- it leaves a card sound
 install_keeps : (admitted : Admitted) (done : Effect) → IsReady admitted → JudgesAs install_application admitted None → InstallEffect admitted done
     → IsSound done.state
@@ -160,28 +181,15 @@ install_keeps admitted done ready (takes, first) does =
     let domain = ready.domain apart.0 apart.1 in
     let of : IsOfCard registry = record { well = ready.sound.well; ascending = ready.sound.ascending } in
     let passes : (rule : RuleII) → InstallingFails admitted does.asked rule → ⊥ = (λ rule fails. no_rule admitted first rule (does.asked, does.asks, fails)) in
-    let may = may_be_added admitted does.asked passes does.asks domain in
     let receipts : Holds admitted delegated_management → ReceiptFails admitted RC1 → ⊥ = (λ holds fails.
     none_fails (InstallFails admitted) install_rules (RC RC1) (12, omega arith, refl) first (does.asked, does.asks, (holds, fails))) in
-    let after = entry_added_keeps (entry_made admitted does.asked) registry does.changed of may does.added in
+    let after = made_of_card admitted does.asked does.asks of domain first does.changed does.added in
     let kept = answered_keeps (Holds admitted delegated_management) admitted (does.asked.given.first ∷ does.asked.given.third ∷ []) does.changed done ready.sound.well receipts does.answered after in
     let free = load_free admitted does.asked passes of does.asks domain does.changed does.added admitted.at.volatile.load (λ loading. passes II4 (inr (inr loading)))
     (load_unnamed registry admitted.at.volatile admitted.at.volatile.load ready.sound.fits.load) in
     let fits = answered_fits (Holds admitted delegated_management) admitted (does.asked.given.first ∷ does.asked.given.third ∷ []) does.changed done ready.sound.well receipts does.answered admitted.at.volatile free
     (fits_kept registry does.changed (added_keeps_things admitted does.asked passes of does.asks domain does.changed does.added) admitted.at.volatile free ready.sound.fits) in
     record { well = kept.well; ascending = kept.ascending; fits = fits_as refl (sym does.volatile) fits }
-  where
-    no_rule : (admitted : Admitted) → IsFirst (InstallFails admitted) install_rules None → (rule : RuleII) → InstallFails admitted (II rule) → ⊥
-    no_rule admitted first rule fails = none_fails (InstallFails admitted) install_rules (II rule) (among rule) first fails
-      where
-        among : (rule : RuleII) → Contains install_rules (II rule)
-        among II1 = (2, omega arith, refl)
-        among II2 = (3, omega arith, refl)
-        among II3 = (4, omega arith, refl)
-        among II4 = (5, omega arith, refl)
-        among II5 = (6, omega arith, refl)
-        among II6 = (7, omega arith, refl)
-        among II7 = (8, omega arith, refl)
 
 -- it does one thing
 install_one : (admitted : Admitted) (a b : Effect) → InstallEffect admitted a → InstallEffect admitted b → a ≡ b

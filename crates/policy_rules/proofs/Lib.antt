@@ -29,6 +29,7 @@ pub mod InitializeUpdateLaws
 pub mod InitializeUpdateOffer
 pub mod InstallApplicationLaws
 pub mod InstallAsking
+pub mod InstallForms
 pub mod InstallJudging
 pub mod Instructed
 pub mod Judging

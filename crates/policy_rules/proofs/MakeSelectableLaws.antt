@@ -17,8 +17,9 @@ use Rattle.policy_rules.specs.Admission.{Admitted}
 use Rattle.policy_rules.specs.Classes.{managing}
 use Rattle.policy_rules.specs.Commands.{JudgesAs}
 use Rattle.policy_rules.specs.Delegation.{Holds, IsAnswered, ReceiptFails}
+use Rattle.policy_rules.specs.FirstFailing.{IsFirst}
 use Rattle.policy_rules.specs.InstallFields.{InstallData}
-use Rattle.policy_rules.specs.MakeSelectable.{MakeSelectableEffect, MakeSelectableFails, MakingSelectableFails, is_installed, make_selectable, selectable_rules}
+use Rattle.policy_rules.specs.MakeSelectable.{AsksToMakeSelectable, MakeSelectableEffect, MakeSelectableFails, MakingSelectableFails, is_installed, make_selectable, selectable_rules}
 use Rattle.policy_rules.specs.Sound.{IsSound}
 use Rattle.policy_rules.specs.State.{Effect}
 use Rattle.policy_rules.specs.Volatile.{LoadSession}
@@ -32,7 +33,7 @@ use Rattle.policy_rules.proofs.Lawful.{IsLawful, IsReady, fits_as, placeless_sam
 use Rattle.policy_rules.proofs.LengthFields.{one_data}
 use Rattle.policy_rules.proofs.SameEffect.{effect_same, state_same}
 
-abbrev selectable_life : LifeMark
+abbrev pub selectable_life : LifeMark
 selectable_life = record { life = Selectable; locked = false }
 
 -- another life cycle state of an entry keeps what is there
@@ -75,21 +76,28 @@ module _ (admitted : Admitted) (given : InstallData) (well : Well admitted.at.re
       any None = tt
       any (Some entry) = refl
 
+-- the registry with the application selectable is one that a card may have
+pub selectable_of_card : (admitted : Admitted) (given : InstallData) → AsksToMakeSelectable admitted.command.body given → IsOfCard admitted.at.registry
+    → IsFirst (MakeSelectableFails admitted) selectable_rules None → IsOfCard (with_life admitted.at.registry given.third selectable_life)
+selectable_of_card admitted given asks of first =
+    let passes = none_fails (MakeSelectableFails admitted) selectable_rules in
+    let may = may_be_selectable admitted given of.well (λ fails. passes (MS MS4) (5, omega arith, refl) first (given, asks, fails))
+    (λ fails. passes (MS MS2) (3, omega arith, refl) first (given, asks, fails)) in
+    life_keeps admitted.at.registry given.third selectable_life of may
+
 selecting_keeps : (admitted : Admitted) (done : Effect) → IsReady admitted → JudgesAs make_selectable admitted None → MakeSelectableEffect admitted done → IsSound done.state
 selecting_keeps admitted done ready (takes, first) does =
     let registry = admitted.at.registry in
     let given = does.given in
     let of : IsOfCard registry = record { well = ready.sound.well; ascending = ready.sound.ascending } in
     let passes = none_fails (MakeSelectableFails admitted) selectable_rules in
-    let may = may_be_selectable admitted given ready.sound.well (λ fails. passes (MS MS4) (5, omega arith, refl) first (given, does.asks, fails))
-    (λ fails. passes (MS MS2) (3, omega arith, refl) first (given, does.asks, fails)) in
     let changed = with_life registry given.third selectable_life in
     let receipt : Holds admitted delegated_management → ReceiptFails admitted RC1 → ⊥
     = (λ delegated fails. passes (RC RC1) (10, omega arith, refl) first (given, does.asks, (delegated, fails))) in
     let free = life_leaves_free registry given.third selectable_life admitted.at.volatile.load
     (load_unnamed registry admitted.at.volatile admitted.at.volatile.load ready.sound.fits.load) in
     let kept = answered_keeps (Holds admitted delegated_management) admitted (given.third ∷ []) changed done ready.sound.well receipt does.answered
-    (life_keeps registry given.third selectable_life of may) in
+    (selectable_of_card admitted given does.asks of first) in
     let fits = answered_fits (Holds admitted delegated_management) admitted (given.third ∷ []) changed done ready.sound.well receipt does.answered admitted.at.volatile free
     (fits_kept registry changed (life_keeps_things registry given.third selectable_life) admitted.at.volatile free ready.sound.fits) in
     record { well = kept.well; ascending = kept.ascending; fits = fits_as refl (sym does.volatile) fits }

@@ -17,9 +17,9 @@ class_of byte =
 abbrev pub channel_of : ℕ → ℕ
 channel_of byte = byte % 4
 
--- PUT KEY, STORE DATA and DELETE: the instructions of card content management, as far as they are built
+-- PUT KEY, STORE DATA, DELETE and INSTALL: the instructions of card content management, as far as they are built
 abbrev pub managing : List ℕ
-managing = 0xD8 ∷ 0xE2 ∷ 0xE4 ∷ []
+managing = 0xD8 ∷ 0xE2 ∷ 0xE4 ∷ 0xE6 ∷ []
 
 -- the instructions of a class, as far as they are built
 abbrev pub instructions_of : Class → List ℕ

@@ -5,9 +5,12 @@ use Rattle.policy_rules.specs.Admission.{Admitted}
 use Rattle.policy_rules.specs.CommandForm.{CommandForm}
 use Rattle.policy_rules.specs.DeleteKey.{delete_key}
 use Rattle.policy_rules.specs.ExternalAuthenticate.{ExternalAuthenticateFails, external_authenticate, rules_before_form}
+use Rattle.policy_rules.specs.Extradition.{extradition}
 use Rattle.policy_rules.specs.FirstFailing.{IsFirst}
 use Rattle.policy_rules.specs.GetData.{get_data}
 use Rattle.policy_rules.specs.InitializeUpdate.{initialize_update}
+use Rattle.policy_rules.specs.InstallApplication.{install_application}
+use Rattle.policy_rules.specs.MakeSelectable.{make_selectable}
 use Rattle.policy_rules.specs.ManageChannel.{manage_channel}
 use Rattle.policy_rules.specs.PutKey.{put_key}
 use Rattle.policy_rules.specs.Select.{select}
@@ -32,7 +35,8 @@ forms_of ins =
     (listed (ins == external_authenticate.instruction) (external_authenticate ∷ [])
     (listed (ins == put_key.instruction) (put_key ∷ [])
     (listed (ins == store_data.instruction) (store_data ∷ [])
-    (listed (ins == delete_key.instruction) (delete_key ∷ []) [])))))))
+    (listed (ins == delete_key.instruction) (delete_key ∷ [])
+    (listed (ins == install_application.instruction) (install_application ∷ make_selectable ∷ extradition ∷ []) []))))))))
 
 -- it holds of one of these forms
 abbrev pub OneOf : (CommandForm → Type 0) → List CommandForm → Type 0

@@ -1,7 +1,7 @@
 -- Domains above that hold a privilege and a key, by slots, and what the code found of them.
 use Rattle.std.specs.Prelude.{◌≡◌, ◌≢◌, ℕ, Bool, false, Option, None, Some, MatchOption, ◌&&◌}
 use Rattle.std.specs.List.{list_any}
-use Rattle.card_types.specs.KeySets.{is_key}
+use Rattle.card_types.specs.KeySets.{HasKey, is_key}
 use Rattle.card_types.specs.Slots.{held}
 use Rattle.card_types.specs.declared.limits.TheConstants.{RECEIPT_LIMIT}
 use Rattle.card_types.specs.declared.privileges.Privileges.{Privileges}
@@ -30,6 +30,11 @@ approval_of signed = record { before = signed.before.now; token = signed.token.n
 -- it is that of this command
 abbrev pub IsSignedFor : Admitted → Signed → Type 0
 IsSignedFor admitted signed = (signed.p1 ≡ admitted.command.p1) × (signed.p2 ≡ admitted.command.p2)
+
+-- the entry in the slot has a receipt key, and its last receipt has not the highest number
+pub record MayReceipt (tables : Tables) (slot : ℕ) : Type 0 where
+  pub below : MatchOption (held tables.entries.items slot) ⊥ (λ entry. entry.receipts ≢ RECEIPT_LIMIT)
+  pub key : (place : ℕ) × HasKey tables.keys.items slot 0x71 1 place
 
 -- The receipter in the slot may make another receipt, or there is none.
 pub record IsReceipterIn (tables : Tables) (admitted : Admitted) (slot : ℕ) : Type 0 where

@@ -1,5 +1,5 @@
 -- What a request of the code stands for, and how what the code keeps says the state of the card.
-use Rattle.std.specs.Prelude.{◌≡◌, ◌⊎◌, ℕ, ◌<◌, ◌≤◌, List, [], ◌∷◌, Option, None, Some, Result, Ok, Err, slice_index_or}
+use Rattle.std.specs.Prelude.{◌≡◌, ◌⊎◌, ℕ, ◌<◌, ◌≤◌, List, [], ◌∷◌, Option, None, Some, Result, Ok, Err, length, slice_index_or}
 use Rattle.std.specs.Option.{option_map}
 use Rattle.apdu_core.specs.Apdu.{Apdu}
 use Rattle.card_types.specs.Level.{code_of}
@@ -13,12 +13,18 @@ use Rattle.policy_rules.specs.CommandForm.{CommandForm}
 use Rattle.policy_rules.specs.Commands.{HasDataField, HasParameters, TakesCommand, Takes}
 use Rattle.policy_rules.specs.DeleteKey.{Chooses, delete_key}
 use Rattle.policy_rules.specs.ExternalAuthenticate.{external_authenticate}
+use Rattle.policy_rules.specs.Extradition.{extradition}
+use Rattle.policy_rules.specs.ExtraditionRequests.{IsExtraditionRequest}
 use Rattle.policy_rules.specs.GetData.{get_data, tag_of}
 use Rattle.policy_rules.specs.InitializeUpdate.{initialize_update}
+use Rattle.policy_rules.specs.InstallApplication.{install_application}
+use Rattle.policy_rules.specs.InstallRequests.{IsInstallRequest}
+use Rattle.policy_rules.specs.MakeSelectable.{make_selectable}
 use Rattle.policy_rules.specs.ManageChannel.{manage_channel}
 use Rattle.policy_rules.specs.Management.{acting}
 use Rattle.policy_rules.specs.PutKey.{HasKeyFields, SentKey, put_key}
 use Rattle.policy_rules.specs.Select.{select}
+use Rattle.policy_rules.specs.SelectableRequests.{IsSelectableRequest}
 use Rattle.policy_rules.specs.State.{State}
 use Rattle.policy_rules.specs.StoreData.{store_data}
 use Rattle.policy_rules.specs.Volatile.{Channel, LoadSession, Place, channel_at, place_in}
@@ -30,7 +36,7 @@ use Rattle.policy_rules.specs.declared.put_key.PutKeys.{PutKeys}
 use Rattle.policy_rules.specs.declared.put_key.PutKeys.TheVariants.{One, Three}
 use Rattle.policy_rules.specs.declared.put_key.SealedKey.{SealedKey}
 use Rattle.policy_rules.specs.declared.request.Request.{Request}
-use Rattle.policy_rules.specs.declared.request.Request.TheVariants.{Select, MoreChannel, LessChannel, Get, Initialize, Authenticate, PutKey, Store, DeleteKey}
+use Rattle.policy_rules.specs.declared.request.Request.TheVariants.{Select, MoreChannel, LessChannel, Get, Initialize, Authenticate, PutKey, Store, DeleteKey, Install, MakeSelectable, Extradite}
 use Rattle.policy_rules.specs.declared.rule.Rule.{Rule}
 use Rattle.policy_rules.specs.declared.rule.Rule.TheVariants.{PS}
 use Rattle.policy_rules.specs.declared.rule.RulePS.TheVariants.{P, S}
@@ -54,6 +60,9 @@ form_in (Authenticate level proof) = external_authenticate
 form_in (PutKey replaced version keys) = put_key
 form_in (Store objects) = store_data
 form_in (DeleteKey version identifier) = delete_key
+form_in (Install request) = install_application
+form_in (MakeSelectable request) = make_selectable
+form_in (Extradite request) = extradition
 
 -- the request is that of a command of its form with this P1, P2 and data field
 abbrev pub Decodes : Request → ℕ → ℕ → List ℕ → Type 0
@@ -66,6 +75,9 @@ Decodes (Authenticate level proof) p1 p2 body = (code_of level ≡ p1) × (proof
 Decodes (PutKey replaced version keys) p1 p2 body = (replaced ≡ p1) × HasKeyFields p2 body version (sent_keys keys)
 Decodes (Store objects) p1 p2 body = objects.now ≡ body
 Decodes (DeleteKey version identifier) p1 p2 body = Chooses body version identifier
+Decodes (Install request) p1 p2 body = IsInstallRequest request p1 p2 body
+Decodes (MakeSelectable request) p1 p2 body = IsSelectableRequest request p1 p2 body
+Decodes (Extradite request) p1 p2 body = IsExtraditionRequest request p1 p2 body
 
 -- the rule on its form that a command breaks: P1 and P2 are judged before the data field
 abbrev pub IsMalformed : ℕ → ℕ → ℕ → List ℕ → Rule → Type 0
@@ -83,13 +95,13 @@ pub record IsRequestOf (request : Request) (command : Apdu) : Type 0 where
   pub form : TakesCommand (form_in request) command
   pub means : Decodes request command.p1 command.p2 command.body
 
--- the request is that of some command
+-- the request is that of some short command
 abbrev pub IsWellFormed : Request → Type 0
-IsWellFormed request = (command : Apdu) × IsRequestOf request command
+IsWellFormed request = (command : Apdu) × IsRequestOf request command × (length command.body ≤ 255)
 
--- the request is that of some P1, P2 and data field
+-- the request is that of some P1, P2 and data field of a short command
 abbrev pub IsMeant : Request → Type 0
-IsMeant request = (p1 p2 : ℕ) × (body : List ℕ) × Decodes request p1 p2 body
+IsMeant request = (p1 p2 : ℕ) × (body : List ℕ) × Decodes request p1 p2 body × (length body ≤ 255)
 
 -- the slot is that of the entry that the channel has selected; where the channel is closed there is none
 abbrev pub IsSelectedIn : List (Option Entry) → Option ℕ → Option Channel → Type 0

@@ -1,9 +1,10 @@
 //! Delegated management (GlobalPlatform Card Specification 2.3.1, 9.2 to 9.4): tokens that approve a command, and the domain that
 //! confirms it.
 
-ghost use Rattle.std.specs.Prelude.{◌≡◌, ◌↔◌, ◌≤◌, ℕ, List, None, Some, false, true, IfErr, IfNone, IfOk, IfSome, IsSome, IsTrue, OnOk, length};
+ghost use Rattle.std.specs.Prelude.{◌≡◌, ◌↔◌, ◌≤◌, ℕ, List, None, Some, false, IfErr, IfNone, IfOk, IfSome, IsSome, IsTrue, OnOk, length};
 ghost use Rattle.std.specs.List.{list_any};
 ghost use Rattle.card_types.specs.InOrder.{IsInOrder};
+ghost use Rattle.card_types.specs.KeySets.{HasKey};
 ghost use Rattle.card_types.specs.Privileges.{bits_of};
 ghost use Rattle.card_types.specs.Represents.{domain_aid, key_of};
 ghost use Rattle.card_types.specs.Slots.{held};
@@ -12,7 +13,7 @@ ghost use Rattle.domain_tree.specs.Holders.{entry_has};
 ghost use Rattle.policy_rules.specs.Admission.{Admitted};
 ghost use Rattle.policy_rules.specs.Delegation.{DelegatedFails, IsNearestHolder, NoHolder, ReceiptFails, TokenFails, delegation_rules, receipt_refusal, token_refusal, token_rules};
 ghost use Rattle.policy_rules.specs.FirstFailing.{IsFirst};
-ghost use Rattle.policy_rules.specs.HoldersFound.{FindsReceipter, IsSignedFor, approval_of, has_with_key_in, holds_lone_key as holds_lone_key_by};
+ghost use Rattle.policy_rules.specs.HoldersFound.{FindsReceipter, IsSignedFor, MayReceipt, approval_of, has_with_key_in, holds_lone_key as holds_lone_key_by};
 ghost use Rattle.policy_rules.specs.Management.{acting};
 ghost use Rattle.policy_rules.specs.Requests.{ActsIn};
 ghost use Rattle.policy_rules.specs.declared.delegation.RuleRC.TheVariants.{RC1};
@@ -159,6 +160,7 @@ pub(crate) fn nearest_with_key(
     ensures none { (page : ℕ → List ℕ) (admitted : Admitted) → ActsIn page tables.now domain admitted
         → IfNone result (NoHolder admitted.at.registry (bits_of privilege) version (acting admitted)) }
     ensures used { IfSome result (λ found. IsSome (held tables.now.entries.items found.0)) }
+    ensures key { IfSome result (λ found. (place : ℕ) × HasKey tables.now.keys.items found.0 version 1 place) }
     ensures length { IfSome result (λ found. IsKeyLength (length found.1.now.bytes.items)) }
 {
     let holders = Holders {
@@ -220,7 +222,7 @@ fn judge_receipt(tables: &Tables, domain: u8) -> Result<Option<u8>, RuleRC>
     requires in_order { IsInOrder tables.now }
     ensures found { (page : ℕ → List ℕ) (admitted : Admitted) → ActsIn page tables.now domain admitted → IfOk result (FindsReceipter tables.now admitted) }
     ensures refused { (page : ℕ → List ℕ) (admitted : Admitted) → ActsIn page tables.now domain admitted → IfErr result (ReceiptFails admitted) }
-    ensures used { IfOk result (λ found. IfSome found (λ slot. IsSome (held tables.now.entries.items slot))) }
+    ensures able { IfOk result (λ found. IfSome found (MayReceipt tables.now)) }
 {
     let Some((slot, _)) = nearest_with_key(
         tables,
@@ -247,7 +249,7 @@ pub fn judge_delegated(tables: &Tables, domain: u8, signed: &Signed<'_>) -> Resu
     ensures refused { (page : ℕ → List ℕ) (admitted : Admitted) → ActsIn page tables.now domain admitted → IsSignedFor admitted signed.now
         → IfErr result (λ rule. IsFirst (DelegatedFails admitted (approval_of signed.now)) delegation_rules (Some rule)) }
     ensures found { (page : ℕ → List ℕ) (admitted : Admitted) → ActsIn page tables.now domain admitted → IfOk result (FindsReceipter tables.now admitted) }
-    ensures used { IfOk result (λ found. IfSome found (λ slot. IsSome (held tables.now.entries.items slot))) }
+    ensures able { IfOk result (λ found. IfSome found (MayReceipt tables.now)) }
 {
     if let Err(rule) = judge_token(tables, domain, signed) {
         return Err(Rule::TK(rule));

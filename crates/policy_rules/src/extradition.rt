@@ -15,6 +15,7 @@ ghost use Rattle.policy_rules.specs.Delegation.{Holds};
 ghost use Rattle.policy_rules.specs.Extradition.{AsksToExtradite, ExtraditingFails, ExtraditionFails, ExtraditionParameters, IsOutOfReach, IsUnapprovable, domain_of_thing, extradition, extradition_refusal, extradition_rules, is_personalized};
 ghost use Rattle.policy_rules.specs.ExtraditionRequests.{IsExtraditionOf, IsExtraditionRequest, own_extradition_rules};
 ghost use Rattle.policy_rules.specs.FirstFailing.{IsFirst};
+ghost use Rattle.policy_rules.specs.HoldersFound.{MayReceipt};
 ghost use Rattle.policy_rules.specs.InstallFields.{InstallData};
 ghost use Rattle.policy_rules.specs.InstallRequests.{FindsConfirmer, IsRefusedBy};
 ghost use Rattle.policy_rules.specs.Requests.{ActsIn};
@@ -238,7 +239,7 @@ pub fn judge_extradition(
     ensures to { IfOk result (λ found. aid_of tables.now (Entry found.to) ≡ Some request.now.domain) }
     ensures receipter { (page : ℕ → List ℕ) (admitted : Admitted) → ActsIn page tables.now domain admitted
         → IfOk result (λ found. FindsConfirmer tables.now admitted found.receipter) }
-    ensures used { IfOk result (λ found. IfSome found.receipter (λ slot. IsSome (held tables.now.entries.items slot))) }
+    ensures able { IfOk result (λ found. IfSome found.receipter (MayReceipt tables.now)) }
     ensures old { IfOk result (λ found. IsSome (held tables.now.entries.items found.from)) }
 {
     judge_management(tables, domain)?;

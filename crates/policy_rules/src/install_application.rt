@@ -1,6 +1,6 @@
 //! INSTALL [for install] (GlobalPlatform Card Specification 2.3.1, 9.3.2 and 11.5).
 
-ghost use Rattle.std.specs.Prelude.{◌≡◌, ◌↔◌, ◌≢◌, ◌≤◌, ◌⊎◌, ◌&&◌, ℕ, List, None, Some, IfErr, IfNone, IfOk, IfSome, IsSome, IsTrue, OnOk, length};
+ghost use Rattle.std.specs.Prelude.{◌≡◌, ◌↔◌, ◌≢◌, ◌≤◌, ◌⊎◌, ◌&&◌, ℕ, List, None, Some, IfErr, IfNone, IfOk, IfSome, IsTrue, OnOk, length};
 ghost use Rattle.std.specs.List.{list_any};
 ghost use Rattle.bertlv.specs.Spelling.{AreElements, Element};
 ghost use Rattle.card_types.specs.AidOrder.{same_aid};
@@ -21,10 +21,10 @@ ghost use Rattle.policy_rules.specs.Charge.{IsFileInCharge};
 ghost use Rattle.policy_rules.specs.Delegation.{delegation_rules};
 ghost use Rattle.policy_rules.specs.FirstFailing.{IsFirst};
 ghost use Rattle.policy_rules.specs.InstallApplication.{AreInstallParameters, AsksToInstall, InstallAsked, InstallFails, InstallParameters, InstallingFails, IsTakenAid, MayBeMade, install_application, install_refusal, install_rules};
-ghost use Rattle.policy_rules.specs.HoldersFound.{IsSignedFor, approval_of};
+ghost use Rattle.policy_rules.specs.HoldersFound.{IsSignedFor, MayReceipt, approval_of};
 ghost use Rattle.policy_rules.specs.InstallRequests.{ApprovalFails, FindsConfirmer, IsInstallOf, IsInstallRequest, IsOutOfCharge, IsRefusedBy, application_rules, exceeds_by, is_loaded_as, may_manage_by};
 ghost use Rattle.policy_rules.specs.Management.{acting};
-ghost use Rattle.policy_rules.specs.Requests.{ActsIn, RepresentsState};
+ghost use Rattle.policy_rules.specs.Requests.{ActsIn, IsLoadNamed};
 
 use crate::delegation::{Signed, holds, judge_delegated};
 use crate::install_fields::read_fields;
@@ -164,7 +164,7 @@ fn read_request(p1: u8, p2: u8, body: &[u8]) -> Option<InstallRequest<'_>>
 }
 
 /// Reads P1, P2 and the data field of an INSTALL [for install].
-pub(crate) fn parse_install(p1: u8, p2: u8, body: &[u8]) -> Result<InstallRequest<'_>, Rule>
+pub(crate) fn parse_application(p1: u8, p2: u8, body: &[u8]) -> Result<InstallRequest<'_>, Rule>
     ensures form { IfOk result (λ request. InstallParameters p1 p2) }
     ensures means { IfOk result (λ request. IsInstallRequest request p1 p2 body.now) }
     ensures refused { IfErr result (IsRefusedBy install_application p1 p2 body.now) }
@@ -276,7 +276,8 @@ fn is_loading(live: &Live, aid: &Aid) -> bool
 // Whether the AID is taken, or will be once the load session ends.
 fn is_taken(tables: &Tables, live: &Live, aid: &Aid) -> bool
     requires in_order { IsInOrder tables.now }
-    ensures taken { (page : ℕ → List ℕ) (admitted : Admitted) → RepresentsState page tables.now live.now admitted.at → IsTrue result ↔ IsTakenAid admitted aid.now }
+    ensures taken { (page : ℕ → List ℕ) (admitted : Admitted) → Represents page tables.now admitted.at.registry
+        → IsLoadNamed tables.now.entries.items live.now.load admitted.at.volatile.load → IsTrue result ↔ IsTakenAid admitted aid.now }
     ensures free { (IsTrue result) ⊎ ((thing : Thing) → aid_of tables.now thing ≢ Some aid.now) }
 {
     find(tables, aid).is_some() || is_loading(live, aid)
@@ -336,9 +337,11 @@ fn judge_application(
     request: &InstallRequest<'_>,
 ) -> Result<u8, RuleII>
     requires in_order { IsInOrder tables.now }
-    ensures passed { (page : ℕ → List ℕ) (admitted : Admitted) → ActsIn page tables.now domain admitted → RepresentsState page tables.now live.now admitted.at
+    ensures passed { (page : ℕ → List ℕ) (admitted : Admitted) → ActsIn page tables.now domain admitted
+        → IsLoadNamed tables.now.entries.items live.now.load admitted.at.volatile.load
         → (is : IsInstallOf request.now admitted.command) → OnOk result (IsFirst (InstallingFails admitted is.asked) application_rules None) }
-    ensures refused { (page : ℕ → List ℕ) (admitted : Admitted) → ActsIn page tables.now domain admitted → RepresentsState page tables.now live.now admitted.at
+    ensures refused { (page : ℕ → List ℕ) (admitted : Admitted) → ActsIn page tables.now domain admitted
+        → IsLoadNamed tables.now.entries.items live.now.load admitted.at.volatile.load
         → (is : IsInstallOf request.now admitted.command) → IfErr result (λ rule. IsFirst (InstallingFails admitted is.asked) application_rules (Some rule)) }
     ensures file { IfOk result (λ slot. aid_of tables.now (File slot) ≡ Some request.now.file) }
     ensures free { OnOk result ((thing : Thing) → aid_of tables.now thing ≢ Some request.now.aid) }
@@ -385,7 +388,7 @@ pub(crate) fn judge_approval(
     ensures refused { (page : ℕ → List ℕ) (admitted : Admitted) → ActsIn page tables.now domain admitted → IsSignedFor admitted signed.now
         → IfErr result (λ rule. IsFirst (ApprovalFails admitted (approval_of signed.now)) delegation_rules (Some rule)) }
     ensures found { (page : ℕ → List ℕ) (admitted : Admitted) → ActsIn page tables.now domain admitted → IfOk result (FindsConfirmer tables.now admitted) }
-    ensures used { IfOk result (λ found. IfSome found (λ slot. IsSome (held tables.now.entries.items slot))) }
+    ensures able { IfOk result (λ found. IfSome found (MayReceipt tables.now)) }
 {
     if !holds(&tables.entries, domain, Privileges::DELEGATED_MANAGEMENT) {
         return Ok(None);
@@ -402,16 +405,18 @@ pub fn judge_install(
 ) -> Result<Installation, Rule>
     requires in_order { IsInOrder tables.now }
     requires short { length request.now.signed.before.now ≤ 255 }
-    ensures passed { (page : ℕ → List ℕ) (admitted : Admitted) → ActsIn page tables.now domain admitted → RepresentsState page tables.now live.now admitted.at
+    ensures passed { (page : ℕ → List ℕ) (admitted : Admitted) → ActsIn page tables.now domain admitted
+        → IsLoadNamed tables.now.entries.items live.now.load admitted.at.volatile.load
         → IsInstallOf request.now admitted.command → OnOk result (IsFirst (InstallFails admitted) install_rules None) }
-    ensures refused { (page : ℕ → List ℕ) (admitted : Admitted) → ActsIn page tables.now domain admitted → RepresentsState page tables.now live.now admitted.at
+    ensures refused { (page : ℕ → List ℕ) (admitted : Admitted) → ActsIn page tables.now domain admitted
+        → IsLoadNamed tables.now.entries.items live.now.load admitted.at.volatile.load
         → IsInstallOf request.now admitted.command → IfErr result (λ rule. IsFirst (InstallFails admitted) install_rules (Some rule)) }
     ensures file { IfOk result (λ found. aid_of tables.now (File found.file) ≡ Some request.now.file) }
     ensures free { OnOk result ((thing : Thing) → aid_of tables.now thing ≢ Some request.now.aid) }
     ensures room { OnOk result (NoneFree tables.now.entries.items → ⊥) }
     ensures receipter { (page : ℕ → List ℕ) (admitted : Admitted) → ActsIn page tables.now domain admitted
         → IfOk result (λ found. FindsConfirmer tables.now admitted found.receipter) }
-    ensures used { IfOk result (λ found. IfSome found.receipter (λ slot. IsSome (held tables.now.entries.items slot))) }
+    ensures able { IfOk result (λ found. IfSome found.receipter (MayReceipt tables.now)) }
 {
     judge_management(tables, domain)?;
     let file = match judge_application(tables, live, domain, request) {

@@ -21,7 +21,6 @@ pub const STORE_DATA: u8 = 0xE2;
 
 pub const DELETE: u8 = 0xE4;
 
-/// No class has it yet.
 pub const INSTALL: u8 = 0xE6;
 
 /// No class has it yet.

@@ -9,6 +9,7 @@ mod external_authenticate;
 mod extradition;
 mod get_data;
 mod initialize_update;
+mod install;
 mod install_application;
 mod install_fields;
 mod instruction;

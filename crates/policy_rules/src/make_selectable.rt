@@ -1,10 +1,11 @@
 //! INSTALL [for make selectable] (GlobalPlatform Card Specification 2.3.1, 9.3.3 and 11.5).
 
-ghost use Rattle.std.specs.Prelude.{◌≡◌, ◌↔◌, ◌≢◌, ◌≤◌, ℕ, List, None, Some, IfErr, IfNone, IfOk, IfSome, IsSome, IsTrue, MatchOption, OnOk, Option, length};
+ghost use Rattle.std.specs.Prelude.{◌≡◌, ◌↔◌, ◌≢◌, ◌≤◌, ℕ, List, None, Some, IfErr, IfNone, IfOk, IfSome, IsTrue, MatchOption, OnOk, Option, length};
 ghost use Rattle.card_types.specs.InOrder.{IsInOrder};
 ghost use Rattle.card_types.specs.Slots.{held};
 ghost use Rattle.policy_rules.specs.Admission.{Admitted};
 ghost use Rattle.policy_rules.specs.FirstFailing.{IsFirst};
+ghost use Rattle.policy_rules.specs.HoldersFound.{MayReceipt};
 ghost use Rattle.policy_rules.specs.InstallFields.{InstallData};
 ghost use Rattle.policy_rules.specs.InstallRequests.{FindsConfirmer, IsRefusedBy};
 ghost use Rattle.policy_rules.specs.MakeSelectable.{AsksToMakeSelectable, MakeSelectableFails, MakeSelectableParameters, MakingSelectableFails, is_installed, make_selectable, selectable_refusal, selectable_rules};
@@ -150,7 +151,7 @@ pub fn judge_selectable(
     ensures entry { IfOk result (λ found. IsInstalledWith request.now.aid (held tables.now.entries.items found.entry)) }
     ensures receipter { (page : ℕ → List ℕ) (admitted : Admitted) → ActsIn page tables.now domain admitted
         → IfOk result (λ found. FindsConfirmer tables.now admitted found.receipter) }
-    ensures used { IfOk result (λ found. IfSome found.receipter (λ slot. IsSome (held tables.now.entries.items slot))) }
+    ensures able { IfOk result (λ found. IfSome found.receipter (MayReceipt tables.now)) }
 {
     judge_management(tables, domain)?;
     let entry = match judge_installed(tables, domain, request) {

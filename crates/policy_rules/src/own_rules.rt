@@ -11,9 +11,12 @@ ghost use Rattle.policy_rules.specs.Sound.{IsSound};
 ghost use Rattle.policy_rules.specs.declared.instruction.TheConstants.{EXTERNAL_AUTHENTICATE};
 
 use crate::delete_key::judge_delete_key;
+use crate::extradition::judge_extradition;
 use crate::get_data::judge_get_data;
 use crate::initialize_update::judge_initialize_update;
+use crate::install_application::judge_install;
 use crate::live::{CHANNELS, Live};
+use crate::make_selectable::judge_selectable;
 use crate::manage_channel::judge_more_channel;
 use crate::put_key::judge_put_key;
 use crate::request::Request;
@@ -84,6 +87,18 @@ pub fn judge(
         } => {
             let domain = live.selected[usize::from(channel)].unwrap();
             judge_delete_key(tables, domain, *version, *identifier).err()
+        }
+        Request::Install(request) => {
+            let domain = live.selected[usize::from(channel)].unwrap();
+            judge_install(tables, live, domain, request).err()
+        }
+        Request::MakeSelectable(request) => {
+            let domain = live.selected[usize::from(channel)].unwrap();
+            judge_selectable(tables, domain, request).err()
+        }
+        Request::Extradite(request) => {
+            let domain = live.selected[usize::from(channel)].unwrap();
+            judge_extradition(tables, domain, request).err()
         }
     }
 }

@@ -4,11 +4,14 @@ ghost use Rattle.std.specs.Prelude.{IfOk, IfErr};
 ghost use Rattle.policy_rules.specs.Commands.{IsBuilt, Takes};
 ghost use Rattle.policy_rules.specs.Requests.{IsMalformed, Decodes, form_in};
 
+use crate::extradition::ExtraditionRequest;
+use crate::install_application::InstallRequest;
+use crate::make_selectable::SelectableRequest;
 use crate::put_key::PutKeys;
 use crate::rule::Rule;
 use crate::{
-    delete_key, external_authenticate, get_data, initialize_update, instruction, manage_channel,
-    put_key, select, store_data,
+    delete_key, external_authenticate, get_data, initialize_update, install, instruction,
+    manage_channel, put_key, select, store_data,
 };
 use card_types::Level;
 
@@ -54,6 +57,12 @@ pub enum Request<'a> {
         version: u8,
         identifier: Option<u8>,
     },
+    /// INSTALL [for install], and [for install and make selectable].
+    Install(InstallRequest<'a>),
+    /// INSTALL [for make selectable].
+    MakeSelectable(SelectableRequest<'a>),
+    /// INSTALL [for extradition].
+    Extradite(ExtraditionRequest<'a>),
 }
 
 /// The request of a command, or the first of the rules on its form that fails.
@@ -71,6 +80,7 @@ pub fn parse(ins: u8, p1: u8, p2: u8, body: &[u8]) -> Result<Request<'_>, Rule>
         instruction::PUT_KEY => put_key::parse_put_key(p1, p2, body),
         instruction::STORE_DATA => store_data::parse_store_data(p1, p2, body),
         instruction::DELETE => delete_key::parse_delete(p1, p2, body),
+        instruction::INSTALL => install::parse_install(p1, p2, body),
         _ => external_authenticate::parse_external_authenticate(p1, p2, body),
     }
 }

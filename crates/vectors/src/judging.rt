@@ -90,7 +90,13 @@ fn judged(card: &Card<MemFlash>, slot: u8, form: Form) -> Result<&'static str, F
         selected: [Some(slot), None, None, None],
         ..Live::powered_on()
     };
-    let request = parse(ins, p1, p2, body).map_err(|rule| rule.name())?;
+    if body.len() > 255 {
+        return Err("a data field of a short command".into());
+    }
+    let request = match parse(ins, p1, p2, body) {
+        Ok(request) => request,
+        Err(rule) => return Err(rule.name().into()),
+    };
     Ok(name(judge(card.tables(), &live, 0, &request, true)))
 }
 

@@ -1,8 +1,10 @@
 //! The forms of a script line.
 
 use crate::script::channel::Channel;
+use crate::script::install::{push_field, read_extradite, read_install, read_selectable};
 use crate::script::keys::{Keys, NewKeys, are_three, read_keys, read_new_keys};
-use crate::words::{array, byte, bytes, cut};
+use crate::script::token_key::TokenKey;
+use crate::words::{Words, array, byte, bytes, cut};
 use apdu_core::{Command, Status};
 use arrayvec::ArrayVec;
 use card_types::{Aid, Level};
@@ -16,6 +18,9 @@ pub enum Form {
     Channel(Channel),
 
     Keys(Keys),
+
+    /// The key of later tokens, or that none are made.
+    TokenKey(Option<TokenKey>),
     Select(Option<Aid>),
     Raw(ArrayVec<u8, 258>),
 
@@ -25,6 +30,9 @@ pub enum Form {
     Send(Plain),
     Bad(Plain),
     PutKey(Putting),
+
+    /// An INSTALL without its token.
+    Install(Plain),
     Want(Status),
 }
 
@@ -54,6 +62,22 @@ impl Plain {
             p1: putting.replaced,
             p2,
             body: fields,
+        }
+    }
+
+    /// This INSTALL with its token, which is empty where there is no key.
+    pub fn with_token(&self, key: Option<TokenKey>) -> Plain {
+        let mut body = ArrayVec::new();
+        let _fits = body.try_extend_from_slice(&self.body);
+        let _fits = match key {
+            Some(key) => push_field(&key.token(self.p1, &self.body), &mut body),
+            None => push_field(&[], &mut body),
+        };
+        Plain {
+            ins: self.ins,
+            p1: self.p1,
+            p2: self.p2,
+            body,
         }
     }
 
@@ -112,6 +136,9 @@ fn silent(line: &[u8]) -> Option<Form> {
     match verb {
         b"channel" => Some(Form::Channel(Channel::from_digits(rest)?)),
         b"keys" => Some(Form::Keys(read_keys(rest)?)),
+        b"tokenkey" if rest == b"none".as_slice() => Some(Form::TokenKey(None)),
+        b"tokenkey" => Some(Form::TokenKey(Some(TokenKey::read(rest, false)?))),
+        b"badtoken" => Some(Form::TokenKey(Some(TokenKey::read(rest, true)?))),
         b"want" => Some(Form::Want(Status(u16::from_be_bytes(array(rest)?)))),
         _ => None,
     }
@@ -135,6 +162,7 @@ fn sending(line: &[u8]) -> Option<Form> {
         b"bad" => Some(Form::Bad(read_plain(rest)?)),
         b"store" => Some(Form::Send(read_store(rest)?)),
         b"putkey" => Some(Form::PutKey(read_putting(rest)?)),
+        b"install" | b"selectable" | b"extradite" => Some(Form::Install(read_installing(line)?)),
         _ => None,
     }
 }
@@ -182,5 +210,25 @@ fn read_putting(words: &[u8]) -> Option<Putting> {
         replaced: byte(replaced)?,
         version: byte(version)?,
         keys: read_new_keys(rest)?,
+    })
+}
+
+// An INSTALL without its token.
+fn read_installing(line: &[u8]) -> Option<Plain> {
+    let mut words = Words::new(line);
+    let (p1, body) = match words.take()? {
+        b"install" => match byte(words.take()?)? {
+            p1 @ (0x04 | 0x0c) => (p1, read_install(&mut words)?),
+            _ => return None,
+        },
+        b"selectable" => (0x08, read_selectable(&mut words)?),
+        b"extradite" => (0x10, read_extradite(&mut words)?),
+        _ => return None,
+    };
+    Some(Plain {
+        ins: 0xe6,
+        p1,
+        p2: 0x00,
+        body,
     })
 }

@@ -1,9 +1,10 @@
-//! What the host knows: its static keys, and a session for each channel.
+//! What the host knows: its static keys, the key of its tokens, and a session for each channel.
 
 use crate::script::aes_kind::AesKind;
 use crate::script::aes_session::AesSession;
 use crate::script::channel::Channel;
 use crate::script::keys::{Keys, Trio};
+use crate::script::token_key::TokenKey;
 
 /// Each static key of the factory card.
 const FACTORY_KEY: [u8; 16] = *b"@ABCDEFGHIJKLMNO";
@@ -11,6 +12,9 @@ const FACTORY_KEY: [u8; 16] = *b"@ABCDEFGHIJKLMNO";
 #[derive(Drop)]
 pub struct Host {
     keys: Keys,
+
+    /// The key of its tokens, where it makes any.
+    token_key: Option<TokenKey>,
     sessions: [Option<AesSession>; 4],
 }
 
@@ -23,6 +27,7 @@ impl Host {
                 mac: FACTORY_KEY,
                 dek: FACTORY_KEY,
             }),
+            token_key: None,
             sessions: [None, None, None, None],
         }
     }
@@ -33,6 +38,14 @@ impl Host {
 
     pub(super) fn set_keys(&mut self, keys: Keys) {
         self.keys = keys;
+    }
+
+    pub(super) fn token_key(&self) -> Option<TokenKey> {
+        self.token_key
+    }
+
+    pub(super) fn set_token_key(&mut self, key: Option<TokenKey>) {
+        self.token_key = key;
     }
 
     /// Drops all sessions.

@@ -87,6 +87,10 @@ impl<F: Flash> Player<F> {
                 self.host.set_keys(*keys);
                 Outcome::Nothing
             }
+            Form::TokenKey(key) => {
+                self.host.set_token_key(*key);
+                Outcome::Nothing
+            }
             Form::Select(aid) => self.select(aid),
             Form::Raw(bytes) => self.raw(bytes),
             Form::Why(bytes) => self.why(bytes),
@@ -94,6 +98,7 @@ impl<F: Flash> Player<F> {
             Form::Send(plain) => self.send(plain, false),
             Form::Bad(plain) => self.send(plain, true),
             Form::PutKey(putting) => self.put_key(putting),
+            Form::Install(plain) => self.install(plain),
             Form::Want(status) => self.want(*status),
         }
     }
@@ -233,6 +238,11 @@ impl<F: Flash> Player<F> {
         };
         let fields = session.key_fields(putting);
         self.send(&Plain::put_key(putting, fields), false)
+    }
+
+    fn install(&mut self, plain: &Plain) -> Outcome {
+        let command = plain.with_token(self.host.token_key());
+        self.send(&command, false)
     }
 
     fn want(&self, want: Status) -> Outcome {

@@ -1,4 +1,4 @@
-use Rattle.std.proofs.Common.{rules, ◌≡◌, ◌⊎◌, inl, inr, arith, Bor, Option, ℕ, ◌<◌, List, None, Some, refl, sym, ap, subst, ◌∙◌}
+use Rattle.std.proofs.Common.{rules, ◌≡◌, ◌⊎◌, inl, inr, arith, Bor, Err, Option, ℕ, ◌<◌, List, None, Some, refl, sym, ap, subst, ◌∙◌}
 use Rattle.std.specs.Prelude.{Contains, IfErr, slice_index_or}
 use Rattle.std.proofs.lemmas.List.{get_or_default}
 use Rattle.apdu_core.specs.Apdu.{Apdu, apdu_of}
@@ -9,12 +9,15 @@ use Rattle.policy_rules.specs.Classes.{managing}
 use Rattle.policy_rules.specs.Requests.{IsMalformed, IsRequestOf, form_in}
 use Rattle.policy_rules.specs.Commands.{Judges}
 use Rattle.policy_rules.specs.declared.external_authenticate.RuleEA.TheVariants.{EA1}
+use Rattle.policy_rules.specs.declared.extradition.ExtraditionRequest.{ExtraditionRequest}
+use Rattle.policy_rules.specs.declared.install_application.InstallRequest.{InstallRequest}
+use Rattle.policy_rules.specs.declared.make_selectable.SelectableRequest.{SelectableRequest}
 use Rattle.policy_rules.specs.declared.instruction.TheConstants.{EXTERNAL_AUTHENTICATE}
 use Rattle.policy_rules.specs.declared.rule.Rule.{Rule}
 use Rattle.policy_rules.specs.declared.rule.Rule.TheVariants.{EA}
 use Rattle.policy_rules.specs.declared.live.TheConstants.{CHANNELS}
 use Rattle.policy_rules.specs.declared.request.Request.{Request}
-use Rattle.policy_rules.specs.declared.request.Request.TheVariants.{Authenticate, DeleteKey, Initialize, MoreChannel, PutKey, Store}
+use Rattle.policy_rules.specs.declared.request.Request.TheVariants.{Authenticate, DeleteKey, Extradite, Initialize, Install, MakeSelectable, MoreChannel, PutKey, Store}
 use Rattle.policy_rules.specs.declared.put_key.PutKeys.{PutKeys}
 use Rattle.card_core.proofs.Acting.{acts_for, answer_carried, held_there, low, managed_carried, offer_carried}
 use Rattle.card_core.proofs.Cards.{in_order}
@@ -35,10 +38,16 @@ IsOfForm request ins = ins ≡ (form_in request).instruction
 managed : (request : Request)
     → ((replaced version : ℕ) × (keys : PutKeys) × (request ≡ PutKey replaced version keys))
     ⊎ ((objects : Bor (List ℕ)) × (request ≡ Store objects))
-    ⊎ ((version : ℕ) × (identifier : Option ℕ) × (request ≡ DeleteKey version identifier)) → Contains managing (form_in request).instruction
+    ⊎ ((version : ℕ) × (identifier : Option ℕ) × (request ≡ DeleteKey version identifier))
+    ⊎ ((install : InstallRequest) × (request ≡ Install install))
+    ⊎ ((selecting : SelectableRequest) × (request ≡ MakeSelectable selecting))
+    ⊎ ((move : ExtraditionRequest) × (request ≡ Extradite move)) → Contains managing (form_in request).instruction
 managed request (inl put) = subst (λ (r : Request). Contains managing (form_in r).instruction) (sym put.3) (0, omega arith, refl)
 managed request (inr (inl store)) = subst (λ (r : Request). Contains managing (form_in r).instruction) (sym store.1) (1, omega arith, refl)
-managed request (inr (inr delete)) = subst (λ (r : Request). Contains managing (form_in r).instruction) (sym delete.2) (2, omega arith, refl)
+managed request (inr (inr (inl delete))) = subst (λ (r : Request). Contains managing (form_in r).instruction) (sym delete.2) (2, omega arith, refl)
+managed request (inr (inr (inr (inl install)))) = subst (λ (r : Request). Contains managing (form_in r).instruction) (sym install.1) (3, omega arith, refl)
+managed request (inr (inr (inr (inr (inl selecting))))) = subst (λ (r : Request). Contains managing (form_in r).instruction) (sym selecting.1) (3, omega arith, refl)
+managed request (inr (inr (inr (inr (inr move))))) = subst (λ (r : Request). Contains managing (form_in r).instruction) (sym move.1) (3, omega arith, refl)
 
 pub returns-in_err-judge_offer-clause-done : goal.returns-in_err-judge_offer-clause-done
 returns-in_err-judge_offer-clause-done g c = λ page judged stands at is.
@@ -59,8 +68,8 @@ returns-in_err-judge_offer-clause-done g c = λ page judged stands at is.
     (subst (λ (rule : Rule). Judges judged (Some rule)) (sym found.0) judges) c.requires.empty
 
 -- a command of a wrong form
-pub returns-in_err-request-clause-done : goal.returns-in_err-request-clause-done
-returns-in_err-request-clause-done g c = λ page judged stands at is.
+pub returns-in-Err-clause-done : goal.returns-in-Err-clause-done
+returns-in-Err-clause-done g c = λ page judged stands at is.
     let tables = c.args.records.now.tables in
     let live = c.args.live.now in
     let all = c.args.held.now in
@@ -71,11 +80,11 @@ returns-in_err-request-clause-done g c = λ page judged stands at is.
     let offered : c.args.command.now.ins ≡ EXTERNAL_AUTHENTICATE → IsOffered (slice_index_or all c.from-place.result c.index-held-place.result) = search rules in
     let begins = begin_passes judged (λ ins none. is_offer (slice_index_or all judged.channel held.Nothing) judged (stands.shows.holds judged.channel low)
     (subst IsOffered here (offered (sym (ap (λ (command : Apdu). command.ins) is) ∙ ins))) none) in
-    let wrong : IsMalformed c.args.command.now.ins c.args.command.now.p1 c.args.command.now.p2 c.args.command.now.body.now c.in_err-request.field-0.0 = search rules in
-    let judges = malformed_judged judged c.in_err-request.field-0.0 begins
-    (subst (λ (command : Apdu). IsMalformed command.ins command.p1 command.p2 command.body c.in_err-request.field-0.0) (sym is) wrong) in
-    refusal_carried page (record { tables = tables; live = live; held = all }) judged c.args.reply.now.items c.from_residual-in_err-request.result c.in_err-request.field-0.0
-    c.from_residual-in_err-request.ensures.1 (record { held = c.told-held; channels = stands.sound.fits.channels }) low stands.shows judges c.requires.empty
+    let wrong : IsMalformed c.args.command.now.ins c.args.command.now.p1 c.args.command.now.p2 c.args.command.now.body.now c.in-Err.rule = search rules in
+    let judges = malformed_judged judged c.in-Err.rule begins
+    (subst (λ (command : Apdu). IsMalformed command.ins command.p1 command.p2 command.body c.in-Err.rule) (sym is) wrong) in
+    refusal_carried page (record { tables = tables; live = live; held = all }) judged c.args.reply.now.items (Err c.in-Err.rule) c.in-Err.rule
+    refl (record { held = c.told-held; channels = stands.sound.fits.channels }) low stands.shows judges c.requires.empty
 
 pub select-requires-clause-in_order : goal.select-requires-clause-in_order
 select-requires-clause-in_order g c = subst IsInOrder (sym c.tables.ensures.tables) (in_order c.args.records.now.tables c.requires.cards)
@@ -84,23 +93,23 @@ pub get_data-requires-clause-in_order : goal.get_data-requires-clause-in_order
 get_data-requires-clause-in_order g c = subst IsInOrder (sym c.tables-in-Get.ensures.tables) (in_order c.args.records.now.tables c.requires.cards)
 
 pub external_authenticate-requires-clause-formed : goal.external_authenticate-requires-clause-formed
-external_authenticate-requires-clause-formed g c = (apdu_of c.args.command.now, record { form = search rules; means = search rules })
+external_authenticate-requires-clause-formed g c = (apdu_of c.args.command.now, record { form = search rules; means = search rules }, c.requires.short)
 
 -- card content management
 pub manage-requires-clause-secured : goal.manage-requires-clause-secured
 manage-requires-clause-secured g c =
-    let form : IsOfForm c.in_ok-request.request c.args.command.now.ins = search rules in
+    let form : IsOfForm c.in-Ok.request c.args.command.now.ins = search rules in
     let here : slice_index_or c.args.held.now c.from-place.result c.index-held-place-in-PutKey.result ≡ slice_index_or c.args.held.now c.args.received.now.channel held.Nothing =
     ap (λ (n : ℕ). slice_index_or c.args.held.now n c.index-held-place-in-PutKey.result) c.from-place.ensures
     ∙ get_or_default c.args.held.now c.args.received.now.channel c.index-held-place-in-PutKey.result held.Nothing
     (subst (λ (n : ℕ). c.args.received.now.channel < n) (sym c.told-held) c.requires.channel) in
-    subst IsInSession (sym here) (c.requires.secured (subst (Contains managing) (sym form) (managed c.in_ok-request.request c.in-PutKey.is)))
+    subst IsInSession (sym here) (c.requires.secured (subst (Contains managing) (sym form) (managed c.in-Ok.request c.in-PutKey.is)))
 
 pub manage-requires-clause-managing : goal.manage-requires-clause-managing
-manage-requires-clause-managing g c = managed c.in_ok-request.request c.in-PutKey.is
+manage-requires-clause-managing g c = managed c.in-Ok.request c.in-PutKey.is
 
 pub manage-requires-clause-formed : goal.manage-requires-clause-formed
-manage-requires-clause-formed g c = (apdu_of c.args.command.now, record { form = search rules; means = search rules })
+manage-requires-clause-formed g c = (apdu_of c.args.command.now, record { form = search rules; means = search rules }, c.requires.short)
 
 pub returns-in-MoreChannel-clause-done : goal.returns-in-MoreChannel-clause-done
 returns-in-MoreChannel-clause-done g c = λ page judged stands at is.
@@ -156,17 +165,17 @@ returns-in-PutKey-clause-done g c = λ page judged stands at is.
     let live = c.args.live.now in
     let all = c.args.held.now in
     let slot = c.args.received.now.selected in
-    let request : IsRequestOf c.in_ok-request.request (apdu_of c.args.command.now) = record { form = search rules; means = search rules } in
+    let request : IsRequestOf c.in-Ok.request (apdu_of c.args.command.now) = record { form = search rules; means = search rules } in
     let low = low page tables live all judged stands c.told-held c.args.received.now.channel slot c.requires.channel at c.requires.selected in
     let here = held_there page tables live all judged stands c.told-held c.args.received.now.channel slot c.requires.channel at c.requires.selected
     c.from-place.result c.index-held-place-in-PutKey.result c.from-place.ensures in
     let acts = acts_for page tables live all judged stands c.told-held c.args.received.now.channel slot c.requires.channel at c.requires.selected in
-    let managed = c.manage.ensures.done page judged acts stands.shows.says (subst (IsRequestOf c.in_ok-request.request) (sym is) request)
+    let managed = c.manage.ensures.done page judged acts stands.shows.says (subst (IsRequestOf c.in-Ok.request) (sym is) request)
     (subst (λ (h : ChannelSession). RepresentsSecureChannel h (secure_channel_for judged)) (sym here) (stands.shows.holds judged.channel low)) in
     managed_carried page tables live all judged stands (record { held = c.told-held; channels = stands.sound.fits.channels }) low
     c.manage.new.records.tables c.manage.new.reply.items c.manage.result c.manage.ensures.aids managed
 
 pub returns-in-PutKey-clause-idle : goal.returns-in-PutKey-clause-idle
 returns-in-PutKey-clause-idle g c = λ other unmanaged.
-    let form : IsOfForm c.in_ok-request.request c.args.command.now.ins = search rules in
-    absurd (unmanaged (subst (Contains managing) (sym form) (managed c.in_ok-request.request c.in-PutKey.is)))
+    let form : IsOfForm c.in-Ok.request c.args.command.now.ins = search rules in
+    absurd (unmanaged (subst (Contains managing) (sym form) (managed c.in-Ok.request c.in-PutKey.is)))

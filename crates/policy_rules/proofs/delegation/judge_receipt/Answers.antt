@@ -34,3 +34,15 @@ returns-clause-found c page admitted acts =
       is = c.in-Some.ensures.some page admitted acts;
       below = subst (λ (o : Option Entry). MatchOption o ⊥ (λ e. e.receipts ≢ RECEIPT_LIMIT)) (sym at) c.if-entry.false;
     }
+
+pub returns-clause-able : goal.returns-clause-able
+returns-clause-able c =
+    let tables = c.args.tables.now in
+    let slot = c.in-Some.slot in
+    let entry = c.unwrap-entry.result.now in
+    let there : held c.deref.result.now slot ≡ Some entry = search rules in
+    let at : held tables.entries.items slot ≡ Some entry = rw c.deref.ensures.value at there in
+    record {
+      below = subst (λ (o : Option Entry). MatchOption o ⊥ (λ e. e.receipts ≢ RECEIPT_LIMIT)) (sym at) c.if-entry.false;
+      key = c.in-Some.ensures.key;
+    }

@@ -1,10 +1,12 @@
-use Rattle.std.proofs.Common.{rules, ◌≡◌, ℕ, List, Some, sym, subst}
+use Rattle.std.proofs.Common.{rules, ◌≡◌, ℕ, List, Option, Some, sym, subst}
+use Rattle.std.specs.Prelude.{MatchOption}
 use Rattle.card_types.proofs.DomainLines.{line_in_slots}
 use Rattle.card_types.proofs.SetNames.{key_length_in_slot}
 use Rattle.card_types.specs.KeySets.{IsKeyOf}
 use Rattle.card_types.specs.Privileges.{bits_of}
 use Rattle.card_types.specs.Represents.{domain_aid, domain_slot, key_of}
 use Rattle.card_types.specs.Slots.{held}
+use Rattle.card_types.specs.declared.tables.KeyRec.{KeyRec}
 use Rattle.domain_tree.specs.Above.{IsFirstAbove, NoneAbove}
 use Rattle.policy_rules.proofs.NearestHolder.{holder_named, lone_key, no_holder_named, some_found}
 use Rattle.policy_rules.specs.Delegation.{IsNearestHolder, NoHolder}
@@ -51,3 +53,12 @@ returns-clause-length c =
     let found = c.unwrap-found.result in
     let there : held c.deref-2.result.now found.slot ≡ Some found.thing.now = search rules in
     key_length_in_slot order.page c.args.tables.now order.said order.says order.well found.slot found.thing.now (rw c.deref-2.ensures.value at there)
+
+pub returns-clause-key : goal.returns-clause-key
+returns-clause-key c =
+    let tables = c.args.tables.now in
+    let found = c.unwrap-found.result in
+    let there : held c.deref-2.result.now found.slot ≡ Some found.thing.now = search rules in
+    let at : held tables.keys.items found.slot ≡ Some found.thing.now = rw c.deref-2.ensures.value at there in
+    let is : IsKeyOf c.in_ok-slot.slot c.args.version 1 found.thing.now = search rules in
+    (found.slot, subst (λ (o : Option KeyRec). MatchOption o ⊥ (IsKeyOf c.in_ok-slot.slot c.args.version 1)) (sym at) is)

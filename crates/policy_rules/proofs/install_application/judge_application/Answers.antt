@@ -5,13 +5,13 @@ use Rattle.policy_rules.proofs.InstallJudging.{exceeds, free, full, in_charge, m
 use Rattle.policy_rules.proofs.install_application.judge_application.Goals as goal
 
 pub returns-then-not-may_manage-clause-refused : goal.returns-then-not-may_manage-clause-refused
-returns-then-not-may_manage-clause-refused c page admitted acts state is =
+returns-then-not-may_manage-clause-refused c page admitted acts load is =
     let tables = c.args.tables.now in
     let request = c.args.request.now in
     inl (unmanaged page tables c.args.domain admitted acts request is c.may_manage.result (rw c.deref.ensures.value at c.may_manage.ensures) c.if-not-may_manage.true, refl)
 
 pub returns-in_default-clause-refused : goal.returns-in_default-clause-refused
-returns-in_default-clause-refused c page admitted acts state is =
+returns-in_default-clause-refused c page admitted acts load is =
     let tables = c.args.tables.now in
     let request = c.args.request.now in
     inr (
@@ -20,7 +20,7 @@ returns-in_default-clause-refused c page admitted acts state is =
     )
 
 pub returns-then-lacks_module-clause-refused : goal.returns-then-lacks_module-clause-refused
-returns-then-lacks_module-clause-refused c page admitted acts state is =
+returns-then-lacks_module-clause-refused c page admitted acts load is =
     let tables = c.args.tables.now in
     let request = c.args.request.now in
     inr (
@@ -29,7 +29,7 @@ returns-then-lacks_module-clause-refused c page admitted acts state is =
     )
 
 pub returns-then-is_out_of_charge-clause-refused : goal.returns-then-is_out_of_charge-clause-refused
-returns-then-is_out_of_charge-clause-refused c page admitted acts state is =
+returns-then-is_out_of_charge-clause-refused c page admitted acts load is =
     let tables = c.args.tables.now in
     let request = c.args.request.now in
     inr (
@@ -41,7 +41,7 @@ returns-then-is_out_of_charge-clause-refused c page admitted acts state is =
     )
 
 pub returns-then-is_taken-clause-refused : goal.returns-then-is_taken-clause-refused
-returns-then-is_taken-clause-refused c page admitted acts state is =
+returns-then-is_taken-clause-refused c page admitted acts load is =
     let tables = c.args.tables.now in
     let request = c.args.request.now in
     inr (
@@ -50,13 +50,13 @@ returns-then-is_taken-clause-refused c page admitted acts state is =
         source page tables c.args.domain admitted acts request is c.in-Some.file c.in-Some.ensures.some (iff_false c.lacks_module.ensures c.if-lacks_module.false),
         inr (
           in_charge page tables c.args.domain admitted acts request is (iff_false (c.is_out_of_charge.ensures page admitted acts) c.if-is_out_of_charge.false),
-          inl (taken page tables c.args.domain admitted acts request is ((c.is_taken.ensures.taken page admitted state).0 c.if-is_taken.true), refl),
+          inl (taken page tables c.args.domain admitted acts request is ((c.is_taken.ensures.taken page admitted acts.says load).0 c.if-is_taken.true), refl),
         ),
       ),
     )
 
 pub returns-then-not-may_be_made-clause-refused : goal.returns-then-not-may_be_made-clause-refused
-returns-then-not-may_be_made-clause-refused c page admitted acts state is =
+returns-then-not-may_be_made-clause-refused c page admitted acts load is =
     let tables = c.args.tables.now in
     let request = c.args.request.now in
     let made = c.may_be_made.ensures (entry_made admitted is.asked) (sym is.file) (sym is.privileges) in
@@ -67,7 +67,7 @@ returns-then-not-may_be_made-clause-refused c page admitted acts state is =
         inr (
           in_charge page tables c.args.domain admitted acts request is (iff_false (c.is_out_of_charge.ensures page admitted acts) c.if-is_out_of_charge.false),
           inr (
-            free page tables c.args.domain admitted acts request is (iff_false (c.is_taken.ensures.taken page admitted state) c.if-is_taken.false),
+            free page tables c.args.domain admitted acts request is (iff_false (c.is_taken.ensures.taken page admitted acts.says load) c.if-is_taken.false),
             inl (iff_false made c.if-not-may_be_made.true, refl),
           ),
         ),
@@ -75,7 +75,7 @@ returns-then-not-may_be_made-clause-refused c page admitted acts state is =
     )
 
 pub returns-then-exceeds_domain-clause-refused : goal.returns-then-exceeds_domain-clause-refused
-returns-then-exceeds_domain-clause-refused c page admitted acts state is =
+returns-then-exceeds_domain-clause-refused c page admitted acts load is =
     let tables = c.args.tables.now in
     let request = c.args.request.now in
     let made = c.may_be_made.ensures (entry_made admitted is.asked) (sym is.file) (sym is.privileges) in
@@ -86,7 +86,7 @@ returns-then-exceeds_domain-clause-refused c page admitted acts state is =
         inr (
           in_charge page tables c.args.domain admitted acts request is (iff_false (c.is_out_of_charge.ensures page admitted acts) c.if-is_out_of_charge.false),
           inr (
-            free page tables c.args.domain admitted acts request is (iff_false (c.is_taken.ensures.taken page admitted state) c.if-is_taken.false),
+            free page tables c.args.domain admitted acts request is (iff_false (c.is_taken.ensures.taken page admitted acts.says load) c.if-is_taken.false),
             inr (
               λ fails. fails (made.0 c.if-not-may_be_made.false),
               inl (exceeds page tables c.args.domain admitted acts request is c.exceeds_domain.result (rw c.deref-2.ensures.value at c.exceeds_domain.ensures) c.if-exceeds_domain.true, refl),
@@ -97,7 +97,7 @@ returns-then-exceeds_domain-clause-refused c page admitted acts state is =
     )
 
 pub returns-in-None-clause-refused : goal.returns-in-None-clause-refused
-returns-in-None-clause-refused c page admitted acts state is =
+returns-in-None-clause-refused c page admitted acts load is =
     let tables = c.args.tables.now in
     let request = c.args.request.now in
     let made = c.may_be_made.ensures (entry_made admitted is.asked) (sym is.file) (sym is.privileges) in
@@ -108,7 +108,7 @@ returns-in-None-clause-refused c page admitted acts state is =
         inr (
           in_charge page tables c.args.domain admitted acts request is (iff_false (c.is_out_of_charge.ensures page admitted acts) c.if-is_out_of_charge.false),
           inr (
-            free page tables c.args.domain admitted acts request is (iff_false (c.is_taken.ensures.taken page admitted state) c.if-is_taken.false),
+            free page tables c.args.domain admitted acts request is (iff_false (c.is_taken.ensures.taken page admitted acts.says load) c.if-is_taken.false),
             inr (
               λ fails. fails (made.0 c.if-not-may_be_made.false),
               inr (
@@ -122,7 +122,7 @@ returns-in-None-clause-refused c page admitted acts state is =
     )
 
 pub returns-in-Some-first_free-clause-passed : goal.returns-in-Some-first_free-clause-passed
-returns-in-Some-first_free-clause-passed c page admitted acts state is =
+returns-in-Some-first_free-clause-passed c page admitted acts load is =
     let tables = c.args.tables.now in
     let request = c.args.request.now in
     let made = c.may_be_made.ensures (entry_made admitted is.asked) (sym is.file) (sym is.privileges) in
@@ -133,7 +133,7 @@ returns-in-Some-first_free-clause-passed c page admitted acts state is =
         inr (
           in_charge page tables c.args.domain admitted acts request is (iff_false (c.is_out_of_charge.ensures page admitted acts) c.if-is_out_of_charge.false),
           inr (
-            free page tables c.args.domain admitted acts request is (iff_false (c.is_taken.ensures.taken page admitted state) c.if-is_taken.false),
+            free page tables c.args.domain admitted acts request is (iff_false (c.is_taken.ensures.taken page admitted acts.says load) c.if-is_taken.false),
             inr (
               λ fails. fails (made.0 c.if-not-may_be_made.false),
               inr (

@@ -11,24 +11,24 @@ use Rattle.policy_rules.specs.declared.rule.Rule.TheVariants.{II}
 use Rattle.policy_rules.proofs.install_application.judge_install.Goals as goal
 
 pub returns-in_err-judge_management-clause-refused : goal.returns-in_err-judge_management-clause-refused
-returns-in_err-judge_management-clause-refused c page admitted acts state is =
+returns-in_err-judge_management-clause-refused c page admitted acts load is =
     management_handed (InstallFails admitted) (map II application_rules ++ delegation_rules) c.from_residual.result c.in_err-judge_management.field-0.0 c.from_residual.ensures.1
     (c.in_err-judge_management.ensures.refused page admitted acts)
 
 pub returns-in-Err-clause-refused : goal.returns-in-Err-clause-refused
-returns-in-Err-clause-refused c page admitted acts state is =
-    refused_first admitted is.asked is.asks (c.in_ok-judge_management.ensures.passed page admitted acts) c.in-Err.rule (c.in-Err.ensures.refused page admitted acts state is)
+returns-in-Err-clause-refused c page admitted acts load is =
+    refused_first admitted is.asked is.asks (c.in_ok-judge_management.ensures.passed page admitted acts) c.in-Err.rule (c.in-Err.ensures.refused page admitted acts load is)
 
 pub returns-in_err-receipter-clause-refused : goal.returns-in_err-receipter-clause-refused
-returns-in_err-receipter-clause-refused c page admitted acts state is =
+returns-in_err-receipter-clause-refused c page admitted acts load is =
     let rule = c.in_err-receipter.field-0.0 in
     handed_on (λ r. IsFirst (InstallFails admitted) install_rules (Some r)) c.from_residual-in_err-receipter.result rule c.from_residual-in_err-receipter.ensures.1
-    (behind_application admitted is.asked is.asks (c.in_ok-judge_management.ensures.passed page admitted acts) (Some rule) (c.in-Ok.ensures.passed page admitted acts state is)
+    (behind_application admitted is.asked is.asks (c.in_ok-judge_management.ensures.passed page admitted acts) (Some rule) (c.in-Ok.ensures.passed page admitted acts load is)
     (subst (λ (approval : Approval). IsFirst (ApprovalFails admitted approval) delegation_rules (Some rule)) is.approval
     (c.in_err-receipter.ensures.refused page admitted acts is.parameters)))
 
 pub returns-clause-passed : goal.returns-clause-passed
-returns-clause-passed c page admitted acts state is =
-    behind_application admitted is.asked is.asks (c.in_ok-judge_management.ensures.passed page admitted acts) None (c.in-Ok.ensures.passed page admitted acts state is)
+returns-clause-passed c page admitted acts load is =
+    behind_application admitted is.asked is.asks (c.in_ok-judge_management.ensures.passed page admitted acts) None (c.in-Ok.ensures.passed page admitted acts load is)
     (subst (λ (approval : Approval). IsFirst (ApprovalFails admitted approval) delegation_rules None) is.approval
     (c.in_ok-receipter.ensures.passed page admitted acts is.parameters))

@@ -1,13 +1,16 @@
-use Rattle.std.proofs.Common.{rules, ◌≡◌, None, Some, sym, ap, ◌∙◌}
+use Rattle.std.proofs.Common.{rules, ◌≡◌, None, Some, arith, inl, inr, refl, sym, ap, ◌∙◌}
 use Rattle.std.specs.Prelude.{slice_index_or}
 use Rattle.policy_rules.specs.Commands.{Judges}
+use Rattle.policy_rules.specs.Extradition.{ExtraditionFails, extradition, extradition_rules}
 use Rattle.policy_rules.specs.FirstFailing.{IsFirst}
+use Rattle.policy_rules.specs.InstallApplication.{InstallFails, install_application, install_rules}
+use Rattle.policy_rules.specs.MakeSelectable.{MakeSelectableFails, make_selectable, selectable_rules}
 use Rattle.policy_rules.specs.PutKey.{PutKeyFails, put_rules}
 use Rattle.policy_rules.specs.Volatile.{selected_on}
 use Rattle.policy_rules.proofs.DataAsked.{asked_for, asks, has_data}
 use Rattle.policy_rules.proofs.GetDataLaws.{get_passes, get_refused}
 use Rattle.policy_rules.proofs.InitializeUpdateLaws.{offer_judged}
-use Rattle.policy_rules.proofs.Judging.{by_err}
+use Rattle.policy_rules.proofs.Judging.{by_err, judged}
 use Rattle.policy_rules.proofs.ManageChannelLaws.{open_passes, open_refused}
 use Rattle.policy_rules.proofs.PutKeyLaws.{put_judged}
 use Rattle.policy_rules.proofs.SelectLaws.{select_passes, select_refused}
@@ -101,3 +104,45 @@ returns-in-DeleteKey-clause-judged c page admitted says sound here request other
     let acts = selected_acts page c.args.tables.now c.args.live.now admitted c.args.channel c.unwrap-domain-in-DeleteKey.result says sound c.requires.channel is here in
     rw c.err-in-DeleteKey.ensures.value (by_err (Judges admitted) c.judge_delete_key.result
     (c.judge_delete_key.ensures.passed page admitted acts asked) (c.judge_delete_key.ensures.refused page admitted acts asked))
+
+pub judge_install-requires-clause-short : goal.judge_install-requires-clause-short
+judge_install-requires-clause-short c =
+    let meant = rw c.in-Install.is at c.requires.meant in
+    omega (arith, meant.3.short, meant.4)
+
+pub returns-in-Install-clause-judged : goal.returns-in-Install-clause-judged
+returns-in-Install-clause-judged c page admitted says sound here request other checks =
+    let asked = rw c.in-Install.is at request in
+    let is : slice_index_or c.args.live.now.selected c.args.channel None ≡ Some c.unwrap-domain-in-Install.result = search rules in
+    let acts = selected_acts page c.args.tables.now c.args.live.now admitted c.args.channel c.unwrap-domain-in-Install.result says sound c.requires.channel is here in
+    judged install_application (λ holds here. inl here) admitted asked.form refl _
+    (rw c.err-in-Install.ensures.value (by_err (λ found. IsFirst (InstallFails admitted) install_rules found) c.judge_install.result
+    (c.judge_install.ensures.passed page admitted acts says.load asked.means) (c.judge_install.ensures.refused page admitted acts says.load asked.means)))
+
+pub judge_selectable-requires-clause-short : goal.judge_selectable-requires-clause-short
+judge_selectable-requires-clause-short c =
+    let meant = rw c.in-MakeSelectable.is at c.requires.meant in
+    omega (arith, meant.3.short, meant.4)
+
+pub returns-in-MakeSelectable-clause-judged : goal.returns-in-MakeSelectable-clause-judged
+returns-in-MakeSelectable-clause-judged c page admitted says sound here request other checks =
+    let asked = rw c.in-MakeSelectable.is at request in
+    let is : slice_index_or c.args.live.now.selected c.args.channel None ≡ Some c.unwrap-domain-in-MakeSelectable.result = search rules in
+    let acts = selected_acts page c.args.tables.now c.args.live.now admitted c.args.channel c.unwrap-domain-in-MakeSelectable.result says sound c.requires.channel is here in
+    judged make_selectable (λ holds here. inr (inl here)) admitted asked.form refl _
+    (rw c.err-in-MakeSelectable.ensures.value (by_err (λ found. IsFirst (MakeSelectableFails admitted) selectable_rules found) c.judge_selectable.result
+    (c.judge_selectable.ensures.passed page admitted acts asked.means) (c.judge_selectable.ensures.refused page admitted acts asked.means)))
+
+pub judge_extradition-requires-clause-short : goal.judge_extradition-requires-clause-short
+judge_extradition-requires-clause-short c =
+    let meant = rw c.in-Extradite.is at c.requires.meant in
+    omega (arith, meant.3.short, meant.4)
+
+pub returns-in-Extradite-clause-judged : goal.returns-in-Extradite-clause-judged
+returns-in-Extradite-clause-judged c page admitted says sound here request other checks =
+    let asked = rw c.in-Extradite.is at request in
+    let is : slice_index_or c.args.live.now.selected c.args.channel None ≡ Some c.unwrap-domain-in-Extradite.result = search rules in
+    let acts = selected_acts page c.args.tables.now c.args.live.now admitted c.args.channel c.unwrap-domain-in-Extradite.result says sound c.requires.channel is here in
+    judged extradition (λ holds here. inr (inr (inl here))) admitted asked.form refl _
+    (rw c.err-in-Extradite.ensures.value (by_err (λ found. IsFirst (ExtraditionFails admitted) extradition_rules found) c.judge_extradition.result
+    (c.judge_extradition.ensures.passed page admitted acts asked.means) (c.judge_extradition.ensures.refused page admitted acts asked.means)))

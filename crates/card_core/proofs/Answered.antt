@@ -1,0 +1,78 @@
+-- A command that has changed the registry, and is answered by a receipt or by 00, has done what it does.
+use Rattle.std.proofs.Common.{◌≡◌, ℕ, ◌≤◌, ◌==◌, List, [], ◌∷◌, Bool, true, false, cond, Option, None, Some, length, refl, sym, ap, subst, ◌∙◌, arith}
+use Rattle.std.specs.Prelude.{IfSome, MatchOption, count_by, not}
+use Rattle.std.specs.List.{list_any}
+use Rattle.std.proofs.lemmas.List.Sums.{sum_by-cons}
+use Rattle.apdu_core.specs.declared.reply.Status.{Status}
+use Rattle.card_types.specs.Registry.{Registry}
+use Rattle.card_types.specs.Slots.{held}
+use Rattle.card_types.specs.declared.tables.Entry.{Entry}
+use Rattle.card_types.specs.declared.found.Found.{Found}
+use Rattle.card_types.specs.declared.found.Found.TheVariants as Thing
+use Rattle.card_types.specs.declared.limits.TheConstants.{RECEIPT_LIMIT}
+use Rattle.card_types.specs.declared.tables.Tables.{Tables}
+use Rattle.policy_rules.proofs.Judging.{IsListed, does_so, judged}
+use Rattle.policy_rules.specs.Admission.{Admitted}
+use Rattle.policy_rules.specs.CommandForm.{CommandForm}
+use Rattle.policy_rules.specs.Commands.{TakesCommand}
+use Rattle.policy_rules.specs.ExternalAuthenticate.{rules_before_form}
+use Rattle.policy_rules.specs.FirstFailing.{IsFirst}
+use Rattle.policy_rules.specs.HoldersFound.{MayReceipt}
+use Rattle.card_core.proofs.EntryCards.{may_still}
+use Rattle.card_core.specs.Confirms.{AnswersFor, KeepsReceipts, leaves}
+use Rattle.card_core.specs.Manages.{IsManaged, KeepsAids}
+use Rattle.rec_store.specs.Places.{file_page}
+use Rattle.rec_store.specs.Room.{HasRoomFor, with_staged}
+use Rattle.registry.specs.Pages.{KeepsRoom, entry_pages, thing_page, thing_pages}
+
+pub answered_managed : (form : CommandForm) → IsListed form → (admitted : Admitted) → TakesCommand form admitted.command → rules_before_form form.instruction ≡ []
+    → IsFirst (form.fails admitted) form.rules None → (page : ℕ → List ℕ) (tables : Tables) (aids : List (List ℕ)) (changed : Registry) (body : List ℕ)
+    → (answers : AnswersFor page tables admitted aids changed body) → form.does admitted (leaves admitted answers.0 body) → (status : Status) → status.0 ≡ 0x9000
+    → IsManaged admitted page tables body status
+answered_managed form listed admitted takes none first page tables aids changed body answers does status is = record {
+  judges = judged form listed admitted takes none None first;
+  done = leaves admitted answers.0 body;
+  does = does_so form listed admitted takes (leaves admitted answers.0 body) does;
+  volatile = refl;
+  says = answers.1;
+  body_is = refl;
+  status_is = is;
+}
+
+-- entries keep their AIDs over two changes
+pub aids_on : (a b c : List (Option Entry)) → KeepsAids a b → KeepsAids b c → KeepsAids a c
+aids_on a b c first then slot entry at =
+    let one = first slot entry at in
+    let other = then slot one.0 one.1 in
+    (other.0, other.1, other.2 ∙ one.2)
+
+-- who confirms a command may still make a receipt where what it is made from is as it was
+pub still_able : (before after : Tables) → KeepsReceipts before after → (receipter : Option ℕ) → IfSome receipter (MayReceipt before) → IfSome receipter (MayReceipt after)
+still_able before after keeps None able = able
+still_able before after keeps (Some slot) able = may_still before after slot keeps able
+
+-- with nothing staged there is room for the pages of entries, and then for them again
+pub entry_room : (staged : List ℕ) → staged ≡ [] → HasRoomFor entry_pages staged
+entry_room staged none = subst (HasRoomFor entry_pages) (sym none) (omega arith)
+
+pub room_again : (staged after : List ℕ) → staged ≡ [] → KeepsRoom entry_pages staged after → HasRoomFor entry_pages after
+room_again staged after none keeps = keeps entry_pages (λ page there. there) (entry_room staged none)
+
+-- the same where a thing is moved, and then its answer may change an entry
+pub thing_room : (thing : Found) (staged : List ℕ) → staged ≡ [] → HasRoomFor (thing_pages thing) staged
+thing_room (Thing.Entry slot) staged none = entry_room staged none
+thing_room (Thing.File slot) staged none = subst (HasRoomFor (file_page slot ∷ [])) (sym none) (omega arith)
+
+few : (p : ℕ → Bool) (xs : List ℕ) → count_by p xs ≤ length xs
+few p [] = omega arith
+few p (x ∷ xs) = (let one = at_most (p x) in omega (arith, few p xs, one, sum_by-cons (λ x. cond (p x) 1 0) x xs))
+  where
+    at_most : (b : Bool) → cond b 1 0 ≤ 1
+    at_most true = omega arith
+    at_most false = omega arith
+
+pub thing_room_again : (thing : Found) (staged after : List ℕ) → staged ≡ [] → after ≡ with_staged staged (thing_page thing) → HasRoomFor entry_pages after
+thing_room_again thing staged after none is =
+    let one : after ≡ thing_page thing ∷ [] = is ∙ ap (λ (pages : List ℕ). with_staged pages (thing_page thing)) none in
+    subst (HasRoomFor entry_pages) (sym one)
+    (let fewer = few (λ page. not (list_any (λ other. other == page) (thing_page thing ∷ []))) entry_pages in omega (arith, fewer))

@@ -1,0 +1,199 @@
+-- Tables after a change of the registry: what a receipt is made from is as it was, and they are a card's over any load pages.
+use Rattle.std.proofs.Common.{◌≡◌, ◌≢◌, ◌⊎◌, inl, inr, ℕ, zero, suc, ◌<◌, List, [], ◌∷◌, Option, None, Some, length, refl, ap, subst, sym, ◌∙◌}
+use Rattle.std.specs.Prelude.{MatchOption, All, map, nat_eq, slice_set}
+use Rattle.std.specs.List.{IsDistinct, concat}
+use Rattle.std.specs.Option.{option_map}
+use Rattle.std.proofs.lemmas.Bool.{cases_eq}
+use Rattle.std.proofs.lemmas.List.{get_or-set_other, get_or-set_same, length-set}
+use Rattle.std.proofs.lemmas.List.Elements.{All-cons, All-head, All-tail}
+use Rattle.card_check.specs.IsCard.{IsInLoadPages, pages_named}
+use Rattle.card_types.proofs.DrawnCounter.{held_within}
+use Rattle.card_types.specs.KeySets.{HasKey}
+use Rattle.card_types.specs.Layout.{HasIssuer}
+use Rattle.card_types.specs.Registry.{Registry}
+use Rattle.card_types.specs.Represents.{Represents, used}
+use Rattle.card_types.specs.SlotChange.{SetsEntry}
+use Rattle.card_types.specs.Slots.{held}
+use Rattle.card_types.specs.Well.{Well}
+use Rattle.card_types.specs.declared.factory.TheConstants.{ISSUER}
+use Rattle.card_types.specs.declared.found.Found.{Found}
+use Rattle.card_types.specs.declared.found.Found.TheVariants as found
+use Rattle.card_types.specs.declared.limits.TheConstants.{RECEIPT_LIMIT}
+use Rattle.card_types.specs.declared.tables.Entry.{Entry}
+use Rattle.card_types.specs.declared.tables.KeyRec.{KeyRec}
+use Rattle.card_types.specs.declared.tables.LoadFile.{LoadFile}
+use Rattle.card_types.specs.declared.tables.Object.{Object}
+use Rattle.card_types.specs.declared.tables.Tables.{Tables}
+use Rattle.card_types.specs.declared.tables.TheConstants.{ISSUER_SLOT}
+use Rattle.card_core.proofs.Cards.{AreFiles, IsFactoryIn, cards_from}
+use Rattle.card_core.specs.Confirms.{KeepsReceipts}
+use Rattle.card_core.specs.Kept.{AreCards}
+use Rattle.card_core.specs.Manages.{KeepsAids}
+use Rattle.policy_rules.specs.HoldersFound.{MayReceipt}
+use Rattle.registry.specs.Adding.{AddsEntry}
+use Rattle.registry.specs.Setting.{ChangesEntry, Moves}
+
+module _ (slots : List (Option Entry)) (slot : ℕ) (new : Option Entry) (slots' : List (Option Entry)) (set : slots' ≡ slice_set slots slot new) where
+  still : (other : ℕ) (entry : Entry) → other ≢ slot → held slots other ≡ Some entry → held slots' other ≡ Some entry
+  still other entry apart at = ap (λ (s : List (Option Entry)). held s other) set ∙ get_or-set_other slots slot other new None apart ∙ at
+
+  there : slot < length slots → held slots' slot ≡ new
+  there within = ap (λ (s : List (Option Entry)). held s slot) set ∙ get_or-set_same slots slot new None within
+
+pub aids_kept : (before after : Tables) → KeepsReceipts before after → KeepsAids before.entries.items after.entries.items
+aids_kept before after keeps slot entry at = (let other = keeps.entries slot entry at in (other.0, other.1, other.2))
+
+-- who may make a receipt still may
+pub may_still : (before after : Tables) (slot : ℕ) → KeepsReceipts before after → MayReceipt before slot → MayReceipt after slot
+may_still before after slot keeps may = record {
+  below = by (held before.entries.items slot) refl may.below;
+  key = subst (λ (keys : List (Option KeyRec)). (place : ℕ) × HasKey keys slot 0x71 1 place) (sym keeps.keys) may.key;
+}
+  where
+    by : (o : Option Entry) → held before.entries.items slot ≡ o → MatchOption o ⊥ (λ entry. entry.receipts ≢ RECEIPT_LIMIT)
+        → MatchOption (held after.entries.items slot) ⊥ (λ entry. entry.receipts ≢ RECEIPT_LIMIT)
+    by None at below = absurd below
+    by (Some entry) at below =
+        (let other = keeps.entries slot entry at in
+        subst (λ (o : Option Entry). MatchOption o ⊥ (λ e. e.receipts ≢ RECEIPT_LIMIT)) (sym other.1) (λ last. below (sym other.3 ∙ last)))
+
+-- an entry joins
+pub adding_keeps : (before after : Tables) (slot : ℕ) (entry : Entry) → AddsEntry before after slot entry → KeepsReceipts before after
+adding_keeps before after slot entry adds = record {
+  entries = λ s e at. elim (cases_eq s slot) [
+    | inl same ↦ (let clash : ◌≡◌ {A = Option Entry} (Some e) None = sym at ∙ ap (held before.entries.items) same ∙ adds.free.free in cc)
+    | inr other ↦ (e, still before.entries.items slot (Some entry) after.entries.items adds.set.entries s e other at, refl, refl)
+  ];
+  keys = adds.set.keys;
+  objects = adds.set.objects;
+}
+
+-- an entry is changed in its slot
+module _ (before after : Tables) (slot : ℕ) (change : Entry → Entry) (set : ChangesEntry before after slot change) where
+  changed_or_still : (s : ℕ) (e : Entry) → held before.entries.items s ≡ Some e
+      → (other : Entry) × (held after.entries.items s ≡ Some other) × ((other ≡ change e) ⊎ (other ≡ e))
+  changed_or_still s e at = elim (cases_eq s slot) [
+    | inl same ↦
+        (let here : held before.entries.items slot ≡ Some e = ap (held before.entries.items) (sym same) ∙ at in
+        let new : held after.entries.items slot ≡ Some (change e) =
+        there before.entries.items slot (option_map change (held before.entries.items slot)) after.entries.items set.entries (held_within before.entries.items slot e here) ∙ ap (option_map change) here in
+        (change e, ap (held after.entries.items) same ∙ new, inl refl))
+    | inr other ↦ (e, still before.entries.items slot (option_map change (held before.entries.items slot)) after.entries.items set.entries s e other at, inr refl)
+  ]
+
+  -- and has the AID that it had
+  pub changing_aids : ((e : Entry) → (change e).aid ≡ e.aid) → KeepsAids before.entries.items after.entries.items
+  changing_aids alike s e at =
+      let other = changed_or_still s e at in (
+        other.0,
+        other.1,
+        elim other.2 [
+          | inl is ↦ ap (λ (o : Entry). o.aid) is ∙ alike e
+          | inr is ↦ ap (λ (o : Entry). o.aid) is
+        ],
+      )
+
+-- and the receipt number that it had
+pub changing_keeps : (before after : Tables) (slot : ℕ) (change : Entry → Entry) → ((e : Entry) → ((change e).aid ≡ e.aid) × ((change e).receipts ≡ e.receipts))
+    → ChangesEntry before after slot change → KeepsReceipts before after
+changing_keeps before after slot change alike set = record {
+  entries = λ s e at.
+      (let other = changed_or_still before after slot change set s e at in (
+        other.0,
+        other.1,
+        elim other.2 [
+          | inl is ↦ ap (λ (o : Entry). o.aid) is ∙ (alike e).0
+          | inr is ↦ ap (λ (o : Entry). o.aid) is
+        ],
+        elim other.2 [
+          | inl is ↦ ap (λ (o : Entry). o.receipts) is ∙ (alike e).1
+          | inr is ↦ ap (λ (o : Entry). o.receipts) is
+        ],
+      ));
+  keys = set.keys;
+  objects = set.objects;
+}
+
+-- a thing goes into another domain
+pub moving_keeps : (before after : Tables) (thing : Found) (domain : ℕ) → Moves before after thing domain → KeepsReceipts before after
+moving_keeps before after (found.Entry slot) domain set =
+    changing_keeps before after slot (λ entry. record entry { domain = domain }) (λ e. (refl, refl)) set
+moving_keeps before after (found.File slot) domain set = record {
+  entries = λ s e at. (e, ap (λ (slots : List (Option Entry)). held slots s) set.entries ∙ at, refl, refl);
+  keys = set.keys;
+  objects = set.objects;
+}
+
+issuer_kept : (before after : List (Option Entry)) → KeepsAids before after → HasIssuer before → HasIssuer after
+issuer_kept before after keeps is = by (held before ISSUER_SLOT) refl is
+  where
+    by : (o : Option Entry) → held before ISSUER_SLOT ≡ o → MatchOption o ⊥ (λ entry. entry.aid ≡ ISSUER) → HasIssuer after
+    by None at is = absurd is
+    by (Some entry) at is =
+        (let other = keeps ISSUER_SLOT entry at in
+        subst (λ (o : Option Entry). MatchOption o ⊥ (λ e. e.aid ≡ ISSUER)) (sym other.1) (other.2 ∙ is))
+
+-- tables are a card's after an entry joined, went or was changed, where they say a registry that a card may have
+pub entry_cards : (before after : Tables) (slot : ℕ) (entry : Option Entry) → SetsEntry before after slot entry → KeepsAids before.entries.items after.entries.items
+    → ((page : ℕ → List ℕ) (said : Registry) → Represents page before said → Well said → (now : Registry) × Represents page after now × Well now)
+    → AreCards before → AreCards after
+entry_cards before after slot entry set keeps each cards =
+    cards_from before after
+    (ap (λ (slots : List (Option Entry)). length slots) set.entries ∙ length-set before.entries.items slot entry)
+    (ap (λ (slots : List (Option LoadFile)). length slots) set.files)
+    (ap (λ (slots : List (Option KeyRec)). length slots) set.keys)
+    (ap (λ (slots : List (Option Object)). length slots) set.objects)
+    (issuer_kept before.entries.items after.entries.items keeps)
+    (λ files. subst AreFiles (sym set.files) files)
+    each cards
+
+abbrev in_domain : ℕ → LoadFile → LoadFile
+in_domain domain file = record file { domain = domain }
+
+-- the pages of the files are the same, with one of them in another domain
+pages_alike : (domain : ℕ) (slots : List (Option LoadFile)) (slot : ℕ)
+    → map pages_named (used (slice_set slots slot (option_map (in_domain domain) (held slots slot)))) ≡ map pages_named (used slots)
+pages_alike domain [] slot = refl
+pages_alike domain (None ∷ slots) zero = refl
+pages_alike domain (Some file ∷ slots) zero = refl
+pages_alike domain (None ∷ slots) (suc slot) = pages_alike domain slots slot
+pages_alike domain (Some file ∷ slots) (suc slot) = ap (λ rest. pages_named file ∷ rest) (pages_alike domain slots slot)
+
+pages_still : (domain : ℕ) (slots : List (Option LoadFile)) (slot : ℕ) → All IsInLoadPages (used slots)
+    → All IsInLoadPages (used (slice_set slots slot (option_map (in_domain domain) (held slots slot))))
+pages_still domain [] slot all = all
+pages_still domain (None ∷ slots) zero all = all
+pages_still domain (Some file ∷ slots) zero all =
+    let is = All-head IsInLoadPages file (used slots) all in
+    All-cons IsInLoadPages (in_domain domain file) (used slots) (record { size = is.size; pages = is.pages }) (All-tail IsInLoadPages file (used slots) all)
+pages_still domain (None ∷ slots) (suc slot) all = pages_still domain slots slot all
+pages_still domain (Some file ∷ slots) (suc slot) all =
+    All-cons IsInLoadPages file (used (slice_set slots slot (option_map (in_domain domain) (held slots slot)))) (All-head IsInLoadPages file (used slots) all)
+    (pages_still domain slots slot (All-tail IsInLoadPages file (used slots) all))
+
+factory_still : (domain : ℕ) (slots : List (Option LoadFile)) (slot : ℕ) → IsFactoryIn slots → IsFactoryIn (slice_set slots slot (option_map (in_domain domain) (held slots slot)))
+factory_still domain [] slot is = is
+factory_still domain (None ∷ slots) zero is = is
+factory_still domain (Some file ∷ slots) zero is = is
+factory_still domain (s ∷ slots) (suc slot) is = is
+
+-- and after a thing was moved to another domain
+pub moved_cards : (before after : Tables) (thing : Found) (domain : ℕ) → Moves before after thing domain
+    → ((page : ℕ → List ℕ) (said : Registry) → Represents page before said → Well said → (now : Registry) × Represents page after now × Well now)
+    → AreCards before → AreCards after
+moved_cards before after (found.Entry slot) domain set each cards =
+    entry_cards before after slot (option_map (λ (entry : Entry). record entry { domain = domain }) (held before.entries.items slot)) set
+    (aids_kept before after (moving_keeps before after (found.Entry slot) domain set)) each cards
+moved_cards before after (found.File slot) domain set each cards =
+    cards_from before after
+    (ap (λ (slots : List (Option Entry)). length slots) set.entries)
+    (ap (λ (slots : List (Option LoadFile)). length slots) set.files ∙ length-set before.files.items slot (option_map (in_domain domain) (held before.files.items slot)))
+    (ap (λ (slots : List (Option KeyRec)). length slots) set.keys)
+    (ap (λ (slots : List (Option Object)). length slots) set.objects)
+    (λ issuer. subst HasIssuer (sym set.entries) issuer)
+    (λ files. subst AreFiles (sym set.files) (record {
+      factory = factory_still domain before.files.items slot files.factory;
+      pages = pages_still domain before.files.items slot files.pages;
+      apart = subst (λ (pages : List (List ℕ)). IsDistinct nat_eq (concat pages)) (sym (pages_alike domain before.files.items slot)) files.apart;
+    }))
+    each cards

@@ -1,0 +1,142 @@
+use Rattle.std.proofs.Common.{rules, ◌≡◌, ℕ, inl, inr, List, [], ◌∷◌, ◌++◌, Option, None, Some, refl, ap, sym, subst, ◌∙◌, arith}
+use Rattle.std.specs.Prelude.{IfSome, IsSome, unwrap_or}
+use Rattle.std.specs.Option.{option_map}
+use Rattle.card_types.proofs.Domains.{domain_aid_is}
+use Rattle.card_core.proofs.Answered.{aids_on, answered_managed, still_able, thing_room, thing_room_again}
+use Rattle.card_core.proofs.Cards.{in_order}
+use Rattle.card_core.proofs.EntryCards.{aids_kept, moved_cards, moving_keeps}
+use Rattle.card_core.proofs.Managing.{refusal_managed}
+use Rattle.card_core.proofs.SomeAdmitted.{of_card, some_acts, some_admitted}
+use Rattle.card_core.specs.Confirms.{AnswersFor}
+use Rattle.card_types.specs.InOrder.{IsInOrder}
+use Rattle.card_types.specs.Registry.{Registry}
+use Rattle.card_types.specs.Represents.{Represents, domain_aid}
+use Rattle.card_types.specs.Slots.{held}
+use Rattle.card_types.specs.declared.tables.Tables.{Tables}
+use Rattle.policy_rules.proofs.Judging.{judged}
+use Rattle.policy_rules.specs.HoldersFound.{MayReceipt}
+use Rattle.policy_rules.specs.InstallRequests.{FindsConfirmer}
+use Rattle.policy_rules.specs.Requests.{ActsIn}
+use Rattle.card_types.specs.Found.{aid_of}
+use Rattle.card_types.specs.RegistryChange.{moved}
+use Rattle.card_types.specs.declared.found.Found.TheVariants.{Entry}
+use Rattle.card_types.specs.declared.tables.Entry.{Entry as Slot}
+use Rattle.policy_rules.proofs.ExtraditionLaws.{moved_of_card}
+use Rattle.policy_rules.specs.Extradition.{domain_of_thing, extradition}
+use Rattle.card_core.proofs.extradition.extradite.Goals as goal
+
+pub judge_extradition-requires-clause-in_order : goal.judge_extradition-requires-clause-in_order
+judge_extradition-requires-clause-in_order g c = subst IsInOrder (sym c.tables.ensures.tables) (in_order c.args.records.now.tables c.requires.cards)
+
+pub judge_extradition-requires-clause-short : goal.judge_extradition-requires-clause-short
+judge_extradition-requires-clause-short g c = omega (arith, c.requires.formed.1.means.short, c.requires.formed.2)
+
+pub returns-in_err-found-clause-done : goal.returns-in_err-found-clause-done
+returns-in_err-found-clause-done g c page admitted acts request =
+    let here = subst (λ (t : Tables). ActsIn page t c.args.domain admitted) (sym c.tables.ensures.tables) acts in
+    let rule = c.in_err-found.field-0.0 in
+    refusal_managed admitted page c.args.records.now.tables c.args.reply.now.items c.from_residual.result rule c.from_residual.ensures.1
+    (judged extradition (λ holds found. inr (inr (inl found))) admitted request.form refl (Some rule) (c.in_err-found.ensures.refused page admitted here request.means))
+    c.requires.empty
+
+-- the AID of an entry that is found in its slot
+slot_aid : (tables : Tables) (slot : ℕ) (aid : List ℕ) → aid_of tables (Entry slot) ≡ Some aid → domain_aid tables.entries.items slot ≡ aid
+slot_aid tables slot aid is = ap (λ (o : Option (List ℕ)). unwrap_or o []) is
+
+entry_there : (tables : Tables) (slot : ℕ) (aid : List ℕ) → aid_of tables (Entry slot) ≡ Some aid → IsSome (held tables.entries.items slot)
+entry_there tables slot aid is = by (held tables.entries.items slot) is
+  where
+    by : (o : Option Slot) → option_map (λ (entry : Slot). entry.aid) o ≡ Some aid → IsSome o
+    by None none = cc
+    by (Some entry) some = refl
+
+pub move_to-requires-clause-slot : goal.move_to-requires-clause-slot
+move_to-requires-clause-slot g c =
+    let there = subst (λ (t : Tables). aid_of t c.in_ok-found.found.thing ≡ Some c.args.request.now.aid) c.tables.ensures.tables c.in_ok-found.ensures.thing in
+    subst IsSome (sym there) refl
+
+pub move_to-requires-clause-domain : goal.move_to-requires-clause-domain
+move_to-requires-clause-domain g c =
+    entry_there c.args.records.now.tables c.in_ok-found.found.to c.args.request.now.domain
+    (subst (λ (t : Tables). aid_of t (Entry c.in_ok-found.found.to) ≡ Some c.args.request.now.domain) c.tables.ensures.tables c.in_ok-found.ensures.to)
+
+pub move_to-requires-clause-room : goal.move_to-requires-clause-room
+move_to-requires-clause-room g c = thing_room c.in_ok-found.found.thing c.args.records.now.staged c.requires.clean
+
+pub confirm-requires-clause-frames : goal.confirm-requires-clause-frames
+confirm-requires-clause-frames g c =
+    thing_room_again c.in_ok-found.found.thing c.args.records.now.staged c.move_to.new.records.staged c.requires.clean c.move_to.ensures.staged
+
+pub confirm-requires-clause-able : goal.confirm-requires-clause-able
+confirm-requires-clause-able g c =
+    let before = c.args.records.now.tables in
+    let after = c.move_to.new.records.tables in
+    still_able before after (moving_keeps before after c.in_ok-found.found.thing c.in_ok-found.found.to c.move_to.ensures.slots) c.in_ok-found.found.receipter
+    (subst (λ (t : Tables). IfSome c.in_ok-found.found.receipter (MayReceipt t)) c.tables.ensures.tables c.in_ok-found.ensures.able)
+
+pub confirm-requires-clause-cards : goal.confirm-requires-clause-cards
+confirm-requires-clause-cards g c =
+    let before = c.args.records.now.tables in
+    let after = c.move_to.new.records.tables in
+    let thing = c.in_ok-found.found.thing in
+    let to = c.in_ok-found.found.to in
+    let request = c.requires.formed.1 in
+    let given = request.means.given in
+    let there = subst (λ (t : Tables). aid_of t thing ≡ Some c.args.request.now.aid) c.tables.ensures.tables c.in_ok-found.ensures.thing in
+    let into = slot_aid before to c.args.request.now.domain (subst (λ (t : Tables). aid_of t (Entry to) ≡ Some c.args.request.now.domain) c.tables.ensures.tables c.in_ok-found.ensures.to) in
+    moved_cards before after thing to c.move_to.ensures.slots (λ page said says well.
+    (let some = some_admitted page before said says well c.args.domain c.requires.domain None c.requires.formed.0 in
+    let acts = some_acts page before said says well c.args.domain c.requires.domain None c.requires.formed.0 in
+    let here = subst (λ (t : Tables). ActsIn page t c.args.domain some) (sym c.tables.ensures.tables) acts in
+    let kept = moved_of_card some given request.means.asks (of_card page before said says well c.args.domain c.requires.domain)
+    (c.in_ok-found.ensures.passed page some here request.means) in (
+      moved said given.third given.first,
+      subst (λ (name : List ℕ). Represents page after (moved said given.third name)) (into ∙ request.means.domain)
+          (subst (λ (name : List ℕ). Represents page after (moved said name (domain_aid before.entries.items to))) request.means.aid
+          (c.move_to.ensures.said page said c.args.request.now.aid there says well)),
+      kept.well,
+    ))) c.requires.cards
+
+pub returns-clause-aids : goal.returns-clause-aids
+returns-clause-aids g c =
+    let before = c.args.records.now.tables in
+    let after = c.move_to.new.records.tables in
+    aids_on before.entries.items after.entries.items c.confirm.new.records.tables.entries.items
+    (aids_kept before after (moving_keeps before after c.in_ok-found.found.thing c.in_ok-found.found.to c.move_to.ensures.slots)) c.confirm.ensures.aids
+
+pub returns-clause-done : goal.returns-clause-done
+returns-clause-done g c page admitted acts request =
+    let before = c.args.records.now.tables in
+    let after = c.move_to.new.records.tables in
+    let thing = c.in_ok-found.found.thing in
+    let to = c.in_ok-found.found.to in
+    let registry = admitted.at.registry in
+    let given = request.means.given in
+    let here = subst (λ (t : Tables). ActsIn page t c.args.domain admitted) (sym c.tables.ensures.tables) acts in
+    let there = subst (λ (t : Tables). aid_of t thing ≡ Some c.args.request.now.aid) c.tables.ensures.tables c.in_ok-found.ensures.thing in
+    let into = slot_aid before to c.args.request.now.domain (subst (λ (t : Tables). aid_of t (Entry to) ≡ Some c.args.request.now.domain) c.tables.ensures.tables c.in_ok-found.ensures.to) in
+    let says = subst (λ (name : List ℕ). Represents page after (moved registry given.third name)) (into ∙ request.means.domain)
+    (subst (λ (name : List ℕ). Represents page after (moved registry name (domain_aid before.entries.items to))) request.means.aid
+    (c.move_to.ensures.said page registry c.args.request.now.aid there acts.says acts.well)) in
+    let finds = subst (λ (t : Tables). FindsConfirmer t admitted c.in_ok-found.found.receipter) c.tables.ensures.tables (c.in_ok-found.ensures.receipter page admitted here) in
+    let changed = moved registry given.third given.first in
+    let answers = c.confirm.ensures.answered page admitted before c.args.domain changed (record {
+      acts = acts;
+      finds = finds;
+      keeps = moving_keeps before after thing to c.move_to.ensures.slots;
+      says = says;
+    }) in
+    let at : held before.entries.items c.in_ok-found.found.from ≡ Some c.unwrap.result.now = search rules in
+    let from : c.unwrap.result.now.aid ≡ domain_of_thing registry given.third =
+    sym (domain_aid_is before.entries.items c.in_ok-found.found.from c.unwrap.result.now at)
+    ∙ subst (λ (t : Tables). domain_aid t.entries.items c.in_ok-found.found.from ≡ domain_of_thing registry c.args.request.now.aid) c.tables.ensures.tables
+    (c.in_ok-found.ensures.from page registry here.says acts.well)
+    ∙ ap (domain_of_thing registry) request.means.aid in
+    let Told : List ℕ → List ℕ → List ℕ → Type 0 = (λ (a b d : List ℕ). AnswersFor page c.confirm.new.records.tables admitted (a ∷ b ∷ d ∷ []) changed c.confirm.new.reply.items) in
+    let told : Told (domain_of_thing registry given.third) given.third given.first =
+    subst (λ (d : List ℕ). Told (domain_of_thing registry given.third) given.third d) request.means.domain
+    (subst (λ (b : List ℕ). Told (domain_of_thing registry given.third) b c.args.request.now.domain) request.means.aid
+    (subst (λ (a : List ℕ). Told a c.args.request.now.aid c.args.request.now.domain) from answers)) in
+    answered_managed extradition (λ holds found. inr (inr (inl found))) admitted request.form refl (c.in_ok-found.ensures.passed page admitted here request.means) page
+    c.confirm.new.records.tables (domain_of_thing registry given.third ∷ given.third ∷ given.first ∷ []) changed c.confirm.new.reply.items told
+    (record { given = given; asks = request.means.asks; answered = told.2; volatile = refl; status = refl }) (record { 0 = 0x9000 }) refl

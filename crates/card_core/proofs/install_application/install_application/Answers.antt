@@ -1,0 +1,140 @@
+use Rattle.std.proofs.Common.{◌≡◌, ℕ, inl, inr, List, [], ◌∷◌, Option, None, Some, refl, ap, sym, subst, ◌∙◌, arith}
+use Rattle.std.specs.Prelude.{IfSome, IsSome}
+use Rattle.std.specs.Option.{option_map}
+use Rattle.card_core.proofs.Answered.{aids_on, answered_managed, entry_room, room_again, still_able}
+use Rattle.card_core.proofs.Cards.{in_order}
+use Rattle.card_core.proofs.EntryCards.{adding_keeps, aids_kept, entry_cards}
+use Rattle.card_core.proofs.Installing.{made_named}
+use Rattle.card_core.proofs.Managing.{refusal_managed}
+use Rattle.card_core.proofs.SomeAdmitted.{domain_named, domain_there, of_card, some_acts, some_admitted, some_load}
+use Rattle.card_core.specs.Confirms.{AnswersFor}
+use Rattle.card_core.specs.Installs.{slot_made}
+use Rattle.card_types.specs.First.{NoneFree}
+use Rattle.card_types.specs.Found.{aid_of}
+use Rattle.card_types.specs.InOrder.{IsInOrder}
+use Rattle.card_types.specs.Registry as registry
+use Rattle.card_types.specs.RegistryChange.{IsEntryAdded}
+use Rattle.card_types.specs.Represents.{Represents, domain_aid, entry_of}
+use Rattle.card_types.specs.Slots.{held}
+use Rattle.card_types.specs.declared.found.Found.TheVariants.{File}
+use Rattle.card_types.specs.declared.tables.Entry.{Entry}
+use Rattle.card_types.specs.declared.tables.LoadFile.{LoadFile}
+use Rattle.card_types.specs.declared.tables.Tables.{Tables}
+use Rattle.policy_rules.proofs.InstallApplicationLaws.{made_of_card}
+use Rattle.policy_rules.proofs.Judging.{judged}
+use Rattle.policy_rules.specs.HoldersFound.{MayReceipt}
+use Rattle.policy_rules.specs.InstallApplication.{entry_made, install_application}
+use Rattle.policy_rules.specs.InstallRequests.{FindsConfirmer}
+use Rattle.policy_rules.specs.Requests.{ActsIn, IsLoadNamed}
+use Rattle.registry.specs.Adding.{AddsEntry, NoneHas}
+use Rattle.card_core.proofs.install_application.install_application.Goals as goal
+
+pub judge_install-requires-clause-in_order : goal.judge_install-requires-clause-in_order
+judge_install-requires-clause-in_order g c = subst IsInOrder (sym c.tables.ensures.tables) (in_order c.args.records.now.tables c.requires.cards)
+
+pub judge_install-requires-clause-short : goal.judge_install-requires-clause-short
+judge_install-requires-clause-short g c = omega (arith, c.requires.formed.1.means.short, c.requires.formed.2)
+
+pub returns-in_err-found-clause-done : goal.returns-in_err-found-clause-done
+returns-in_err-found-clause-done g c page admitted acts load request =
+    let here = subst (λ (t : Tables). ActsIn page t c.args.domain admitted) (sym c.tables.ensures.tables) acts in
+    let named = subst (λ (t : Tables). IsLoadNamed t.entries.items c.args.live.now.load admitted.at.volatile.load) (sym c.tables.ensures.tables) load in
+    let rule = c.in_err-found.field-0.0 in
+    refusal_managed admitted page c.args.records.now.tables c.args.reply.now.items c.from_residual.result rule c.from_residual.ensures.1
+    (judged install_application (λ holds found. inl found) admitted request.form refl (Some rule) (c.in_err-found.ensures.refused page admitted here named request.means))
+    c.requires.empty
+
+file_there : (tables : Tables) (slot : ℕ) (aid : List ℕ) → aid_of tables (File slot) ≡ Some aid → IsSome (held tables.files.items slot)
+file_there tables slot aid is = by (held tables.files.items slot) is
+  where
+    by : (o : Option LoadFile) → option_map (λ (file : LoadFile). file.aid) o ≡ Some aid → IsSome o
+    by None none = cc
+    by (Some file) some = refl
+
+pub place_entry-requires-clause-domain : goal.place_entry-requires-clause-domain
+place_entry-requires-clause-domain g c =
+    let there = domain_there c.args.records.now.tables.entries.items c.args.domain c.requires.domain in
+    subst (λ (entry : Entry). IsSome (held c.args.records.now.tables.entries.items entry.domain)) (sym c.made.ensures) (subst IsSome (sym there.1) refl)
+
+pub place_entry-requires-clause-file : goal.place_entry-requires-clause-file
+place_entry-requires-clause-file g c =
+    subst (λ (entry : Entry). IsSome (held c.args.records.now.tables.files.items entry.file)) (sym c.made.ensures)
+    (file_there c.args.records.now.tables c.in_ok-found.found.file c.args.request.now.file
+    (subst (λ (t : Tables). aid_of t (File c.in_ok-found.found.file) ≡ Some c.args.request.now.file) c.tables.ensures.tables c.in_ok-found.ensures.file))
+
+pub place_entry-requires-clause-fresh : goal.place_entry-requires-clause-fresh
+place_entry-requires-clause-fresh g c =
+    subst (λ (entry : Entry). NoneHas c.args.records.now.tables entry.aid) (sym c.made.ensures)
+    (subst (λ (t : Tables). NoneHas t c.args.request.now.aid) c.tables.ensures.tables c.in_ok-found.ensures.free)
+
+pub place_entry-requires-clause-free : goal.place_entry-requires-clause-free
+place_entry-requires-clause-free g c = subst (λ (t : Tables). NoneFree t.entries.items → ⊥) c.tables.ensures.tables c.in_ok-found.ensures.room
+
+pub place_entry-requires-clause-room : goal.place_entry-requires-clause-room
+place_entry-requires-clause-room g c = entry_room c.args.records.now.staged c.requires.clean
+
+pub confirm-requires-clause-frames : goal.confirm-requires-clause-frames
+confirm-requires-clause-frames g c = room_again c.args.records.now.staged c.place_entry.new.records.staged c.requires.clean c.place_entry.ensures.room
+
+pub confirm-requires-clause-able : goal.confirm-requires-clause-able
+confirm-requires-clause-able g c =
+    let before = c.args.records.now.tables in
+    let after = c.place_entry.new.records.tables in
+    still_able before after (adding_keeps before after c.place_entry.result c.made.result c.place_entry.ensures.slots) c.in_ok-found.found.receipter
+    (subst (λ (t : Tables). IfSome c.in_ok-found.found.receipter (MayReceipt t)) c.tables.ensures.tables c.in_ok-found.ensures.able)
+
+pub confirm-requires-clause-cards : goal.confirm-requires-clause-cards
+confirm-requires-clause-cards g c =
+    let before = c.args.records.now.tables in
+    let after = c.place_entry.new.records.tables in
+    let request = c.requires.formed.1 in
+    let asked = request.means.asked in
+    let file = subst (λ (t : Tables). aid_of t (File c.in_ok-found.found.file) ≡ Some c.args.request.now.file) c.tables.ensures.tables c.in_ok-found.ensures.file in
+    entry_cards before after c.place_entry.result (Some c.made.result) c.place_entry.ensures.slots.set
+    (aids_kept before after (adding_keeps before after c.place_entry.result c.made.result c.place_entry.ensures.slots)) (λ page said says well.
+    (let some = some_admitted page before said says well c.args.domain c.requires.domain c.args.live.now.load c.requires.formed.0 in
+    let acts = some_acts page before said says well c.args.domain c.requires.domain c.args.live.now.load c.requires.formed.0 in
+    let here = subst (λ (t : Tables). ActsIn page t c.args.domain some) (sym c.tables.ensures.tables) acts in
+    let load = some_load page before said says well c.args.domain c.requires.domain c.args.live.now.load c.requires.formed.0 in
+    let named = subst (λ (t : Tables). IsLoadNamed t.entries.items c.args.live.now.load some.at.volatile.load) (sym c.tables.ensures.tables) load in
+    let made = ap (entry_of before.entries.items before.files.items) c.made.ensures
+    ∙ made_named page before c.args.domain some acts c.args.request.now request.means c.in_ok-found.found.file file in
+    let added = c.place_entry.ensures.said page said says well in
+    let joined = subst (λ (entry : registry.Entry). IsEntryAdded entry said added.0) made added.1 in
+    let kept = made_of_card some asked request.means.asks (of_card page before said says well c.args.domain c.requires.domain)
+    (domain_named page before said says well c.args.domain c.requires.domain) (c.in_ok-found.ensures.passed page some here named request.means) added.0 joined in
+    (added.0, added.2, kept.well))) c.requires.cards
+
+pub returns-clause-aids : goal.returns-clause-aids
+returns-clause-aids g c =
+    let before = c.args.records.now.tables in
+    let after = c.place_entry.new.records.tables in
+    aids_on before.entries.items after.entries.items c.confirm.new.records.tables.entries.items
+    (aids_kept before after (adding_keeps before after c.place_entry.result c.made.result c.place_entry.ensures.slots)) c.confirm.ensures.aids
+
+pub returns-clause-done : goal.returns-clause-done
+returns-clause-done g c page admitted acts load request =
+    let before = c.args.records.now.tables in
+    let after = c.place_entry.new.records.tables in
+    let said = admitted.at.registry in
+    let asked = request.means.asked in
+    let here = subst (λ (t : Tables). ActsIn page t c.args.domain admitted) (sym c.tables.ensures.tables) acts in
+    let named = subst (λ (t : Tables). IsLoadNamed t.entries.items c.args.live.now.load admitted.at.volatile.load) (sym c.tables.ensures.tables) load in
+    let file = subst (λ (t : Tables). aid_of t (File c.in_ok-found.found.file) ≡ Some c.args.request.now.file) c.tables.ensures.tables c.in_ok-found.ensures.file in
+    let made = ap (entry_of before.entries.items before.files.items) c.made.ensures
+    ∙ made_named page before c.args.domain admitted acts c.args.request.now request.means c.in_ok-found.found.file file in
+    let added = c.place_entry.ensures.said page said acts.says acts.well in
+    let joined = subst (λ (entry : registry.Entry). IsEntryAdded entry said added.0) made added.1 in
+    let finds = subst (λ (t : Tables). FindsConfirmer t admitted c.in_ok-found.found.receipter) c.tables.ensures.tables (c.in_ok-found.ensures.receipter page admitted here) in
+    let answers = c.confirm.ensures.answered page admitted before c.args.domain added.0 (record {
+      acts = acts;
+      finds = finds;
+      keeps = adding_keeps before after c.place_entry.result c.made.result c.place_entry.ensures.slots;
+      says = added.2;
+    }) in
+    let Told : List ℕ → List ℕ → Type 0 = (λ (a b : List ℕ). AnswersFor page c.confirm.new.records.tables admitted (a ∷ b ∷ []) added.0 c.confirm.new.reply.items) in
+    let told : Told asked.given.first asked.given.third =
+    subst (λ (b : List ℕ). Told asked.given.first b) request.means.aid (subst (λ (a : List ℕ). Told a c.args.request.now.aid) request.means.file answers) in
+    answered_managed install_application (λ holds found. inl found) admitted request.form refl (c.in_ok-found.ensures.passed page admitted here named request.means) page
+    c.confirm.new.records.tables (asked.given.first ∷ asked.given.third ∷ []) added.0 c.confirm.new.reply.items told
+    (record { asked = asked; asks = request.means.asks; changed = added.0; added = joined; answered = told.2; volatile = refl; status = refl }) (record { 0 = 0x9000 }) refl

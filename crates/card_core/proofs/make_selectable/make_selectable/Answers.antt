@@ -1,0 +1,122 @@
+use Rattle.std.proofs.Common.{◌≡◌, ℕ, inl, inr, List, [], ◌∷◌, ◌++◌, Option, None, Some, refl, ap, sym, subst, ◌∙◌, arith}
+use Rattle.std.specs.Prelude.{IfSome, IsSome, MatchOption}
+use Rattle.card_core.proofs.Answered.{aids_on, answered_managed, entry_room, room_again, still_able}
+use Rattle.card_core.proofs.Cards.{in_order}
+use Rattle.card_core.proofs.EntryCards.{aids_kept, changing_keeps, entry_cards}
+use Rattle.card_core.proofs.Managing.{refusal_managed}
+use Rattle.card_core.proofs.SomeAdmitted.{of_card, some_acts, some_admitted}
+use Rattle.card_core.specs.Confirms.{AnswersFor, KeepsReceipts, leaves}
+use Rattle.card_types.proofs.Domains.{domain_aid_is}
+use Rattle.card_types.specs.InOrder.{IsInOrder}
+use Rattle.card_types.specs.Registry.{Registry}
+use Rattle.card_types.specs.RegistryChange.{with_life}
+use Rattle.card_types.specs.Represents.{Represents, domain_aid}
+use Rattle.card_types.specs.Slots.{held}
+use Rattle.card_types.specs.declared.tables.Entry.{Entry}
+use Rattle.card_types.specs.declared.tables.Tables.{Tables}
+use Rattle.policy_rules.proofs.Judging.{judged}
+use Rattle.policy_rules.proofs.MakeSelectableLaws.{selectable_life, selectable_of_card}
+use Rattle.policy_rules.specs.HoldersFound.{MayReceipt}
+use Rattle.policy_rules.specs.InstallRequests.{FindsConfirmer}
+use Rattle.policy_rules.specs.MakeSelectable.{make_selectable}
+use Rattle.policy_rules.specs.Requests.{ActsIn}
+use Rattle.policy_rules.specs.SelectableRequests.{IsInstalledWith}
+use Rattle.card_core.proofs.make_selectable.make_selectable.Goals as goal
+
+-- the entry that was found is just installed, and has the AID that is asked for
+found_at : (aid : List ℕ) (entries : List (Option Entry)) (slot : ℕ) → IsInstalledWith aid (held entries slot)
+    → (entry : Entry) × (held entries slot ≡ Some entry) × (entry.aid ≡ aid)
+found_at aid entries slot is = by (held entries slot) refl is
+  where
+    by : (o : Option Entry) → held entries slot ≡ o → IsInstalledWith aid o → (entry : Entry) × (held entries slot ≡ Some entry) × (entry.aid ≡ aid)
+    by None at is = absurd is
+    by (Some entry) at is = (entry, at, is.0)
+
+named : (aid : List ℕ) (entries : List (Option Entry)) (slot : ℕ) → IsInstalledWith aid (held entries slot) → domain_aid entries slot ≡ aid
+named aid entries slot is = (let found = found_at aid entries slot is in domain_aid_is entries slot found.0 found.1 ∙ found.2)
+
+pub judge_selectable-requires-clause-in_order : goal.judge_selectable-requires-clause-in_order
+judge_selectable-requires-clause-in_order g c = subst IsInOrder (sym c.tables.ensures.tables) (in_order c.args.records.now.tables c.requires.cards)
+
+pub judge_selectable-requires-clause-short : goal.judge_selectable-requires-clause-short
+judge_selectable-requires-clause-short g c = omega (arith, c.requires.formed.1.means.short, c.requires.formed.2)
+
+pub returns-in_err-found-clause-done : goal.returns-in_err-found-clause-done
+returns-in_err-found-clause-done g c page admitted acts request =
+    let here = subst (λ (t : Tables). ActsIn page t c.args.domain admitted) (sym c.tables.ensures.tables) acts in
+    let rule = c.in_err-found.field-0.0 in
+    refusal_managed admitted page c.args.records.now.tables c.args.reply.now.items c.from_residual.result rule c.from_residual.ensures.1
+    (judged make_selectable (λ holds found. inr (inl found)) admitted request.form refl (Some rule) (c.in_err-found.ensures.refused page admitted here request.means))
+    c.requires.empty
+
+pub set_life-requires-clause-slot : goal.set_life-requires-clause-slot
+set_life-requires-clause-slot g c =
+    let at = subst (λ (t : Tables). IsInstalledWith c.args.request.now.aid (held t.entries.items c.in_ok-found.found.entry)) c.tables.ensures.tables c.in_ok-found.ensures.entry in
+    let there = found_at c.args.request.now.aid c.args.records.now.tables.entries.items c.in_ok-found.found.entry at in
+    subst IsSome (sym there.1) refl
+
+pub set_life-requires-clause-room : goal.set_life-requires-clause-room
+set_life-requires-clause-room g c = entry_room c.args.records.now.staged c.requires.clean
+
+pub confirm-requires-clause-frames : goal.confirm-requires-clause-frames
+confirm-requires-clause-frames g c = room_again c.args.records.now.staged c.set_life.new.records.staged c.requires.clean c.set_life.ensures.room
+
+pub confirm-requires-clause-able : goal.confirm-requires-clause-able
+confirm-requires-clause-able g c =
+    let before = c.args.records.now.tables in
+    let after = c.set_life.new.records.tables in
+    still_able before after (changing_keeps before after c.in_ok-found.found.entry (λ entry. record entry { life = selectable_life }) (λ e. (refl, refl)) c.set_life.ensures.slots)
+    c.in_ok-found.found.receipter
+    (subst (λ (t : Tables). IfSome c.in_ok-found.found.receipter (MayReceipt t)) c.tables.ensures.tables c.in_ok-found.ensures.able)
+
+pub confirm-requires-clause-cards : goal.confirm-requires-clause-cards
+confirm-requires-clause-cards g c =
+    let before = c.args.records.now.tables in
+    let after = c.set_life.new.records.tables in
+    let slot = c.in_ok-found.found.entry in
+    let keeps = changing_keeps before after slot (λ entry. record entry { life = selectable_life }) (λ e. (refl, refl)) c.set_life.ensures.slots in
+    let request = c.requires.formed.1 in
+    let given = request.means.given in
+    let at = subst (λ (t : Tables). IsInstalledWith c.args.request.now.aid (held t.entries.items slot)) c.tables.ensures.tables c.in_ok-found.ensures.entry in
+    let aid = named c.args.request.now.aid before.entries.items slot at ∙ request.means.aid in
+    entry_cards before after slot _ c.set_life.ensures.slots (aids_kept before after keeps) (λ page said says well.
+    (let some = some_admitted page before said says well c.args.domain c.requires.domain None c.requires.formed.0 in
+    let acts = some_acts page before said says well c.args.domain c.requires.domain None c.requires.formed.0 in
+    let here = subst (λ (t : Tables). ActsIn page t c.args.domain some) (sym c.tables.ensures.tables) acts in
+    let kept = selectable_of_card some given request.means.asks (of_card page before said says well c.args.domain c.requires.domain)
+    (c.in_ok-found.ensures.passed page some here request.means) in (
+      with_life said given.third selectable_life,
+      subst (λ (name : List ℕ). Represents page after (with_life said name selectable_life)) aid (c.set_life.ensures.said page said says),
+      kept.well,
+    ))) c.requires.cards
+
+pub returns-clause-aids : goal.returns-clause-aids
+returns-clause-aids g c =
+    let before = c.args.records.now.tables in
+    let after = c.set_life.new.records.tables in
+    aids_on before.entries.items after.entries.items c.confirm.new.records.tables.entries.items
+    (aids_kept before after (changing_keeps before after c.in_ok-found.found.entry (λ entry. record entry { life = selectable_life }) (λ e. (refl, refl)) c.set_life.ensures.slots))
+    c.confirm.ensures.aids
+
+pub returns-clause-done : goal.returns-clause-done
+returns-clause-done g c page admitted acts request =
+    let before = c.args.records.now.tables in
+    let after = c.set_life.new.records.tables in
+    let slot = c.in_ok-found.found.entry in
+    let here = subst (λ (t : Tables). ActsIn page t c.args.domain admitted) (sym c.tables.ensures.tables) acts in
+    let given = request.means.given in
+    let at = subst (λ (t : Tables). IsInstalledWith c.args.request.now.aid (held t.entries.items slot)) c.tables.ensures.tables c.in_ok-found.ensures.entry in
+    let aid = named c.args.request.now.aid before.entries.items slot at ∙ request.means.aid in
+    let changed = with_life admitted.at.registry given.third selectable_life in
+    let says = subst (λ (name : List ℕ). Represents page after (with_life admitted.at.registry name selectable_life)) aid (c.set_life.ensures.said page admitted.at.registry acts.says) in
+    let finds = subst (λ (t : Tables). FindsConfirmer t admitted c.in_ok-found.found.receipter) c.tables.ensures.tables (c.in_ok-found.ensures.receipter page admitted here) in
+    let answers = c.confirm.ensures.answered page admitted before c.args.domain changed (record {
+      acts = acts;
+      finds = finds;
+      keeps = changing_keeps before after slot (λ entry. record entry { life = selectable_life }) (λ e. (refl, refl)) c.set_life.ensures.slots;
+      says = says;
+    }) in
+    let told = subst (λ (name : List ℕ). AnswersFor page c.confirm.new.records.tables admitted (name ∷ []) changed c.confirm.new.reply.items) request.means.aid answers in
+    answered_managed make_selectable (λ holds found. inr (inl found)) admitted request.form refl (c.in_ok-found.ensures.passed page admitted here request.means) page
+    c.confirm.new.records.tables (given.third ∷ []) changed c.confirm.new.reply.items told
+    (record { given = given; asks = request.means.asks; answered = told.2; volatile = refl; status = refl }) (record { 0 = 0x9000 }) refl

@@ -1,0 +1,148 @@
+//! How a command of card content management is answered: by a receipt of the domain that confirms it, or by 00.
+
+ghost use Rattle.std.specs.Prelude.{◌≡◌, ◌⊎◌, ◌≤◌, ◌+◌, ◌++◌, ℕ, List, [], IfSome, length, true};
+ghost use Rattle.std.specs.Option.{option_copied};
+ghost use Rattle.card_core.specs.Confirms.{Confirms, IsReceiptIn, IsUniqueIn, IsValueIn};
+ghost use Rattle.card_core.specs.Kept.{AreCards};
+ghost use Rattle.card_core.specs.Manages.{KeepsAids};
+ghost use Rattle.card_types.specs.InOrder.{IsInOrder};
+ghost use Rattle.card_types.specs.KeySets.{HasKey};
+ghost use Rattle.card_types.specs.Well.{IsKeyLength};
+ghost use Rattle.policy_rules.specs.HoldersFound.{MayReceipt};
+ghost use Rattle.rec_store.specs.Room.{HasRoomFor};
+ghost use Rattle.registry.specs.Pages.{entry_pages};
+ghost use Rattle.tokens_receipts.specs.Receipt.{aids_of, receipt as receipt_of};
+
+use crate::reply::REPLY_LIMIT;
+use crate::store_data::Tagged;
+use aes_block::{BlockKey, SealingAes128, SealingAes192, SealingAes256};
+use arrayvec::ArrayVec;
+use card_types::{Aid, ISSUER_SLOT, KeyRec, Tables, find_key, first_that, in_slot};
+use flash_core::Flash;
+use rec_store::Records;
+use registry::set_receipts;
+use tokens_receipts::receipt;
+
+/// The key version number of a receipt key.
+const RECEIPT_KEY: u8 = 0x71;
+
+/// Answers a command that was about these AIDs, in their order. The domain in the slot `receipter` confirms it by a receipt, and
+/// the number of its last receipt is one higher then; where nobody does, the reply is 00. It commits nothing.
+pub fn confirm<F: Flash>(
+    records: &mut Records<F>,
+    receipter: Option<u8>,
+    first: &Aid,
+    second: Option<&Aid>,
+    third: Option<&Aid>,
+    reply: &mut ArrayVec<u8, REPLY_LIMIT>,
+)
+    requires up { records.old.live ≡ true }
+    requires frames { HasRoomFor entry_pages records.old.staged }
+    requires cards { AreCards records.old.tables }
+    requires able { IfSome receipter (MayReceipt records.old.tables) }
+    requires empty { reply.old.items ≡ [] }
+    ensures answered { Confirms records.old.tables records.new.tables receipter (aids_of first.now (option_copied second.entry) (option_copied third.entry))
+        reply.new.items }
+    ensures aids { KeepsAids records.old.tables.entries.items records.new.tables.entries.items }
+    ensures cards { AreCards records.new.tables }
+    ensures same { (records.new.flash ≡ records.old.flash) × (records.new.live ≡ true) }
+    ensures room { length reply.new.items ≤ 239 }
+{
+    let Some(slot) = receipter else {
+        reply.push(0x00);
+        return;
+    };
+    let number = in_slot(&records.tables().entries, slot).unwrap().receipts + 1;
+    write_receipt(records.tables(), slot, number, first, second, third, reply);
+    set_receipts(records, slot, number);
+}
+
+// Appends the value of a data object of the Issuer Security Domain, where it has that.
+fn push_object(tables: &Tables, tag: u16, unique: &mut ArrayVec<u8, 20>)
+    requires in_order { IsInOrder tables.now }
+    requires tag { (tag ≡ 0x42) ⊎ (tag ≡ 0x45) }
+    requires room { length unique.old.items ≤ 10 }
+    ensures value { (value : List ℕ) × IsValueIn tables.now.objects.items tag value × (unique.new.items ≡ unique.old.items ++ value) }
+    ensures size { length unique.new.items ≤ length unique.old.items + 10 }
+{
+    let wanted = Tagged {
+        owner: ISSUER_SLOT,
+        tag,
+    };
+    if let Some(found) = first_that(&tables.objects, &wanted) {
+        unique.try_extend_from_slice(&found.thing.value).unwrap();
+    }
+}
+
+// The card's unique data: its Issuer Identification Number and Card Image Number, as far as it has them.
+fn unique_data(tables: &Tables) -> ArrayVec<u8, 20>
+    requires in_order { IsInOrder tables.now }
+    ensures unique { IsUniqueIn tables.now.objects.items result.items }
+    ensures size { length result.items ≤ 20 }
+{
+    let mut unique = ArrayVec::new();
+    push_object(tables, 0x42, &mut unique);
+    push_object(tables, 0x45, &mut unique);
+    unique
+}
+
+fn receipt_under<K: BlockKey>(
+    key: &KeyRec,
+    number: u16,
+    unique: &[u8],
+    first: &Aid,
+    second: Option<&Aid>,
+    third: Option<&Aid>,
+    out: &mut ArrayVec<u8, 48>,
+)
+    requires length { length key.now.bytes.items ≡ K.LEN }
+    requires short { length unique.now ≤ 20 }
+    ensures { out.new.items ≡ receipt_of key.now.bytes.items number unique.now (aids_of first.now (option_copied second.entry) (option_copied third.entry)) }
+{
+    let key = K::from_key(&key.bytes);
+    receipt(&key, number, unique, first, second, third, out);
+}
+
+// Writes the receipt under a key of whichever length.
+fn write_under(
+    key: &KeyRec,
+    number: u16,
+    unique: &[u8],
+    first: &Aid,
+    second: Option<&Aid>,
+    third: Option<&Aid>,
+    out: &mut ArrayVec<u8, 48>,
+)
+    requires length { IsKeyLength (length key.now.bytes.items) }
+    requires short { length unique.now ≤ 20 }
+    ensures { out.new.items ≡ receipt_of key.now.bytes.items number unique.now (aids_of first.now (option_copied second.entry) (option_copied third.entry)) }
+{
+    match key.bytes.len() {
+        16 => receipt_under::<SealingAes128>(key, number, unique, first, second, third, out),
+        24 => receipt_under::<SealingAes192>(key, number, unique, first, second, third, out),
+        _ => receipt_under::<SealingAes256>(key, number, unique, first, second, third, out),
+    }
+}
+
+// Appends a receipt of the domain in a slot, with this number, on these AIDs.
+fn write_receipt(
+    tables: &Tables,
+    slot: u8,
+    number: u16,
+    first: &Aid,
+    second: Option<&Aid>,
+    third: Option<&Aid>,
+    reply: &mut ArrayVec<u8, REPLY_LIMIT>,
+)
+    requires in_order { IsInOrder tables.now }
+    requires key { (place : ℕ) × HasKey tables.now.keys.items slot 0x71 1 place }
+    requires empty { reply.old.items ≡ [] }
+    ensures receipt { IsReceiptIn tables.now slot number (aids_of first.now (option_copied second.entry) (option_copied third.entry)) reply.new.items }
+    ensures size { length reply.new.items ≤ 48 }
+{
+    let found = find_key(&tables.keys, slot, RECEIPT_KEY, 1).unwrap();
+    let unique = unique_data(tables);
+    let mut out = ArrayVec::new();
+    write_under(found.thing, number, &unique, first, second, third, &mut out);
+    reply.try_extend_from_slice(&out).unwrap();
+}

@@ -1,0 +1,31 @@
+//! INSTALL (GlobalPlatform Card Specification 2.3.1, 11.5): P1 tells which of its forms a command has.
+
+ghost use Rattle.std.specs.Prelude.{ℕ, List};
+ghost use Rattle.policy_rules.specs.Requests.{Parses};
+ghost use Rattle.policy_rules.specs.declared.instruction.TheConstants.{INSTALL};
+
+use crate::extradition::parse_extradition;
+use crate::install_application::parse_application;
+use crate::make_selectable::parse_selectable;
+use crate::request::Request;
+use crate::rule::Rule;
+
+/// Reads P1, P2 and the data field of an INSTALL.
+pub(crate) fn parse_install(p1: u8, p2: u8, body: &[u8]) -> Result<Request<'_>, Rule>
+    ensures { Parses INSTALL p1 p2 body.now result }
+{
+    match p1 {
+        0x08 => match parse_selectable(p1, p2, body) {
+            Ok(request) => Ok(Request::MakeSelectable(request)),
+            Err(rule) => Err(rule),
+        },
+        0x10 => match parse_extradition(p1, p2, body) {
+            Ok(request) => Ok(Request::Extradite(request)),
+            Err(rule) => Err(rule),
+        },
+        _ => match parse_application(p1, p2, body) {
+            Ok(request) => Ok(Request::Install(request)),
+            Err(rule) => Err(rule),
+        },
+    }
+}
