@@ -24,6 +24,8 @@ pub mod FirstUnique
 pub mod FormTaken
 pub mod FreshChannel
 pub mod GetDataLaws
+pub mod GetStatusJudging
+pub mod GetStatusLaws
 pub mod InitializeUpdateJudging
 pub mod InitializeUpdateLaws
 pub mod InitializeUpdateOffer
@@ -70,6 +72,11 @@ pub mod Selected
 pub mod SessionSets
 pub mod SetChannel
 pub mod SecureChannelSet
+pub mod StatusListed
+pub mod StatusListing
+pub mod StatusParts
+pub mod StatusSearch
+pub mod StatusWhole
 pub mod StoreDataElements
 pub mod StoreDataLaws
 pub mod StoredCount

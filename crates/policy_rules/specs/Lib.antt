@@ -15,6 +15,7 @@ pub mod FieldsRead
 pub mod FirstFailing
 pub mod Found
 pub mod GetData
+pub mod GetStatus
 pub mod HoldersFound
 pub mod InitializeUpdate
 pub mod InstallApplication
@@ -40,6 +41,7 @@ pub mod Select
 pub mod SelectableRequests
 pub mod Sound
 pub mod State
+pub mod StatusRequests
 pub mod Step
 pub mod StoreData
 pub mod Volatile

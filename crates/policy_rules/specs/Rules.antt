@@ -7,6 +7,7 @@ use Rattle.policy_rules.specs.DeleteKey.{delete_key_refusal}
 use Rattle.policy_rules.specs.ExternalAuthenticate.{external_authenticate_refusal}
 use Rattle.policy_rules.specs.Extradition.{extradition_refusal}
 use Rattle.policy_rules.specs.GetData.{get_data_refusal}
+use Rattle.policy_rules.specs.GetStatus.{get_status_refusal}
 use Rattle.policy_rules.specs.InitializeUpdate.{initialize_update_refusal}
 use Rattle.policy_rules.specs.InstallApplication.{install_refusal}
 use Rattle.policy_rules.specs.MakeSelectable.{selectable_refusal}
@@ -44,6 +45,7 @@ refusal_by (group.SD rule) = store_data_refusal rule
 refusal_by (group.II rule) = install_refusal rule
 refusal_by (group.MS rule) = selectable_refusal rule
 refusal_by (group.EX rule) = extradition_refusal rule
+refusal_by (group.GS rule) = get_status_refusal rule
 refusal_by (group.TK rule) = token_refusal rule
 refusal_by (group.RC rule) = receipt_refusal rule
 

@@ -45,7 +45,7 @@ impl RuleM {
 }
 
 // Whether the domain in a slot is locked.
-fn is_locked(tables: &Tables, domain: u8) -> bool
+pub(crate) fn is_locked(tables: &Tables, domain: u8) -> bool
     ensures { (entry : Entry) → held tables.now.entries.items domain ≡ Some entry → result ≡ entry.life.locked }
 {
     match in_slot(&tables.entries, domain) {

@@ -9,6 +9,7 @@ use crate::delete_key::RuleDK;
 use crate::external_authenticate::RuleEA;
 use crate::extradition::RuleEX;
 use crate::get_data::RuleGD;
+use crate::get_status::RuleGS;
 use crate::initialize_update::RuleIU;
 use crate::install_application::RuleII;
 use crate::make_selectable::RuleMS;
@@ -36,6 +37,7 @@ pub enum Rule {
     II(RuleII),
     MS(RuleMS),
     EX(RuleEX),
+    GS(RuleGS),
     TK(RuleTK),
     RC(RuleRC),
 }
@@ -98,6 +100,7 @@ impl Rule {
             Rule::II(rule) => rule.status(),
             Rule::MS(rule) => rule.status(),
             Rule::EX(rule) => rule.status(),
+            Rule::GS(rule) => rule.status(),
             Rule::TK(rule) => rule.status(),
             Rule::RC(rule) => rule.status(),
         }
@@ -137,6 +140,7 @@ impl Rule {
             Rule::II(rule) => rule.name(),
             Rule::MS(rule) => rule.name(),
             Rule::EX(rule) => rule.name(),
+            Rule::GS(rule) => rule.name(),
             Rule::TK(rule) => rule.name(),
             Rule::RC(rule) => rule.name(),
         }
