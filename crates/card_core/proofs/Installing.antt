@@ -1,16 +1,13 @@
 -- The entry that INSTALL [for install] makes, by slots and by names.
 use Rattle.std.proofs.Common.{◌≡◌, ℕ, List, [], Option, Some, ap, refl, sym, ◌∙◌}
-use Rattle.std.specs.Prelude.{unwrap_or, false, if◌then◌else◌, ◌==◌}
+use Rattle.std.specs.Prelude.{unwrap_or}
 use Rattle.card_types.specs.Found.{aid_of}
-use Rattle.card_types.specs.Registry as registry
-use Rattle.card_types.specs.Represents.{domain_aid, entry_of, file_aid}
+use Rattle.card_types.specs.Represents.{entry_of, file_aid}
 use Rattle.card_types.specs.declared.found.Found.TheVariants.{File}
-use Rattle.card_types.specs.declared.life.Life.TheVariants.{Installed, Selectable}
 use Rattle.card_types.specs.declared.tables.Tables.{Tables}
 use Rattle.policy_rules.specs.Admission.{Admitted}
 use Rattle.policy_rules.specs.InstallApplication.{entry_made}
 use Rattle.policy_rules.specs.InstallRequests.{IsInstallOf}
-use Rattle.policy_rules.specs.Management.{acting}
 use Rattle.policy_rules.specs.Requests.{ActsIn}
 use Rattle.policy_rules.specs.declared.install_application.InstallRequest.{InstallRequest}
 use Rattle.card_core.specs.Installs.{slot_made}

@@ -1,14 +1,12 @@
 -- What the tables of a card say after keys were put.
-use Rattle.std.proofs.Common.{◌≡◌, ◌≢◌, inl, inr, ℕ, ◌+◌, ◌<◌, ◌≤◌, true, false, ◌==◌, ◌++◌, List, [], ◌∷◌, Option, None, Some, length, map, refl, ap, sym, subst, ◌∙◌, arith}
-use Rattle.std.specs.Prelude.{MatchOption, filter}
+use Rattle.std.proofs.Common.{◌≡◌, ◌≢◌, inl, inr, ℕ, ◌+◌, ◌<◌, ◌≤◌, true, false, ◌==◌, ◌++◌, List, [], ◌∷◌, Option, Some, length, map, refl, ap, sym, subst, ◌∙◌, arith}
+use Rattle.std.specs.Prelude.{filter}
 use Rattle.std.specs.List.Sorted.{IsPermutation}
 use Rattle.std.proofs.lemmas.Bool.{cases_lt, false_from_ne_true, le-ltb, lt-ltb, ne_eqb}
 use Rattle.std.proofs.lemmas.List.{map-append}
 use Rattle.std.proofs.lemmas.List.Elements.{filter-append}
 use Rattle.std.proofs.lemmas.List.Sorted.{IsPermutation-append_right, IsPermutation-map, IsPermutation-trans}
 use Rattle.card_types.proofs.ChangedSlot.{same_all}
-use Rattle.card_types.proofs.Domains.{domain_aid_is}
-use Rattle.card_types.proofs.EntryNames.{entry_in_slot}
 use Rattle.card_types.specs.AidOrder.{same_aid}
 use Rattle.card_types.specs.Ascending.{counter_order, key_order}
 use Rattle.card_types.specs.Privileges.{has, security_domain}
@@ -31,7 +29,7 @@ use Rattle.policy_rules.proofs.PutKeyKeeps.{AreOfVersion, HaveLengths, new_keys_
 use Rattle.policy_rules.specs.Arranged.{IsArranged}
 use Rattle.policy_rules.specs.KeyVersions.{counters_but, has_key_version, keys_but, with_keys}
 use Rattle.policy_rules.specs.PutKey.{counters_from, keys_from}
-use Rattle.card_core.specs.Domains.{is_domain_held, is_domain_in}
+use Rattle.card_core.specs.Domains.{is_domain_in}
 use Rattle.card_types.specs.declared.tables.Object.{Object}
 use Rattle.card_core.proofs.Cards.{cards_after}
 use Rattle.card_core.proofs.SomeAdmitted.{domain_named, domain_there}

@@ -1,11 +1,13 @@
 -- What a card keeps, and the states of the policy machine that it shows.
-use Rattle.std.specs.Prelude.{ℕ, List}
+use Rattle.std.specs.Prelude.{◌≡◌, ℕ, List, length}
 use Rattle.card_check.specs.IsCard.{HasPages, IsCard}
 use Rattle.card_types.specs.declared.tables.Tables.{Tables}
+use Rattle.policy_rules.specs.Admission.{Admitted}
 use Rattle.policy_rules.specs.Requests.{RepresentsState}
 use Rattle.policy_rules.specs.Sound.{IsSound}
 use Rattle.policy_rules.specs.State.{State}
 use Rattle.policy_rules.specs.declared.live.Live.{Live}
+use Rattle.policy_rules.specs.declared.live.TheConstants.{CHANNELS}
 use Rattle.card_core.specs.SecureChannels.{RepresentsChannels}
 use Rattle.card_core.specs.declared.channel_session.ChannelSession.{ChannelSession}
 
@@ -31,3 +33,9 @@ pub record KeptRepresents (page : ℕ → List ℕ) (card : Kept) (state : State
 pub record RepresentsSoundly (page : ℕ → List ℕ) (card : Kept) (state : State) : Type 0 where
   pub shows : KeptRepresents page card state
   pub sound : IsSound state
+
+-- so it is of each command that is judged by a sound state which tables and channels show, whatever these hold
+abbrev pub ForShown : Tables → Live → ((ℕ → List ℕ) → List ChannelSession → Admitted → Type 0) → Type 0
+ForShown tables live So =
+    (page : ℕ → List ℕ) (all : List ChannelSession) (admitted : Admitted) → RepresentsSoundly page (kept_of tables live all) admitted.at
+    → length all ≡ CHANNELS → So page all admitted

@@ -33,9 +33,13 @@ RepresentsSecureChannel (held.Secured kept) Nothing = ⊥
 RepresentsSecureChannel (held.Secured kept) (Offered offer) = ⊥
 RepresentsSecureChannel (held.Secured kept) (Secured session) = RepresentsSession kept session
 
+-- what is held on a channel
+abbrev pub held_on : List ChannelSession → ℕ → ChannelSession
+held_on all number = slice_index_or all number held.Nothing
+
 -- what is held on each channel stands for what the channel holds
 abbrev pub RepresentsChannels : List ChannelSession → Volatile → Type 0
-RepresentsChannels all volatile = (number : ℕ) → number < CHANNELS → RepresentsSecureChannel (slice_index_or all number held.Nothing) (secure_channel_of (channel_at volatile number))
+RepresentsChannels all volatile = (number : ℕ) → number < CHANNELS → RepresentsSecureChannel (held_on all number) (secure_channel_of (channel_at volatile number))
 
 -- what is held behind the check of the class, by whether an offer is kept
 abbrev pub held_passed : Bool → ChannelSession → ChannelSession

@@ -1,5 +1,5 @@
 -- What comes of a command.
-use Rattle.std.specs.Prelude.{◌≡◌, ℕ, List, [], false, Result, Ok, Err, Some, None, Option, slice_index_or, slice_set, if◌then◌else◌, ◌==◌}
+use Rattle.std.specs.Prelude.{◌≡◌, ℕ, List, [], false, Result, Ok, Err, Some, None, Option, slice_set, if◌then◌else◌, ◌==◌}
 use Rattle.apdu_core.specs.declared.reply.Status.{Status}
 use Rattle.policy_rules.specs.Admission.{Admitted}
 use Rattle.card_types.specs.declared.card_life.CardLife.{CardLife}
@@ -14,9 +14,8 @@ use Rattle.policy_rules.specs.declared.class.Class.{Class}
 use Rattle.policy_rules.specs.declared.instruction.TheConstants.{GET_DATA, LOAD}
 use Rattle.policy_rules.specs.declared.live.Live.{Live}
 use Rattle.policy_rules.specs.declared.rule.Rule.{Rule}
-use Rattle.card_core.specs.SecureChannels.{without_offer_held}
+use Rattle.card_core.specs.SecureChannels.{held_on, without_offer_held}
 use Rattle.card_core.specs.Kept.{Kept, KeptRepresents, RepresentsSoundly}
-use Rattle.card_core.specs.declared.channel_session.ChannelSession.TheVariants as held
 
 -- one step of the policy machine was made, over these load pages
 abbrev pub Serves : (ℕ → List ℕ) → State → List ℕ → Kept → List ℕ → Option Rule → Type 0
@@ -45,7 +44,7 @@ abbrev pub refused_at : Kept → ℕ → Rule → Kept
 refused_at card number rule = record {
   tables = card.tables;
   live = live_refused rule number card.live;
-  held = slice_set card.held number (without_offer_held (slice_index_or card.held number held.Nothing));
+  held = slice_set card.held number (without_offer_held (held_on card.held number));
 }
 
 -- an admitted command was carried out, or refused

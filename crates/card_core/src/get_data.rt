@@ -5,12 +5,10 @@ ghost use Rattle.arrayvec.specs.ArrayVec.{array_vec_len};
 ghost use Rattle.bertlv.specs.Spelling.{Spelling};
 ghost use Rattle.bertlv.specs.Tag.{IsTag};
 ghost use Rattle.card_core.specs.Domains.{ForEntry};
-ghost use Rattle.card_core.specs.Kept.{RepresentsSoundly, kept_of};
+ghost use Rattle.card_core.specs.Kept.{ForShown, kept_of};
 ghost use Rattle.card_core.specs.Serves.{CarriesOutBut};
-ghost use Rattle.card_core.specs.declared.channel_session.ChannelSession.{ChannelSession};
 ghost use Rattle.card_types.specs.InOrder.{IsInOrder};
 ghost use Rattle.card_types.specs.Least.{IsLeast};
-ghost use Rattle.policy_rules.specs.Admission.{Admitted};
 ghost use Rattle.policy_rules.specs.Found.{IsFor};
 ghost use Rattle.policy_rules.specs.GetData.{HasData, IsKeyInformation};
 ghost use Rattle.policy_rules.specs.KeyOrder.{follows, name_order};
@@ -123,9 +121,8 @@ pub fn get_data(
     requires channel { channel < CHANNELS }
     requires selected { slice_index_or live.now.selected channel None ≡ Some domain }
     requires empty { reply.old.items ≡ [] }
-    ensures done { (page : ℕ → List ℕ) (all : List ChannelSession) (admitted : Admitted) → RepresentsSoundly page (kept_of tables.now live.now all) admitted.at
-        → length all ≡ CHANNELS → channel ≡ admitted.channel → IsRequestOf (Get tag) admitted.command
-        → CarriesOutBut page admitted (kept_of tables.now live.now all) reply.new.items result }
+    ensures done { ForShown tables.now live.now (λ page all admitted. channel ≡ admitted.channel → IsRequestOf (Get tag) admitted.command
+        → CarriesOutBut page admitted (kept_of tables.now live.now all) reply.new.items result) }
     ensures room { length reply.new.items ≤ 239 }
 {
     match judge_get_data(tables, domain, tag) {

@@ -1,12 +1,11 @@
 //! INSTALL [for install]: an application or a security domain is made.
 
-ghost use Rattle.std.specs.Prelude.{◌≡◌, ◌≤◌, ℕ, List, [], length, true, OnErr};
+ghost use Rattle.std.specs.Prelude.{◌≡◌, ◌≤◌, [], length, true, OnErr};
 ghost use Rattle.card_core.specs.Domains.{is_domain_in};
 ghost use Rattle.card_core.specs.Installs.{slot_made};
 ghost use Rattle.card_core.specs.Kept.{AreCards};
 ghost use Rattle.card_core.specs.Manages.{KeepsAids, Manages};
-ghost use Rattle.policy_rules.specs.Admission.{Admitted};
-ghost use Rattle.policy_rules.specs.Requests.{ActsIn, IsLoadNamed, IsRequestOf, IsWellFormed};
+ghost use Rattle.policy_rules.specs.Requests.{ForActing, IsLoadNamed, IsRequestOf, IsWellFormed};
 ghost use Rattle.policy_rules.specs.declared.request.Request.TheVariants.{Install};
 
 use crate::confirm::confirm;
@@ -57,10 +56,10 @@ pub fn install_application<F: Flash>(
     requires domain { is_domain_in records.old.tables.entries.items domain ≡ true }
     requires formed { IsWellFormed (Install request.now) }
     requires empty { reply.old.items ≡ [] }
-    ensures done { (page : ℕ → List ℕ) (admitted : Admitted) → ActsIn page records.old.tables domain admitted
-        → IsLoadNamed records.old.tables.entries.items live.now.load admitted.at.volatile.load
+    ensures done { ForActing records.old.tables domain (λ page admitted.
+        IsLoadNamed records.old.tables.entries.items live.now.load admitted.at.volatile.load
         → IsRequestOf (Install request.now) admitted.command
-        → Manages admitted page records.old.tables records.new.tables reply.new.items result }
+        → Manages admitted page records.old.tables records.new.tables reply.new.items result) }
     ensures aids { KeepsAids records.old.tables.entries.items records.new.tables.entries.items }
     ensures cards { AreCards records.new.tables }
     ensures same { (records.new.flash ≡ records.old.flash) × (records.new.live ≡ true) }

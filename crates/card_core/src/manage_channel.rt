@@ -1,9 +1,8 @@
 //! MANAGE CHANNEL: a channel is opened or closed.
 
 ghost use Rattle.std.specs.Prelude.{◌≡◌, ◌≤◌, ◌<◌, ℕ, List, [], length};
-ghost use Rattle.card_core.specs.Kept.{RepresentsSoundly, kept_of};
+ghost use Rattle.card_core.specs.Kept.{ForShown, RepresentsSoundly, kept_of};
 ghost use Rattle.card_core.specs.Serves.{CarriesOutBut};
-ghost use Rattle.card_core.specs.declared.channel_session.ChannelSession.{ChannelSession};
 ghost use Rattle.card_types.specs.Layout.{HasLayout};
 ghost use Rattle.card_types.specs.declared.tables.Tables.{Tables};
 ghost use Rattle.policy_rules.specs.Admission.{Admitted};
@@ -20,10 +19,9 @@ use policy_rules::{CHANNELS, Live, Rule, judge_more_channel};
 /// Opens the lowest closed channel, with the Issuer Security Domain selected, and answers its number.
 pub fn open_channel(live: &mut Live, reply: &mut ArrayVec<u8, REPLY_LIMIT>) -> Result<Status, Rule>
     requires empty { reply.old.items ≡ [] }
-    ensures done { (page : ℕ → List ℕ) (tables : Tables) (all : List ChannelSession) (admitted : Admitted) → HasLayout tables
-        → RepresentsSoundly page (kept_of tables live.old all) admitted.at → length all ≡ CHANNELS → admitted.channel < CHANNELS
+    ensures done { (tables : Tables) → HasLayout tables → ForShown tables live.old (λ page all admitted. admitted.channel < CHANNELS
         → IsRequestOf MoreChannel admitted.command
-        → CarriesOutBut page admitted (kept_of tables live.new all) reply.new.items result }
+        → CarriesOutBut page admitted (kept_of tables live.new all) reply.new.items result) }
     ensures room { length reply.new.items ≤ 239 }
 {
     match judge_more_channel(live) {

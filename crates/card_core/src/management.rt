@@ -1,14 +1,13 @@
 //! Card content management: what the commands do that change a registry in a session.
 
-ghost use Rattle.std.specs.Prelude.{◌≡◌, ◌≤◌, ℕ, List, [], Contains, OnErr, length, true};
+ghost use Rattle.std.specs.Prelude.{◌≡◌, ◌≤◌, [], Contains, OnErr, length, true};
 ghost use Rattle.card_core.specs.Domains.{is_domain_in};
 ghost use Rattle.card_core.specs.SecureChannels.{IsInSession};
 ghost use Rattle.card_core.specs.Kept.{AreCards};
 ghost use Rattle.card_core.specs.Manages.{KeepsAids, Manages};
 ghost use Rattle.card_core.specs.Offers.{HoldsFor};
-ghost use Rattle.policy_rules.specs.Admission.{Admitted};
 ghost use Rattle.policy_rules.specs.Classes.{managing};
-ghost use Rattle.policy_rules.specs.Requests.{ActsIn, IsRequestOf, IsWellFormed, RepresentsState, form_in};
+ghost use Rattle.policy_rules.specs.Requests.{ForActing, IsRequestOf, IsWellFormed, RepresentsState, form_in};
 
 use crate::channel_session::ChannelSession;
 use crate::delete_key::delete_key;
@@ -42,10 +41,9 @@ pub fn manage<F: Flash>(
     requires managing { Contains managing (form_in request.now).instruction }
     requires formed { IsWellFormed request.now }
     requires empty { reply.old.items ≡ [] }
-    ensures done { (page : ℕ → List ℕ) (admitted : Admitted) → ActsIn page records.old.tables domain admitted
-        → RepresentsState page records.old.tables live.now admitted.at → IsRequestOf request.now admitted.command
-        → HoldsFor held.now admitted
-        → Manages admitted page records.old.tables records.new.tables reply.new.items result }
+    ensures done { ForActing records.old.tables domain (λ page admitted. RepresentsState page records.old.tables live.now admitted.at
+        → IsRequestOf request.now admitted.command → HoldsFor held.now admitted
+        → Manages admitted page records.old.tables records.new.tables reply.new.items result) }
     ensures aids { KeepsAids records.old.tables.entries.items records.new.tables.entries.items }
     ensures cards { AreCards records.new.tables }
     ensures same { (records.new.flash ≡ records.old.flash) × (records.new.live ≡ true) }

@@ -1,12 +1,10 @@
 //! SELECT: an entry is selected on a channel.
 
-ghost use Rattle.std.specs.Prelude.{◌≡◌, ◌≤◌, ◌<◌, ℕ, List, [], length, slice_index_or, slice_set};
+ghost use Rattle.std.specs.Prelude.{◌≡◌, ◌≤◌, ◌<◌, [], length, slice_set};
 ghost use Rattle.card_types.specs.InOrder.{IsInOrder};
-ghost use Rattle.card_core.specs.Kept.{RepresentsSoundly, kept_of};
+ghost use Rattle.card_core.specs.Kept.{ForShown, kept_of};
+ghost use Rattle.card_core.specs.SecureChannels.{held_on};
 ghost use Rattle.card_core.specs.Serves.{CarriesOutBut};
-ghost use Rattle.card_core.specs.declared.channel_session.ChannelSession.{ChannelSession};
-ghost use Rattle.card_core.specs.declared.channel_session.ChannelSession.TheVariants as holding;
-ghost use Rattle.policy_rules.specs.Admission.{Admitted};
 ghost use Rattle.policy_rules.specs.Requests.{IsRequestOf};
 ghost use Rattle.policy_rules.specs.Select.{IsControlInformation, selected_status as status_by};
 ghost use Rattle.policy_rules.specs.declared.request.Request.TheVariants.{Select};
@@ -92,10 +90,9 @@ pub fn select(
     requires in_order { IsInOrder tables.now }
     requires channel { channel < CHANNELS }
     requires empty { reply.old.items ≡ [] }
-    ensures done { (page : ℕ → List ℕ) (all : List ChannelSession) (admitted : Admitted) → RepresentsSoundly page (kept_of tables.now live.old all) admitted.at
-        → length all ≡ CHANNELS → channel ≡ admitted.channel → slice_index_or all channel holding.Nothing ≡ held.old
+    ensures done { ForShown tables.now live.old (λ page all admitted. channel ≡ admitted.channel → held_on all channel ≡ held.old
         → IsRequestOf (Select partial.entry) admitted.command
-        → CarriesOutBut page admitted (kept_of tables.now live.new (slice_set all channel held.new)) reply.new.items result }
+        → CarriesOutBut page admitted (kept_of tables.now live.new (slice_set all channel held.new)) reply.new.items result) }
     ensures room { length reply.new.items ≤ 239 }
 {
     match judge_select(tables, partial) {

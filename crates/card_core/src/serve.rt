@@ -5,11 +5,10 @@ ghost use Rattle.apdu_core.specs.Apdu.{apdu_of};
 ghost use Rattle.apdu_core.specs.Reply.{status_bytes};
 ghost use Rattle.card_core.specs.Commits.{MayCommit};
 ghost use Rattle.card_core.specs.Domains.{is_domain_in};
-ghost use Rattle.card_core.specs.SecureChannels.{RepresentsSecureChannel, IsInSession, held_passed, without_offer_held};
+ghost use Rattle.card_core.specs.SecureChannels.{RepresentsSecureChannel, IsInSession, held_on, held_passed, without_offer_held};
 ghost use Rattle.card_core.specs.Kept.{AreCards, RepresentsSoundly, kept_of};
 ghost use Rattle.card_core.specs.Serves.{CarriesOut, CarriesOutBut, IsTerminatedFor, Serves, live_passed, live_refused, rule_of, status_word};
 ghost use Rattle.policy_rules.specs.Admission.{Admitted};
-ghost use Rattle.card_core.specs.declared.channel_session.ChannelSession.TheVariants as holding;
 ghost use Rattle.policy_rules.specs.Classes.{managing};
 ghost use Rattle.policy_rules.specs.Commands.{IsBuilt};
 ghost use Rattle.policy_rules.specs.State.{State};
@@ -94,7 +93,7 @@ fn carry_out<F: Flash>(
     requires channel { received.now.channel < CHANNELS }
     requires selected { slice_index_or live.old.selected received.now.channel None ≡ Some received.now.selected }
     requires domain { command.now.ins ≢ SELECT → command.now.ins ≢ MANAGE_CHANNEL → is_domain_in records.old.tables.entries.items received.now.selected ≡ true }
-    requires secured { Contains managing command.now.ins → IsInSession (slice_index_or held.old received.now.channel holding.Nothing) }
+    requires secured { Contains managing command.now.ins → IsInSession (held_on held.old received.now.channel) }
     requires short { length command.now.body.now ≤ 255 }
     requires empty { reply.old.items ≡ [] }
     ensures done { (page : ℕ → List ℕ) (judged : Admitted) → RepresentsSoundly page (kept_of records.old.tables live.old held.old) judged.at
@@ -180,7 +179,7 @@ fn act<F: Flash>(
     requires channel { received.now.channel < CHANNELS }
     requires selected { slice_index_or live.old.selected received.now.channel None ≡ Some received.now.selected }
     requires domain { command.now.ins ≢ SELECT → command.now.ins ≢ MANAGE_CHANNEL → is_domain_in records.old.tables.entries.items received.now.selected ≡ true }
-    requires secured { Contains managing command.now.ins → IsInSession (slice_index_or held.old received.now.channel holding.Nothing) }
+    requires secured { Contains managing command.now.ins → IsInSession (held_on held.old received.now.channel) }
     requires short { length command.now.body.now ≤ 255 }
     requires empty { reply.old.items ≡ [] }
     ensures done { (page : ℕ → List ℕ) (judged : Admitted) → RepresentsSoundly page (kept_of records.old.tables live.old held.old) judged.at
@@ -190,7 +189,7 @@ fn act<F: Flash>(
     ensures same { (records.new.flash ≡ records.old.flash) × (records.new.live ≡ true) }
     ensures refused { OnErr result (records.new ≡ records.old) }
     ensures idle { (command.now.ins ≡ INITIALIZE_UPDATE → ⊥) → (Contains managing command.now.ins → ⊥) → records.new ≡ records.old }
-    ensures kept { IsInSession (slice_index_or held.old received.now.channel holding.Nothing) → (command.now.ins ≡ GET_DATA) ⊎ Contains managing command.now.ins → held.new ≡ held.old }
+    ensures kept { IsInSession (held_on held.old received.now.channel) → (command.now.ins ≡ GET_DATA) ⊎ Contains managing command.now.ins → held.new ≡ held.old }
     ensures room { length reply.new.items ≤ 239 }
 {
     let served = carry_out(records, live, held, received, command, reply);

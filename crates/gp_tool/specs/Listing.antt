@@ -1,9 +1,12 @@
 -- Things in slots, of which a line each is written in ascending order.
-use Rattle.std.specs.Prelude.{◌≡◌, ℕ, List, ◌++◌, Bool, true, ◌&&◌, Option, None, Some, Result, MatchResult, take}
+use Rattle.std.specs.Prelude.{◌≡◌, ℕ, List, ◌++◌, Bool, true, ◌&&◌, Option, None, Some, Result, MatchResult, filter, map, take}
+use Rattle.std.specs.List.{flat_map}
+use Rattle.std.specs.List.Sorted.{IsPermutation, IsStrictlySortedBy}
 use Rattle.std.specs.Option.{option_map}
 use Rattle.std.specs.Ordering.{is_lt}
 use Rattle.std.specs.declared.cmp.Ordering.{Ordering}
 use Rattle.card_types.specs.AidOrder.{aid_order}
+use Rattle.card_types.specs.Represents.{used}
 use Rattle.card_types.specs.declared.tables.LoadFile.{LoadFile}
 
 -- past the last one, if there is one
@@ -23,3 +26,9 @@ is_next_file last file = comes_past (λ (f : LoadFile). f.aid) (λ _. true) aid_
 abbrev pub Writes : {T E : Type 0} → Type 0 → List ℕ → List ℕ → List ℕ → Result T E → Type 0
 Writes tells old new text result =
     MatchResult result (λ _. tells → new ≡ old ++ text) (λ _. tells → (n : ℕ) × (new ≡ old ++ take n text))
+
+-- so it is of the text of the things in slots that are listed: in ascending order, the line of each by what the registry has of it
+abbrev pub ForText : {T X : Type 0} → (T → X) → (T → List ℕ) → (T → Bool) → (X → X → Ordering) → List (Option T) → (List ℕ → Type 0) → Type 0
+ForText {T} {X} named text listed order slots So =
+    (xs : List X) (line_of : X → List ℕ) → ((thing : T) → text thing ≡ line_of (named thing))
+    → IsPermutation (map named (filter listed (used slots))) xs → IsStrictlySortedBy order xs → So (flat_map line_of xs)

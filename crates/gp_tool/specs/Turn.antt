@@ -4,9 +4,12 @@ use Rattle.std.specs.Prelude.{◌≡◌, ◌⊎◌, ℕ, ◌+◌, ◌<◌, ◌�
 use Rattle.std.specs.Str.Lines.{strip_carriage_return}
 use Rattle.io_edge.specs.Lines.{Reading, NoNewline, IsNextLine, IsCut, IsWithin, ahead, room}
 use Rattle.io_edge.specs.declared.line.TheConstants.{HELD_LIMIT, LINE_LIMIT}
+use Rattle.card_core.specs.Card.{CardOver, CardRepresents}
 use Rattle.card_types.specs.Registry.{Registry}
+use Rattle.flash_core.specs.declared.flash.Flash.{Ghosts as Flash}
 use Rattle.policy_rules.specs.State.{State}
 use Rattle.policy_rules.specs.Step.{Outcome}
+use Rattle.gp_tool.specs.Device.{LeavesOneOf}
 use Rattle.gp_tool.specs.Ends.{Outside, IsBad, TakesNoMore}
 use Rattle.gp_tool.specs.RunsLines.{bad_line, reply_line, text_of}
 use Rattle.gp_tool.specs.Serve.{FailsLine, RunsLine}
@@ -82,3 +85,9 @@ EndsWith reads writes Same Before After Leaving count count' old before now Writ
     × (writes → (n : ℕ) × (now.sink.written ≡ before.sink.written ++ take n (reply_line outcome)))
     × (reads → TakesNoMore (total old before) after now.source.left))
     ⊎ RefusesNext reads writes Same old before now WriteFault
+
+-- it ends so for a card on a device; nothing was done where the card and the count are as they were
+abbrev pub TurnEnds : {F : Type 0} → Flash F → Type 0 → Type 0 → CardOver F → CardOver F → ℕ → ℕ → Reading → Outside → Outside → Ending → Type 0
+TurnEnds device reads writes card card' count count' old before now ending =
+    EndsWith reads writes ((card' ≡ card) × (count' ≡ count)) (CardRepresents device card) (CardRepresents device card')
+    (LeavesOneOf device card.flash card'.flash) count count' old before now ending

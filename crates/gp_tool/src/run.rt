@@ -6,7 +6,7 @@ ghost use Rattle.policy_rules.specs.State.{State};
 ghost use Rattle.gp_tool.specs.Device.{LeavesOneOf};
 ghost use Rattle.gp_tool.specs.Ends.{EndCause, Faults, Flushes, faults_of, outside};
 ghost use Rattle.gp_tool.specs.Flush.{AfterFlush};
-ghost use Rattle.gp_tool.specs.Turn.{GoesOn, EndsWith, Refuses};
+ghost use Rattle.gp_tool.specs.Turn.{GoesOn, Refuses, TurnEnds};
 ghost use Rattle.gp_tool.specs.Verbs.{RunCause, RunEnds, around};
 
 use crate::ending::Ending;
@@ -56,10 +56,7 @@ fn take_turn<S: Source, K: Sink, F: Flash>(
         (LeavesOneOf F.Flash card.old.flash card.new.flash)
         done.old done.new lines.old lines.new
         (outside (S.state source.old) (K.state sink.old)) (outside (S.state source.new) (K.state sink.new))) }
-    ensures ends { IfSome result (EndsWith S.tells K.tells ((card.new ≡ card.old) × (done.new ≡ done.old))
-        (CardRepresents F.Flash card.old) (CardRepresents F.Flash card.new)
-        (LeavesOneOf F.Flash card.old.flash card.new.flash)
-        done.old done.new lines.old
+    ensures ends { IfSome result (TurnEnds F.Flash S.tells K.tells card.old card.new done.old done.new lines.old
         (outside (S.state source.old) (K.state sink.old)) (outside (S.state source.new) (K.state sink.new))) }
     ensures up { IfNone result (card.new.up ≡ true) }
     ensures few { done.new ≤ done.old + 1 }

@@ -1,9 +1,9 @@
 -- The laws of GET STATUS.
-use Rattle.std.proofs.Common.{◌≡◌, ℕ, ◌<◌, List, [], ◌∷◌, ◌++◌, Option, None, Some, refl, ap, sym, subst, ◌∙◌, arith, length}
+use Rattle.std.proofs.Common.{◌≡◌, ℕ, ◌<◌, List, [], ◌∷◌, ◌++◌, Option, None, Some, refl, sym, subst, ◌∙◌, arith}
 use Rattle.std.specs.Prelude.{IsSome, MatchOption}
 use Rattle.card_types.specs.Registry.{Registry}
 use Rattle.policy_rules.specs.Admission.{Admitted}
-use Rattle.policy_rules.specs.GetStatus.{AreTemplates, GetStatusEffect, IsFullFor, IsLeftAt, IsListing, Thing, channel_at_place, get_status, with_place}
+use Rattle.policy_rules.specs.GetStatus.{AreTemplates, GetStatusEffect, IsFullFor, IsLeftAt, Thing, channel_at_place, get_status, with_place}
 use Rattle.policy_rules.specs.Sound.{Fits, IsSecured, IsSound, IsWellChannel}
 use Rattle.policy_rules.specs.State.{Effect}
 use Rattle.policy_rules.specs.Volatile.{Channel, Place, Volatile, channel_at}

@@ -118,6 +118,10 @@ pub record ActsIn (page : ℕ → List ℕ) (tables : Tables) (domain : ℕ) (ad
   pub at : held tables.entries.items domain ≡ Some entry
   pub on : acting admitted ≡ domain_aid tables.entries.items domain
 
+-- so it is of each command that acts for the domain in a slot, over any load pages
+abbrev pub ForActing : Tables → ℕ → ((ℕ → List ℕ) → Admitted → Type 0) → Type 0
+ForActing tables domain So = (page : ℕ → List ℕ) (admitted : Admitted) → ActsIn page tables domain admitted → So page admitted
+
 -- a place in a listing, as the code keeps it
 abbrev pub place_of : KeptPlace → Place
 place_of place = record { kind = place.kind; body = place.body.items; last = place.last }

@@ -24,7 +24,7 @@ ghost use Rattle.policy_rules.specs.InstallApplication.{AreInstallParameters, As
 ghost use Rattle.policy_rules.specs.HoldersFound.{IsSignedFor, MayReceipt, approval_of};
 ghost use Rattle.policy_rules.specs.InstallRequests.{ApprovalFails, FindsConfirmer, IsInstallOf, IsInstallRequest, IsOutOfCharge, IsRefusedBy, application_rules, exceeds_by, is_loaded_as, may_manage_by};
 ghost use Rattle.policy_rules.specs.Management.{acting};
-ghost use Rattle.policy_rules.specs.Requests.{ActsIn, IsLoadNamed};
+ghost use Rattle.policy_rules.specs.Requests.{ActsIn, ForActing, IsLoadNamed};
 
 use crate::delegation::{Signed, holds, judge_delegated};
 use crate::install_fields::read_fields;
@@ -337,12 +337,11 @@ fn judge_application(
     request: &InstallRequest<'_>,
 ) -> Result<u8, RuleII>
     requires in_order { IsInOrder tables.now }
-    ensures passed { (page : ℕ → List ℕ) (admitted : Admitted) → ActsIn page tables.now domain admitted
-        → IsLoadNamed tables.now.entries.items live.now.load admitted.at.volatile.load
-        → (is : IsInstallOf request.now admitted.command) → OnOk result (IsFirst (InstallingFails admitted is.asked) application_rules None) }
-    ensures refused { (page : ℕ → List ℕ) (admitted : Admitted) → ActsIn page tables.now domain admitted
-        → IsLoadNamed tables.now.entries.items live.now.load admitted.at.volatile.load
-        → (is : IsInstallOf request.now admitted.command) → IfErr result (λ rule. IsFirst (InstallingFails admitted is.asked) application_rules (Some rule)) }
+    ensures passed { ForActing tables.now domain (λ page admitted. IsLoadNamed tables.now.entries.items live.now.load admitted.at.volatile.load
+        → (is : IsInstallOf request.now admitted.command) → OnOk result (IsFirst (InstallingFails admitted is.asked) application_rules None)) }
+    ensures refused { ForActing tables.now domain (λ page admitted. IsLoadNamed tables.now.entries.items live.now.load admitted.at.volatile.load
+        → (is : IsInstallOf request.now admitted.command)
+        → IfErr result (λ rule. IsFirst (InstallingFails admitted is.asked) application_rules (Some rule))) }
     ensures file { IfOk result (λ slot. aid_of tables.now (File slot) ≡ Some request.now.file) }
     ensures free { OnOk result ((thing : Thing) → aid_of tables.now thing ≢ Some request.now.aid) }
     ensures room { OnOk result (NoneFree tables.now.entries.items → ⊥) }

@@ -6,6 +6,9 @@ ghost use Rattle.policy_rules.specs.Admission.{general_rules};
 ghost use Rattle.policy_rules.specs.Classes.{class_of, instructions_of, management};
 ghost use Rattle.policy_rules.specs.Commands.{forms_of};
 ghost use Rattle.policy_rules.specs.ExternalAuthenticate.{rules_before_form};
+ghost use Rattle.policy_rules.specs.Extradition.{extradition};
+ghost use Rattle.policy_rules.specs.InstallApplication.{install_application};
+ghost use Rattle.policy_rules.specs.MakeSelectable.{make_selectable};
 ghost use Rattle.policy_rules.specs.PutKey.{key_field, sealed_size};
 ghost use Rattle.policy_rules.specs.Rules.{status_of, statuses_of};
 ghost use Rattle.policy_rules.specs.declared.class.Class.TheVariants.{Interindustry, Plain, Secure};
@@ -45,7 +48,11 @@ pub fn status_words()
         ∷ ((0x6A88 ∷ []) ∷ []) ∷ ((0x6985 ∷ 0x6985 ∷ 0x6A88 ∷ 0x6985 ∷ []) ∷ []) ∷ ((0x6300 ∷ 0x6982 ∷ []) ∷ []) ∷ [] }
     ensures managing { map (λ ins. statuses_of (forms_of ins)) (0xD8 ∷ 0xE2 ∷ 0xE4 ∷ []) ≡ ((0x6985 ∷ 0x6985 ∷ 0x6A88 ∷ 0x6A80 ∷ 0x6A80 ∷ 0x6A84 ∷ []) ∷ [])
         ∷ ((0x6985 ∷ 0x6985 ∷ 0x6A84 ∷ []) ∷ []) ∷ ((0x6985 ∷ 0x6985 ∷ 0x6A88 ∷ 0x6985 ∷ []) ∷ []) ∷ [] }
-    ensures install { statuses_of (forms_of 0xE6) ≡ (0x6985 ∷ 0x6985 ∷ 0x6982 ∷ 0x6A88 ∷ 0x6982 ∷ 0x6A80 ∷ 0x6A80 ∷ 0x6982 ∷ 0x6A84 ∷ 0x6A80 ∷ 0x6982 ∷ 0x6982 ∷ 0x6985 ∷ [])
-        ∷ (0x6985 ∷ 0x6985 ∷ 0x6982 ∷ 0x6A88 ∷ 0x6982 ∷ 0x6985 ∷ 0x6A80 ∷ 0x6A80 ∷ 0x6982 ∷ 0x6982 ∷ 0x6985 ∷ [])
-        ∷ (0x6985 ∷ 0x6985 ∷ 0x6982 ∷ 0x6A88 ∷ 0x6985 ∷ 0x6982 ∷ 0x6985 ∷ 0x6985 ∷ 0x6982 ∷ 0x6A80 ∷ 0x6982 ∷ 0x6982 ∷ 0x6985 ∷ []) ∷ [] }
+    ensures install { statuses_of (forms_of 0xE6) ≡ statuses_of (install_application ∷ make_selectable ∷ extradition ∷ []) }
+    ensures for_install { map status_of install_application.rules
+        ≡ 0x6985 ∷ 0x6985 ∷ 0x6982 ∷ 0x6A88 ∷ 0x6982 ∷ 0x6A80 ∷ 0x6A80 ∷ 0x6982 ∷ 0x6A84 ∷ 0x6A80 ∷ 0x6982 ∷ 0x6982 ∷ 0x6985 ∷ [] }
+    ensures for_make_selectable { map status_of make_selectable.rules
+        ≡ 0x6985 ∷ 0x6985 ∷ 0x6982 ∷ 0x6A88 ∷ 0x6982 ∷ 0x6985 ∷ 0x6A80 ∷ 0x6A80 ∷ 0x6982 ∷ 0x6982 ∷ 0x6985 ∷ [] }
+    ensures for_extradition { map status_of extradition.rules
+        ≡ 0x6985 ∷ 0x6985 ∷ 0x6982 ∷ 0x6A88 ∷ 0x6985 ∷ 0x6982 ∷ 0x6985 ∷ 0x6985 ∷ 0x6982 ∷ 0x6A80 ∷ 0x6982 ∷ 0x6982 ∷ 0x6985 ∷ [] }
 {}

@@ -3,6 +3,7 @@ use Rattle.std.specs.Prelude.{◌≡◌, ℕ, ◌≤◌, ◌<◌, ◌^◌, List,
 use Rattle.apdu_core.specs.Apdu.{Apdu}
 use Rattle.card_types.specs.declared.level.Level.{Level}
 use Rattle.cmac_kdf.specs.Blocks.{IsBytes}
+use Rattle.scp03_card.specs.Kept.{KeptSession, RepresentsSession}
 use Rattle.scp03_card.specs.Offer.{Offer}
 use Rattle.scp03_card.specs.Opens.{Opens, accepting}
 use Rattle.scp03_card.specs.Protected.{protected}
@@ -10,6 +11,10 @@ use Rattle.scp03_card.specs.Session.{HasCryptogram, HasMac, Session}
 use Rattle.scp03_host.specs.Begin.{answer_to}
 use Rattle.scp03_host.specs.Unwrapped.{Unwraps, is_status_alone}
 use Rattle.scp03_host.specs.Wrapped.{having_sent, room_for, wrapped}
+
+-- what a host keeps and what a card keeps stand for one session
+abbrev pub StandFor : KeptSession → KeptSession → Session → Type 0
+StandFor host card session = RepresentsSession host session × RepresentsSession card session
 
 -- a plain command on a channel, and the plain reply to it
 pub record Exchange : Type 0 where

@@ -1,18 +1,15 @@
 //! Things in slots, a line each, in ascending order.
 
-ghost use Rattle.std.specs.Prelude.{◌≡◌, ◌≤◌, ℕ, List, [], Bool, true, IfSome, IfNone, length, filter, map, option_copied};
+ghost use Rattle.std.specs.Prelude.{◌≡◌, ◌≤◌, ℕ, List, [], Bool, true, IfSome, IfNone, length, option_copied};
 ghost use Rattle.std.specs.Cmp.{IsTotalOrder};
-ghost use Rattle.std.specs.List.{flat_map};
-ghost use Rattle.std.specs.List.Sorted.{IsPermutation, IsStrictlySortedBy};
 ghost use Rattle.std.specs.Ordering.{is_lt};
 ghost use Rattle.std.specs.declared.cmp.Ordering.{Ordering};
 ghost use Rattle.std.proofs.lemmas.Cmp.{on_total};
 ghost use Rattle.card_types.specs.Least.{NoneFits};
 ghost use Rattle.card_types.specs.Nearer.{IsLeastFound};
-ghost use Rattle.card_types.specs.Represents.{used};
 ghost use Rattle.card_types.specs.Slots.{held};
 ghost use Rattle.faults.specs.Faults.{HasCause};
-ghost use Rattle.gp_tool.specs.Listing.{Writes, comes_past};
+ghost use Rattle.gp_tool.specs.Listing.{ForText, Writes, comes_past};
 
 use crate::show::line::LINE_ROOM;
 use arrayvec::ArrayVec;
@@ -108,9 +105,8 @@ pub fn write_lines<T, L: TextListing<T>, K: Sink>(
 ) -> Result<(), WriteFailed>
     requires few { length slots.now ≤ 256 }
     requires fits { (slot : ℕ) (thing : T) → held slots.now slot ≡ Some thing → L.listed listing.now thing ≡ true → L.can_spell listing.now thing }
-    ensures written { (xs : List L.Named) (line_of : L.Named → List ℕ) → ((thing : T) → L.text listing.now thing ≡ line_of (L.named listing.now thing))
-        → IsPermutation (map (L.named listing.now) (filter (L.listed listing.now) (used slots.now))) xs → IsStrictlySortedBy L.order xs
-        → Writes K.tells (K.state sink.old).written (K.state sink.new).written (flat_map line_of xs) result }
+    ensures written { ForText (L.named listing.now) (L.text listing.now) (L.listed listing.now) L.order slots.now
+        (λ text. Writes K.tells (K.state sink.old).written (K.state sink.new).written text result) }
     ensures flushes { (K.state sink.new).flushes ≡ (K.state sink.old).flushes }
     ensures cause { HasCause (K.state sink.old).faults (K.state sink.new).faults result }
 {

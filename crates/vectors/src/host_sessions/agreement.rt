@@ -5,7 +5,7 @@ ghost use Rattle.apdu_core.specs.Apdu.{apdu_of};
 ghost use Rattle.cmac_kdf.specs.Blocks.{IsBytes};
 ghost use Rattle.scp03_card.specs.Kept.{RepresentsSession};
 ghost use Rattle.scp03_card.specs.Session as model;
-ghost use Rattle.scp03_host.specs.Agreement.{told_field};
+ghost use Rattle.scp03_host.specs.Agreement.{StandFor, told_field};
 ghost use Rattle.scp03_host.specs.Wrapped.{having_sent};
 
 use super::{HOST, LEVELS, keys};
@@ -26,9 +26,8 @@ fn deliver<K: BlockKey>(
     field: &mut [u8; 255],
 ) -> Option<usize>
     requires { length command.now.body.now ≤ 239 }
-    ensures { (session : model.Session) → IsBytes command.now.body.now → RepresentsSession host.old session → RepresentsSession card.old session → IsSomeAnd result (λ n.
-        (take n field.new ≡ command.now.body.now)
-        × RepresentsSession host.new (having_sent session (apdu_of command.now)) × RepresentsSession card.new (having_sent session (apdu_of command.now))) }
+    ensures { (session : model.Session) → IsBytes command.now.body.now → RepresentsSession host.old session → RepresentsSession card.old session
+        → IsSomeAnd result (λ n. (take n field.new ≡ command.now.body.now) × StandFor host.new card.new (having_sent session (apdu_of command.now))) }
 {
     let mut sent = ArrayVec::new();
     let Ok(()) = host.wrap(command, 0, &mut sent) else {

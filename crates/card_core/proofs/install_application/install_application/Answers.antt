@@ -1,4 +1,4 @@
-use Rattle.std.proofs.Common.{◌≡◌, ℕ, inl, inr, List, [], ◌∷◌, Option, None, Some, refl, ap, sym, subst, ◌∙◌, arith}
+use Rattle.std.proofs.Common.{◌≡◌, ℕ, inl, List, [], ◌∷◌, Option, None, Some, refl, ap, sym, subst, ◌∙◌, arith}
 use Rattle.std.specs.Prelude.{IfSome, IsSome}
 use Rattle.std.specs.Option.{option_map}
 use Rattle.card_core.proofs.Answered.{aids_on, answered_managed, entry_room, room_again, still_able}
@@ -8,13 +8,12 @@ use Rattle.card_core.proofs.Installing.{made_named}
 use Rattle.card_core.proofs.Managing.{refusal_managed}
 use Rattle.card_core.proofs.SomeAdmitted.{domain_named, domain_there, of_card, some_acts, some_admitted, some_load}
 use Rattle.card_core.specs.Confirms.{AnswersFor}
-use Rattle.card_core.specs.Installs.{slot_made}
 use Rattle.card_types.specs.First.{NoneFree}
 use Rattle.card_types.specs.Found.{aid_of}
 use Rattle.card_types.specs.InOrder.{IsInOrder}
 use Rattle.card_types.specs.Registry as registry
 use Rattle.card_types.specs.RegistryChange.{IsEntryAdded}
-use Rattle.card_types.specs.Represents.{Represents, domain_aid, entry_of}
+use Rattle.card_types.specs.Represents.{entry_of}
 use Rattle.card_types.specs.Slots.{held}
 use Rattle.card_types.specs.declared.found.Found.TheVariants.{File}
 use Rattle.card_types.specs.declared.tables.Entry.{Entry}
@@ -23,10 +22,10 @@ use Rattle.card_types.specs.declared.tables.Tables.{Tables}
 use Rattle.policy_rules.proofs.InstallApplicationLaws.{made_of_card}
 use Rattle.policy_rules.proofs.Judging.{judged}
 use Rattle.policy_rules.specs.HoldersFound.{MayReceipt}
-use Rattle.policy_rules.specs.InstallApplication.{entry_made, install_application}
+use Rattle.policy_rules.specs.InstallApplication.{install_application}
 use Rattle.policy_rules.specs.InstallRequests.{FindsConfirmer}
 use Rattle.policy_rules.specs.Requests.{ActsIn, IsLoadNamed}
-use Rattle.registry.specs.Adding.{AddsEntry, NoneHas}
+use Rattle.registry.specs.Adding.{NoneHas}
 use Rattle.card_core.proofs.install_application.install_application.Goals as goal
 
 pub judge_install-requires-clause-in_order : goal.judge_install-requires-clause-in_order

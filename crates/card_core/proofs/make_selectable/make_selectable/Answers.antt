@@ -1,14 +1,13 @@
-use Rattle.std.proofs.Common.{◌≡◌, ℕ, inl, inr, List, [], ◌∷◌, ◌++◌, Option, None, Some, refl, ap, sym, subst, ◌∙◌, arith}
-use Rattle.std.specs.Prelude.{IfSome, IsSome, MatchOption}
+use Rattle.std.proofs.Common.{◌≡◌, ℕ, inl, inr, List, [], ◌∷◌, Option, None, Some, refl, sym, subst, ◌∙◌, arith}
+use Rattle.std.specs.Prelude.{IfSome, IsSome}
 use Rattle.card_core.proofs.Answered.{aids_on, answered_managed, entry_room, room_again, still_able}
 use Rattle.card_core.proofs.Cards.{in_order}
 use Rattle.card_core.proofs.EntryCards.{aids_kept, changing_keeps, entry_cards}
 use Rattle.card_core.proofs.Managing.{refusal_managed}
 use Rattle.card_core.proofs.SomeAdmitted.{of_card, some_acts, some_admitted}
-use Rattle.card_core.specs.Confirms.{AnswersFor, KeepsReceipts, leaves}
+use Rattle.card_core.specs.Confirms.{AnswersFor}
 use Rattle.card_types.proofs.Domains.{domain_aid_is}
 use Rattle.card_types.specs.InOrder.{IsInOrder}
-use Rattle.card_types.specs.Registry.{Registry}
 use Rattle.card_types.specs.RegistryChange.{with_life}
 use Rattle.card_types.specs.Represents.{Represents, domain_aid}
 use Rattle.card_types.specs.Slots.{held}

@@ -11,7 +11,7 @@ use Rattle.card_core.proofs.ChannelChanges.{opened_shows}
 use Rattle.card_core.proofs.manage_channel.open_channel.Goals as goal
 
 pub returns-in-Ok-clause-done : goal.returns-in-Ok-clause-done
-returns-in-Ok-clause-done c page tables all admitted layout stands held_four low request =
+returns-in-Ok-clause-done c tables layout page all admitted stands held_four low request =
     let means = request.means in
     let found = c.in-Ok.ensures.found page tables admitted.at stands.shows.says stands.sound.fits.channels in
     let four : length c.args.live.now.selected ≡ CHANNELS = search rules in (
@@ -30,7 +30,7 @@ returns-in-Ok-clause-done c page tables all admitted layout stands held_four low
     )
 
 pub returns-in-Err-clause-done : goal.returns-in-Err-clause-done
-returns-in-Err-clause-done c page tables all admitted layout stands held_four low request =
+returns-in-Err-clause-done c tables layout page all admitted stands held_four low request =
     let means = request.means in
     let none = c.in-Err.ensures.none page tables admitted.at stands.shows.says stands.sound.fits.channels in (
       refusal_shows page (record { tables = tables; live = c.args.live.now; held = all }) admitted

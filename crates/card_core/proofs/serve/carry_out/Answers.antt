@@ -113,7 +113,7 @@ manage-requires-clause-formed g c = (apdu_of c.args.command.now, record { form =
 
 pub returns-in-MoreChannel-clause-done : goal.returns-in-MoreChannel-clause-done
 returns-in-MoreChannel-clause-done g c = λ page judged stands at is.
-    c.open_channel.ensures.done page c.args.records.now.tables c.args.held.now judged (in_order c.args.records.now.tables c.requires.cards).layout stands c.told-held
+    c.open_channel.ensures.done c.args.records.now.tables (in_order c.args.records.now.tables c.requires.cards).layout page c.args.held.now judged stands c.told-held
     (subst (λ (n : ℕ). n < CHANNELS) at c.requires.channel)
     (subst (IsRequestOf MoreChannel) (sym is) (record { form = search rules; means = search rules }))
 

@@ -30,4 +30,4 @@ returns g c = λ session bytes host card.
     let found = c.in-Ok-open_command.ensures.back session plain.body card opens in
     let after : accepting session (apdu_of c.in-Ok-read.received) ≡ having_sent session plain = ap (accepting session) (sym same) ∙ accepting_is session plain 0 (omega arith) bytes in
     let count : c.in-Ok-open_command.len ≡ found.0 = (let same_count = found.1 in cc) in
-    (ap (λ (n : ℕ). take n c.open_command.new.plain) count ∙ found.2, c.in-Ok.ensures.accepted session host, subst (RepresentsSession c.open_command.new.self) after (c.in-Ok-open_command.ensures.accepted session card))
+    (ap (λ (n : ℕ). take n c.open_command.new.plain) count ∙ found.2, (c.in-Ok.ensures.accepted session host, subst (RepresentsSession c.open_command.new.self) after (c.in-Ok-open_command.ensures.accepted session card)))
