@@ -1,5 +1,5 @@
-/* The yardstick of session.sh: the card side of SCP03 sessions at level 33 over the AES of
-   OpenSSL, and the lines of their host.
+/* The yardstick of session.sh and install.sh: the card side of SCP03 sessions at level 33 over the AES
+   of OpenSSL, and the lines of their host.
 
      session keys SIZE                writes the lines of a session with the factory card that puts
                                       a key set of keys of SIZE bytes, 24 or 32, in the place of its
@@ -8,13 +8,16 @@
                                       SIZE bytes, each of INITIALIZE UPDATE, EXTERNAL AUTHENTICATE
                                       and GETS times GET DATA, of the sequence counter and of the
                                       keys in turns
+     session installs SIZE COUNT      writes the lines of a session with COUNT times INSTALL, 31 at
+                                      most, of security domains; where COUNT is 0 it only begins
      session answers SIZE             reads such lines and answers each by one call of write; at
-                                      INITIALIZE UPDATE it commits a page to the file c.img first,
-                                      as gp does
+                                      INITIALIZE UPDATE and at INSTALL it commits a page to the file
+                                      c.img first, as gp does
 
    Its card is the factory card, but for the length of its keys. Each session makes the key schedules and
    the CMAC subkeys of its static keys and of its session keys once, as gp does, but no schedules
-   for deciphering and none of Key-DEK: these commands need neither. CMAC is written out over
+   for deciphering, but for the one of S-ENC at the first INSTALL of a session, and none of Key-DEK:
+   these commands need neither. CMAC is written out over
    AES_encrypt. This and AES_cbc_encrypt of a few blocks work by a table of 256 bytes in OpenSSL
    3.0 for x86-64, and use no AES instructions whatever the processor has. */
 #define OPENSSL_SUPPRESS_DEPRECATED
@@ -50,7 +53,9 @@ enum { COUNTER_PAGE = 25 };
 
 /* What both ends know of the session. The challenges are the host's and then the card's. */
 static block challenges;
-static AES_KEY enc;
+static uint8_t enc_bytes[32];
+static AES_KEY enc, opening;
+static int has_opening;
 static struct code_key mac, rmac;
 static block chain;
 static uint64_t number;
@@ -143,8 +148,9 @@ static void make_session_keys(const struct code_key *of_enc, const struct code_k
 {
     uint8_t key[32];
 
-    derive(of_enc, S_ENC, 8 * key_size, challenges, 16, key);
-    set_cipher(&enc, key);
+    derive(of_enc, S_ENC, 8 * key_size, challenges, 16, enc_bytes);
+    set_cipher(&enc, enc_bytes);
+    has_opening = 0;
     derive(of_mac, S_MAC, 8 * key_size, challenges, 16, key);
     set_code(&mac, key);
     derive(of_mac, S_RMAC, 8 * key_size, challenges, 16, key);
@@ -241,32 +247,51 @@ static size_t put_data(uint8_t tag, uint8_t *reply)
     return 5;
 }
 
+/* The first vector of the data of a command, with the mark 00, or of a reply, with 80. */
+static void make_vector(uint8_t mark, block vector)
+{
+    memset(vector, 0, 16);
+    vector[0] = mark;
+    for (int i = 0; i < 8; i++)
+        vector[15 - i] = (uint8_t)(number >> 8 * i);
+    AES_encrypt(vector, vector, &enc);
+}
+
 /* Pads and enciphers the data of a command, with the mark 00, or of a reply, with 80. */
 static size_t seal(uint8_t mark, uint8_t *data, size_t size)
 {
-    block vector = { mark };
+    block vector;
     size_t padded = (size / 16 + 1) * 16;
 
     memset(data + size, 0, padded - size);
     data[size] = 0x80;
-    for (int i = 0; i < 8; i++)
-        vector[15 - i] = (uint8_t)(number >> 8 * i);
-    AES_encrypt(vector, vector, &enc);
+    make_vector(mark, vector);
     AES_cbc_encrypt(data, data, padded, &enc, vector, AES_ENCRYPT);
     return padded;
 }
 
-static size_t get_data(const uint8_t *command, uint8_t *reply)
+/* Deciphers the data of a command, and takes off what pads them. */
+static size_t unseal(uint8_t *data, size_t size)
+{
+    block vector;
+
+    if (!has_opening)
+        AES_set_decrypt_key(enc_bytes, (int)(8 * key_size), &opening);
+    has_opening = 1;
+    make_vector(0, vector);
+    AES_cbc_encrypt(data, data, size, &opening, vector, AES_DECRYPT);
+    while (size > 1 && data[size - 1] == 0)
+        size--;
+    return size - 1;
+}
+
+/* Enciphers a reply that is accepted, and puts the R-MAC and the status behind it. */
+static size_t protect(uint8_t *reply, size_t size)
 {
     uint8_t message[16 + MOST];
     block sum;
-    size_t size;
 
-    chain_on(command, command + 5, 0);
-    if (memcmp(command + 5, chain, 8) != 0)
-        return put_status(reply, 0, REFUSED);
-    number++;
-    size = seal(0x80, reply, put_data(command[3], reply));
+    size = seal(0x80, reply, size);
     memcpy(message, chain, 16);
     memcpy(message + 16, reply, size);
     code(&rmac, message, put_status(message, 16 + size, ACCEPTED), sum);
@@ -274,7 +299,48 @@ static size_t get_data(const uint8_t *command, uint8_t *reply)
     return put_status(reply, size + 8, ACCEPTED);
 }
 
-static size_t answer(const uint8_t *command, size_t size, uint8_t *reply)
+static size_t get_data(const uint8_t *command, uint8_t *reply)
+{
+    chain_on(command, command + 5, 0);
+    if (memcmp(command + 5, chain, 8) != 0)
+        return put_status(reply, 0, REFUSED);
+    number++;
+    return protect(reply, put_data(command[3], reply));
+}
+
+/* Commits the entry that the fields of an INSTALL ask for, into the next slot. */
+static void commit_entry(const uint8_t *file)
+{
+    static unsigned char pages[8][SIZE];
+    static unsigned slot = 1;
+    const uint8_t *module = file + 1 + file[0], *name = module + 1 + module[0], *privileges = name + 1 + name[0];
+    unsigned char *page = pages[slot / 4 % 8], *entry = page + 64 * (slot % 4);
+
+    entry[0] = 1;
+    memcpy(entry + 1, name, 1 + name[0]);
+    memcpy(entry + 20, module, 1 + module[0]);
+    entry[37] = 7;
+    memcpy(entry + 38, privileges + 1, privileges[0]);
+    commit(1 + (int)(slot / 4), 1, page);
+    slot++;
+}
+
+static size_t install(uint8_t *command, size_t size, uint8_t *reply)
+{
+    uint8_t *field = command + 5;
+    size_t sealed = size - 13;
+
+    chain_on(command, field, sealed);
+    if (memcmp(field + sealed, chain, 8) != 0)
+        return put_status(reply, 0, REFUSED);
+    number++;
+    unseal(field, sealed);
+    commit_entry(field);
+    reply[0] = 0;
+    return protect(reply, 1);
+}
+
+static size_t answer(uint8_t *command, size_t size, uint8_t *reply)
 {
     if (size == 13 && command[0] == 0x80 && command[1] == 0x50)
         return initialize_update(command + 5, reply);
@@ -282,6 +348,8 @@ static size_t answer(const uint8_t *command, size_t size, uint8_t *reply)
         return external_authenticate(command, reply);
     if (size == 13 && command[0] == 0x84 && command[1] == 0xca)
         return get_data(command, reply);
+    if (size > 29 && command[0] == 0x84 && command[1] == 0xe6)
+        return install(command, size, reply);
     return put_status(reply, 0, REFUSED);
 }
 
@@ -434,6 +502,35 @@ static int lines(unsigned long count, unsigned long gets)
     return fflush(stdout) == 0 ? 0 : 6;
 }
 
+/* INSTALL [for install and make selectable] of a security domain, whose AID ends with this byte. */
+static void put_install(uint8_t last)
+{
+    static const uint8_t fields[] = {
+        7, 0xa0, 0, 0, 1, 0x51, 0x53, 0x50, 8, 0xa0, 0, 0, 1, 0x51, 0x53, 0x50, 0x41,
+        5, 0xd2, 0, 0, 0, 0, 1, 0x80, 2, 0xc9, 0, 0,
+    };
+    uint8_t line[MOST] = { 0x84, 0xe6, 0x0c };
+    size_t size = sizeof fields;
+
+    memcpy(line + 5, fields, size);
+    line[5 + 22] = last;
+    number++;
+    size = seal(0, line + 5, size);
+    line[4] = (uint8_t)(size + 8);
+    chain_on(line, line + 5, size);
+    memcpy(line + 5 + size, chain, 8);
+    put_line(line, 13 + size);
+}
+
+static int installs(unsigned long count)
+{
+    put_initialize_update();
+    put_external_authenticate();
+    for (unsigned long i = 1; i <= count; i++)
+        put_install((uint8_t)i);
+    return fflush(stdout) == 0 ? 0 : 6;
+}
+
 static size_t read_size(const char *word)
 {
     size_t size = strtoul(word, NULL, 10);
@@ -452,6 +549,8 @@ int main(int argc, char **argv)
     key_size = size;
     if (argc == 5 && strcmp(argv[1], "lines") == 0)
         return lines(strtoul(argv[3], NULL, 10), strtoul(argv[4], NULL, 10));
+    if (argc == 4 && strcmp(argv[1], "installs") == 0)
+        return installs(strtoul(argv[3], NULL, 10));
     if (argc == 3 && strcmp(argv[1], "answers") == 0) {
         open_device("c.img");
         return answers();
