@@ -20,7 +20,6 @@ pub mod OfferMade
 pub mod Offered
 pub mod Over
 pub mod Passed
-pub mod PlaceSet
 pub mod PoweredOn
 pub mod PutKeyBrought
 pub mod PutKeyDone
@@ -28,7 +27,4 @@ pub mod PutKeyTables
 pub mod Serving
 pub mod SetAt
 pub mod SomeAdmitted
-pub mod StatusDone
-pub mod StatusShown
-pub mod StatusTemplates
 pub mod UniqueData

@@ -5,7 +5,6 @@ pub mod Confirms
 pub mod Domains
 pub mod Installs
 pub mod Kept
-pub mod Lists
 pub mod LoadRead
 pub mod Manages
 pub mod ObjectsPut
@@ -14,4 +13,3 @@ pub mod PowerOn
 pub mod SecureChannels
 pub mod Secured
 pub mod Serves
-pub mod ShownParts

@@ -16,7 +16,6 @@ mod external_authenticate;
 mod extradition;
 mod formatting;
 mod get_data;
-mod get_status;
 mod initialize_update;
 mod install_application;
 mod literals;
@@ -30,7 +29,6 @@ mod reply;
 mod secure_messaging;
 mod select;
 mod serve;
-mod status_template;
 mod store_data;
 
 pub use card::Card;
