@@ -1,5 +1,6 @@
 -- What the commands of the secure channel do to a card.
-use Rattle.std.proofs.Common.{◌≡◌, ℕ, ◌<◌, List, [], length, None, Some, Result, Ok, Err, refl, sym, ap, subst, ◌∙◌}
+use Rattle.std.proofs.Common.{◌≡◌, ℕ, ◌<◌, List, [], length, Option, None, Some, Result, Ok, Err, inr, refl, sym, ap, subst, ◌∙◌}
+use Rattle.std.proofs.lemmas.Bool.Decides.{eqb_tells}
 use Rattle.std.specs.Prelude.{slice_index_or, slice_set}
 use Rattle.std.proofs.lemmas.List.{get_or_default}
 use Rattle.apdu_core.specs.declared.reply.Status.{Status}
@@ -13,12 +14,16 @@ use Rattle.policy_rules.proofs.Judging.{does_so}
 use Rattle.std.proofs.Common.{inl}
 use Rattle.std.proofs.lemmas.List.{get_or-set_same, length-set, set-set}
 use Rattle.policy_rules.proofs.Selected.{selected_acts}
+use Rattle.policy_rules.proofs.SetChannel.{set_other, set_same}
+use Rattle.policy_rules.specs.GetStatus.{channel_at_place, with_place}
+use Rattle.policy_rules.specs.Volatile.{Channel, Volatile, channel_at, secure_channel_of}
 use Rattle.policy_rules.specs.Requests.{ActsIn}
 use Rattle.policy_rules.specs.declared.live.Live.{Live}
 use Rattle.policy_rules.specs.declared.live.TheConstants.{CHANNELS}
 use Rattle.policy_rules.specs.declared.rule.Rule.{Rule}
-use Rattle.card_core.specs.SecureChannels.{RepresentsChannels, RepresentsSecureChannel, without_offer_held}
+use Rattle.card_core.specs.SecureChannels.{RepresentsChannels, RepresentsSecureChannel, held_on, without_offer_held}
 use Rattle.card_core.specs.Kept.{KeptRepresents, RepresentsSoundly}
+use Rattle.card_core.specs.Lists.{IsSameButPlace, Lists}
 use Rattle.card_core.specs.Manages.{KeepsAids, Manages}
 use Rattle.card_core.specs.Offers.{AnswersAs, OffersAs, secure_channel_for}
 use Rattle.card_core.specs.Serves.{CarriesOutBut, live_refused}
@@ -26,6 +31,26 @@ use Rattle.card_core.specs.declared.channel_session.ChannelSession.{ChannelSessi
 use Rattle.card_core.specs.declared.channel_session.ChannelSession.TheVariants as held
 use Rattle.card_core.proofs.Carrying.{refusal_shows}
 use Rattle.card_core.proofs.ChannelChanges.{HasFour, held_same, says_kept, says_over, secure_channel_shows}
+
+-- a place in a listing changes nothing of what the channels hold
+still_held : (all : List ChannelSession) (volatile : Volatile) (number : ℕ) → length volatile.channels ≡ CHANNELS → number < CHANNELS → RepresentsChannels all volatile
+    → (after : Volatile) → IsSameButPlace volatile number after → RepresentsChannels all after
+still_held all volatile number four low holds after (inl same) = subst (RepresentsChannels all) (sym same) holds
+still_held all volatile number four low holds after (inr (place, is)) =
+    subst (RepresentsChannels all) (sym is) (λ other within. elim (eqb_tells other number) [
+      | inl same ↦
+          (let here = ap (channel_at (with_place volatile number place)) same.1
+          ∙ set_same volatile number (channel_at_place place (channel_at volatile number)) (subst (λ (n : ℕ). number < n) (sym four) low) in
+          subst (RepresentsSecureChannel (held_on all other)) (sym (ap secure_channel_of here ∙ so (channel_at volatile number)))
+          (subst (λ (n : ℕ). RepresentsSecureChannel (held_on all other) (secure_channel_of (channel_at volatile n))) same.1 (holds other within)))
+      | inr differs ↦
+          subst (RepresentsSecureChannel (held_on all other))
+          (sym (ap secure_channel_of (set_other volatile number other (channel_at_place place (channel_at volatile number)) differs.1))) (holds other within)
+    ])
+  where
+    so : (channel : Option Channel) → secure_channel_of (channel_at_place place channel) ≡ secure_channel_of channel
+    so None = refl
+    so (Some channel) = refl
 
 module _ (page : ℕ → List ℕ) (tables : Tables) (live : Live) (all : List ChannelSession) (admitted : Admitted)
     (stands : RepresentsSoundly page (record { tables = tables; live = live; held = all }) admitted.at)
@@ -121,6 +146,24 @@ module _ (page : ℕ → List ℕ) (tables : Tables) (live : Live) (all : List C
   managed_carried tables' body (Err rule) keeps (judges, same, empty) = (
     refusal_shows page (record { tables = tables'; live = live; held = all }) admitted (record { held = four.held; channels = four.channels }) low
         (subst (λ (t : Tables). KeptRepresents page (record { tables = t; live = live; held = all }) admitted.at) (sym same) stands.shows) rule,
+    judges,
+    empty,
+  )
+
+  -- GET STATUS
+  pub listing_carried : (live' : Live) (body : List ℕ) (result : Result Status Rule) → Lists admitted page tables live live' body result
+      → CarriesOutBut page admitted (record { tables = tables; live = live'; held = all }) body result
+  listing_carried live' body (Ok status) shown = (
+    shown.done,
+    record { says = shown.says; holds = still_held all admitted.at.volatile admitted.channel four.channels low stands.shows.holds shown.done.state.volatile shown.volatile },
+    shown.judges,
+    shown.does,
+    shown.body_is,
+    shown.status_is,
+  )
+  listing_carried live' body (Err rule) (judges, same, empty) = (
+    refusal_shows page (record { tables = tables; live = live'; held = all }) admitted (record { held = four.held; channels = four.channels }) low
+        (subst (λ (l : Live). KeptRepresents page (record { tables = tables; live = l; held = all }) admitted.at) (sym same) stands.shows) rule,
     judges,
     empty,
   )

@@ -19,7 +19,8 @@ use Rattle.policy_rules.specs.Admission.{channel_passed, without_place, session_
 use Rattle.policy_rules.specs.Classes.{channel_of}
 use Rattle.policy_rules.specs.LiveEnds.{kept_of_others, live_with_channel, live_without_load, live_without_place}
 use Rattle.policy_rules.specs.ManageChannel.{lowest_closed}
-use Rattle.policy_rules.specs.Requests.{IsLoadNamed, IsSelectedIn, RepresentsState, place_of}
+use Rattle.policy_rules.specs.KeptPlaces.{place_of}
+use Rattle.policy_rules.specs.Requests.{IsLoadNamed, IsSelectedIn, RepresentsState}
 use Rattle.policy_rules.specs.Sound.{IsSound, IsWellLoad}
 use Rattle.policy_rules.specs.State.{State}
 use Rattle.policy_rules.specs.Volatile.{Channel, LoadSession, Nothing, Offered, Secured, SecureChannel, Volatile, channel_at, fresh, load_without_channel, place_in, secure_channel_of, channel_with, with_channel, with_offer_dropped, with_secure_channel, without_load, without_offer}

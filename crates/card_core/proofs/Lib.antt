@@ -20,6 +20,7 @@ pub mod OfferMade
 pub mod Offered
 pub mod Over
 pub mod Passed
+pub mod PlaceSet
 pub mod PoweredOn
 pub mod PutKeyBrought
 pub mod PutKeyDone
@@ -27,4 +28,7 @@ pub mod PutKeyTables
 pub mod Serving
 pub mod SetAt
 pub mod SomeAdmitted
+pub mod StatusDone
+pub mod StatusShown
+pub mod StatusTemplates
 pub mod UniqueData

@@ -14,10 +14,14 @@ use Rattle.policy_rules.specs.Admission.{GeneralFails, IsTaken, admitted_as, cla
 use Rattle.policy_rules.specs.Classes.{IsKnown, IsPlainManagement, channel_of, class_of, is_protected, protects}
 use Rattle.policy_rules.specs.FirstFailing.{IsFirst}
 use Rattle.policy_rules.specs.LiveEnds.{live_without_load, live_without_place}
+use Rattle.policy_rules.specs.KeptPlaces.{place_of}
+use Rattle.policy_rules.specs.StatusRequests.{IsPlaceBefore}
+use Rattle.policy_rules.specs.declared.live.Place.{Place}
+use Rattle.std.specs.Option.{option_map}
 use Rattle.policy_rules.specs.Rules.{status_of}
 use Rattle.policy_rules.specs.Sound.{IsSound}
 use Rattle.policy_rules.specs.State.{State}
-use Rattle.policy_rules.specs.Volatile.{LoadSession, Nothing, Secured, Volatile, channel_at, session_in, secure_channel_of, with_secure_channel, without_load, without_session}
+use Rattle.policy_rules.specs.Volatile.{LoadSession, Nothing, Secured, Volatile, channel_at, place_in, session_in, secure_channel_of, with_secure_channel, without_load, without_session}
 use Rattle.policy_rules.specs.declared.class.Class.{Class}
 use Rattle.policy_rules.specs.declared.instruction.TheConstants.{EXTERNAL_AUTHENTICATE, LOAD}
 use Rattle.policy_rules.specs.declared.live.Live.{Live}
@@ -254,3 +258,10 @@ module _ (page : ℕ → List ℕ) (tables : Tables) (live : Live) (all : List C
       rejected page (record { tables = tables; live = passed_live; held = slice_set all number (held_passed false (slice_index_or all number held.Nothing)) }) state bytes reply G5
       (without_place state.volatile number false) stands.sound (over_first state bytes command short known class is_class front over)
       (command, short, refl) (passed_shows page tables live all state stands.shows four number low false) is
+
+-- the place in a listing that the channel had is that of the card before the command
+pub place_told : (page : ℕ → List ℕ) (tables : Tables) (live : Live) (all : List ChannelSession) (state : State) → RepresentsSoundly page (record { tables = tables; live = live; held = all }) state
+    → (command : Apdu) (session : Option Session) (plain : List ℕ) (channel : ℕ) → channel ≡ channel_of command.class → channel < CHANNELS → (place : Option Place)
+    → place ≡ slice_index_or live.places channel None → IsPlaceBefore place (admitted_as state command session plain)
+place_told page tables live all state stands command session plain channel here low place is =
+    ap (option_map place_of) is ∙ stands.shows.says.places channel low ∙ ap (λ (n : ℕ). place_in (channel_at state.volatile n)) here

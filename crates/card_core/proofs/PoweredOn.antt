@@ -10,7 +10,8 @@ use Rattle.card_types.specs.declared.tables.Entry.{Entry}
 use Rattle.card_types.specs.declared.tables.Tables.{Tables}
 use Rattle.policy_rules.proofs.KeepsSound.{starts_sound}
 use Rattle.policy_rules.specs.LiveEnds.{first_live}
-use Rattle.policy_rules.specs.Requests.{IsSelectedIn, RepresentsState, place_of}
+use Rattle.policy_rules.specs.KeptPlaces.{place_of}
+use Rattle.policy_rules.specs.Requests.{IsSelectedIn, RepresentsState}
 use Rattle.policy_rules.specs.State.{powered_on}
 use Rattle.policy_rules.specs.Volatile.{channel_at, first_volatile, place_in, secure_channel_of}
 use Rattle.policy_rules.specs.declared.live.Live.{Live}

@@ -5,6 +5,7 @@ pub mod Confirms
 pub mod Domains
 pub mod Installs
 pub mod Kept
+pub mod Lists
 pub mod LoadRead
 pub mod Manages
 pub mod ObjectsPut
@@ -13,3 +14,4 @@ pub mod PowerOn
 pub mod SecureChannels
 pub mod Secured
 pub mod Serves
+pub mod ShownParts

@@ -1,5 +1,6 @@
 -- What comes of a command.
 use Rattle.std.specs.Prelude.{◌≡◌, ℕ, List, [], false, Result, Ok, Err, Some, None, Option, slice_set, if◌then◌else◌, ◌==◌}
+use Rattle.apdu_core.specs.Apdu.{Apdu}
 use Rattle.apdu_core.specs.declared.reply.Status.{Status}
 use Rattle.policy_rules.specs.Admission.{Admitted}
 use Rattle.card_types.specs.declared.card_life.CardLife.{CardLife}
@@ -9,9 +10,11 @@ use Rattle.policy_rules.specs.Commands.{HasEffect, Judges}
 use Rattle.policy_rules.specs.Rules.{status_of}
 use Rattle.policy_rules.specs.State.{Effect, State}
 use Rattle.policy_rules.specs.LiveEnds.{live_without_load}
+use Rattle.policy_rules.specs.StatusRequests.{IsPlaceBefore}
+use Rattle.policy_rules.specs.declared.live.Place.{Place}
 use Rattle.policy_rules.specs.Step.{Step, keeps_load, refusal_leaves}
 use Rattle.policy_rules.specs.declared.class.Class.{Class}
-use Rattle.policy_rules.specs.declared.instruction.TheConstants.{GET_DATA, LOAD}
+use Rattle.policy_rules.specs.declared.instruction.TheConstants.{GET_DATA, GET_STATUS, LOAD}
 use Rattle.policy_rules.specs.declared.live.Live.{Live}
 use Rattle.policy_rules.specs.declared.rule.Rule.{Rule}
 use Rattle.card_core.specs.SecureChannels.{held_on, without_offer_held}
@@ -20,6 +23,12 @@ use Rattle.card_core.specs.Kept.{Kept, KeptRepresents, RepresentsSoundly}
 -- one step of the policy machine was made, over these load pages
 abbrev pub Serves : (ℕ → List ℕ) → State → List ℕ → Kept → List ℕ → Option Rule → Type 0
 Serves page state bytes card reply rule = (next : State) × RepresentsSoundly page card next × Step state bytes (record { state = next; reply = reply; rule = rule })
+
+-- The command that has passed is this one and came on the channel; where it may go on with a listing, it does so at this place.
+pub record IsPassed (channel : ℕ) (command : Apdu) (place : Option Place) (judged : Admitted) : Type 0 where
+  pub on : channel ≡ judged.channel
+  pub is : judged.command ≡ command
+  pub goes_on : command.ins ≡ GET_STATUS → IsPlaceBefore place judged
 
 -- no rule of its own refused an admitted command, and it did what it does
 abbrev pub IsDone : (ℕ → List ℕ) → Admitted → Kept → List ℕ → Status → Type 0

@@ -16,6 +16,7 @@ mod external_authenticate;
 mod extradition;
 mod formatting;
 mod get_data;
+mod get_status;
 mod initialize_update;
 mod install_application;
 mod literals;
@@ -29,6 +30,7 @@ mod reply;
 mod secure_messaging;
 mod select;
 mod serve;
+mod status_template;
 mod store_data;
 
 pub use card::Card;

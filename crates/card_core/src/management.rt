@@ -6,7 +6,7 @@ ghost use Rattle.card_core.specs.SecureChannels.{IsInSession};
 ghost use Rattle.card_core.specs.Kept.{AreCards};
 ghost use Rattle.card_core.specs.Manages.{KeepsAids, Manages};
 ghost use Rattle.card_core.specs.Offers.{HoldsFor};
-ghost use Rattle.policy_rules.specs.Classes.{managing};
+ghost use Rattle.policy_rules.specs.Classes.{changing};
 ghost use Rattle.policy_rules.specs.Requests.{ForActing, IsRequestOf, IsWellFormed, RepresentsState, form_in};
 
 use crate::channel_session::ChannelSession;
@@ -38,7 +38,7 @@ pub fn manage<F: Flash>(
     requires cards { AreCards records.old.tables }
     requires domain { is_domain_in records.old.tables.entries.items domain ≡ true }
     requires secured { IsInSession held.now }
-    requires managing { Contains managing (form_in request.now).instruction }
+    requires changing { Contains changing (form_in request.now).instruction }
     requires formed { IsWellFormed request.now }
     requires empty { reply.old.items ≡ [] }
     ensures done { ForActing records.old.tables domain (λ page admitted. RepresentsState page records.old.tables live.now admitted.at

@@ -1,19 +1,20 @@
 //! What is done with a command.
 
-ghost use Rattle.std.specs.Prelude.{◌≡◌, ◌≢◌, ◌⊎◌, ◌<◌, ◌≤◌, ◌++◌, ◌==◌, ℕ, List, [], length, false, true, None, Some, IsSome, Contains, OnOk, OnErr, IfErr, slice_index_or};
+ghost use Rattle.std.specs.Prelude.{◌≡◌, ◌≢◌, ◌⊎◌, ◌<◌, ◌≤◌, ◌++◌, ◌==◌, ℕ, List, [], length, false, true, None, Some, IsSome, Contains, OnOk, OnErr, IfErr, option_copied, slice_index_or};
 ghost use Rattle.apdu_core.specs.Apdu.{apdu_of};
 ghost use Rattle.apdu_core.specs.Reply.{status_bytes};
 ghost use Rattle.card_core.specs.Commits.{MayCommit};
 ghost use Rattle.card_core.specs.Domains.{is_domain_in};
 ghost use Rattle.card_core.specs.SecureChannels.{RepresentsSecureChannel, IsInSession, held_on, held_passed, without_offer_held};
 ghost use Rattle.card_core.specs.Kept.{AreCards, RepresentsSoundly, kept_of};
-ghost use Rattle.card_core.specs.Serves.{CarriesOut, CarriesOutBut, IsTerminatedFor, Serves, live_passed, live_refused, rule_of, status_word};
+ghost use Rattle.card_core.specs.Serves.{CarriesOut, CarriesOutBut, IsPassed, IsTerminatedFor, Serves, live_passed, live_refused, rule_of, status_word};
 ghost use Rattle.policy_rules.specs.Admission.{Admitted};
-ghost use Rattle.policy_rules.specs.Classes.{managing};
+ghost use Rattle.policy_rules.specs.Classes.{changing, managing};
 ghost use Rattle.policy_rules.specs.Commands.{IsBuilt};
+ghost use Rattle.policy_rules.specs.LiveEnds.{live_without_place};
 ghost use Rattle.policy_rules.specs.State.{State};
 ghost use Rattle.policy_rules.specs.Volatile.{Secured};
-ghost use Rattle.policy_rules.specs.declared.instruction.TheConstants.{SELECT, MANAGE_CHANNEL, GET_DATA, INITIALIZE_UPDATE};
+ghost use Rattle.policy_rules.specs.declared.instruction.TheConstants.{SELECT, MANAGE_CHANNEL, GET_DATA, GET_STATUS, INITIALIZE_UPDATE};
 ghost use Rattle.scp03_card.specs.Protected.{protected};
 ghost use Rattle.scp03_card.specs.Session.{Session};
 
@@ -21,6 +22,7 @@ use crate::admit::{Received, admit, is_over};
 use crate::channel_session::ChannelSession;
 use crate::external_authenticate::{external_authenticate, judge_offer};
 use crate::get_data::get_data;
+use crate::get_status::get_status;
 use crate::initialize_update::initialize_update;
 use crate::manage_channel::{close_channel, open_channel};
 use crate::management::manage;
@@ -32,8 +34,8 @@ use arrayvec::ArrayVec;
 use card_types::CardLife;
 use flash_core::Flash;
 use policy_rules::{
-    CHANNELS, EXTERNAL_AUTHENTICATE, LOAD, Live, Request, Rule, RuleG, is_plain_management,
-    is_protected, parse,
+    CHANNELS, EXTERNAL_AUTHENTICATE, GET_STATUS, LOAD, Live, Place, Request, Rule, RuleG,
+    is_plain_management, is_protected, parse,
 };
 use rec_store::Records;
 
@@ -54,6 +56,19 @@ fn check_class(
         held.drop_offer();
     }
     if over { Err(RuleG::G5) } else { Ok(()) }
+}
+
+// Forgets the place in a listing that the channel has, and answers it for the command that may go on at it.
+fn take_place(live: &mut Live, received: &Received<'_>) -> Option<Place>
+    requires { received.now.channel < CHANNELS }
+    ensures place { received.now.command.ins ≡ GET_STATUS → result ≡ slice_index_or live.old.places received.now.channel None }
+    ensures forgotten { live.new ≡ live_without_place live.old received.now.channel }
+{
+    if received.command.ins == GET_STATUS {
+        return live.take_place(received.channel);
+    }
+    live.forget_place(received.channel);
+    None
 }
 
 // Behind secure messaging the load session of the channel ends, unless the command goes on with it.
@@ -84,6 +99,7 @@ fn carry_out<F: Flash>(
     held: &mut [ChannelSession; CHANNELS],
     received: &Received<'_>,
     command: &Command<'_>,
+    place: Option<&Place>,
     reply: &mut ArrayVec<u8, REPLY_LIMIT>,
 ) -> Result<Status, Rule>
     requires up { records.old.live ≡ true }
@@ -96,19 +112,19 @@ fn carry_out<F: Flash>(
     requires secured { Contains managing command.now.ins → IsInSession (held_on held.old received.now.channel) }
     requires short { length command.now.body.now ≤ 255 }
     requires empty { reply.old.items ≡ [] }
-    ensures done { (page : ℕ → List ℕ) (judged : Admitted) → RepresentsSoundly page (kept_of records.old.tables live.old held.old) judged.at
-        → received.now.channel ≡ judged.channel → judged.command ≡ apdu_of command.now
-        → CarriesOutBut page judged (kept_of records.new.tables live.new held.new) reply.new.items result }
+    ensures done { (page : ℕ → List ℕ) (told : Admitted) → RepresentsSoundly page (kept_of records.old.tables live.old held.old) told.at
+        → IsPassed received.now.channel (apdu_of command.now) (option_copied place.entry) told
+        → CarriesOutBut page told (kept_of records.new.tables live.new held.new) reply.new.items result }
     ensures cards { AreCards records.new.tables }
     ensures same { (records.new.flash ≡ records.old.flash) × (records.new.live ≡ true) }
     ensures refused { OnErr result (records.new ≡ records.old) }
-    ensures idle { (command.now.ins ≡ INITIALIZE_UPDATE → ⊥) → (Contains managing command.now.ins → ⊥) → records.new ≡ records.old }
+    ensures idle { (command.now.ins ≡ INITIALIZE_UPDATE → ⊥) → (Contains changing command.now.ins → ⊥) → records.new ≡ records.old }
     ensures kept { (command.now.ins ≡ GET_DATA) ⊎ Contains managing command.now.ins → held.new ≡ held.old }
     ensures room { length reply.new.items ≤ 239 }
 {
     let channel = received.channel;
-    let place = usize::from(channel);
-    judge_offer(&held[place], command.ins)?;
+    let at = usize::from(channel);
+    judge_offer(&held[at], command.ins)?;
     let request = match parse(command.ins, command.p1, command.p2, command.body) {
         Ok(request) => request,
         Err(rule) => return Err(rule),
@@ -118,7 +134,7 @@ fn carry_out<F: Flash>(
             select(
                 records.tables(),
                 live,
-                &mut held[place],
+                &mut held[at],
                 channel,
                 partial,
                 reply,
@@ -136,29 +152,31 @@ fn carry_out<F: Flash>(
         ),
         Request::Initialize { version, challenge } => initialize_update(
             records,
-            &mut held[place],
+            &mut held[at],
             received.selected,
             version,
             challenge,
             reply,
         ),
         Request::Authenticate { level, proof } => {
-            external_authenticate(&mut held[place], level, proof)
+            external_authenticate(&mut held[at], level, proof)
         }
+        Request::ListStatus(request) => get_status(
+            records.tables(),
+            live,
+            place,
+            channel,
+            received.selected,
+            &request,
+            reply,
+        ),
         Request::PutKey { .. }
         | Request::Store { .. }
         | Request::DeleteKey { .. }
         | Request::Install(_)
         | Request::MakeSelectable(_)
         | Request::Extradite(_) => {
-            manage(
-                records,
-                live,
-                &held[place],
-                received.selected,
-                &request,
-                reply,
-            )
+            manage(records, live, &held[at], received.selected, &request, reply)
         }
     }
 }
@@ -170,6 +188,7 @@ fn act<F: Flash>(
     held: &mut [ChannelSession; CHANNELS],
     received: &Received<'_>,
     command: &Command<'_>,
+    place: Option<&Place>,
     reply: &mut ArrayVec<u8, REPLY_LIMIT>,
 ) -> Result<Status, Rule>
     requires up { records.old.live ≡ true }
@@ -182,20 +201,20 @@ fn act<F: Flash>(
     requires secured { Contains managing command.now.ins → IsInSession (held_on held.old received.now.channel) }
     requires short { length command.now.body.now ≤ 255 }
     requires empty { reply.old.items ≡ [] }
-    ensures done { (page : ℕ → List ℕ) (judged : Admitted) → RepresentsSoundly page (kept_of records.old.tables live.old held.old) judged.at
-        → received.now.channel ≡ judged.channel → judged.command ≡ apdu_of command.now
-        → CarriesOut page judged (kept_of records.new.tables live.new held.new) reply.new.items result }
+    ensures done { (page : ℕ → List ℕ) (told : Admitted) → RepresentsSoundly page (kept_of records.old.tables live.old held.old) told.at
+        → IsPassed received.now.channel (apdu_of command.now) (option_copied place.entry) told
+        → CarriesOut page told (kept_of records.new.tables live.new held.new) reply.new.items result }
     ensures cards { AreCards records.new.tables }
     ensures same { (records.new.flash ≡ records.old.flash) × (records.new.live ≡ true) }
     ensures refused { OnErr result (records.new ≡ records.old) }
-    ensures idle { (command.now.ins ≡ INITIALIZE_UPDATE → ⊥) → (Contains managing command.now.ins → ⊥) → records.new ≡ records.old }
+    ensures idle { (command.now.ins ≡ INITIALIZE_UPDATE → ⊥) → (Contains changing command.now.ins → ⊥) → records.new ≡ records.old }
     ensures kept { IsInSession (held_on held.old received.now.channel) → (command.now.ins ≡ GET_DATA) ⊎ Contains managing command.now.ins → held.new ≡ held.old }
     ensures room { length reply.new.items ≤ 239 }
 {
-    let served = carry_out(records, live, held, received, command, reply);
+    let served = carry_out(records, live, held, received, command, place, reply);
     if let Err(rule) = served {
-        let place = usize::from(received.channel);
-        refuse(rule, received.channel, live, &mut held[place]);
+        let at = usize::from(received.channel);
+        refuse(rule, received.channel, live, &mut held[at]);
     }
     served
 }
@@ -266,7 +285,7 @@ pub fn serve<F: Flash>(
         Err(rule) => return close_plain(Err(Rule::G(rule)), reply),
     };
     let channel = usize::from(received.channel);
-    live.forget_place(received.channel);
+    let place = take_place(live, &received);
     if let Err(rule) = check_class(records.tables().life, &received, &mut held[channel]) {
         return close_plain(Err(Rule::G(rule)), reply);
     }
@@ -277,7 +296,15 @@ pub fn serve<F: Flash>(
     }
     if !is_protected(received.class, received.command.ins) {
         pass_session(&received, live);
-        let served = act(records, live, held, &received, &received.command, reply);
+        let served = act(
+            records,
+            live,
+            held,
+            &received,
+            &received.command,
+            place.as_ref(),
+            reply,
+        );
         return close_plain(served, reply);
     }
     let mut plain = [0; 255];
@@ -288,7 +315,15 @@ pub fn serve<F: Flash>(
                 body: &plain[..count],
                 ..received.command
             };
-            let served = act(records, live, held, &received, &command, reply);
+            let served = act(
+                records,
+                live,
+                held,
+                &received,
+                &command,
+                place.as_ref(),
+                reply,
+            );
             close_protected(served, &mut held[channel], reply)
         }
         Err(rule) => {

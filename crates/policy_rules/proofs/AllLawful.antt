@@ -7,6 +7,7 @@ use Rattle.policy_rules.proofs.Lawful.{IsLawful}
 use Rattle.policy_rules.proofs.SelectLaws.{select_lawful}
 use Rattle.policy_rules.proofs.ManageChannelLaws.{manage_channel_lawful}
 use Rattle.policy_rules.proofs.GetDataLaws.{get_data_lawful}
+use Rattle.policy_rules.proofs.GetStatusLaws.{get_status_lawful}
 use Rattle.policy_rules.proofs.InitializeUpdateLaws.{initialize_update_lawful}
 use Rattle.policy_rules.proofs.ExternalAuthenticateLaws.{external_authenticate_lawful}
 use Rattle.policy_rules.proofs.PutKeyLaws.{put_key_lawful}
@@ -58,7 +59,8 @@ all_lawful ins =
     (either _ _ _ (alone _ store_data_lawful)
     (either _ _ _ (alone _ delete_key_lawful)
     (either _ _ _ (beside _ _ (install_application_lawful managed) install_apart
-    (beside _ _ (make_selectable_lawful managed) selectable_apart (alone _ (extradition_lawful managed)))) none))))))))
+    (beside _ _ (make_selectable_lawful managed) selectable_apart (alone _ (extradition_lawful managed))))
+    (either _ _ _ (alone _ get_status_lawful) none)))))))))
 
 pub one_form : OneForm
 one_form ins p1 p2 body = (all_lawful ins).one ins p1 p2 body

@@ -1,5 +1,5 @@
 -- Class bytes and instructions (ISO/IEC 7816-4:2013, 5.4 and 5.5; GlobalPlatform Card Specification 2.3.1, 11.1.4).
-use Rattle.std.specs.Prelude.{◌≡◌, ℕ, Bool, true, false, ◌&&◌, not, ◌/◌, ◌%◌, List, [], ◌∷◌, Option, None, Some, if◌then◌else◌, ◌==◌, Contains, MatchOption}
+use Rattle.std.specs.Prelude.{◌≡◌, ℕ, Bool, true, false, ◌&&◌, not, ◌/◌, ◌%◌, List, [], ◌∷◌, ◌++◌, Option, None, Some, if◌then◌else◌, ◌==◌, Contains, MatchOption}
 use Rattle.apdu_core.specs.Apdu.{Apdu}
 use Rattle.policy_rules.specs.declared.class.Class.{Class}
 use Rattle.policy_rules.specs.declared.class.Class.TheVariants.{Interindustry, Plain, Secure}
@@ -17,9 +17,13 @@ class_of byte =
 abbrev pub channel_of : ℕ → ℕ
 channel_of byte = byte % 4
 
--- PUT KEY, STORE DATA, DELETE and INSTALL: the instructions of card content management, as far as they are built
+-- PUT KEY, STORE DATA, DELETE and INSTALL: the instructions of card content management that change the registry, as far as they are built
+abbrev pub changing : List ℕ
+changing = 0xD8 ∷ 0xE2 ∷ 0xE4 ∷ 0xE6 ∷ []
+
+-- and GET STATUS, which lists it
 abbrev pub managing : List ℕ
-managing = 0xD8 ∷ 0xE2 ∷ 0xE4 ∷ 0xE6 ∷ []
+managing = changing ++ 0xF2 ∷ []
 
 -- the instructions of a class, as far as they are built
 abbrev pub instructions_of : Class → List ℕ

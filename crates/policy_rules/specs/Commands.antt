@@ -8,6 +8,7 @@ use Rattle.policy_rules.specs.ExternalAuthenticate.{ExternalAuthenticateFails, e
 use Rattle.policy_rules.specs.Extradition.{extradition}
 use Rattle.policy_rules.specs.FirstFailing.{IsFirst}
 use Rattle.policy_rules.specs.GetData.{get_data}
+use Rattle.policy_rules.specs.GetStatus.{get_status}
 use Rattle.policy_rules.specs.InitializeUpdate.{initialize_update}
 use Rattle.policy_rules.specs.InstallApplication.{install_application}
 use Rattle.policy_rules.specs.MakeSelectable.{make_selectable}
@@ -36,7 +37,8 @@ forms_of ins =
     (listed (ins == put_key.instruction) (put_key ∷ [])
     (listed (ins == store_data.instruction) (store_data ∷ [])
     (listed (ins == delete_key.instruction) (delete_key ∷ [])
-    (listed (ins == install_application.instruction) (install_application ∷ make_selectable ∷ extradition ∷ []) []))))))))
+    (listed (ins == install_application.instruction) (install_application ∷ make_selectable ∷ extradition ∷ [])
+    (listed (ins == get_status.instruction) (get_status ∷ []) [])))))))))
 
 -- it holds of one of these forms
 abbrev pub OneOf : (CommandForm → Type 0) → List CommandForm → Type 0

@@ -23,6 +23,7 @@ pub mod InstallFields
 pub mod InstallRequests
 pub mod KeyFields
 pub mod KeyOrder
+pub mod KeptPlaces
 pub mod KeySets
 pub mod KeyVersions
 pub mod Laws

@@ -1,8 +1,9 @@
--- What the code keeps of the channels and of the load session: how it begins, and where some of it ends.
+-- What the code keeps of the channels and of the load session: how it begins, where some of it ends, and a place in a listing.
 use Rattle.std.specs.Prelude.{ℕ, [], ◌∷◌, Option, None, Some, slice_set, if◌then◌else◌, ◌==◌}
 use Rattle.card_types.specs.declared.tables.TheConstants.{ISSUER_SLOT}
 use Rattle.policy_rules.specs.declared.live.Live.{Live}
 use Rattle.policy_rules.specs.declared.live.LoadName.{LoadName}
+use Rattle.policy_rules.specs.declared.live.Place.{Place}
 
 -- after power on or reset channel 0 alone is open, with the Issuer Security Domain selected
 abbrev pub first_live : Live
@@ -11,6 +12,10 @@ first_live = record { selected = Some ISSUER_SLOT ∷ None ∷ None ∷ None ∷
 -- the channel has no place in a listing
 abbrev pub live_without_place : Live → ℕ → Live
 live_without_place live number = record { selected = live.selected; load = live.load; places = slice_set live.places number None }
+
+-- the channel has this place in a listing
+abbrev pub live_with_place : Live → ℕ → Place → Live
+live_with_place live number place = record { selected = live.selected; load = live.load; places = slice_set live.places number (Some place) }
 
 -- the load session without that of a channel
 abbrev pub kept_of_others : ℕ → Option LoadName → Option LoadName

@@ -1,5 +1,5 @@
 -- What a request of the code stands for, and how what the code keeps says the state of the card.
-use Rattle.std.specs.Prelude.{◌≡◌, ◌⊎◌, ℕ, ◌<◌, ◌≤◌, List, [], ◌∷◌, Option, None, Some, Result, Ok, Err, length, slice_index_or}
+use Rattle.std.specs.Prelude.{◌≡◌, ◌≢◌, ◌⊎◌, ℕ, ◌<◌, ◌≤◌, List, [], ◌∷◌, Option, None, Some, Result, Ok, Err, length, slice_index_or}
 use Rattle.std.specs.Option.{option_map}
 use Rattle.apdu_core.specs.Apdu.{Apdu}
 use Rattle.card_types.specs.Level.{code_of}
@@ -16,27 +16,30 @@ use Rattle.policy_rules.specs.ExternalAuthenticate.{external_authenticate}
 use Rattle.policy_rules.specs.Extradition.{extradition}
 use Rattle.policy_rules.specs.ExtraditionRequests.{IsExtraditionRequest}
 use Rattle.policy_rules.specs.GetData.{get_data, tag_of}
+use Rattle.policy_rules.specs.GetStatus.{get_status}
 use Rattle.policy_rules.specs.InitializeUpdate.{initialize_update}
 use Rattle.policy_rules.specs.InstallApplication.{install_application}
 use Rattle.policy_rules.specs.InstallRequests.{IsInstallRequest}
 use Rattle.policy_rules.specs.MakeSelectable.{make_selectable}
+use Rattle.policy_rules.specs.KeptPlaces.{place_of}
 use Rattle.policy_rules.specs.ManageChannel.{manage_channel}
 use Rattle.policy_rules.specs.Management.{acting}
 use Rattle.policy_rules.specs.PutKey.{HasKeyFields, SentKey, put_key}
 use Rattle.policy_rules.specs.Select.{select}
 use Rattle.policy_rules.specs.SelectableRequests.{IsSelectableRequest}
 use Rattle.policy_rules.specs.State.{State}
+use Rattle.policy_rules.specs.StatusRequests.{IsListRequest}
 use Rattle.policy_rules.specs.StoreData.{store_data}
-use Rattle.policy_rules.specs.Volatile.{Channel, LoadSession, Place, channel_at, place_in}
+use Rattle.policy_rules.specs.Volatile.{Channel, LoadSession, channel_at, place_in, selected_on}
+use Rattle.policy_rules.specs.declared.instruction.TheConstants.{EXTERNAL_AUTHENTICATE, GET_STATUS}
 use Rattle.policy_rules.specs.declared.live.Live.{Live}
 use Rattle.policy_rules.specs.declared.live.LoadName.{LoadName}
-use Rattle.policy_rules.specs.declared.live.Place.{Place as KeptPlace}
 use Rattle.policy_rules.specs.declared.live.TheConstants.{CHANNELS}
 use Rattle.policy_rules.specs.declared.put_key.PutKeys.{PutKeys}
 use Rattle.policy_rules.specs.declared.put_key.PutKeys.TheVariants.{One, Three}
 use Rattle.policy_rules.specs.declared.put_key.SealedKey.{SealedKey}
 use Rattle.policy_rules.specs.declared.request.Request.{Request}
-use Rattle.policy_rules.specs.declared.request.Request.TheVariants.{Select, MoreChannel, LessChannel, Get, Initialize, Authenticate, PutKey, Store, DeleteKey, Install, MakeSelectable, Extradite}
+use Rattle.policy_rules.specs.declared.request.Request.TheVariants.{Select, MoreChannel, LessChannel, Get, Initialize, Authenticate, PutKey, Store, DeleteKey, Install, MakeSelectable, Extradite, ListStatus}
 use Rattle.policy_rules.specs.declared.rule.Rule.{Rule}
 use Rattle.policy_rules.specs.declared.rule.Rule.TheVariants.{PS}
 use Rattle.policy_rules.specs.declared.rule.RulePS.TheVariants.{P, S}
@@ -63,6 +66,7 @@ form_in (DeleteKey version identifier) = delete_key
 form_in (Install request) = install_application
 form_in (MakeSelectable request) = make_selectable
 form_in (Extradite request) = extradition
+form_in (ListStatus request) = get_status
 
 -- the request is that of a command of its form with this P1, P2 and data field
 abbrev pub Decodes : Request → ℕ → ℕ → List ℕ → Type 0
@@ -78,6 +82,7 @@ Decodes (DeleteKey version identifier) p1 p2 body = Chooses body version identif
 Decodes (Install request) p1 p2 body = IsInstallRequest request p1 p2 body
 Decodes (MakeSelectable request) p1 p2 body = IsSelectableRequest request p1 p2 body
 Decodes (Extradite request) p1 p2 body = IsExtraditionRequest request p1 p2 body
+Decodes (ListStatus request) p1 p2 body = IsListRequest request p1 p2 body
 
 -- the rule on its form that a command breaks: P1 and P2 are judged before the data field
 abbrev pub IsMalformed : ℕ → ℕ → ℕ → List ℕ → Rule → Type 0
@@ -118,13 +123,20 @@ pub record ActsIn (page : ℕ → List ℕ) (tables : Tables) (domain : ℕ) (ad
   pub at : held tables.entries.items domain ≡ Some entry
   pub on : acting admitted ≡ domain_aid tables.entries.items domain
 
+-- the command is judged by what the card has once it has passed: all but EXTERNAL AUTHENTICATE, which needs the keys of the offer, and GET
+-- STATUS, which goes on at the place that the channel had before
+abbrev pub IsJudgedBehind : ℕ → Type 0
+IsJudgedBehind ins = (ins ≢ EXTERNAL_AUTHENTICATE) × (ins ≢ GET_STATUS)
+
+-- a command that has passed acts on the registry that the card had before, for the domain that was selected then
+abbrev pub ActsAsBefore : Admitted → Type 0
+ActsAsBefore admitted =
+    (admitted.at.registry ≡ admitted.before.registry)
+    × (selected_on admitted.at.volatile admitted.channel ≡ selected_on admitted.before.volatile admitted.channel)
+
 -- so it is of each command that acts for the domain in a slot, over any load pages
 abbrev pub ForActing : Tables → ℕ → ((ℕ → List ℕ) → Admitted → Type 0) → Type 0
 ForActing tables domain So = (page : ℕ → List ℕ) (admitted : Admitted) → ActsIn page tables domain admitted → So page admitted
-
--- a place in a listing, as the code keeps it
-abbrev pub place_of : KeptPlace → Place
-place_of place = record { kind = place.kind; body = place.body.items; last = place.last }
 
 -- the load session that the code has named: its channel, its AID, its domain by the slot, and how many blocks have come
 abbrev pub IsLoadNamed : List (Option Entry) → Option LoadName → Option LoadSession → Type 0

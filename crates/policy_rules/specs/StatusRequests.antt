@@ -15,7 +15,7 @@ use Rattle.card_types.specs.declared.tables.Tables.{Tables}
 use Rattle.policy_rules.specs.Admission.{Admitted}
 use Rattle.policy_rules.specs.GetStatus.{AFile, AnEntry, BeginsAbove, IsListed, IsSearch, StatusParameters, Thing, aid_in, place_before}
 use Rattle.policy_rules.specs.Management.{acting}
-use Rattle.policy_rules.specs.Requests.{place_of}
+use Rattle.policy_rules.specs.KeptPlaces.{place_of}
 use Rattle.policy_rules.specs.declared.get_status.ListRequest.{ListRequest}
 use Rattle.policy_rules.specs.declared.live.Place.{Place}
 

@@ -6,17 +6,18 @@ ghost use Rattle.card_types.specs.InOrder.{IsInOrder};
 ghost use Rattle.policy_rules.specs.Admission.{Admitted};
 ghost use Rattle.policy_rules.specs.FirstFailing.{IsFirst};
 ghost use Rattle.policy_rules.specs.GetStatus.{BeginsAbove, GetStatusFails, IsInTree, IsSearch, ListingFails, Sees, StatusParameters, Thing, get_status, get_status_refusal, get_status_rules};
-ghost use Rattle.policy_rules.specs.InstallRequests.{IsRefusedBy};
 ghost use Rattle.policy_rules.specs.Management.{acting};
-ghost use Rattle.policy_rules.specs.Requests.{ActsIn};
+ghost use Rattle.policy_rules.specs.Requests.{ActsIn, Parses};
 ghost use Rattle.policy_rules.specs.StatusRequests.{IsFirstShown, IsListOf, IsListRequest, IsListedAs, IsListedAt, IsNextListed, IsPlaceBefore, IsThingAt, NoneListed, found_in, lower_of};
 ghost use Rattle.policy_rules.specs.declared.get_status.RuleGS.TheVariants.{GS1};
+ghost use Rattle.policy_rules.specs.declared.instruction.TheConstants.{GET_STATUS};
 
 use crate::charge::is_at_or_above;
 use crate::delegation::holds;
 use crate::install_application::is_in_charge;
 use crate::live::Place;
 use crate::management::{RuleM, is_locked};
+use crate::request::Request;
 use crate::rule::{Rule, RulePS};
 use crate::select::is_issuer;
 use apdu_core::Status;
@@ -296,21 +297,19 @@ fn read_search(body: &[u8]) -> Option<&[u8]>
 }
 
 /// Reads P1, P2 and the data field of a GET STATUS.
-pub(crate) fn parse_status(p1: u8, p2: u8, body: &[u8]) -> Result<ListRequest<'_>, Rule>
-    ensures form { IfOk result (λ request. StatusParameters p1 p2) }
-    ensures means { IfOk result (λ request. IsListRequest request p1 p2 body.now) }
-    ensures refused { IfErr result (IsRefusedBy get_status p1 p2 body.now) }
+pub(crate) fn parse_get_status(p1: u8, p2: u8, body: &[u8]) -> Result<Request<'_>, Rule>
+    ensures { Parses GET_STATUS p1 p2 body.now result }
 {
     if !takes_parameters(p1, p2) {
         return Err(Rule::PS(RulePS::P));
     }
     match read_search(body) {
-        Some(partial) => Ok(ListRequest {
+        Some(partial) => Ok(Request::ListStatus(ListRequest {
             kind: p1,
             next: p2 == 0x03,
             partial,
             body,
-        }),
+        })),
         None => Err(Rule::PS(RulePS::S)),
     }
 }

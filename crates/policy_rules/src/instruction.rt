@@ -26,7 +26,6 @@ pub const INSTALL: u8 = 0xE6;
 /// No class has it yet.
 pub const SET_STATUS: u8 = 0xF0;
 
-/// No class has it yet.
 pub const GET_STATUS: u8 = 0xF2;
 
 /// Each instruction byte against its literal.

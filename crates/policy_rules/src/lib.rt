@@ -40,7 +40,7 @@ pub use initialize_update::{OfferedSet, RuleIU, judge_initialize_update};
 pub use install_application::{InstallRequest, Installation, RuleII, judge_install};
 pub use install_fields::InstallFields;
 pub use instruction::{
-    EXTERNAL_AUTHENTICATE, GET_DATA, INITIALIZE_UPDATE, LOAD, MANAGE_CHANNEL, SELECT,
+    EXTERNAL_AUTHENTICATE, GET_DATA, GET_STATUS, INITIALIZE_UPDATE, LOAD, MANAGE_CHANNEL, SELECT,
     instruction_bytes,
 };
 pub use key_order::{KeyName, lowest_set, next_key, numbered_set};

@@ -26,8 +26,8 @@ pub fn classes()
     ensures class_bytes { map class_of (range_with_len 0 256)
         ≡ replicate 4 (Some Interindustry) ++ replicate 124 None ++ replicate 4 (Some Plain) ++ replicate 4 (Some Secure) ++ replicate 120 None }
     ensures interindustry { instructions_of Interindustry ≡ 0xA4 ∷ 0x70 ∷ 0xCA ∷ [] }
-    ensures plain { instructions_of Plain ≡ 0xCA ∷ 0x50 ∷ 0xD8 ∷ 0xE2 ∷ 0xE4 ∷ 0xE6 ∷ [] }
-    ensures secure { instructions_of Secure ≡ 0x82 ∷ 0xCA ∷ 0xD8 ∷ 0xE2 ∷ 0xE4 ∷ 0xE6 ∷ [] }
+    ensures plain { instructions_of Plain ≡ 0xCA ∷ 0x50 ∷ 0xD8 ∷ 0xE2 ∷ 0xE4 ∷ 0xE6 ∷ 0xF2 ∷ [] }
+    ensures secure { instructions_of Secure ≡ 0x82 ∷ 0xCA ∷ 0xD8 ∷ 0xE2 ∷ 0xE4 ∷ 0xE6 ∷ 0xF2 ∷ [] }
     ensures management { management ≡ 0xE4 ∷ 0xE6 ∷ 0xE8 ∷ 0xD8 ∷ 0xE2 ∷ 0xF0 ∷ 0xF2 ∷ [] }
 {}
 

@@ -1,6 +1,6 @@
 //! The volatile state of a card, as the rules see it.
 
-ghost use Rattle.std.specs.Prelude.{◌≡◌, ◌<◌, IfSome, position, is_none, length};
+ghost use Rattle.std.specs.Prelude.{◌≡◌, ◌<◌, IfSome, None, position, is_none, length, slice_index_or};
 
 use arrayvec::ArrayVec;
 use card_types::{Aid, ISSUER_SLOT};
@@ -50,7 +50,7 @@ pub struct Live {
 }
 
 impl Live {
-    ghost use Rattle.policy_rules.specs.LiveEnds.{first_live, live_with_channel, live_without_load, live_without_place};
+    ghost use Rattle.policy_rules.specs.LiveEnds.{first_live, live_with_channel, live_with_place, live_without_load, live_without_place};
 
     /// After power on or reset: channel 0 alone is open, with the Issuer Security Domain selected.
     pub fn powered_on() -> Live
@@ -78,6 +78,24 @@ impl Live {
         ensures { self.new ≡ live_without_place self.old channel }
     {
         self.places[usize::from(channel)] = None;
+    }
+
+    /// Takes the channel's place in a listing, which is forgotten then.
+    pub fn take_place(&mut self, channel: u8) -> Option<Place>
+        requires { channel < CHANNELS }
+        ensures place { result ≡ slice_index_or self.old.places channel None }
+        ensures forgotten { self.new ≡ live_without_place self.old channel }
+    {
+        self.places[usize::from(channel)].take()
+    }
+
+    /// The channel has this place in a listing then.
+    pub fn set_place(&mut self, channel: u8, place: Place)
+        requires { channel < CHANNELS }
+        ensures set { self.new ≡ live_with_place self.old channel place }
+        ensures four { length self.old.places ≡ CHANNELS }
+    {
+        self.places[usize::from(channel)] = Some(place);
     }
 
     /// The channel's load session ends, if it has one.

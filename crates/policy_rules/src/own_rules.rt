@@ -1,18 +1,19 @@
 //! The first of a command's own rules that fails.
 
-ghost use Rattle.std.specs.Prelude.{◌≡◌, ◌≢◌, ◌<◌, ℕ, List, None, IsSome, slice_index_or};
+ghost use Rattle.std.specs.Prelude.{◌≡◌, ◌<◌, ℕ, List, None, IsSome, slice_index_or};
 ghost use Rattle.apdu_core.specs.Apdu.{Apdu};
 ghost use Rattle.card_types.specs.InOrder.{IsInOrder};
 ghost use Rattle.policy_rules.specs.Admission.{Admitted};
 ghost use Rattle.policy_rules.specs.Commands.{Judges};
-ghost use Rattle.policy_rules.specs.Requests.{IsMeant, IsRequestOf, RepresentsState};
+ghost use Rattle.policy_rules.specs.Requests.{ActsAsBefore, IsJudgedBehind, IsMeant, IsRequestOf, RepresentsState};
 ghost use Rattle.policy_rules.specs.PutKey.{TellsChecks};
 ghost use Rattle.policy_rules.specs.Sound.{IsSound};
-ghost use Rattle.policy_rules.specs.declared.instruction.TheConstants.{EXTERNAL_AUTHENTICATE};
+ghost use Rattle.policy_rules.specs.declared.instruction.TheConstants.{EXTERNAL_AUTHENTICATE, GET_STATUS};
 
 use crate::delete_key::judge_delete_key;
 use crate::extradition::judge_extradition;
 use crate::get_data::judge_get_data;
+use crate::get_status::judge_status;
 use crate::initialize_update::judge_initialize_update;
 use crate::install_application::judge_install;
 use crate::live::{CHANNELS, Live};
@@ -27,7 +28,8 @@ use card_types::Tables;
 
 /// The first of a well-formed command's own rules that fails, or none. Whether the check values of PUT KEY fit is told by the
 /// caller, who has the Key-DEK; of other commands it is not read.
-/// Of EXTERNAL AUTHENTICATE the answer is none, since its rules need the keys of the offer.
+/// Of EXTERNAL AUTHENTICATE the answer is none, since its rules need the keys of the offer. A GET STATUS is judged by what is kept
+/// before it, since it goes on at the place that the channel had then.
 pub fn judge(
     tables: &Tables,
     live: &Live,
@@ -40,8 +42,10 @@ pub fn judge(
     requires opened { IsSome (slice_index_or live.now.selected channel None) }
     requires meant { IsMeant request.now }
     ensures judged { (page : ℕ → List ℕ) (passed : Admitted) → RepresentsState page tables.now live.now passed.at → IsSound passed.at → channel ≡ passed.channel
-        → IsRequestOf request.now passed.command → passed.command.ins ≢ EXTERNAL_AUTHENTICATE
+        → IsRequestOf request.now passed.command → IsJudgedBehind passed.command.ins
         → TellsChecks checks_fit passed → Judges passed result }
+    ensures listed { (page : ℕ → List ℕ) (passed : Admitted) → RepresentsState page tables.now live.now passed.before → IsSound passed.before → channel ≡ passed.channel
+        → ActsAsBefore passed → IsRequestOf request.now passed.command → passed.command.ins ≡ GET_STATUS → Judges passed result }
     ensures elsewhere { (command : Apdu) → IsRequestOf request.now command → command.ins ≡ EXTERNAL_AUTHENTICATE → result ≡ None }
 {
     match request {
@@ -99,6 +103,11 @@ pub fn judge(
         Request::Extradite(request) => {
             let domain = live.selected[usize::from(channel)].unwrap();
             judge_extradition(tables, domain, request).err()
+        }
+        Request::ListStatus(request) => {
+            let domain = live.selected[usize::from(channel)].unwrap();
+            let place = live.places[usize::from(channel)].as_ref();
+            judge_status(tables, place, domain, request).err()
         }
     }
 }

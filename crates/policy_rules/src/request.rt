@@ -5,13 +5,14 @@ ghost use Rattle.policy_rules.specs.Commands.{IsBuilt, Takes};
 ghost use Rattle.policy_rules.specs.Requests.{IsMalformed, Decodes, form_in};
 
 use crate::extradition::ExtraditionRequest;
+use crate::get_status::ListRequest;
 use crate::install_application::InstallRequest;
 use crate::make_selectable::SelectableRequest;
 use crate::put_key::PutKeys;
 use crate::rule::Rule;
 use crate::{
-    delete_key, external_authenticate, get_data, initialize_update, install, instruction,
-    manage_channel, put_key, select, store_data,
+    delete_key, external_authenticate, get_data, get_status, initialize_update, install,
+    instruction, manage_channel, put_key, select, store_data,
 };
 use card_types::Level;
 
@@ -63,6 +64,8 @@ pub enum Request<'a> {
     MakeSelectable(SelectableRequest<'a>),
     /// INSTALL [for extradition].
     Extradite(ExtraditionRequest<'a>),
+    /// GET STATUS.
+    ListStatus(ListRequest<'a>),
 }
 
 /// The request of a command, or the first of the rules on its form that fails.
@@ -81,6 +84,7 @@ pub fn parse(ins: u8, p1: u8, p2: u8, body: &[u8]) -> Result<Request<'_>, Rule>
         instruction::STORE_DATA => store_data::parse_store_data(p1, p2, body),
         instruction::DELETE => delete_key::parse_delete(p1, p2, body),
         instruction::INSTALL => install::parse_install(p1, p2, body),
+        instruction::GET_STATUS => get_status::parse_get_status(p1, p2, body),
         _ => external_authenticate::parse_external_authenticate(p1, p2, body),
     }
 }

@@ -161,6 +161,8 @@ fn sending(line: &[u8]) -> Option<Form> {
         b"send" => Some(Form::Send(read_plain(rest)?)),
         b"bad" => Some(Form::Bad(read_plain(rest)?)),
         b"store" => Some(Form::Send(read_store(rest)?)),
+        b"list" => Some(Form::Send(read_listing(rest, 0x02)?)),
+        b"more" => Some(Form::Send(read_listing(rest, 0x03)?)),
         b"putkey" => Some(Form::PutKey(read_putting(rest)?)),
         b"install" | b"selectable" | b"extradite" => Some(Form::Install(read_installing(line)?)),
         _ => None,
@@ -200,6 +202,26 @@ fn read_store(word: &[u8]) -> Option<Plain> {
         p1: 0x90,
         p2: 0x00,
         body: bytes(word)?,
+    })
+}
+
+// A GET STATUS: P1, and what the AIDs begin with where a word says it.
+fn read_listing(words: &[u8], p2: u8) -> Option<Plain> {
+    let mut words = Words::new(words);
+    let p1 = byte(words.take()?)?;
+    let partial: ArrayVec<u8, 16> = match words.end() {
+        Some(()) => ArrayVec::new(),
+        None => words.bytes()?,
+    };
+    words.end()?;
+    let mut body = ArrayVec::new();
+    body.try_push(0x4f).ok()?;
+    push_field(&partial, &mut body)?;
+    Some(Plain {
+        ins: 0xf2,
+        p1,
+        p2,
+        body,
     })
 }
 

@@ -1,12 +1,15 @@
-use Rattle.std.proofs.Common.{rules, ◌≡◌, ◌⊎◌, inl, inr, arith, Bor, Err, Option, ℕ, ◌<◌, List, None, Some, refl, sym, ap, subst, ◌∙◌}
+use Rattle.std.proofs.Common.{rules, ◌≡◌, ◌⊎◌, inl, inr, arith, Bor, Err, Option, ℕ, ◌<◌, List, [], ◌∷◌, None, Some, refl, sym, ap, subst, ◌∙◌}
 use Rattle.std.specs.Prelude.{Contains, IfErr, slice_index_or}
 use Rattle.std.proofs.lemmas.List.{get_or_default}
 use Rattle.apdu_core.specs.Apdu.{Apdu, apdu_of}
 use Rattle.card_types.specs.InOrder.{IsInOrder}
 use Rattle.policy_rules.proofs.ExternalAuthenticateLaws.{begin_passes, unoffered_judged}
 use Rattle.policy_rules.proofs.Judging.{malformed_judged}
-use Rattle.policy_rules.specs.Classes.{managing}
-use Rattle.policy_rules.specs.Requests.{IsMalformed, IsRequestOf, form_in}
+use Rattle.policy_rules.specs.Classes.{changing, managing}
+use Rattle.std.proofs.lemmas.List.Elements.{Contains-append_left}
+use Rattle.policy_rules.specs.Requests.{ActsIn, IsMalformed, IsRequestOf, RepresentsState, form_in}
+use Rattle.card_types.specs.declared.tables.Tables.{Tables}
+use Rattle.card_core.specs.Lists.{Lists}
 use Rattle.policy_rules.specs.Commands.{Judges}
 use Rattle.policy_rules.specs.declared.external_authenticate.RuleEA.TheVariants.{EA1}
 use Rattle.policy_rules.specs.declared.extradition.ExtraditionRequest.{ExtraditionRequest}
@@ -17,9 +20,9 @@ use Rattle.policy_rules.specs.declared.rule.Rule.{Rule}
 use Rattle.policy_rules.specs.declared.rule.Rule.TheVariants.{EA}
 use Rattle.policy_rules.specs.declared.live.TheConstants.{CHANNELS}
 use Rattle.policy_rules.specs.declared.request.Request.{Request}
-use Rattle.policy_rules.specs.declared.request.Request.TheVariants.{Authenticate, DeleteKey, Extradite, Initialize, Install, MakeSelectable, MoreChannel, PutKey, Store}
+use Rattle.policy_rules.specs.declared.request.Request.TheVariants.{Authenticate, DeleteKey, Extradite, Initialize, Install, ListStatus, MakeSelectable, MoreChannel, PutKey, Store}
 use Rattle.policy_rules.specs.declared.put_key.PutKeys.{PutKeys}
-use Rattle.card_core.proofs.Acting.{acts_for, answer_carried, held_there, low, managed_carried, offer_carried}
+use Rattle.card_core.proofs.Acting.{acts_for, answer_carried, held_there, listing_carried, low, managed_carried, offer_carried}
 use Rattle.card_core.proofs.Cards.{in_order}
 use Rattle.card_core.proofs.Carrying.{refusal_carried}
 use Rattle.card_core.proofs.Offered.{is_offer, no_offer}
@@ -34,31 +37,42 @@ use Rattle.card_core.proofs.serve.carry_out.Goals as goal
 abbrev IsOfForm : Request → ℕ → Type 0
 IsOfForm request ins = ins ≡ (form_in request).instruction
 
--- the requests of card content management
+-- the requests of card content management that change the registry
 managed : (request : Request)
     → ((replaced version : ℕ) × (keys : PutKeys) × (request ≡ PutKey replaced version keys))
     ⊎ ((objects : Bor (List ℕ)) × (request ≡ Store objects))
     ⊎ ((version : ℕ) × (identifier : Option ℕ) × (request ≡ DeleteKey version identifier))
     ⊎ ((install : InstallRequest) × (request ≡ Install install))
     ⊎ ((selecting : SelectableRequest) × (request ≡ MakeSelectable selecting))
+    ⊎ ((move : ExtraditionRequest) × (request ≡ Extradite move)) → Contains changing (form_in request).instruction
+managed request (inl put) = subst (λ (r : Request). Contains changing (form_in r).instruction) (sym put.3) (0, omega arith, refl)
+managed request (inr (inl store)) = subst (λ (r : Request). Contains changing (form_in r).instruction) (sym store.1) (1, omega arith, refl)
+managed request (inr (inr (inl delete))) = subst (λ (r : Request). Contains changing (form_in r).instruction) (sym delete.2) (2, omega arith, refl)
+managed request (inr (inr (inr (inl install)))) = subst (λ (r : Request). Contains changing (form_in r).instruction) (sym install.1) (3, omega arith, refl)
+managed request (inr (inr (inr (inr (inl selecting))))) = subst (λ (r : Request). Contains changing (form_in r).instruction) (sym selecting.1) (3, omega arith, refl)
+managed request (inr (inr (inr (inr (inr move))))) = subst (λ (r : Request). Contains changing (form_in r).instruction) (sym move.1) (3, omega arith, refl)
+
+manages : (request : Request)
+    → ((replaced version : ℕ) × (keys : PutKeys) × (request ≡ PutKey replaced version keys))
+    ⊎ ((objects : Bor (List ℕ)) × (request ≡ Store objects))
+    ⊎ ((version : ℕ) × (identifier : Option ℕ) × (request ≡ DeleteKey version identifier))
+    ⊎ ((install : InstallRequest) × (request ≡ Install install))
+    ⊎ ((selecting : SelectableRequest) × (request ≡ MakeSelectable selecting))
     ⊎ ((move : ExtraditionRequest) × (request ≡ Extradite move)) → Contains managing (form_in request).instruction
-managed request (inl put) = subst (λ (r : Request). Contains managing (form_in r).instruction) (sym put.3) (0, omega arith, refl)
-managed request (inr (inl store)) = subst (λ (r : Request). Contains managing (form_in r).instruction) (sym store.1) (1, omega arith, refl)
-managed request (inr (inr (inl delete))) = subst (λ (r : Request). Contains managing (form_in r).instruction) (sym delete.2) (2, omega arith, refl)
-managed request (inr (inr (inr (inl install)))) = subst (λ (r : Request). Contains managing (form_in r).instruction) (sym install.1) (3, omega arith, refl)
-managed request (inr (inr (inr (inr (inl selecting))))) = subst (λ (r : Request). Contains managing (form_in r).instruction) (sym selecting.1) (3, omega arith, refl)
-managed request (inr (inr (inr (inr (inr move))))) = subst (λ (r : Request). Contains managing (form_in r).instruction) (sym move.1) (3, omega arith, refl)
+manages request which = Contains-append_left changing (0xF2 ∷ []) (form_in request).instruction (managed request which)
 
 pub returns-in_err-judge_offer-clause-done : goal.returns-in_err-judge_offer-clause-done
-returns-in_err-judge_offer-clause-done g c = λ page judged stands at is.
+returns-in_err-judge_offer-clause-done g c = λ page judged stands passed.
+    let at = passed.on in
+    let is = passed.is in
     let tables = c.args.records.now.tables in
     let live = c.args.live.now in
     let all = c.args.held.now in
     let slot = c.args.received.now.selected in
-    let refused : IfErr c.judge_offer.result (λ rule. (rule ≡ EA EA1) × (c.args.command.now.ins ≡ EXTERNAL_AUTHENTICATE) × (IsOffered (slice_index_or all c.from-place.result c.index-held-place.result) → ⊥)) = c.judge_offer.ensures.refused in
-    let found = subst (λ r. IfErr r (λ rule. (rule ≡ EA EA1) × (c.args.command.now.ins ≡ EXTERNAL_AUTHENTICATE) × (IsOffered (slice_index_or all c.from-place.result c.index-held-place.result) → ⊥))) c.in_err-judge_offer.was refused in
+    let refused : IfErr c.judge_offer.result (λ rule. (rule ≡ EA EA1) × (c.args.command.now.ins ≡ EXTERNAL_AUTHENTICATE) × (IsOffered (slice_index_or all c.from-at.result c.index-held-at.result) → ⊥)) = c.judge_offer.ensures.refused in
+    let found = subst (λ r. IfErr r (λ rule. (rule ≡ EA EA1) × (c.args.command.now.ins ≡ EXTERNAL_AUTHENTICATE) × (IsOffered (slice_index_or all c.from-at.result c.index-held-at.result) → ⊥))) c.in_err-judge_offer.was refused in
     let here = held_there page tables live all judged stands c.told-held c.args.received.now.channel slot c.requires.channel at c.requires.selected
-    c.from-place.result c.index-held-place.result c.from-place.ensures in
+    c.from-at.result c.index-held-at.result c.from-at.ensures in
     let low = low page tables live all judged stands c.told-held c.args.received.now.channel slot c.requires.channel at c.requires.selected in
     let none = no_offer (slice_index_or all judged.channel held.Nothing) judged (stands.shows.holds judged.channel low)
     (subst (λ (h : ChannelSession). IsOffered h → ⊥) here found.2) in
@@ -69,15 +83,17 @@ returns-in_err-judge_offer-clause-done g c = λ page judged stands at is.
 
 -- a command of a wrong form
 pub returns-in-Err-clause-done : goal.returns-in-Err-clause-done
-returns-in-Err-clause-done g c = λ page judged stands at is.
+returns-in-Err-clause-done g c = λ page judged stands passed.
+    let at = passed.on in
+    let is = passed.is in
     let tables = c.args.records.now.tables in
     let live = c.args.live.now in
     let all = c.args.held.now in
     let slot = c.args.received.now.selected in
     let here = held_there page tables live all judged stands c.told-held c.args.received.now.channel slot c.requires.channel at c.requires.selected
-    c.from-place.result c.index-held-place.result c.from-place.ensures in
+    c.from-at.result c.index-held-at.result c.from-at.ensures in
     let low = low page tables live all judged stands c.told-held c.args.received.now.channel slot c.requires.channel at c.requires.selected in
-    let offered : c.args.command.now.ins ≡ EXTERNAL_AUTHENTICATE → IsOffered (slice_index_or all c.from-place.result c.index-held-place.result) = search rules in
+    let offered : c.args.command.now.ins ≡ EXTERNAL_AUTHENTICATE → IsOffered (slice_index_or all c.from-at.result c.index-held-at.result) = search rules in
     let begins = begin_passes judged (λ ins none. is_offer (slice_index_or all judged.channel held.Nothing) judged (stands.shows.holds judged.channel low)
     (subst IsOffered here (offered (sym (ap (λ (command : Apdu). command.ins) is) ∙ ins))) none) in
     let wrong : IsMalformed c.args.command.now.ins c.args.command.now.p1 c.args.command.now.p2 c.args.command.now.body.now c.in-Err.rule = search rules in
@@ -99,27 +115,31 @@ external_authenticate-requires-clause-formed g c = (apdu_of c.args.command.now, 
 pub manage-requires-clause-secured : goal.manage-requires-clause-secured
 manage-requires-clause-secured g c =
     let form : IsOfForm c.in-Ok.request c.args.command.now.ins = search rules in
-    let here : slice_index_or c.args.held.now c.from-place.result c.index-held-place-in-PutKey.result ≡ slice_index_or c.args.held.now c.args.received.now.channel held.Nothing =
-    ap (λ (n : ℕ). slice_index_or c.args.held.now n c.index-held-place-in-PutKey.result) c.from-place.ensures
-    ∙ get_or_default c.args.held.now c.args.received.now.channel c.index-held-place-in-PutKey.result held.Nothing
+    let here : slice_index_or c.args.held.now c.from-at.result c.index-held-at-in-PutKey.result ≡ slice_index_or c.args.held.now c.args.received.now.channel held.Nothing =
+    ap (λ (n : ℕ). slice_index_or c.args.held.now n c.index-held-at-in-PutKey.result) c.from-at.ensures
+    ∙ get_or_default c.args.held.now c.args.received.now.channel c.index-held-at-in-PutKey.result held.Nothing
     (subst (λ (n : ℕ). c.args.received.now.channel < n) (sym c.told-held) c.requires.channel) in
-    subst IsInSession (sym here) (c.requires.secured (subst (Contains managing) (sym form) (managed c.in-Ok.request c.in-PutKey.is)))
+    subst IsInSession (sym here) (c.requires.secured (subst (Contains managing) (sym form) (manages c.in-Ok.request c.in-PutKey.is)))
 
-pub manage-requires-clause-managing : goal.manage-requires-clause-managing
-manage-requires-clause-managing g c = managed c.in-Ok.request c.in-PutKey.is
+pub manage-requires-clause-changing : goal.manage-requires-clause-changing
+manage-requires-clause-changing g c = managed c.in-Ok.request c.in-PutKey.is
 
 pub manage-requires-clause-formed : goal.manage-requires-clause-formed
 manage-requires-clause-formed g c = (apdu_of c.args.command.now, record { form = search rules; means = search rules }, c.requires.short)
 
 pub returns-in-MoreChannel-clause-done : goal.returns-in-MoreChannel-clause-done
-returns-in-MoreChannel-clause-done g c = λ page judged stands at is.
+returns-in-MoreChannel-clause-done g c = λ page judged stands passed.
+    let at = passed.on in
+    let is = passed.is in
     c.open_channel.ensures.done c.args.records.now.tables (in_order c.args.records.now.tables c.requires.cards).layout page c.args.held.now judged stands c.told-held
     (subst (λ (n : ℕ). n < CHANNELS) at c.requires.channel)
     (subst (IsRequestOf MoreChannel) (sym is) (record { form = search rules; means = search rules }))
 
 -- INITIALIZE UPDATE
 pub returns-in-Initialize-clause-done : goal.returns-in-Initialize-clause-done
-returns-in-Initialize-clause-done g c = λ page judged stands at is.
+returns-in-Initialize-clause-done g c = λ page judged stands passed.
+    let at = passed.on in
+    let is = passed.is in
     let low : judged.channel < CHANNELS = subst (λ (n : ℕ). n < CHANNELS) at c.requires.channel in
     let four : HasFour (record { tables = c.args.records.now.tables; live = c.args.live.now; held = c.args.held.now }) judged.at =
     record { held = c.told-held; channels = stands.sound.fits.channels } in
@@ -130,18 +150,20 @@ returns-in-Initialize-clause-done g c = λ page judged stands at is.
     let request : IsRequestOf (Initialize c.in-Initialize.version c.in-Initialize.challenge) (apdu_of c.args.command.now) =
     record { form = search rules; means = search rules } in
     let asked = subst (IsRequestOf (Initialize c.in-Initialize.version c.in-Initialize.challenge)) (sym is) request in
-    let here : slice_index_or c.args.held.now c.from-place.result c.index-held-place-in-Initialize.result ≡ slice_index_or c.args.held.now judged.channel held.Nothing =
-    ap (λ (n : ℕ). slice_index_or c.args.held.now n c.index-held-place-in-Initialize.result) (c.from-place.ensures ∙ at)
-    ∙ get_or_default c.args.held.now judged.channel c.index-held-place-in-Initialize.result held.Nothing (subst (λ (n : ℕ). judged.channel < n) (sym c.told-held) low) in
+    let here : slice_index_or c.args.held.now c.from-at.result c.index-held-at-in-Initialize.result ≡ slice_index_or c.args.held.now judged.channel held.Nothing =
+    ap (λ (n : ℕ). slice_index_or c.args.held.now n c.index-held-at-in-Initialize.result) (c.from-at.ensures ∙ at)
+    ∙ get_or_default c.args.held.now judged.channel c.index-held-at-in-Initialize.result held.Nothing (subst (λ (n : ℕ). judged.channel < n) (sym c.told-held) low) in
     let offers = c.initialize_update.ensures.done page judged acts asked in
-    rw (c.from-place.ensures ∙ at) (offer_carried page c.args.records.now.tables c.args.live.now c.args.held.now judged stands four low c.args.received.now.selected
+    rw (c.from-at.ensures ∙ at) (offer_carried page c.args.records.now.tables c.args.live.now c.args.held.now judged stands four low c.args.received.now.selected
     c.initialize_update.new.records.tables c.initialize_update.new.held c.initialize_update.new.reply.items c.initialize_update.result
     asked.form opened c.initialize_update.ensures.entries
     (subst (λ (h : ChannelSession). OffersAs judged page c.args.records.now.tables c.initialize_update.new.records.tables h c.initialize_update.new.held c.initialize_update.new.reply.items c.initialize_update.result) here offers))
 
 -- EXTERNAL AUTHENTICATE
 pub returns-in-Authenticate-clause-done : goal.returns-in-Authenticate-clause-done
-returns-in-Authenticate-clause-done g c = λ page judged stands at is.
+returns-in-Authenticate-clause-done g c = λ page judged stands passed.
+    let at = passed.on in
+    let is = passed.is in
     let low : judged.channel < CHANNELS = subst (λ (n : ℕ). n < CHANNELS) at c.requires.channel in
     let four : HasFour (record { tables = c.args.records.now.tables; live = c.args.live.now; held = c.args.held.now }) judged.at =
     record { held = c.told-held; channels = stands.sound.fits.channels } in
@@ -150,17 +172,19 @@ returns-in-Authenticate-clause-done g c = λ page judged stands at is.
     let request : IsRequestOf (Authenticate c.in-Authenticate.level c.in-Authenticate.proof) (apdu_of c.args.command.now) =
     record { form = search rules; means = search rules } in
     let asked = subst (IsRequestOf (Authenticate c.in-Authenticate.level c.in-Authenticate.proof)) (sym is) request in
-    let here : slice_index_or c.args.held.now c.from-place.result c.index-held-place-in-Authenticate.result ≡ slice_index_or c.args.held.now judged.channel held.Nothing =
-    ap (λ (n : ℕ). slice_index_or c.args.held.now n c.index-held-place-in-Authenticate.result) (c.from-place.ensures ∙ at)
-    ∙ get_or_default c.args.held.now judged.channel c.index-held-place-in-Authenticate.result held.Nothing (subst (λ (n : ℕ). judged.channel < n) (sym c.told-held) low) in
+    let here : slice_index_or c.args.held.now c.from-at.result c.index-held-at-in-Authenticate.result ≡ slice_index_or c.args.held.now judged.channel held.Nothing =
+    ap (λ (n : ℕ). slice_index_or c.args.held.now n c.index-held-at-in-Authenticate.result) (c.from-at.ensures ∙ at)
+    ∙ get_or_default c.args.held.now judged.channel c.index-held-at-in-Authenticate.result held.Nothing (subst (λ (n : ℕ). judged.channel < n) (sym c.told-held) low) in
     let answers = c.external_authenticate.ensures judged asked
     (subst (λ (h : ChannelSession). RepresentsSecureChannel h (secure_channel_for judged)) (sym here) (stands.shows.holds judged.channel low)) in
-    rw (c.from-place.ensures ∙ at, c.requires.empty) (answer_carried page c.args.records.now.tables c.args.live.now c.args.held.now judged stands four low c.args.received.now.selected
+    rw (c.from-at.ensures ∙ at, c.requires.empty) (answer_carried page c.args.records.now.tables c.args.live.now c.args.held.now judged stands four low c.args.received.now.selected
     c.external_authenticate.new.held c.external_authenticate.result asked.form opened
     (subst (λ (h : ChannelSession). AnswersAs judged h c.external_authenticate.new.held c.external_authenticate.result) here answers))
 
 pub returns-in-PutKey-clause-done : goal.returns-in-PutKey-clause-done
-returns-in-PutKey-clause-done g c = λ page judged stands at is.
+returns-in-PutKey-clause-done g c = λ page judged stands passed.
+    let at = passed.on in
+    let is = passed.is in
     let tables = c.args.records.now.tables in
     let live = c.args.live.now in
     let all = c.args.held.now in
@@ -168,7 +192,7 @@ returns-in-PutKey-clause-done g c = λ page judged stands at is.
     let request : IsRequestOf c.in-Ok.request (apdu_of c.args.command.now) = record { form = search rules; means = search rules } in
     let low = low page tables live all judged stands c.told-held c.args.received.now.channel slot c.requires.channel at c.requires.selected in
     let here = held_there page tables live all judged stands c.told-held c.args.received.now.channel slot c.requires.channel at c.requires.selected
-    c.from-place.result c.index-held-place-in-PutKey.result c.from-place.ensures in
+    c.from-at.result c.index-held-at-in-PutKey.result c.from-at.ensures in
     let acts = acts_for page tables live all judged stands c.told-held c.args.received.now.channel slot c.requires.channel at c.requires.selected in
     let managed = c.manage.ensures.done page judged acts stands.shows.says (subst (IsRequestOf c.in-Ok.request) (sym is) request)
     (subst (λ (h : ChannelSession). RepresentsSecureChannel h (secure_channel_for judged)) (sym here) (stands.shows.holds judged.channel low)) in
@@ -178,4 +202,27 @@ returns-in-PutKey-clause-done g c = λ page judged stands at is.
 pub returns-in-PutKey-clause-idle : goal.returns-in-PutKey-clause-idle
 returns-in-PutKey-clause-idle g c = λ other unmanaged.
     let form : IsOfForm c.in-Ok.request c.args.command.now.ins = search rules in
-    absurd (unmanaged (subst (Contains managing) (sym form) (managed c.in-Ok.request c.in-PutKey.is)))
+    absurd (unmanaged (subst (Contains changing) (sym form) (managed c.in-Ok.request c.in-PutKey.is)))
+
+-- GET STATUS
+pub get_status-requires-clause-in_order : goal.get_status-requires-clause-in_order
+get_status-requires-clause-in_order g c = subst IsInOrder (sym c.tables-in-ListStatus.ensures.tables) (in_order c.args.records.now.tables c.requires.cards)
+
+pub get_status-requires-clause-formed : goal.get_status-requires-clause-formed
+get_status-requires-clause-formed g c = (apdu_of c.args.command.now, record { form = search rules; means = search rules }, c.requires.short)
+
+pub returns-in-ListStatus-clause-done : goal.returns-in-ListStatus-clause-done
+returns-in-ListStatus-clause-done g c = λ page judged stands passed.
+    let tables = c.args.records.now.tables in
+    let live = c.args.live.now in
+    let all = c.args.held.now in
+    let slot = c.args.received.now.selected in
+    let request : IsRequestOf c.in-Ok.request (apdu_of c.args.command.now) = record { form = search rules; means = search rules } in
+    let asked = subst (λ (r : Request). IsRequestOf r (apdu_of c.args.command.now)) c.in-ListStatus.is request in
+    let low = low page tables live all judged stands c.told-held c.args.received.now.channel slot c.requires.channel passed.on c.requires.selected in
+    let acts = acts_for page tables live all judged stands c.told-held c.args.received.now.channel slot c.requires.channel passed.on c.requires.selected in
+    let here = subst (λ (t : Tables). ActsIn page t slot judged) (sym c.tables-in-ListStatus.ensures.tables) acts in
+    let says = subst (λ (t : Tables). RepresentsState page t live judged.at) (sym c.tables-in-ListStatus.ensures.tables) stands.shows.says in
+    let lists = c.get_status.ensures.done page judged here says passed.on (passed.goes_on asked.form.0) (subst (IsRequestOf (ListStatus c.in-ListStatus.request)) (sym passed.is) asked) in
+    listing_carried page tables live all judged stands (record { held = c.told-held; channels = stands.sound.fits.channels }) low c.get_status.new.live c.get_status.new.reply.items c.get_status.result
+    (subst (λ (t : Tables). Lists judged page t live c.get_status.new.live c.get_status.new.reply.items c.get_status.result) c.tables-in-ListStatus.ensures.tables lists)

@@ -15,7 +15,7 @@ use Rattle.policy_rules.specs.Requests.{RepresentsState}
 use Rattle.policy_rules.specs.declared.live.Live.{Live}
 use Rattle.policy_rules.specs.declared.live.TheConstants.{CHANNELS}
 use Rattle.card_core.specs.Kept.{RepresentsSoundly}
-use Rattle.card_core.proofs.Passed.{goes_on, holds_passed, managed_served, opened_so, opened_stands, over_served, passed_as, passed_held, passed_there, placed, plain_stands, protects_so, read_at, refused_served, selected_same, session_of, written_at}
+use Rattle.card_core.proofs.Passed.{goes_on, holds_passed, managed_served, opened_so, opened_stands, over_served, passed_as, passed_held, passed_there, place_told, placed, plain_stands, protects_so, read_at, refused_served, selected_same, session_of, written_at}
 use Rattle.card_core.proofs.Serving.{admits_opened, admits_plain, rejected, carried_out, is_managed, not_managed, protected_one, unprotected_unmanaged}
 use Rattle.card_core.specs.SecureChannels.{RepresentsSecureChannel, IsInSession, without_offer_held}
 use Rattle.card_core.specs.Secured.{OpensAs}
@@ -43,7 +43,7 @@ returns-in-Err-check_class-clause-served g c = λ page state stands.
     c.in-Ok.ensures.spelled c.in-Ok.received.class c.in-Ok.ensures.class c.in-Ok.ensures.known (c.in-Ok.ensures.passed page state (subst (λ t. RepresentsState page t c.args.live.now state) (sym c.tables.ensures.tables) stands.shows.says))
     (subst (λ (life : CardLife). IsTerminatedFor life c.in-Ok.received.class c.in-Ok.received.command.ins) (ap (λ t. t.life) c.tables-2.ensures.tables ∙ stands.shows.says.registry.life) over.1)
     (c.close_plain-in-Err-check_class.ensures.closed ∙ rw (c.requires.empty, over.0) refl) in
-    rw (c.close_plain-in-Err-check_class.ensures.rule, over.0, lost, c.forget_place.ensures, c.from-channel.ensures, c.in-Ok.ensures.channel) served
+    rw (c.close_plain-in-Err-check_class.ensures.rule, over.0, lost, c.take_place-place.ensures.forgotten, c.from-channel.ensures, c.in-Ok.ensures.channel) served
 
 -- card content management in plain
 pub returns-then-is_plain_management-clause-served : goal.returns-then-is_plain_management-clause-served
@@ -58,7 +58,7 @@ returns-then-is_plain_management-clause-served g c = λ page state stands.
     let served = managed_served page c.args.records.now.tables c.args.live.now c.args.held.now state stands c.told-held command c.in-Ok.received.selected opened
     c.args.bytes.now c.close_plain-then-is_plain_management.new.reply.items c.in-Ok.ensures.spelled c.in-Ok.ensures.known c.in-Ok.received.class c.in-Ok.ensures.class
     front not_over managed c.end.new.self c.end.ensures (c.close_plain-then-is_plain_management.ensures.closed ∙ rw c.requires.empty refl) in
-    rw (c.close_plain-then-is_plain_management.ensures.rule, passed, c.end_load.ensures, c.forget_place.ensures, c.in-Ok.ensures.channel, here) served
+    rw (c.close_plain-then-is_plain_management.ensures.rule, passed, c.end_load.ensures, c.take_place-place.ensures.forgotten, c.in-Ok.ensures.channel, here) served
 
 -- any other command in plain
 pub act-served-requires-clause-secured : goal.act-served-requires-clause-secured
@@ -70,7 +70,7 @@ act-served-requires-clause-secured g c = λ managed.
 
 pub act-served-requires-clause-selected : goal.act-served-requires-clause-selected
 act-served-requires-clause-selected g c =
-    rw c.pass_session.ensures (rw selected_same (rw c.forget_place.ensures c.in-Ok.ensures.selected))
+    rw c.pass_session.ensures (rw selected_same (rw c.take_place-place.ensures.forgotten c.in-Ok.ensures.selected))
 
 pub act-served-requires-clause-short : goal.act-served-requires-clause-short
 act-served-requires-clause-short g c = length-body (apdu_of c.in-Ok.received.command) c.args.bytes.now c.in-Ok.ensures.spelled
@@ -86,7 +86,14 @@ returns-then-not-is_protected-clause-served g c = λ page state stands.
     let unmanaged = not_managed command c.in-Ok.received.class c.is_plain_management.result c.in-Ok.ensures.class c.is_plain_management.ensures c.if-is_plain_management.false in
     let at = plain_stands page c.args.records.now.tables c.args.live.now c.args.held.now state stands c.told-held command plain in
     let done = c.act-served.ensures.done page (admitted_as state command None command.body)
-    (rw (passed, c.pass_session.ensures, c.forget_place.ensures, c.in-Ok.ensures.channel, here) at) c.in-Ok.ensures.channel refl in
+    (rw (passed, c.pass_session.ensures, c.take_place-place.ensures.forgotten, c.in-Ok.ensures.channel, here) at)
+    (record {
+      on = c.in-Ok.ensures.channel;
+      is = refl;
+      goes_on = λ ins. place_told page c.args.records.now.tables c.args.live.now c.args.held.now state stands command None command.body c.in-Ok.received.channel
+          c.in-Ok.ensures.channel (subst (λ (n : ℕ). n < CHANNELS) (sym c.in-Ok.ensures.channel) (channel_is_low command.class)) _
+          (c.as_ref.ensures.value ∙ c.take_place-place.ensures.place ins);
+    }) in
     rw c.close_plain-then-not-is_protected.ensures.rule (
     carried_out page state c.args.bytes.now command None command.body
     (record { tables = c.act-served.new.records.tables; live = c.act-served.new.live; held = c.act-served.new.held }) c.act-served.new.reply.items
@@ -101,7 +108,7 @@ open_command-requires g c = length-body (apdu_of c.in-Ok.received.command) c.arg
 -- that opens
 pub act-served-requires-in-Ok-open_command-clause-selected : goal.act-served-requires-in-Ok-open_command-clause-selected
 act-served-requires-in-Ok-open_command-clause-selected g c =
-    rw c.pass_session-in-Ok-open_command.ensures (rw selected_same (rw c.forget_place.ensures c.in-Ok.ensures.selected))
+    rw c.pass_session-in-Ok-open_command.ensures (rw selected_same (rw c.take_place-place.ensures.forgotten c.in-Ok.ensures.selected))
 
 pub act-served-requires-in-Ok-open_command-clause-secured : goal.act-served-requires-in-Ok-open_command-clause-secured
 act-served-requires-in-Ok-open_command-clause-secured g c = λ managed.
@@ -132,7 +139,7 @@ returns-in-Ok-open_command-clause-served g c = λ page state stands.
     let admitted : Admitted = admitted_as state command (Some (accepting session command)) plain in
     let at = opened_stands page c.args.records.now.tables c.args.live.now c.args.held.now state stands c.told-held command c.in-Ok.received.selected
     opened protected session found.1 c.open_command.new.held plain found.2.0 found.2.1 in
-    let live = c.pass_session-in-Ok-open_command.ensures ∙ ap (live_passed command.ins c.in-Ok.received.channel) c.forget_place.ensures
+    let live = c.pass_session-in-Ok-open_command.ensures ∙ ap (live_passed command.ins c.in-Ok.received.channel) c.take_place-place.ensures.forgotten
     ∙ ap (λ (n : ℕ). live_passed command.ins n (live_without_place c.args.live.now n)) c.in-Ok.ensures.channel in
     let done = c.act-served-in-Ok-open_command.ensures.done page admitted
     (subst (λ (l : Live). RepresentsSoundly page (record {
@@ -142,7 +149,14 @@ returns-in-Ok-open_command-clause-served g c = λ page state stands.
     }) admitted.at) (sym live)
     (placed page c.args.records.now.tables (live_passed command.ins (channel_of command.class) (live_without_place c.args.live.now (channel_of command.class)))
     c.args.held.now admitted.at c.from-channel.result (channel_of command.class) c.check_class.new.held
-    (passed_held c.args.held.now c.told-held command) c.open_command.new.held here passed at)) c.in-Ok.ensures.channel refl in
+    (passed_held c.args.held.now c.told-held command) c.open_command.new.held here passed at))
+    (record {
+      on = c.in-Ok.ensures.channel;
+      is = refl;
+      goes_on = λ ins. place_told page c.args.records.now.tables c.args.live.now c.args.held.now state stands command (Some (accepting session command)) plain c.in-Ok.received.channel
+          c.in-Ok.ensures.channel (subst (λ (n : ℕ). n < CHANNELS) (sym c.in-Ok.ensures.channel) (channel_is_low command.class)) _
+          (c.as_ref-in-Ok-open_command.ensures.value ∙ c.take_place-place.ensures.place ins);
+    }) in
     let low = subst (λ (n : ℕ). n < CHANNELS) (sym c.in-Ok.ensures.channel) (channel_is_low c.in-Ok.received.command.class) in
     let opened_here = written_at (slice_set c.args.held.now c.from-channel.result c.check_class.new.held) c.in-Ok.received.channel c.in-Ok.received.channel c.open_command.new.held held.Nothing
     (length-set c.args.held.now c.from-channel.result c.check_class.new.held ∙ c.told-held) low refl in
@@ -185,7 +199,7 @@ returns-in-Err-open_command-clause-served g c = λ page state stands.
     front not_over c.open_command.new.held c.open_command.new.plain c.close_plain-in-Err-open_command.new.reply.items c.in-Err-open_command.rule
     (subst (λ (h : ChannelSession). OpensAs command secure_channel h c.open_command.new.held c.open_command.new.plain (Err c.in-Err-open_command.rule)) old opens)
     (c.close_plain-in-Err-open_command.ensures.closed ∙ rw c.requires.empty refl) in
-    rw (c.close_plain-in-Err-open_command.ensures.rule, passed, c.end_load-in-Err-open_command.ensures, c.forget_place.ensures, c.in-Ok.ensures.channel, here) served
+    rw (c.close_plain-in-Err-open_command.ensures.rule, passed, c.end_load-in-Err-open_command.ensures, c.take_place-place.ensures.forgotten, c.in-Ok.ensures.channel, here) served
 
 -- a command that commits nothing
 pub returns-then-not-is_protected-clause-idle : goal.returns-then-not-is_protected-clause-idle

@@ -1,12 +1,21 @@
-use Rattle.std.proofs.Common.{rules, ◌≡◌, None, Some, arith, inl, inr, refl, sym, ap, ◌∙◌}
-use Rattle.std.specs.Prelude.{slice_index_or}
+use Rattle.std.proofs.Common.{rules, ◌≡◌, ℕ, ◌<◌, length, None, Some, arith, inl, inr, refl, sym, ap, subst, ◌∙◌}
+use Rattle.std.specs.Prelude.{option_copied, slice_index_or}
+use Rattle.std.specs.Option.{option_map}
+use Rattle.std.proofs.lemmas.List.{get_or_default}
+use Rattle.policy_rules.specs.declared.live.TheConstants.{CHANNELS}
 use Rattle.policy_rules.specs.Commands.{Judges}
 use Rattle.policy_rules.specs.Extradition.{ExtraditionFails, extradition, extradition_rules}
 use Rattle.policy_rules.specs.FirstFailing.{IsFirst}
 use Rattle.policy_rules.specs.InstallApplication.{InstallFails, install_application, install_rules}
 use Rattle.policy_rules.specs.MakeSelectable.{MakeSelectableFails, make_selectable, selectable_rules}
 use Rattle.policy_rules.specs.PutKey.{PutKeyFails, put_rules}
-use Rattle.policy_rules.specs.Volatile.{selected_on}
+use Rattle.policy_rules.specs.GetStatus.{GetStatusFails, get_status, get_status_rules}
+use Rattle.policy_rules.specs.KeptPlaces.{place_of}
+use Rattle.policy_rules.specs.Requests.{ActsIn}
+use Rattle.card_types.specs.Represents.{Represents}
+use Rattle.card_types.specs.Well.{Well}
+use Rattle.policy_rules.specs.StatusRequests.{IsPlaceBefore}
+use Rattle.policy_rules.specs.Volatile.{channel_at, place_in, selected_on}
 use Rattle.policy_rules.proofs.DataAsked.{asked_for, asks, has_data}
 use Rattle.policy_rules.proofs.GetDataLaws.{get_passes, get_refused}
 use Rattle.policy_rules.proofs.InitializeUpdateLaws.{offer_judged}
@@ -18,30 +27,30 @@ use Rattle.policy_rules.proofs.Selected.{selected_acts, selected_entry}
 use Rattle.policy_rules.proofs.own_rules.judge.Goals as goal
 
 pub returns-in-Ok-clause-judged : goal.returns-in-Ok-clause-judged
-returns-in-Ok-clause-judged c page admitted says sound here request other checks =
+returns-in-Ok-clause-judged c page admitted says sound here request behind checks =
     let asked = rw c.in-Select.is at request in
     (select_passes admitted c.in-Select.partial.now asked.form asked.means _
     (c.in-Ok.ensures.found page admitted.at.registry says.registry)).0
 
 pub returns-in-Err-clause-judged : goal.returns-in-Err-clause-judged
-returns-in-Err-clause-judged c page admitted says sound here request other checks =
+returns-in-Err-clause-judged c page admitted says sound here request behind checks =
     let asked = rw c.in-Select.is at request in
     select_refused admitted c.in-Select.partial.now asked.form asked.means c.in-Err.rule (c.in-Err.ensures.none page admitted.at.registry says.registry)
 
 pub returns-in-Ok-judge_more_channel-clause-judged : goal.returns-in-Ok-judge_more_channel-clause-judged
-returns-in-Ok-judge_more_channel-clause-judged c page admitted says sound here request other checks =
+returns-in-Ok-judge_more_channel-clause-judged c page admitted says sound here request behind checks =
     let asked = rw c.in-MoreChannel.is at request in
     open_passes admitted asked.form _
     (c.in-Ok-judge_more_channel.ensures.found page c.args.tables.now admitted.at says sound.fits.channels)
 
 pub returns-in-Err-judge_more_channel-clause-judged : goal.returns-in-Err-judge_more_channel-clause-judged
-returns-in-Err-judge_more_channel-clause-judged c page admitted says sound here request other checks =
+returns-in-Err-judge_more_channel-clause-judged c page admitted says sound here request behind checks =
     let asked = rw c.in-MoreChannel.is at request in
     open_refused admitted asked.form c.in-Err-judge_more_channel.rule asked.means
     (c.in-Err-judge_more_channel.ensures.none page c.args.tables.now admitted.at says sound.fits.channels)
 
 pub returns-in-Ok-judge_get_data-clause-judged : goal.returns-in-Ok-judge_get_data-clause-judged
-returns-in-Ok-judge_get_data-clause-judged c page admitted says sound here request other checks =
+returns-in-Ok-judge_get_data-clause-judged c page admitted says sound here request behind checks =
     let asked = rw c.in-Get.is at request in
     let is : slice_index_or c.args.live.now.selected c.args.channel None ≡ Some c.unwrap-domain.result = search rules in
     let on = selected_entry page c.args.tables.now c.args.live.now admitted.at c.args.channel c.unwrap-domain.result says c.requires.channel is in
@@ -51,7 +60,7 @@ returns-in-Ok-judge_get_data-clause-judged c page admitted says sound here reque
     (asks admitted _ c.in-Get.tag found.0 (ap (selected_on admitted.at.volatile) (sym here) ∙ on.2) asked.means found.1)
 
 pub returns-in-Err-judge_get_data-clause-judged : goal.returns-in-Err-judge_get_data-clause-judged
-returns-in-Err-judge_get_data-clause-judged c page admitted says sound here request other checks =
+returns-in-Err-judge_get_data-clause-judged c page admitted says sound here request behind checks =
     let asked = rw c.in-Get.is at request in
     let is : slice_index_or c.args.live.now.selected c.args.channel None ≡ Some c.unwrap-domain.result = search rules in
     let on = selected_entry page c.args.tables.now c.args.live.now admitted.at c.args.channel c.unwrap-domain.result says c.requires.channel is in
@@ -60,7 +69,7 @@ returns-in-Err-judge_get_data-clause-judged c page admitted says sound here requ
     (λ value for. none value (asked_for admitted _ c.in-Get.tag value (ap (selected_on admitted.at.volatile) (sym here) ∙ on.2) asked.means for))
 
 pub returns-in-Ok-judge_initialize_update-clause-judged : goal.returns-in-Ok-judge_initialize_update-clause-judged
-returns-in-Ok-judge_initialize_update-clause-judged c page admitted says sound here request other checks =
+returns-in-Ok-judge_initialize_update-clause-judged c page admitted says sound here request behind checks =
     let asked = rw c.in-Initialize.is at request in
     let is : slice_index_or c.args.live.now.selected c.args.channel None ≡ Some c.unwrap-domain-in-Initialize.result = search rules in
     let acts = selected_acts page c.args.tables.now c.args.live.now admitted c.args.channel c.unwrap-domain-in-Initialize.result says sound c.requires.channel is here in
@@ -68,7 +77,7 @@ returns-in-Ok-judge_initialize_update-clause-judged c page admitted says sound h
     (c.in-Ok-judge_initialize_update.ensures.passed page admitted acts asked.means.0)
 
 pub returns-in-Err-judge_initialize_update-clause-judged : goal.returns-in-Err-judge_initialize_update-clause-judged
-returns-in-Err-judge_initialize_update-clause-judged c page admitted says sound here request other checks =
+returns-in-Err-judge_initialize_update-clause-judged c page admitted says sound here request behind checks =
     let asked = rw c.in-Initialize.is at request in
     let is : slice_index_or c.args.live.now.selected c.args.channel None ≡ Some c.unwrap-domain-in-Initialize.result = search rules in
     let acts = selected_acts page c.args.tables.now c.args.live.now admitted c.args.channel c.unwrap-domain-in-Initialize.result says sound c.requires.channel is here in
@@ -76,12 +85,12 @@ returns-in-Err-judge_initialize_update-clause-judged c page admitted says sound 
     (c.in-Err-judge_initialize_update.ensures.refused page admitted acts asked.means.0)
 
 pub returns-in-Authenticate-clause-judged : goal.returns-in-Authenticate-clause-judged
-returns-in-Authenticate-clause-judged c page admitted says sound here request other checks =
+returns-in-Authenticate-clause-judged c page admitted says sound here request behind checks =
     let asked = rw c.in-Authenticate.is at request in
-    absurd (other asked.form.0)
+    absurd (behind.0 asked.form.0)
 
 pub returns-in-PutKey-clause-judged : goal.returns-in-PutKey-clause-judged
-returns-in-PutKey-clause-judged c page admitted says sound here request other checks =
+returns-in-PutKey-clause-judged c page admitted says sound here request behind checks =
     let asked = rw c.in-PutKey.is at request in
     let is : slice_index_or c.args.live.now.selected c.args.channel None ≡ Some c.unwrap-domain-in-PutKey.result = search rules in
     let acts = selected_acts page c.args.tables.now c.args.live.now admitted c.args.channel c.unwrap-domain-in-PutKey.result says sound c.requires.channel is here in
@@ -90,7 +99,7 @@ returns-in-PutKey-clause-judged c page admitted says sound here request other ch
     (c.judge_put_key.ensures.passed page admitted acts asked (checks asked.form.0)) (c.judge_put_key.ensures.refused page admitted acts asked (checks asked.form.0))))
 
 pub returns-in-Store-clause-judged : goal.returns-in-Store-clause-judged
-returns-in-Store-clause-judged c page admitted says sound here request other checks =
+returns-in-Store-clause-judged c page admitted says sound here request behind checks =
     let asked = rw c.in-Store.is at request in
     let is : slice_index_or c.args.live.now.selected c.args.channel None ≡ Some c.unwrap-domain-in-Store.result = search rules in
     let acts = selected_acts page c.args.tables.now c.args.live.now admitted c.args.channel c.unwrap-domain-in-Store.result says sound c.requires.channel is here in
@@ -98,7 +107,7 @@ returns-in-Store-clause-judged c page admitted says sound here request other che
     (c.judge_store_data.ensures.passed page admitted acts asked) (c.judge_store_data.ensures.refused page admitted acts asked))
 
 pub returns-in-DeleteKey-clause-judged : goal.returns-in-DeleteKey-clause-judged
-returns-in-DeleteKey-clause-judged c page admitted says sound here request other checks =
+returns-in-DeleteKey-clause-judged c page admitted says sound here request behind checks =
     let asked = rw c.in-DeleteKey.is at request in
     let is : slice_index_or c.args.live.now.selected c.args.channel None ≡ Some c.unwrap-domain-in-DeleteKey.result = search rules in
     let acts = selected_acts page c.args.tables.now c.args.live.now admitted c.args.channel c.unwrap-domain-in-DeleteKey.result says sound c.requires.channel is here in
@@ -111,7 +120,7 @@ judge_install-requires-clause-short c =
     omega (arith, meant.3.short, meant.4)
 
 pub returns-in-Install-clause-judged : goal.returns-in-Install-clause-judged
-returns-in-Install-clause-judged c page admitted says sound here request other checks =
+returns-in-Install-clause-judged c page admitted says sound here request behind checks =
     let asked = rw c.in-Install.is at request in
     let is : slice_index_or c.args.live.now.selected c.args.channel None ≡ Some c.unwrap-domain-in-Install.result = search rules in
     let acts = selected_acts page c.args.tables.now c.args.live.now admitted c.args.channel c.unwrap-domain-in-Install.result says sound c.requires.channel is here in
@@ -125,7 +134,7 @@ judge_selectable-requires-clause-short c =
     omega (arith, meant.3.short, meant.4)
 
 pub returns-in-MakeSelectable-clause-judged : goal.returns-in-MakeSelectable-clause-judged
-returns-in-MakeSelectable-clause-judged c page admitted says sound here request other checks =
+returns-in-MakeSelectable-clause-judged c page admitted says sound here request behind checks =
     let asked = rw c.in-MakeSelectable.is at request in
     let is : slice_index_or c.args.live.now.selected c.args.channel None ≡ Some c.unwrap-domain-in-MakeSelectable.result = search rules in
     let acts = selected_acts page c.args.tables.now c.args.live.now admitted c.args.channel c.unwrap-domain-in-MakeSelectable.result says sound c.requires.channel is here in
@@ -139,10 +148,39 @@ judge_extradition-requires-clause-short c =
     omega (arith, meant.3.short, meant.4)
 
 pub returns-in-Extradite-clause-judged : goal.returns-in-Extradite-clause-judged
-returns-in-Extradite-clause-judged c page admitted says sound here request other checks =
+returns-in-Extradite-clause-judged c page admitted says sound here request behind checks =
     let asked = rw c.in-Extradite.is at request in
     let is : slice_index_or c.args.live.now.selected c.args.channel None ≡ Some c.unwrap-domain-in-Extradite.result = search rules in
     let acts = selected_acts page c.args.tables.now c.args.live.now admitted c.args.channel c.unwrap-domain-in-Extradite.result says sound c.requires.channel is here in
     judged extradition (λ holds here. inr (inr (inl here))) admitted asked.form refl _
     (rw c.err-in-Extradite.ensures.value (by_err (λ found. IsFirst (ExtraditionFails admitted) extradition_rules found) c.judge_extradition.result
     (c.judge_extradition.ensures.passed page admitted acts asked.means) (c.judge_extradition.ensures.refused page admitted acts asked.means)))
+
+pub returns-in-ListStatus-clause-judged : goal.returns-in-ListStatus-clause-judged
+returns-in-ListStatus-clause-judged c page admitted says sound here request behind checks =
+    let asked = rw c.in-ListStatus.is at request in
+    absurd (behind.1 asked.form.0)
+
+pub returns-in-ListStatus-clause-listed : goal.returns-in-ListStatus-clause-listed
+returns-in-ListStatus-clause-listed c page admitted says sound here before request ins =
+    let asked = rw c.in-ListStatus.is at request in
+    let tables = c.args.tables.now in
+    let slot = c.unwrap-domain-in-ListStatus.result in
+    let at : slice_index_or c.args.live.now.selected c.args.channel None ≡ Some slot = search rules in
+    let on = selected_entry page tables c.args.live.now admitted.before c.args.channel slot says c.requires.channel at in
+    let acts : ActsIn page tables slot admitted = record {
+      says = subst (Represents page tables) (sym before.0) says.registry;
+      well = subst Well (sym before.0) sound.well;
+      entry = on.0;
+      at = on.1;
+      on = before.1 ∙ ap (selected_on admitted.before.volatile) (sym here) ∙ on.2;
+    } in
+    let four : length c.args.live.now.places ≡ CHANNELS = search rules in
+    let copied : option_copied c.as_ref-place.result ≡ slice_index_or c.args.live.now.places c.args.channel None =
+    c.as_ref-place.ensures.value ∙ ap (λ (n : ℕ). slice_index_or c.args.live.now.places n c.index-live-from.result) c.from-in-ListStatus-2.ensures
+    ∙ get_or_default c.args.live.now.places c.args.channel c.index-live-from.result None (subst (λ (n : ℕ). c.args.channel < n) (sym four) c.requires.channel) in
+    let place : IsPlaceBefore (option_copied c.as_ref-place.result) admitted =
+    ap (option_map place_of) copied ∙ says.places c.args.channel c.requires.channel ∙ ap (λ (n : ℕ). place_in (channel_at admitted.before.volatile n)) here in
+    judged get_status (λ holds here. inl here) admitted asked.form refl _
+    (rw c.err-in-ListStatus.ensures.value (by_err (λ found. IsFirst (GetStatusFails admitted) get_status_rules found) c.judge_status.result
+    (c.judge_status.ensures.passed page admitted acts place asked.means) (c.judge_status.ensures.refused page admitted acts place asked.means)))

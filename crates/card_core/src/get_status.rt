@@ -1,0 +1,119 @@
+//! GET STATUS: the registry is listed, in as many parts as it takes.
+
+ghost use Rattle.std.specs.Prelude.{◌≡◌, ◌+◌, ◌<◌, ◌≤◌, ◌++◌, ℕ, List, [], IfNone, IfSome, IsSome, OnErr, length, option_copied};
+ghost use Rattle.card_core.specs.Lists.{Lists};
+ghost use Rattle.card_core.specs.ShownParts.{IsPart};
+ghost use Rattle.card_types.specs.Found.{aid_of};
+ghost use Rattle.card_types.specs.InOrder.{IsInOrder};
+ghost use Rattle.card_types.specs.Registry.{Registry};
+ghost use Rattle.policy_rules.specs.Admission.{Admitted};
+ghost use Rattle.policy_rules.specs.GetStatus.{IsTemplate, Thing};
+ghost use Rattle.policy_rules.specs.Requests.{ActsIn, ForActing, IsRequestOf, IsWellFormed, RepresentsState};
+ghost use Rattle.policy_rules.specs.StatusRequests.{IsFirstShown, IsListOf, IsPlaceBefore, IsThingAt};
+ghost use Rattle.policy_rules.specs.declared.request.Request.TheVariants.{ListStatus};
+
+use crate::reply::REPLY_LIMIT;
+use crate::status_template::{TEMPLATE_ROOM, write_template};
+use apdu_core::Status;
+use arrayvec::ArrayVec;
+use card_types::{Aid, Found, Tables};
+use policy_rules::{CHANNELS, ListRequest, Live, Place, Rule, judge_status, next_shown};
+
+/// How many bytes a part of a listing has, at most.
+const PART_LIMIT: usize = 239;
+
+// Appends the template of a thing, where the part has room for it; the thing's AID.
+fn show(
+    tables: &Tables,
+    kind: u8,
+    thing: Found,
+    reply: &mut ArrayVec<u8, REPLY_LIMIT>,
+) -> Option<Aid>
+    requires used { IsSome (aid_of tables.now thing) }
+    requires room { length reply.old.items ≤ PART_LIMIT }
+    ensures named { IfSome result (λ aid. aid_of tables.now thing ≡ Some aid) }
+    ensures shown { (page : ℕ → List ℕ) (said : Registry) (named : Thing) → tables.now.life ≡ said.life → IsThingAt page tables.now thing named
+        → IfSome result (λ aid. (template : List ℕ) × IsTemplate said kind named template × (reply.new.items ≡ reply.old.items ++ template)) }
+    ensures full { (page : ℕ → List ℕ) (said : Registry) (named : Thing) → tables.now.life ≡ said.life → IsThingAt page tables.now thing named
+        → IfNone result ((template : List ℕ) × IsTemplate said kind named template × (PART_LIMIT < length reply.old.items + length template)) }
+    ensures unchanged { IfNone result (reply.new ≡ reply.old) }
+    ensures more { IfSome result (λ aid. length reply.old.items < length reply.new.items) }
+    ensures fits { length reply.old.items + TEMPLATE_ROOM ≤ PART_LIMIT → IsSome result }
+    ensures room { length reply.new.items ≤ PART_LIMIT }
+{
+    let mut template = ArrayVec::new();
+    let aid = write_template(tables, kind, thing, &mut template);
+    if reply.len() + template.len() > PART_LIMIT {
+        return None;
+    }
+    reply.try_extend_from_slice(&template).unwrap();
+    Some(aid)
+}
+
+// Shows one thing after the other, from the first one on, while the part has room. Where things are left it answers the last AID
+// shown.
+fn show_part(
+    tables: &Tables,
+    domain: u8,
+    request: &ListRequest<'_>,
+    first: Found,
+    reply: &mut ArrayVec<u8, REPLY_LIMIT>,
+) -> Option<Aid>
+    requires in_order { IsInOrder tables.now }
+    requires used { IsSome (aid_of tables.now first) }
+    requires empty { reply.old.items ≡ [] }
+    ensures part { (page : ℕ → List ℕ) (admitted : Admitted) → ActsIn page tables.now domain admitted → IsListOf request.now admitted.command
+        → IsFirstShown page tables.now admitted request.now first → IsPart admitted reply.new.items result }
+    ensures room { length reply.new.items ≤ PART_LIMIT }
+{
+    let mut last = show(tables, request.kind, first, reply).unwrap();
+    while let Some(next) = next_shown(tables, domain, request.kind, request.partial, Some(&last)) {
+        match show(tables, request.kind, next, reply) {
+            Some(aid) => last = aid,
+            None => return Some(last),
+        }
+    }
+    None
+}
+
+/// Lists for the domain in a slot what a GET STATUS asks for, as much as one part has room for. `place` is the place in a listing
+/// that the channel had before the command; it gets another where things are left.
+#[inline(never)]
+pub fn get_status(
+    tables: &Tables,
+    live: &mut Live,
+    place: Option<&Place>,
+    channel: u8,
+    domain: u8,
+    request: &ListRequest<'_>,
+    reply: &mut ArrayVec<u8, REPLY_LIMIT>,
+) -> Result<Status, Rule>
+    requires in_order { IsInOrder tables.now }
+    requires channel { channel < CHANNELS }
+    requires formed { IsWellFormed (ListStatus request.now) }
+    requires empty { reply.old.items ≡ [] }
+    ensures done { ForActing tables.now domain (λ page asked. RepresentsState page tables.now live.old asked.at → channel ≡ asked.channel
+        → IsPlaceBefore (option_copied place.entry) asked → IsRequestOf (ListStatus request.now) asked.command
+        → Lists asked page tables.now live.old live.new reply.new.items result) }
+    ensures refused { OnErr result (live.new ≡ live.old) }
+    ensures room { length reply.new.items ≤ 239 }
+{
+    let first = match judge_status(tables, place, domain, request) {
+        Ok(first) => first,
+        Err(rule) => return Err(rule),
+    };
+    let Some(last) = show_part(tables, domain, request, first, reply) else {
+        return Ok(Status(0x9000));
+    };
+    let mut body = ArrayVec::new();
+    body.try_extend_from_slice(request.body).unwrap();
+    live.set_place(
+        channel,
+        Place {
+            kind: request.kind,
+            body,
+            last,
+        },
+    );
+    Ok(Status(0x6310))
+}

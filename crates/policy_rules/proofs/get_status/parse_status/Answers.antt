@@ -1,6 +1,0 @@
-use Rattle.std.proofs.Common.{inr, refl}
-use Rattle.policy_rules.proofs.get_status.parse_status.Goals as goal
-
-pub returns-in-None-clause-refused : goal.returns-in-None-clause-refused
-returns-in-None-clause-refused c =
-    inr (refl, c.takes_parameters.ensures.0 c.if-not-takes_parameters.false, λ field. c.in-None.ensures.none field.0 field.1)
