@@ -1,6 +1,7 @@
 -- What tables say after a change of one entry.
 use Rattle.std.proofs.Common.{◌≡◌, ◌≢◌, inl, inr, ℕ, ◌<◌, List, [], length, Option, None, Some, ap, sym, subst, ◌∙◌}
-use Rattle.std.specs.Prelude.{unwrap_or}
+use Rattle.std.specs.Prelude.{map, unwrap_or}
+use Rattle.std.specs.List.Sorted.{IsPermutation, IsStrictlySortedBy}
 use Rattle.std.specs.Option.{option_map}
 use Rattle.std.proofs.lemmas.Bool.{cases_eq}
 use Rattle.std.proofs.lemmas.Cmp.{nat_list_cmp_total, on_total}
@@ -8,7 +9,7 @@ use Rattle.std.proofs.lemmas.List.{get_or-set_other, get_or-set_same}
 use Rattle.card_types.specs.AidOrder.{aid_order}
 use Rattle.card_types.specs.Changed.{IsChanged}
 use Rattle.card_types.specs.Registry as registry
-use Rattle.card_types.specs.Represents.{Represents, counter_of, domain_aid, entry_of, file_of, keeps_counter, key_of, object_of}
+use Rattle.card_types.specs.Represents.{Represents, counter_of, domain_aid, entry_of, file_of, keeps_counter, key_of, object_of, used}
 use Rattle.card_types.specs.SlotChange.{SetsEntry}
 use Rattle.card_types.specs.Slots.{held}
 use Rattle.card_types.specs.Well.{Well}
@@ -35,6 +36,31 @@ pub record NoneNames (tables : Tables) (domain : ℕ) : Type 0 where
   pub keys : (slot : ℕ) (key : KeyRec) → held tables.keys.items slot ≡ Some key → key.owner ≢ domain
   pub objects : (slot : ℕ) (object : Object) → held tables.objects.items slot ≡ Some object → object.owner ≢ domain
 
+-- tables of which the entries alone are others, and whose things name domains with the same AIDs
+pub entries_alone : (page : ℕ → List ℕ) (before after : Tables) (said : registry.Registry) → Represents page before said → after.life ≡ before.life
+    → after.files.items ≡ before.files.items → after.keys.items ≡ before.keys.items → after.objects.items ≡ before.objects.items → KeepsDomains before after
+    → (entries : List registry.Entry) → IsPermutation (map (entry_of after.entries.items after.files.items) (used after.entries.items)) entries
+    → IsStrictlySortedBy aid_order (map (λ entry. entry.aid) entries) → Represents page after (record said { entries = entries })
+entries_alone page before after said says life files keys objects keeps entries same ascending = record {
+  life = life ∙ says.life;
+  entries = same;
+  files = same_all (file_of page before.entries.items) (file_of page after.entries.items) before.files.items after.files.items said.files says.files files
+      (λ other file at. rw (keeps.files other file at));
+  keys = same_all (key_of before.entries.items) (key_of after.entries.items) before.keys.items after.keys.items said.keys says.keys keys
+      (λ other key at. rw (keeps.keys other key at));
+  counters = same_slots (counter_of before.entries.items) (counter_of after.entries.items) keeps_counter before.keys.items after.keys.items said.counters says.counters keys
+      (λ other key at. rw (keeps.keys other key at));
+  objects = same_all (object_of before.entries.items) (object_of after.entries.items) before.objects.items after.objects.items said.objects says.objects objects
+      (λ other object at. rw (keeps.objects other object at));
+  ascending = record {
+    entries = ascending;
+    files = says.ascending.files;
+    keys = says.ascending.keys;
+    counters = says.ascending.counters;
+    objects = says.ascending.objects;
+  };
+}
+
 module _ (page : ℕ → List ℕ) (before after : Tables) (said : registry.Registry) (says : Represents page before said) (slot : ℕ) where
   -- the entries are those with that one change
   pub entry_changed : (entry : Option Entry) (entries : List registry.Entry)
@@ -42,27 +68,12 @@ module _ (page : ℕ → List ℕ) (before after : Tables) (said : registry.Regi
       → IsChanged (λ x y. aid_order x.aid y.aid) (option_map (entry_of before.entries.items before.files.items) (held before.entries.items slot))
       (option_map (entry_of before.entries.items before.files.items) entry) said.entries entries
       → Represents page after (record said { entries = entries })
-  entry_changed entry entries within set keeps changed = record {
-    life = set.life ∙ says.life;
-    entries = changed_all (entry_of before.entries.items before.files.items) (entry_of after.entries.items after.files.items) before.entries.items after.entries.items slot entry
-        (λ x y. aid_order x.aid y.aid) (on_total (λ (e : registry.Entry). e.aid) nat_list_cmp_total) said.entries entries says.entries within set.entries
-        (λ other e at. rw (keeps.entries other e at, set.files)) changed;
-    files = same_all (file_of page before.entries.items) (file_of page after.entries.items) before.files.items after.files.items said.files says.files set.files
-        (λ other file at. rw (keeps.files other file at));
-    keys = same_all (key_of before.entries.items) (key_of after.entries.items) before.keys.items after.keys.items said.keys says.keys set.keys
-        (λ other key at. rw (keeps.keys other key at));
-    counters = same_slots (counter_of before.entries.items) (counter_of after.entries.items) keeps_counter before.keys.items after.keys.items said.counters says.counters set.keys
-        (λ other key at. rw (keeps.keys other key at));
-    objects = same_all (object_of before.entries.items) (object_of after.entries.items) before.objects.items after.objects.items said.objects says.objects set.objects
-        (λ other object at. rw (keeps.objects other object at));
-    ascending = record {
-      entries = names_sorted aid_order (λ (e : registry.Entry). e.aid) entries changed.ascending;
-      files = says.ascending.files;
-      keys = says.ascending.keys;
-      counters = says.ascending.counters;
-      objects = says.ascending.objects;
-    };
-  }
+  entry_changed entry entries within set keeps changed =
+      entries_alone page before after said says set.life set.files set.keys set.objects keeps entries
+      (changed_all (entry_of before.entries.items before.files.items) (entry_of after.entries.items after.files.items) before.entries.items after.entries.items slot entry
+      (λ x y. aid_order x.aid y.aid) (on_total (λ (e : registry.Entry). e.aid) nat_list_cmp_total) said.entries entries says.entries within set.entries
+      (λ other e at. rw (keeps.entries other e at, set.files)) changed)
+      (names_sorted aid_order (λ (e : registry.Entry). e.aid) entries changed.ascending)
 
   -- another slot holds what it held
   pub other_slot : (entry : Option Entry) → SetsEntry before after slot entry → (other : ℕ) → other ≢ slot → held after.entries.items other ≡ held before.entries.items other

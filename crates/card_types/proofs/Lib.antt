@@ -1,4 +1,5 @@
 pub mod AddedThing
+pub mod ApplicationsRemoved
 pub mod AtMostOnce
 pub mod ChangeExists
 pub mod ChangedEntries

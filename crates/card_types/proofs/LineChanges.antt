@@ -22,6 +22,19 @@ module _ {A : Type 0} where
     | inr later ↦ member_steps step z (z ∷ line) x is.3 later
   ]
 
+  -- what holds of the first, and over each step, holds of each one of a line
+  pub along_line : (step : A → Option A) (P : A → Type 0) → ((x next : A) → P x → step x ≡ Some next → P next) → (from : A) (line : List A) → P from
+      → IsLine step from line → (x : A) → Contains line x → P x
+  along_line step P on from [] first is x there = absurd is
+  along_line step P on from (y ∷ []) first is x there = elim (contains_cases y [] x there) [
+    | inl same ↦ subst P (sym is.0 ∙ same) first
+    | inr later ↦ absurd (omega (arith, later.1))
+  ]
+  along_line step P on from (y ∷ z ∷ line) first is x there = elim (contains_cases y (z ∷ line) x there) [
+    | inl same ↦ subst P (sym is.0 ∙ same) first
+    | inr later ↦ along_line step P on z (z ∷ line) (on from z first is.2) is.3 x later
+  ]
+
   module _ (step step' : A → Option A) where
     pub line_kept : (from : A) (line : List A) → IsLine step from line → ((x : A) → Contains line x → step' x ≡ step x) → IsLine step' from line
     line_kept from [] is alike = is
@@ -47,21 +60,9 @@ module _ {A : Type 0} where
     leads_below from next steps other leads = (from ∷ leads.0, line_more step' from next leads.0 steps other leads.1)
 
     -- one to which no other steps is on no line of another
-    apart : (gone : A) → ((x next : A) → x ≢ gone → step x ≡ Some next → next ≢ gone) → (from : A) (line : List A) → from ≢ gone → IsLine step from line
-        → (x : A) → Contains line x → x ≢ gone
-    apart gone none from [] other is x there same = is
-    apart gone none from (y ∷ []) other is x there same = elim (contains_cases y [] x there) [
-      | inl first ↦ other (sym is.0 ∙ first ∙ same)
-      | inr later ↦ omega (arith, later.1)
-    ]
-    apart gone none from (y ∷ z ∷ line) other is x there same = elim (contains_cases y (z ∷ line) x there) [
-      | inl first ↦ other (sym is.0 ∙ first ∙ same)
-      | inr later ↦ apart gone none z (z ∷ line) (none from z other is.2) is.3 x later same
-    ]
-
     pub leads_removed : (gone : A) → ((x next : A) → x ≢ gone → step x ≡ Some next → next ≢ gone) → ((x : A) → x ≢ gone → step' x ≡ step x)
         → (from : A) → from ≢ gone → Leads step from → Leads step' from
-    leads_removed gone none alike from other leads = leads_kept from leads (λ x there. alike x (apart gone none from leads.0 other leads.1 x there))
+    leads_removed gone none alike from other leads = leads_kept from leads (λ x there. alike x (along_line step (λ y. y ≢ gone) none from leads.0 other leads.1 x there))
 
     -- one that is moved, so that it leads to a root then
     module _ (thing : A) (alike : (x : A) → x ≢ thing → step' x ≡ step x) (decides : (x : A) → (x ≡ thing) ⊎ (x ≢ thing)) where

@@ -90,6 +90,33 @@ module _ {X : Type 0} (aid : X → List ℕ) where
     ]
   ]
 
+  -- what a filter keeps of the things
+  module _ (keep : X → Bool) where
+    pub found_kept : (p : X → Bool) (x : X) (xs : List X) → find p xs ≡ Some x → keep x ≡ true → find p (filter keep xs) ≡ Some x
+    found_kept p x [] at stays = cc
+    found_kept p x (y ∷ ys) at stays = elim (cases_Bool (p y)) [
+      | inl fit ↦
+          (let here : Some y ≡ Some x = rw fit at at in
+          let same : y ≡ x = cc in
+          rw (ap keep same ∙ stays, fit) here)
+      | inr misfit ↦
+          (let rest = found_kept p x ys (rw misfit at at) stays in
+          elim (cases_Bool (keep y)) [
+            | inl kept ↦ rw (kept, misfit) rest
+            | inr gone ↦ rw gone rest
+          ])
+    ]
+
+    pub unfound_kept : (p : X → Bool) (xs : List X) → find p xs ≡ None → find p (filter keep xs) ≡ None
+    unfound_kept p xs none = none_found p (filter keep xs) (λ y there. none_fits p xs none y (filtered keep xs y there).0)
+
+    pub sorted_kept : (xs : List X) → IsStrictlySortedBy aid_order (map aid xs) → IsStrictlySortedBy aid_order (map aid (filter keep xs))
+    sorted_kept xs sorted =
+        names_sorted aid_order aid (filter keep xs) (IsStrictlySortedBy-filter (λ a b. aid_order (aid a) (aid b)) keep xs (sorted_by_name aid_order aid xs sorted))
+
+    pub kept_shorter : (xs : List X) → length (filter keep xs) ≤ length xs
+    kept_shorter xs = omega (arith, length-filter_both keep (λ x. not (keep x)) (λ _. refl) xs)
+
   -- the rest, without what has an AID
   module _ (gone : List ℕ) where
     abbrev pub rest_of : List X → List X
@@ -101,9 +128,7 @@ module _ {X : Type 0} (aid : X → List ℕ) where
         (λ x fit. not_from_false (same_aid (aid x) gone) (aid_differs (aid x) gone (λ same. other (sym ((same_aid_decides (aid x) name).0 fit) ∙ same)))) xs
 
     pub rest_unfound : (name : List ℕ) (xs : List X) → find (λ x. same_aid (aid x) name) xs ≡ None → find (λ x. same_aid (aid x) name) (rest_of xs) ≡ None
-    rest_unfound name xs none =
-        none_found (λ x. same_aid (aid x) name) (rest_of xs)
-        (λ y there. none_fits (λ x. same_aid (aid x) name) xs none y (filtered (λ x. not (same_aid (aid x) gone)) xs y there).0)
+    rest_unfound name xs none = unfound_kept (λ x. not (same_aid (aid x) gone)) (λ x. same_aid (aid x) name) xs none
 
     pub of_rest : (xs : List X) (x : X) → Contains (rest_of xs) x → Contains xs x × (aid x ≢ gone)
     of_rest xs x there =
@@ -111,10 +136,7 @@ module _ {X : Type 0} (aid : X → List ℕ) where
         (kept.0, λ same. (let clash = sym ((same_aid_decides (aid x) gone).1 same) ∙ not-true (same_aid (aid x) gone) kept.1 in cc))
 
     pub rest_sorted : (xs : List X) → IsStrictlySortedBy aid_order (map aid xs) → IsStrictlySortedBy aid_order (map aid (rest_of xs))
-    rest_sorted xs sorted =
-        names_sorted aid_order aid (rest_of xs)
-        (IsStrictlySortedBy-filter (λ a b. aid_order (aid a) (aid b)) (λ x. not (same_aid (aid x) gone)) xs (sorted_by_name aid_order aid xs sorted))
+    rest_sorted xs sorted = sorted_kept (λ x. not (same_aid (aid x) gone)) xs sorted
 
     pub rest_shorter : (xs : List X) → length (rest_of xs) ≤ length xs
-    rest_shorter xs =
-        omega (arith, length-filter_both (λ x. not (same_aid (aid x) gone)) (λ x. not (not (same_aid (aid x) gone))) (λ _. refl) xs)
+    rest_shorter xs = kept_shorter (λ x. not (same_aid (aid x) gone)) xs

@@ -6,7 +6,7 @@ use Rattle.card_types.specs.Aid.{IsAid}
 use Rattle.card_types.specs.Ascending.{IsAscending}
 use Rattle.card_types.specs.Hierarchy.{IsLine}
 use Rattle.card_types.specs.Registry.{Entry, LoadFile, Registry, domain_of, entry_named, file_named, is_domain}
-use Rattle.card_types.specs.RegistryChange.{IsEntryAdded, IsFileAdded, moved, with_card_life, with_life, with_locks, with_receipts, without_entry, without_file}
+use Rattle.card_types.specs.RegistryChange.{IsEntryAdded, IsFileAdded, moved, with_card_life, with_life, with_locks, with_receipts, without_applications, without_entry, without_file}
 use Rattle.card_types.specs.Well.{IsDomainNamed, IsProperEntry, Well, has_life, pages_of}
 use Rattle.card_types.specs.declared.card_life.CardLife.{CardLife}
 use Rattle.card_types.specs.declared.factory.TheConstants.{ISSUER, FACTORY_FILE}
@@ -92,3 +92,7 @@ EntryRemovedKeeps = (registry : Registry) (aid : List ℕ) → IsOfCard registry
 
 abbrev pub FileRemovedKeeps : Type 0
 FileRemovedKeeps = (registry : Registry) (aid : List ℕ) → IsOfCard registry → MayRemoveFile registry aid → IsOfCard (without_file registry aid)
+
+-- what comes from one Executable Load File may go, but for the factory's
+abbrev pub ApplicationsRemovedKeep : Type 0
+ApplicationsRemovedKeep = (registry : Registry) (file : List ℕ) → IsOfCard registry → file ≢ FACTORY_FILE → IsOfCard (without_applications registry file)

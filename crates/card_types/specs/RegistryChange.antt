@@ -47,6 +47,11 @@ without_entry registry aid = record registry {
   objects = filter (λ object. not (same_aid object.owner aid)) registry.objects;
 }
 
+-- the registry without the entries that come from the Executable Load File with this AID; but for those of the factory's file they are
+-- applications, which own nothing
+abbrev pub without_applications : Registry → List ℕ → Registry
+without_applications registry file = record registry { entries = filter (λ entry. not (same_aid entry.file file)) registry.entries }
+
 -- the registry without the Executable Load File with this AID
 abbrev pub without_file : Registry → List ℕ → Registry
 without_file registry aid = record registry { files = filter (λ file. not (same_aid file.aid aid)) registry.files }

@@ -1,6 +1,6 @@
 //! The laws of changes of a registry, as functions that do nothing when they run.
 
-ghost use Rattle.card_types.specs.ChangeLaws.{CardLifeKeeps, EntryAddedKeeps, EntryRemovedKeeps, FileAddedKeeps, FileRemovedKeeps, LifeKeeps, LocksKeep, MovedKeeps, ReceiptsKeep};
+ghost use Rattle.card_types.specs.ChangeLaws.{ApplicationsRemovedKeep, CardLifeKeeps, EntryAddedKeeps, EntryRemovedKeeps, FileAddedKeeps, FileRemovedKeeps, LifeKeeps, LocksKeep, MovedKeeps, ReceiptsKeep};
 
 /// A registry that a card may have is one still where a life cycle state, lock marks or a receipt number of entries are
 /// changed, or the life cycle state of the card.
@@ -22,8 +22,9 @@ pub fn additions_keep_order()
     ensures file { FileAddedKeeps }
 {}
 
-/// So where an entry or an Executable Load File is removed that may be.
+/// So where an entry or an Executable Load File is removed that may be, or the applications that come from one.
 pub fn removals_keep_order()
     ensures entry { EntryRemovedKeeps }
+    ensures applications { ApplicationsRemovedKeep }
     ensures file { FileRemovedKeeps }
 {}

@@ -1,5 +1,5 @@
 -- Which domains are above which after a change of a registry, by names.
-use Rattle.std.specs.Prelude.{◌≡◌, ◌≢◌, ◌⊎◌, ◌↔◌, List, ℕ, Bool, IsSome}
+use Rattle.std.specs.Prelude.{◌≡◌, ◌≢◌, ◌⊎◌, ◌↔◌, List, ℕ, Bool, true, IsSome}
 use Rattle.card_types.specs.ChangeLaws.{IsOfCard, MayAddEntry, MayMove, MayRemoveEntry}
 use Rattle.card_types.specs.Registry.{Entry, Registry, domain_of, entry_named}
 use Rattle.card_types.specs.RegistryChange.{IsEntryAdded, moved, with_entries, without_entry}
@@ -8,6 +8,10 @@ use Rattle.domain_tree.specs.Above.{Above}
 -- a is above b in the registry
 abbrev pub IsAboveIn : Registry → List ℕ → List ℕ → Type 0
 IsAboveIn registry a b = Above (domain_of registry) a b
+
+-- the test tells the AIDs of the domain and of all that is below it
+abbrev pub IsTreeOf : Registry → List ℕ → (List ℕ → Bool) → Type 0
+IsTreeOf registry domain these = (aid : List ℕ) → (these aid ≡ true) ↔ ((aid ≡ domain) ⊎ IsAboveIn registry domain aid)
 
 -- above an entry that is added are its domain and those above that
 abbrev pub AboveAdded : Type 0

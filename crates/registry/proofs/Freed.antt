@@ -1,7 +1,7 @@
 -- Slots of the things of one domain, of which some are freed.
 use Rattle.std.proofs.Common.{◌≡◌, ◌≢◌, inl, inr, ℕ, zero, suc, ◌+◌, ◌<◌, ◌==◌, true, false, List, [], ◌∷◌, length, Option, None, Some, refl, ap, sym, subst, ◌∙◌, arith}
 use Rattle.std.specs.Prelude.{filter, map, not, slice_set}
-use Rattle.std.proofs.lemmas.Bool.{cases_Bool, cases_eq}
+use Rattle.std.proofs.lemmas.Bool.{cases_Bool, cases_eq, eq-eqb, eqb-true}
 use Rattle.std.proofs.lemmas.List.{get_or-set_other, get_or-set_same}
 use Rattle.card_types.specs.Represents.{used}
 use Rattle.card_types.specs.Slots.{held}
@@ -22,6 +22,37 @@ module _ {T : Type 0} (owner : T → ℕ) (domain : ℕ) where
   none_freed (first ∷ slots) each =
       let stays : is_owned owner domain first ≡ false = each 0 (omega arith) in
       rw (stays, none_freed slots (λ slot lt. each (suc slot) (omega (arith, lt)))) refl
+
+  -- what a slot holds then
+  pub held_freed : (slots : List (Option T)) (slot : ℕ) → held (map (freed owner domain) slots) slot ≡ freed owner domain (held slots slot)
+  held_freed [] slot = refl
+  held_freed (first ∷ slots) zero = refl
+  held_freed (first ∷ slots) (suc slot) = held_freed slots slot
+
+  -- a thing of another domain stays, and what is in a slot then is one that was there
+  pub other_stays : (slots : List (Option T)) (slot : ℕ) (thing : T) → held slots slot ≡ Some thing → owner thing ≢ domain
+      → held (map (freed owner domain) slots) slot ≡ Some thing
+  other_stays slots slot thing at other = held_freed slots slot ∙ ap (freed owner domain) at ∙ stays
+    where
+      stays : freed owner domain (Some thing) ≡ Some thing
+      stays = elim (cases_Bool (owner thing == domain)) [
+        | inl same ↦ absurd (other (eqb-true (owner thing) domain same))
+        | inr apart ↦ rw apart refl
+      ]
+
+  pub left_there : (slots : List (Option T)) (slot : ℕ) (thing : T) → held (map (freed owner domain) slots) slot ≡ Some thing
+      → (held slots slot ≡ Some thing) × (owner thing ≢ domain)
+  left_there slots slot thing at = by (held slots slot) refl
+    where
+      by : (o : Option T) → held slots slot ≡ o → (held slots slot ≡ Some thing) × (owner thing ≢ domain)
+      by None none = (let clash = sym (ap (freed owner domain) none) ∙ sym (held_freed slots slot) ∙ at in cc)
+      by (Some x) here = elim (cases_Bool (owner x == domain)) [
+        | inl same ↦ (let gone : freed owner domain (Some x) ≡ None = rw same refl in let clash = sym gone ∙ sym (ap (freed owner domain) here) ∙ sym (held_freed slots slot) ∙ at in cc)
+        | inr apart ↦
+            (let kept : freed owner domain (Some x) ≡ Some x = rw apart refl in
+            let alike = sym kept ∙ sym (ap (freed owner domain) here) ∙ sym (held_freed slots slot) ∙ at in
+            (here ∙ alike, λ owned. (let one : x ≡ thing = cc in let same = eq-eqb (owner x) domain (ap owner one ∙ owned) in cc)))
+      ]
 
   -- the things that stay
   pub used_freed : (slots : List (Option T)) → used (map (freed owner domain) slots) ≡ filter (λ thing. not (owner thing == domain)) (used slots)

@@ -1,9 +1,10 @@
 mod Added
 mod Frames
-mod Freed
+pub mod Freed
 mod Locked
 mod Marking
 mod Removed
 mod Replaced
 mod Staging
 mod Tree
+mod Unloaded

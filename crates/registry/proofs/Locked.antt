@@ -14,7 +14,8 @@ use Rattle.card_types.specs.declared.tables.Entry.{Entry}
 use Rattle.card_types.specs.declared.tables.Tables.{Tables}
 use Rattle.card_types.proofs.ChangedSlot.{same_all, same_slots}
 use Rattle.card_types.proofs.MappedEntries.{entries_changed_ascending, some_keep}
-use Rattle.registry.specs.Tree.{IsTreeOf, LocksTree, with_lock}
+use Rattle.domain_tree.specs.AboveLaws.{IsTreeOf}
+use Rattle.registry.specs.Tree.{LocksTree, with_lock}
 use Rattle.registry.proofs.Tree.{in_tree_named, named_in_tree, these, these_tell, used_in_tree}
 
 -- a list that shows the things in slots, each of them changed where it is

@@ -33,7 +33,7 @@ use Rattle.registry.specs.Removing.{IsNoDomain, freed, key_owner, object_owner}
 use Rattle.registry.proofs.Freed.{used_freed}
 
 -- a list of what slots show, without what fits a test
-without_shown : {T X : Type 0} (order : X → X → Ordering) (total : IsTotalOrder order) (view : T → X) (goes : X → Bool) (leaves : T → Bool) (things : List T) (shown : List X)
+pub without_shown : {T X : Type 0} (order : X → X → Ordering) (total : IsTotalOrder order) (view : T → X) (goes : X → Bool) (leaves : T → Bool) (things : List T) (shown : List X)
     → IsPermutation (map view things) shown → IsStrictlySortedBy order shown → ((thing : T) → Contains things thing → goes (view thing) ≡ leaves thing)
     → IsPermutation (map view (filter (λ thing. not (leaves thing)) things)) (filter (λ x. not (goes x)) shown)
 without_shown {X = X} order total view goes leaves things shown same sorted alike =
@@ -42,7 +42,7 @@ without_shown {X = X} order total view goes leaves things shown same sorted alik
     (same_filtered order total (λ x. not (goes x)) (map view things) shown sorted same)
 
 -- tests that are true together are the same
-same_tests : (a b : Bool) → (a ≡ true → b ≡ true) → (b ≡ true → a ≡ true) → a ≡ b
+pub same_tests : (a b : Bool) → (a ≡ true → b ≡ true) → (b ≡ true → a ≡ true) → a ≡ b
 same_tests true b to from = sym (to refl)
 same_tests false true to from = from refl
 same_tests false false to from = refl

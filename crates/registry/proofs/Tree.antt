@@ -14,11 +14,12 @@ use Rattle.card_types.proofs.Domains.{domain_aid_is, same_domain, used_from_step
 use Rattle.card_types.proofs.EntryNames.{entry_in_slot, slot_of_entry}
 use Rattle.card_types.proofs.LineChanges.{leads_kept}
 use Rattle.domain_tree.specs.Above.{Above}
+use Rattle.domain_tree.specs.AboveLaws.{IsTreeOf}
 use Rattle.domain_tree.specs.Slots.{IsFreeOfLoops}
 use Rattle.domain_tree.proofs.AboveNamed.{above_in_slots, above_named, free_of_loops}
 use Rattle.domain_tree.proofs.Climb.{above_next, none_above_root, steps_from}
 use Rattle.domain_tree.proofs.OnLine.{above_lower}
-use Rattle.registry.specs.Tree.{IsInTree, IsTreeOf}
+use Rattle.registry.specs.Tree.{IsInTree}
 
 -- over the same steps the same is above
 path_alike : (step step' : ℕ → Option ℕ) → ((a : ℕ) → step' a ≡ step a) → (from to : ℕ) (path : List ℕ) → IsPath step from path to → IsPath step' from path to

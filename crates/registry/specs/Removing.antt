@@ -25,12 +25,16 @@ key_owner key = key.owner
 abbrev pub object_owner : Object → ℕ
 object_owner object = object.owner
 
--- the slot holds a thing of this domain
+-- the slot of the Executable Load File that it comes from
+abbrev pub entry_file : Entry → ℕ
+entry_file entry = entry.file
+
+-- the slot holds a thing of this domain, or an entry of this Executable Load File
 abbrev pub is_owned : {T : Type 0} → (T → ℕ) → ℕ → Option T → Bool
 is_owned owner domain None = false
 is_owned owner domain (Some thing) = owner thing == domain
 
--- what the slot holds where the things of this domain go
+-- what the slot holds where these go
 abbrev pub freed : {T : Type 0} → (T → ℕ) → ℕ → Option T → Option T
 freed owner domain held = if is_owned owner domain held then None else held
 
@@ -41,6 +45,14 @@ pub record RemovesEntry (before after : Tables) (slot : ℕ) : Type 0 where
   pub files : after.files.items ≡ before.files.items
   pub keys : after.keys.items ≡ map (freed key_owner slot) before.keys.items
   pub objects : after.objects.items ≡ map (freed object_owner slot) before.objects.items
+
+-- the entries that come from the Executable Load File are gone
+pub record RemovesApplications (before after : Tables) (file : ℕ) : Type 0 where
+  pub life : after.life ≡ before.life
+  pub entries : after.entries.items ≡ map (freed entry_file file) before.entries.items
+  pub files : after.files.items ≡ before.files.items
+  pub keys : after.keys.items ≡ before.keys.items
+  pub objects : after.objects.items ≡ before.objects.items
 
 -- each page that is staged then was staged, or a slot on it, of an entry, a key or a data object, holds another thing than before
 abbrev pub StagesOwned : {F : Type 0} → Contents F → Contents F → Type 0

@@ -1,18 +1,12 @@
 -- A security domain with all that is below it, and the lock marks there (GlobalPlatform Card Specification 2.3.1, 11.10).
-use Rattle.std.specs.Prelude.{◌≡◌, ◌↔◌, ◌⊎◌, ℕ, List, Bool, Option, true}
+use Rattle.std.specs.Prelude.{◌≡◌, ◌⊎◌, ℕ, List, Bool, Option, length}
 use Rattle.std.specs.Option.{option_map}
-use Rattle.card_types.specs.Registry as registry
-use Rattle.card_types.specs.Registry.{domain_of}
 use Rattle.card_types.specs.Represents.{domain_slot}
 use Rattle.card_types.specs.Slots.{held}
 use Rattle.card_types.specs.declared.tables.Entry.{Entry}
 use Rattle.card_types.specs.declared.tables.Tables.{Tables}
 use Rattle.domain_tree.specs.Above.{Above}
 use Rattle.rec_store.specs.Contents.{Contents}
-
--- the test tells the AIDs of the domain and of all that is below it
-abbrev pub IsTreeOf : registry.Registry → List ℕ → (List ℕ → Bool) → Type 0
-IsTreeOf said domain these = (aid : List ℕ) → (these aid ≡ true) ↔ ((aid ≡ domain) ⊎ Above (domain_of said) domain aid)
 
 -- the slot is that of the domain, or of an entry below it
 abbrev pub IsInTree : List (Option Entry) → ℕ → ℕ → Type 0
@@ -25,6 +19,7 @@ with_lock locked entry = record entry { life = record { life = entry.life.life; 
 -- the entries of the tree have this lock mark
 pub record LocksTree (before after : Tables) (domain : ℕ) (locked : Bool) : Type 0 where
   pub life : after.life ≡ before.life
+  pub slots : length after.entries.items ≡ length before.entries.items
   pub inside : (slot : ℕ) → IsInTree before.entries.items domain slot → held after.entries.items slot ≡ option_map (with_lock locked) (held before.entries.items slot)
   pub outside : (slot : ℕ) → (IsInTree before.entries.items domain slot → ⊥) → held after.entries.items slot ≡ held before.entries.items slot
   pub files : after.files.items ≡ before.files.items

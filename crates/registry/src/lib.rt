@@ -11,10 +11,11 @@
 //!     `add_file`). Where it is refused, nothing has changed (`unchanged`).
 //!  3. No call makes a call on the device, and none commits (`same`).
 //!  4. There is room for what one command changes, and each call keeps it (`room`; `room_for_command` and `room_for_parts`).
-//!     A call that changes one slot stages the page with that slot, and no other; `lock_tree` and `remove_entry` stage only pages
-//!     with a slot that changed (`staged`).
+//!     A call that changes one slot stages the page with that slot, and no other; `lock_tree`, `remove_entry` and
+//!     `remove_applications` stage only pages with a slot that changed (`staged`).
 #![tactic(auto)]
 
+mod applications;
 mod entries;
 mod files;
 mod laws;
@@ -24,6 +25,7 @@ mod place;
 mod refusal;
 mod removal;
 
+pub use applications::remove_applications;
 pub use entries::{add_entry, place_entry, set_life, set_receipts};
 pub use files::{add_file, remove_file};
 pub use laws::{room_for_command, room_for_parts};

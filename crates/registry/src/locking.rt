@@ -8,12 +8,13 @@ ghost use Rattle.card_types.specs.Represents.{Represents, domain_aid};
 ghost use Rattle.card_types.specs.Slots.{held};
 ghost use Rattle.card_types.specs.Well.{Well};
 ghost use Rattle.card_types.specs.declared.limits.TheConstants.{ENTRIES};
+ghost use Rattle.domain_tree.specs.AboveLaws.{IsTreeOf};
 ghost use Rattle.domain_tree.specs.Slots.{IsFreeOfLoops};
 ghost use Rattle.rec_store.specs.Places.{entry_page};
 ghost use Rattle.rec_store.specs.Room.{HasRoomFor};
 ghost use Rattle.registry.specs.Pages.{KeepsRoom, StagesChanged, entry_pages};
 ghost use Rattle.registry.specs.Setting.{ChangesEntry};
-ghost use Rattle.registry.specs.Tree.{IsInTree, IsTreeOf, LocksTree, with_lock};
+ghost use Rattle.registry.specs.Tree.{IsInTree, LocksTree, with_lock};
 
 use card_types::{ENTRIES, Entry, in_slot};
 use domain_tree::above;

@@ -87,6 +87,7 @@ returns-clause-slots g c =
     let all : length start ≡ c.loop-slot.slot = omega (arith, before.all (omega (arith, c.loop-slot-test.false)), before.marked.long, c.loop-slot-test.false) in
     record {
       life = before.same.life;
+      slots = before.marked.long;
       inside = λ slot there. all_inside start slots domain c.args.locked c.loop-slot.slot before.marked all slot top.0 top.1 there;
       outside = all_outside start slots domain c.args.locked c.loop-slot.slot before.marked all;
       files = before.same.files;

@@ -1,0 +1,48 @@
+//! The applications that come from an Executable Load File are removed.
+
+ghost use Rattle.std.specs.Prelude.{◌≡◌, ◌≢◌, ℕ, List, true, IsSome};
+ghost use Rattle.card_types.specs.Registry.{Registry};
+ghost use Rattle.card_types.specs.RegistryChange.{without_applications};
+ghost use Rattle.card_types.specs.Represents.{Represents, file_aid};
+ghost use Rattle.card_types.specs.Slots.{held};
+ghost use Rattle.card_types.specs.Well.{Well};
+ghost use Rattle.card_types.specs.declared.factory.TheConstants.{FACTORY_FILE};
+ghost use Rattle.rec_store.specs.Places.{entry_page};
+ghost use Rattle.rec_store.specs.Room.{HasRoomFor};
+ghost use Rattle.registry.specs.Pages.{KeepsRoom, StagesChanged, entry_pages};
+ghost use Rattle.registry.specs.Removing.{IsUnloaded, RemovesApplications, entry_file, is_owned};
+
+use card_types::{ENTRIES, Entry, in_slot};
+use flash_core::Flash;
+use rec_store::Records;
+
+fn comes_from(entries: &[Option<Entry>], slot: u8, file: u8) -> bool
+    ensures { result ≡ is_owned entry_file file (held entries.now slot) }
+{
+    match in_slot(entries, slot) {
+        Some(entry) => entry.file == file,
+        None => false,
+    }
+}
+
+/// Removes the entries that come from the Executable Load File in a slot, which is not the factory's. They are applications and
+/// own nothing. It commits nothing.
+pub fn remove_applications<F: Flash>(records: &mut Records<F>, file: u8)
+    requires live { records.old.live ≡ true }
+    requires slot { IsSome (held records.old.tables.files.items file) }
+    requires other { file_aid records.old.tables.files.items file ≢ FACTORY_FILE }
+    requires room { HasRoomFor entry_pages records.old.staged }
+    ensures said { (page : ℕ → List ℕ) (said : Registry) → Represents page records.old.tables said → Well said
+        → Represents page records.new.tables (without_applications said (file_aid records.old.tables.files.items file)) }
+    ensures slots { RemovesApplications records.old.tables records.new.tables file }
+    ensures unloaded { IsUnloaded records.new.tables file }
+    ensures same { (records.new.flash ≡ records.old.flash) × (records.new.live ≡ true) }
+    ensures staged { StagesChanged entry_page records.old.tables.entries.items records.new.tables.entries.items records.old.staged records.new.staged }
+    ensures room { KeepsRoom entry_pages records.old.staged records.new.staged }
+{
+    for slot in 0..ENTRIES as u8 {
+        if comes_from(&records.tables().entries, slot, file) {
+            records.set_entry(slot, None);
+        }
+    }
+}
