@@ -24,7 +24,7 @@ use Rattle.policy_rules.specs.declared.rule.Rule.{Rule}
 use Rattle.card_core.specs.SecureChannels.{RepresentsChannels, RepresentsSecureChannel, held_on, without_offer_held}
 use Rattle.card_core.specs.Kept.{KeptRepresents, RepresentsSoundly}
 use Rattle.card_core.specs.Lists.{IsSameButPlace, Lists}
-use Rattle.card_core.specs.Manages.{KeepsAids, Manages}
+use Rattle.card_core.specs.Manages.{KeepsSelected, Manages}
 use Rattle.card_core.specs.Offers.{AnswersAs, OffersAs, secure_channel_for}
 use Rattle.card_core.specs.Serves.{CarriesOutBut, live_refused}
 use Rattle.card_core.specs.declared.channel_session.ChannelSession.{ChannelSession}
@@ -130,7 +130,7 @@ module _ (page : ℕ → List ℕ) (tables : Tables) (live : Live) (all : List C
   )
 
   -- card content management
-  pub managed_carried : (tables' : Tables) (body : List ℕ) (result : Result Status Rule) → KeepsAids tables.entries.items tables'.entries.items → Manages admitted page tables tables' body result
+  pub managed_carried : (tables' : Tables) (body : List ℕ) (result : Result Status Rule) → KeepsSelected live tables.entries.items tables'.entries.items → Manages admitted page tables tables' body result
       → CarriesOutBut page admitted (record { tables = tables'; live = live; held = all }) body result
   managed_carried tables' body (Ok status) keeps managed = (
     managed.done,
@@ -190,6 +190,6 @@ module _ (page : ℕ → List ℕ) (tables : Tables) (live : Live) (all : List C
   pub acts_for : ActsIn page tables slot admitted
   acts_for = selected_acts page tables live admitted admitted.channel slot stands.shows.says stands.sound low opened refl
 
-  pub managed_done : (tables' : Tables) (body : List ℕ) (result : Result Status Rule) → KeepsAids tables.entries.items tables'.entries.items → Manages admitted page tables tables' body result
+  pub managed_done : (tables' : Tables) (body : List ℕ) (result : Result Status Rule) → KeepsSelected live tables.entries.items tables'.entries.items → Manages admitted page tables tables' body result
       → CarriesOutBut page admitted (record { tables = tables'; live = live; held = all }) body result
   managed_done = managed_carried page tables live all admitted stands four low

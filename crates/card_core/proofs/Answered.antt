@@ -1,13 +1,16 @@
 -- A command that has changed the registry, and is answered by a receipt or by 00, has done what it does.
-use Rattle.std.proofs.Common.{◌≡◌, ℕ, ◌≤◌, ◌==◌, List, [], ◌∷◌, Bool, true, false, cond, Option, None, Some, length, refl, sym, ap, subst, ◌∙◌, arith}
+use Rattle.std.proofs.Common.{◌≡◌, ℕ, ◌≤◌, ◌==◌, ◌++◌, List, [], ◌∷◌, Bool, true, false, cond, Option, None, Some, length, refl, sym, ap, subst, ◌∙◌, arith}
 use Rattle.std.specs.Prelude.{IfSome, count_by, not}
 use Rattle.std.specs.List.{list_any}
-use Rattle.std.proofs.lemmas.List.Sums.{sum_by-cons}
+use Rattle.std.proofs.lemmas.List.Elements.{Contains-append_left, Contains-append_right}
+use Rattle.std.proofs.lemmas.List.Sums.{sum_by-append, sum_by-cons}
 use Rattle.apdu_core.specs.declared.reply.Status.{Status}
+use Rattle.card_types.specs.KeySets.{HasKey}
 use Rattle.card_types.specs.Registry.{Registry}
 use Rattle.card_types.specs.declared.tables.Entry.{Entry}
 use Rattle.card_types.specs.declared.found.Found.{Found}
 use Rattle.card_types.specs.declared.found.Found.TheVariants as Thing
+use Rattle.card_types.specs.declared.tables.KeyRec.{KeyRec}
 use Rattle.card_types.specs.declared.tables.Tables.{Tables}
 use Rattle.policy_rules.proofs.Judging.{IsListed, does_so, judged}
 use Rattle.policy_rules.specs.Admission.{Admitted}
@@ -16,18 +19,21 @@ use Rattle.policy_rules.specs.Commands.{TakesCommand}
 use Rattle.policy_rules.specs.ExternalAuthenticate.{rules_before_form}
 use Rattle.policy_rules.specs.FirstFailing.{IsFirst}
 use Rattle.policy_rules.specs.HoldersFound.{MayReceipt}
-use Rattle.card_core.proofs.EntryCards.{may_still}
-use Rattle.card_core.specs.Confirms.{AnswersFor, KeepsReceipts, leaves}
-use Rattle.card_core.specs.Manages.{IsManaged, KeepsAids}
+use Rattle.policy_rules.specs.declared.live.Live.{Live}
+use Rattle.policy_rules.specs.declared.live.LoadName.{LoadName}
+use Rattle.card_core.proofs.EntryCards.{KeepsNumbers, may_still}
+use Rattle.card_core.specs.Confirms.{AnswersFor, leaves}
+use Rattle.card_core.specs.Manages.{IsManaged, KeepsAid, KeepsAids, KeepsSelected}
+use Rattle.rec_store.specs.Keeper.{key_pages}
 use Rattle.rec_store.specs.Places.{file_page}
 use Rattle.rec_store.specs.Room.{HasRoomFor, with_staged}
-use Rattle.registry.specs.Pages.{KeepsRoom, entry_pages, thing_page, thing_pages}
+use Rattle.registry.specs.Pages.{KeepsRoom, entry_pages, object_pages, owner_pages, thing_page, thing_pages}
 
 pub answered_managed : (form : CommandForm) → IsListed form → (admitted : Admitted) → TakesCommand form admitted.command → rules_before_form form.instruction ≡ []
     → IsFirst (form.fails admitted) form.rules None → (page : ℕ → List ℕ) (tables : Tables) (aids : List (List ℕ)) (changed : Registry) (body : List ℕ)
-    → (answers : AnswersFor page tables admitted aids changed body) → form.does admitted (leaves admitted answers.0 body) → (status : Status) → status.0 ≡ 0x9000
+    → (receipter : Option ℕ) (answers : AnswersFor page tables receipter admitted aids changed body) → form.does admitted (leaves admitted answers.0 body) → (status : Status) → status.0 ≡ 0x9000
     → IsManaged admitted page tables body status
-answered_managed form listed admitted takes none first page tables aids changed body answers does status is = record {
+answered_managed form listed admitted takes none first page tables aids changed body receipter answers does status is = record {
   judges = judged form listed admitted takes none None first;
   done = leaves admitted answers.0 body;
   does = does_so form listed admitted takes (leaves admitted answers.0 body) does;
@@ -37,6 +43,31 @@ answered_managed form listed admitted takes none first page tables aids changed 
   status_is = is;
 }
 
+-- what is selected stays where each entry does
+pub aids_selected : (live : Live) (before after : List (Option Entry)) → KeepsAids before after → KeepsSelected live before after
+aids_selected live before after keeps = record { selected = λ number slot low at. keeps slot; load = of live.load }
+  where
+    of : (load : Option LoadName) → IfSome load (λ name. KeepsAid before after name.domain)
+    of None = tt
+    of (Some name) = keeps name.domain
+
+-- and where the next change leaves each entry with its AID
+pub selected_on : (live : Live) (a b c : List (Option Entry)) → KeepsSelected live a b → KeepsAids b c → KeepsSelected live a c
+selected_on live a b c first then = record {
+  selected = λ number slot low at. on slot (first.selected number slot low at);
+  load = by live.load first.load;
+}
+  where
+    on : (slot : ℕ) → KeepsAid a b slot → KeepsAid a c slot
+    on slot keeps entry at =
+        let one = keeps entry at in
+        let other = then slot one.0 one.1 in
+        (other.0, other.1, other.2 ∙ one.2)
+
+    by : (load : Option LoadName) → IfSome load (λ name. KeepsAid a b name.domain) → IfSome load (λ name. KeepsAid a c name.domain)
+    by None keeps = tt
+    by (Some name) keeps = on name.domain keeps
+
 -- entries keep their AIDs over two changes
 pub aids_on : (a b c : List (Option Entry)) → KeepsAids a b → KeepsAids b c → KeepsAids a c
 aids_on a b c first then slot entry at =
@@ -45,9 +76,10 @@ aids_on a b c first then slot entry at =
     (other.0, other.1, other.2 ∙ one.2)
 
 -- who confirms a command may still make a receipt where what it is made from is as it was
-pub still_able : (before after : Tables) → KeepsReceipts before after → (receipter : Option ℕ) → IfSome receipter (MayReceipt before) → IfSome receipter (MayReceipt after)
+pub still_able : (before after : Tables) → KeepsNumbers before after → (receipter : Option ℕ) → IfSome receipter (MayReceipt before) → IfSome receipter (MayReceipt after)
 still_able before after keeps None able = able
-still_able before after keeps (Some slot) able = may_still before after slot keeps able
+still_able before after keeps (Some slot) able =
+    may_still before after slot (keeps.entries slot) (λ place. subst (λ (keys : List (Option KeyRec)). HasKey keys slot 0x71 1 place) (sym keeps.keys)) able
 
 -- with nothing staged there is room for the pages of entries, and then for them again
 pub entry_room : (staged : List ℕ) → staged ≡ [] → HasRoomFor entry_pages staged
@@ -74,3 +106,36 @@ thing_room_again thing staged after none is =
     let one : after ≡ thing_page thing ∷ [] = is ∙ ap (λ (pages : List ℕ). with_staged pages (thing_page thing)) none in
     subst (HasRoomFor entry_pages) (sym one)
     (let fewer = few (λ page. not (list_any (λ other. other == page) (thing_page thing ∷ []))) entry_pages in omega (arith, fewer))
+
+-- room for pages is room for some of them
+abbrev is_new : List ℕ → ℕ → ℕ
+is_new staged page = cond (not (list_any (λ other. other == page) staged)) 1 0
+
+room_first : (pages others staged : List ℕ) → HasRoomFor (pages ++ others) staged → HasRoomFor pages staged
+room_first pages others staged room = omega (arith, room, sum_by-append (is_new staged) pages others)
+
+room_last : (pages others staged : List ℕ) → HasRoomFor (pages ++ others) staged → HasRoomFor others staged
+room_last pages others staged room = omega (arith, room, sum_by-append (is_new staged) pages others)
+
+-- so it is where an entry goes with what it owns
+pub owner_room : (staged : List ℕ) → staged ≡ [] → HasRoomFor owner_pages staged
+owner_room staged none = subst (HasRoomFor owner_pages) (sym none) (omega arith)
+
+pub owner_room_again : (staged after : List ℕ) → staged ≡ [] → KeepsRoom owner_pages staged after → HasRoomFor entry_pages after
+owner_room_again staged after none keeps =
+    room_first entry_pages key_pages after (room_first (entry_pages ++ key_pages) object_pages after (keeps owner_pages (λ page there. there) (owner_room staged none)))
+
+-- and where entries go, and then the Executable Load File that they come from
+module _ (slot : ℕ) (staged between : List ℕ) (none : staged ≡ []) (keeps : KeepsRoom entry_pages staged between) where
+  abbrev file_pages : List ℕ
+  file_pages = file_page slot ∷ []
+
+  loaded_room : HasRoomFor (file_pages ++ entry_pages) between
+  loaded_room =
+      keeps (file_pages ++ entry_pages) (Contains-append_right file_pages entry_pages) (subst (HasRoomFor (file_pages ++ entry_pages)) (sym none) (omega arith))
+
+  pub file_room : HasRoomFor (file_page slot ∷ []) between
+  file_room = room_first file_pages entry_pages between loaded_room
+
+  pub loaded_room_again : (after : List ℕ) → KeepsRoom (file_page slot ∷ []) between after → HasRoomFor entry_pages after
+  loaded_room_again after then = room_last file_pages entry_pages after (then (file_pages ++ entry_pages) (Contains-append_left file_pages entry_pages) loaded_room)

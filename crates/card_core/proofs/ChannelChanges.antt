@@ -1,6 +1,6 @@
 -- What a card shows, when a channel is set and when a load session ends.
 use Rattle.std.proofs.Common.{◌≡◌, ℕ, ◌<◌, List, Bool, true, false, Option, None, Some, refl, sym, ap, subst, ◌∙◌, length}
-use Rattle.std.specs.Prelude.{MatchOption, is_none, slice_index_or, slice_set, if◌then◌else◌, ◌==◌}
+use Rattle.std.specs.Prelude.{IfSome, MatchOption, is_none, slice_index_or, slice_set, if◌then◌else◌, ◌==◌}
 use Rattle.std.specs.Option.{option_map}
 use Rattle.std.proofs.lemmas.List.{set-get_or}
 use Rattle.apdu_core.specs.Apdu.{Apdu}
@@ -31,7 +31,7 @@ use Rattle.policy_rules.specs.declared.live.Place.{Place as KeptPlace}
 use Rattle.policy_rules.specs.declared.live.TheConstants.{CHANNELS}
 use Rattle.card_core.specs.SecureChannels.{RepresentsSecureChannel, held_passed, without_offer_held}
 use Rattle.card_core.specs.Kept.{Kept, KeptRepresents}
-use Rattle.card_core.specs.Manages.{KeepsAids}
+use Rattle.card_core.specs.Manages.{KeepsAid, KeepsSelected}
 use Rattle.card_core.specs.Serves.{live_passed}
 use Rattle.card_core.specs.declared.channel_session.ChannelSession.{ChannelSession}
 use Rattle.card_core.specs.declared.channel_session.ChannelSession.TheVariants as held
@@ -255,22 +255,31 @@ says_over page tables tables' live state registry volatile entries says same tol
       load = subst (λ (es : List (Option Entry)). IsLoadNamed es live.load state.volatile.load) (sym entries) told.load;
     })
 
--- and over tables whose slots keep their AIDs
-module _ (page : ℕ → List ℕ) (tables tables' : Tables) (live : Live) (state : State) (keeps : KeepsAids tables.entries.items tables'.entries.items) where
-  selected_kept : (slot : Option ℕ) (channel : Option Channel) → IsSelectedIn tables.entries.items slot channel → IsSelectedIn tables'.entries.items slot channel
-  selected_kept None None is = is
-  selected_kept None (Some channel) is = is
-  selected_kept (Some slot) None is = is
-  selected_kept (Some slot) (Some channel) (entry, at, aid) = (let other = keeps slot entry at in (other.0, other.1, other.2 ∙ aid))
+-- and over tables where what is selected keeps its AID
+module _ (page : ℕ → List ℕ) (tables tables' : Tables) (live : Live) (state : State) (keeps : KeepsSelected live tables.entries.items tables'.entries.items) where
+  selected_kept : (slot : Option ℕ) (channel : Option Channel) → IfSome slot (KeepsAid tables.entries.items tables'.entries.items)
+      → IsSelectedIn tables.entries.items slot channel → IsSelectedIn tables'.entries.items slot channel
+  selected_kept None None kept is = is
+  selected_kept None (Some channel) kept is = is
+  selected_kept (Some slot) None kept is = is
+  selected_kept (Some slot) (Some channel) kept (entry, at, aid) = (let other = kept entry at in (other.0, other.1, other.2 ∙ aid))
+
+  channel_kept : (number : ℕ) → number < CHANNELS → IfSome (slice_index_or live.selected number None) (KeepsAid tables.entries.items tables'.entries.items)
+  channel_kept number low = by (slice_index_or live.selected number None) refl
+    where
+      by : (slot : Option ℕ) → slice_index_or live.selected number None ≡ slot → IfSome slot (KeepsAid tables.entries.items tables'.entries.items)
+      by None at = tt
+      by (Some slot) at = keeps.selected number slot low at
 
   load_kept : Well state.registry → Represents page tables state.registry → (name : Option LoadName) (load : Option LoadSession)
+      → IfSome name (λ n. KeepsAid tables.entries.items tables'.entries.items n.domain)
       → MatchOption load (Unit {0}) (λ l. IsDomainNamed state.registry l.domain) → IsLoadNamed tables.entries.items name load → IsLoadNamed tables'.entries.items name load
-  load_kept well says None None domain is = is
-  load_kept well says None (Some load) domain is = is
-  load_kept well says (Some name) None domain is = is
-  load_kept well says (Some name) (Some load) domain (channel, aid, owner, next) =
+  load_kept well says None None kept domain is = is
+  load_kept well says None (Some load) kept domain is = is
+  load_kept well says (Some name) None kept domain is = is
+  load_kept well says (Some name) (Some load) kept domain (channel, aid, owner, next) =
       let used = domain_named_is_used page tables state.registry says well name.domain (subst (IsDomainNamed state.registry) (sym owner) domain) in
-      let other = keeps name.domain used.0 used.1 in
+      let other = kept used.0 used.1 in
       let same = domain_aid_is tables'.entries.items name.domain other.0 other.1 ∙ other.2 ∙ sym (domain_aid_is tables.entries.items name.domain used.0 used.1) in
       (channel, aid, same ∙ owner, next)
 
@@ -279,9 +288,9 @@ module _ (page : ℕ → List ℕ) (tables tables' : Tables) (live : Live) (stat
   says_kept registry volatile sound says same told =
       subst (λ (v : Volatile). RepresentsState page tables' live (record { registry = registry; volatile = v })) (sym same) (record {
         registry = says;
-        selected = λ number low. selected_kept (slice_index_or live.selected number None) (channel_at state.volatile number) (told.selected number low);
+        selected = λ number low. selected_kept (slice_index_or live.selected number None) (channel_at state.volatile number) (channel_kept number low) (told.selected number low);
         places = told.places;
-        load = load_kept sound.well told.registry live.load state.volatile.load (loaded state.volatile.load sound.fits.load) told.load;
+        load = load_kept sound.well told.registry live.load state.volatile.load keeps.load (loaded state.volatile.load sound.fits.load) told.load;
       })
     where
       loaded : (load : Option LoadSession) → MatchOption load (Unit {0}) (IsWellLoad state.registry state.volatile) → MatchOption load (Unit {0}) (λ l. IsDomainNamed state.registry l.domain)

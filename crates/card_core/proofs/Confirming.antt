@@ -1,19 +1,14 @@
 -- A command is answered by the receipt that its receipter's slot, its keys and the data objects make.
-use Rattle.std.proofs.Common.{◌≡◌, ◌≢◌, inl, inr, ℕ, ◌+◌, ◌++◌, List, Option, None, Some, refl, ap, sym, subst, ◌∙◌}
-use Rattle.std.specs.Prelude.{MatchOption}
-use Rattle.std.proofs.lemmas.Bool.{cases_Bool}
+use Rattle.std.proofs.Common.{◌≡◌, ◌≢◌, ◌↔◌, inl, inr, ℕ, ◌+◌, ◌==◌, ◌++◌, true, List, Option, None, Some, refl, ap, sym, subst, ◌∙◌}
+use Rattle.std.specs.Prelude.{IfSome, MatchOption}
+use Rattle.std.proofs.lemmas.Bool.{and_parts, eqb-true}
 use Rattle.card_types.proofs.Domains.{domain_aid_is}
-use Rattle.card_types.proofs.EntryNames.{one_entry_slot, slot_of_entry}
 use Rattle.card_types.proofs.ObjectNames.{object_in_slot, object_unnamed}
 use Rattle.card_types.proofs.SetNames.{has_from_held, has_key_named}
-use Rattle.card_types.specs.Layout.{HasIssuer}
-use Rattle.card_types.specs.Privileges.{delegated_management}
-use Rattle.card_types.specs.Registry as registry
-use Rattle.card_types.specs.Registry.{Registry, entry_named, object_named}
+use Rattle.card_types.specs.Registry.{Registry, object_named}
 use Rattle.card_types.specs.RegistryChange.{with_receipts}
 use Rattle.card_types.specs.Represents.{Represents, domain_aid, entry_of, key_of, object_of}
 use Rattle.card_types.specs.Slots.{held}
-use Rattle.card_types.specs.Well.{IsIssuerDomain}
 use Rattle.card_types.specs.declared.factory.TheConstants.{ISSUER}
 use Rattle.card_types.specs.declared.limits.TheConstants.{RECEIPT_LIMIT}
 use Rattle.card_types.specs.declared.tables.Entry.{Entry}
@@ -22,15 +17,15 @@ use Rattle.card_types.specs.declared.tables.Tables.{Tables}
 use Rattle.card_types.specs.declared.tables.TheConstants.{ISSUER_SLOT}
 use Rattle.policy_rules.proofs.NearestHolder.{slot_named}
 use Rattle.policy_rules.specs.Admission.{Admitted}
-use Rattle.policy_rules.specs.Charge.{is_privileged}
-use Rattle.policy_rules.specs.Delegation.{unique_data, value_of}
-use Rattle.policy_rules.specs.HoldersFound.{IsReceipterIn}
-use Rattle.policy_rules.specs.Management.{acting}
+use Rattle.policy_rules.specs.Delegation.{IsAnswered, unique_data, value_of}
+use Rattle.policy_rules.specs.HoldersFound.{FindsConfirmer, IsReceipterIn}
+use Rattle.policy_rules.specs.ObjectsFound.{is_tagged_in}
+use Rattle.policy_rules.specs.State.{Effect}
 use Rattle.tokens_receipts.specs.Receipt.{receipt}
-use Rattle.card_core.specs.Confirms.{AnswersFor, HasChanged, IsReceiptIn, IsUniqueIn, IsValueIn}
+use Rattle.card_core.specs.Confirms.{AnswersFor, HasChanged, IsAnsweredBy, IsReceiptIn, IsUniqueIn, IsValueIn, KeepsNumber}
 
 -- what a used slot holds
-entry_in : (entries : List (Option Entry)) (slot : ℕ) (P : Entry → Type 0) → MatchOption (held entries slot) ⊥ P
+pub entry_in : (entries : List (Option Entry)) (slot : ℕ) (P : Entry → Type 0) → MatchOption (held entries slot) ⊥ P
     → (entry : Entry) × (held entries slot ≡ Some entry) × P entry
 entry_in entries slot P is = by (held entries slot) refl is
   where
@@ -38,24 +33,40 @@ entry_in entries slot P is = by (held entries slot) refl is
     by None at is = absurd is
     by (Some entry) at is = (entry, at, is)
 
+-- who confirms a command does so for whichever reason it is delegated
+pub answered_so : (delegated : Type 0) (tables : Tables) (admitted : Admitted) (receipter : Option ℕ) → FindsConfirmer delegated tables admitted receipter
+    → (aids : List (List ℕ)) (changed : Registry) (done : Effect) → IsAnsweredBy receipter admitted aids changed done → IsAnswered delegated admitted aids changed done
+answered_so delegated tables admitted None (inl (holds, none)) aids changed done is = inr (λ _. none, is)
+answered_so delegated tables admitted None (inr (lacks, none)) aids changed done is = inr (λ holds. absurd (lacks holds), is)
+answered_so delegated tables admitted (Some slot) (inl (holds, found)) aids changed done is = inl (holds, is)
+answered_so delegated tables admitted (Some slot) (inr (lacks, none)) aids changed done is = cc
+
+-- the receipter, where there is one
+pub finds_receipter : (delegated : Type 0) (tables : Tables) (admitted : Admitted) (receipter : Option ℕ) → FindsConfirmer delegated tables admitted receipter
+    → IfSome receipter (IsReceipterIn tables admitted)
+finds_receipter delegated tables admitted None finds = tt
+finds_receipter delegated tables admitted (Some slot) (inl (holds, found)) = found
+finds_receipter delegated tables admitted (Some slot) (inr (lacks, none)) = cc
+
+-- the value of an object of the Issuer Security Domain is the one that it was
+value_before : (before after : List (Option Object))
+    → ((slot : ℕ) (object : Object) → object.owner ≡ ISSUER_SLOT → (held after slot ≡ Some object ↔ held before slot ≡ Some object))
+    → (tag : ℕ) (value : List ℕ) → IsValueIn after tag value → IsValueIn before tag value
+value_before before after same tag value (inl (slot, object, at, owner, tagged, is)) = inl (slot, object, (same slot object owner).0 at, owner, tagged, is)
+value_before before after same tag value (inr (none, is)) =
+    inr (λ slot object at fits. none slot object ((same slot object (tagged_owner object fits)).1 at) fits, is)
+  where
+    tagged_owner : (object : Object) → is_tagged_in ISSUER_SLOT tag (Some object) ≡ true → object.owner ≡ ISSUER_SLOT
+    tagged_owner object fits = eqb-true object.owner ISSUER_SLOT (and_parts (object.owner == ISSUER_SLOT) (object.tag == tag) fits).0
+
 module _ (page : ℕ → List ℕ) (before after : Tables) (domain : ℕ) (receipter : Option ℕ) (admitted : Admitted) (changed : Registry)
-    (has : HasChanged page before after domain receipter admitted changed) (issuer : HasIssuer after.entries.items) where
+    (has : HasChanged page before after domain receipter admitted changed) where
   abbrev said : Registry
   said = admitted.at.registry
 
   -- the Issuer Security Domain was in its slot
   issuer_before : (entry : Entry) × (held before.entries.items ISSUER_SLOT ≡ Some entry) × (entry.aid ≡ ISSUER)
-  issuer_before = by (entry_named said ISSUER) refl has.acts.well.issuer
-    where
-      by : (o : Option registry.Entry) → entry_named said ISSUER ≡ o → MatchOption o ⊥ IsIssuerDomain
-          → (entry : Entry) × (held before.entries.items ISSUER_SLOT ≡ Some entry) × (entry.aid ≡ ISSUER)
-      by None named is = absurd is
-      by (Some entry) named is =
-          (let there = slot_of_entry page before said has.acts.says ISSUER entry named in
-          let other = has.keeps.entries there.0 there.1 there.2 in
-          let own = entry_in after.entries.items ISSUER_SLOT (λ e. e.aid ≡ ISSUER) issuer in
-          let same = one_entry_slot page after changed has.says there.0 ISSUER_SLOT other.0 own.0 other.1 own.1 (other.2 ∙ there.4 ∙ sym own.2) in
-          (there.1, ap (held before.entries.items) (sym same) ∙ there.2, there.4))
+  issuer_before = entry_in before.entries.items ISSUER_SLOT (λ e. e.aid ≡ ISSUER) has.issuer
 
   issuer_aid : domain_aid before.entries.items ISSUER_SLOT ≡ ISSUER
   issuer_aid = domain_aid_is before.entries.items ISSUER_SLOT issuer_before.0 issuer_before.1 ∙ issuer_before.2
@@ -76,43 +87,40 @@ module _ (page : ℕ → List ℕ) (before after : Tables) (domain : ℕ) (recei
   -- the unique data are those that the command was judged by
   unique_named : (unique : List ℕ) → IsUniqueIn after.objects.items unique → unique ≡ unique_data said
   unique_named unique is =
-      let first = value_named 0x42 is.issuer_number (subst (λ (objects : List (Option Object)). IsValueIn objects 0x42 is.issuer_number) has.keeps.objects is.first) in
-      let second = value_named 0x45 is.image_number (subst (λ (objects : List (Option Object)). IsValueIn objects 0x45 is.image_number) has.keeps.objects is.second) in
+      let before_is = value_before before.objects.items after.objects.items has.keeps.objects in
+      let first = value_named 0x42 is.issuer_number (before_is 0x42 is.issuer_number is.first) in
+      let second = value_named 0x45 is.image_number (before_is 0x45 is.image_number is.second) in
       is.are ∙ (λ i. first i ++ second i)
 
   -- the domain in the slot does
   pub confirmed : (slot : ℕ) → receipter ≡ Some slot → (entry : Entry) → held after.entries.items slot ≡ Some entry
       → (left : Tables) → Represents page left (with_receipts changed (domain_aid after.entries.items slot) (entry.receipts + 1))
-      → (aids : List (List ℕ)) (body : List ℕ) → IsReceiptIn after slot (entry.receipts + 1) aids body → AnswersFor page left admitted aids changed body
-  confirmed slot some entry at left says aids body is = elim (cases_Bool (is_privileged delegated_management (entry_named said (acting admitted)))) [
-    | inl holds ↦
-        (let receipts : IsReceipterIn before admitted slot = rw some at has.finds.0 holds in
-        let was = entry_in before.entries.items slot (λ e. e.receipts ≢ RECEIPT_LIMIT) receipts.below in
-        let other = has.keeps.entries slot was.0 was.1 in
-        let same : Some other.0 ≡ Some entry = sym other.1 ∙ at in
-        let aid : domain_aid after.entries.items slot ≡ domain_aid before.entries.items slot =
-        domain_aid_is after.entries.items slot other.0 other.1 ∙ other.2 ∙ sym (domain_aid_is before.entries.items slot was.0 was.1) in
-        let number : entry.receipts ≡ was.0.receipts = (let one : other.0 ≡ entry = cc in ap (λ (e : Entry). e.receipts) (sym one) ∙ other.3) in
-        let key = is.holds in
-        let key_at : held before.keys.items key.slot ≡ Some is.key = ap (λ keys. held keys key.slot) (sym has.keeps.keys) ∙ key.at in
-        let unique = unique_named is.unique is.unique_is in (
-          with_receipts changed (domain_aid after.entries.items slot) (entry.receipts + 1),
-          says,
-          inl (
-            holds,
-            record {
-              receipter = domain_aid before.entries.items slot;
-              entry = entry_of before.entries.items before.files.items was.0;
-              key = key_of before.entries.items is.key;
-              is_receipter = record {
-                above = receipts.is.above;
-                key_is = has_key_named page before said has.acts.says slot 0x71 1 key.slot is.key key_at (has_from_held before.keys.items slot 0x71 1 key.slot is.key key_at key.is);
-              };
-              named = slot_named page before said has.acts.says slot was.0 was.1;
-              registry = (λ i. with_receipts changed (aid i) (number i + 1));
-              body = is.are ∙ (λ i. receipt is.key.bytes.items (number i + 1) (unique i) aids);
-            },
-          ),
-        ))
-    | inr lacks ↦ (let none = has.finds.1 (λ holds. (let clash = sym holds ∙ lacks in cc)) in let clash = sym some ∙ none in cc)
-  ]
+      → (aids : List (List ℕ)) (body : List ℕ) → IsReceiptIn after slot (entry.receipts + 1) aids body → AnswersFor page left receipter admitted aids changed body
+  confirmed slot some entry at left says aids body is =
+      let receipts : IsReceipterIn before admitted slot = rw some at has.finds in
+      let keeps : KeepsNumber before after slot = rw some at has.keeps.entry in
+      let was = entry_in before.entries.items slot (λ e. e.receipts ≢ RECEIPT_LIMIT) receipts.below in
+      let other = keeps was.0 was.1 in
+      let same : Some other.0 ≡ Some entry = sym other.1 ∙ at in
+      let aid : domain_aid after.entries.items slot ≡ domain_aid before.entries.items slot =
+      domain_aid_is after.entries.items slot other.0 other.1 ∙ other.2 ∙ sym (domain_aid_is before.entries.items slot was.0 was.1) in
+      let number : entry.receipts ≡ was.0.receipts = (let one : other.0 ≡ entry = cc in ap (λ (e : Entry). e.receipts) (sym one) ∙ other.3) in
+      let key = is.holds in
+      let key_at : held before.keys.items key.slot ≡ Some is.key = has.keeps.keys key.slot is.key key.at in
+      let unique = unique_named is.unique is.unique_is in
+      rw some (
+        with_receipts changed (domain_aid after.entries.items slot) (entry.receipts + 1),
+        says,
+        record {
+          receipter = domain_aid before.entries.items slot;
+          entry = entry_of before.entries.items before.files.items was.0;
+          key = key_of before.entries.items is.key;
+          is_receipter = record {
+            above = receipts.is.above;
+            key_is = has_key_named page before said has.acts.says slot 0x71 1 key.slot is.key key_at (has_from_held before.keys.items slot 0x71 1 key.slot is.key key_at key.is);
+          };
+          named = slot_named page before said has.acts.says slot was.0 was.1;
+          registry = (λ i. with_receipts changed (aid i) (number i + 1));
+          body = is.are ∙ (λ i. receipt is.key.bytes.items (number i + 1) (unique i) aids);
+        },
+      )

@@ -1,6 +1,6 @@
 -- Tables after a change of the registry: what a receipt is made from is as it was, and they are a card's over any load pages.
 use Rattle.std.proofs.Common.{◌≡◌, ◌≢◌, ◌⊎◌, inl, inr, ℕ, zero, suc, ◌<◌, List, [], ◌∷◌, Option, None, Some, length, refl, ap, subst, sym, ◌∙◌}
-use Rattle.std.specs.Prelude.{MatchOption, All, map, nat_eq, slice_set}
+use Rattle.std.specs.Prelude.{MatchOption, All, IfSome, map, nat_eq, slice_set}
 use Rattle.std.specs.List.{IsDistinct, concat}
 use Rattle.std.specs.Option.{option_map}
 use Rattle.std.proofs.lemmas.Bool.{cases_eq}
@@ -26,7 +26,7 @@ use Rattle.card_types.specs.declared.tables.Object.{Object}
 use Rattle.card_types.specs.declared.tables.Tables.{Tables}
 use Rattle.card_types.specs.declared.tables.TheConstants.{ISSUER_SLOT}
 use Rattle.card_core.proofs.Cards.{AreFiles, IsFactoryIn, cards_from}
-use Rattle.card_core.specs.Confirms.{KeepsReceipts}
+use Rattle.card_core.specs.Confirms.{KeepsNumber, KeepsReceipts}
 use Rattle.card_core.specs.Kept.{AreCards}
 use Rattle.card_core.specs.Manages.{KeepsAids}
 use Rattle.policy_rules.specs.HoldersFound.{MayReceipt}
@@ -40,25 +40,46 @@ module _ (slots : List (Option Entry)) (slot : ℕ) (new : Option Entry) (slots'
   there : slot < length slots → held slots' slot ≡ new
   there within = ap (λ (s : List (Option Entry)). held s slot) set ∙ get_or-set_same slots slot new None within
 
-pub aids_kept : (before after : Tables) → KeepsReceipts before after → KeepsAids before.entries.items after.entries.items
-aids_kept before after keeps slot entry at = (let other = keeps.entries slot entry at in (other.0, other.1, other.2))
+-- entries alone are others, and each used slot holds an entry with the AID and the receipt number that it had
+pub record KeepsNumbers (before after : Tables) : Type 0 where
+  pub entries : (slot : ℕ) → KeepsNumber before after slot
+  pub keys : after.keys.items ≡ before.keys.items
+  pub objects : after.objects.items ≡ before.objects.items
+
+module _ (before after : Tables) (keeps : KeepsNumbers before after) where
+  pub aids_kept : KeepsAids before.entries.items after.entries.items
+  aids_kept slot entry at = (let other = keeps.entries slot entry at in (other.0, other.1, other.2))
+
+  -- so what a receipt is made from is as it was
+  pub receipts_kept : (receipter : Option ℕ) → KeepsReceipts before after receipter
+  receipts_kept receipter = record {
+    entry = of receipter;
+    keys = λ slot key at. ap (λ (keys : List (Option KeyRec)). held keys slot) (sym keeps.keys) ∙ at;
+    objects = λ slot object owner.
+        (let same = ap (λ (objects : List (Option Object)). held objects slot) keeps.objects in (λ at. sym same ∙ at, λ at. same ∙ at));
+  }
+    where
+      of : (receipter : Option ℕ) → IfSome receipter (KeepsNumber before after)
+      of None = tt
+      of (Some slot) = keeps.entries slot
 
 -- who may make a receipt still may
-pub may_still : (before after : Tables) (slot : ℕ) → KeepsReceipts before after → MayReceipt before slot → MayReceipt after slot
-may_still before after slot keeps may = record {
+pub may_still : (before after : Tables) (slot : ℕ) → KeepsNumber before after slot
+    → ((place : ℕ) → HasKey before.keys.items slot 0x71 1 place → HasKey after.keys.items slot 0x71 1 place) → MayReceipt before slot → MayReceipt after slot
+may_still before after slot keeps keys may = record {
   below = by (held before.entries.items slot) refl may.below;
-  key = subst (λ (keys : List (Option KeyRec)). (place : ℕ) × HasKey keys slot 0x71 1 place) (sym keeps.keys) may.key;
+  key = (may.key.0, keys may.key.0 may.key.1);
 }
   where
     by : (o : Option Entry) → held before.entries.items slot ≡ o → MatchOption o ⊥ (λ entry. entry.receipts ≢ RECEIPT_LIMIT)
         → MatchOption (held after.entries.items slot) ⊥ (λ entry. entry.receipts ≢ RECEIPT_LIMIT)
     by None at below = absurd below
     by (Some entry) at below =
-        (let other = keeps.entries slot entry at in
+        (let other = keeps entry at in
         subst (λ (o : Option Entry). MatchOption o ⊥ (λ e. e.receipts ≢ RECEIPT_LIMIT)) (sym other.1) (λ last. below (sym other.3 ∙ last)))
 
 -- an entry joins
-pub adding_keeps : (before after : Tables) (slot : ℕ) (entry : Entry) → AddsEntry before after slot entry → KeepsReceipts before after
+pub adding_keeps : (before after : Tables) (slot : ℕ) (entry : Entry) → AddsEntry before after slot entry → KeepsNumbers before after
 adding_keeps before after slot entry adds = record {
   entries = λ s e at. elim (cases_eq s slot) [
     | inl same ↦ (let clash : ◌≡◌ {A = Option Entry} (Some e) None = sym at ∙ ap (held before.entries.items) same ∙ adds.free.free in cc)
@@ -95,7 +116,7 @@ module _ (before after : Tables) (slot : ℕ) (change : Entry → Entry) (set : 
 
 -- and the receipt number that it had
 pub changing_keeps : (before after : Tables) (slot : ℕ) (change : Entry → Entry) → ((e : Entry) → ((change e).aid ≡ e.aid) × ((change e).receipts ≡ e.receipts))
-    → ChangesEntry before after slot change → KeepsReceipts before after
+    → ChangesEntry before after slot change → KeepsNumbers before after
 changing_keeps before after slot change alike set = record {
   entries = λ s e at.
       (let other = changed_or_still before after slot change set s e at in (
@@ -115,7 +136,7 @@ changing_keeps before after slot change alike set = record {
 }
 
 -- a thing goes into another domain
-pub moving_keeps : (before after : Tables) (thing : Found) (domain : ℕ) → Moves before after thing domain → KeepsReceipts before after
+pub moving_keeps : (before after : Tables) (thing : Found) (domain : ℕ) → Moves before after thing domain → KeepsNumbers before after
 moving_keeps before after (found.Entry slot) domain set =
     changing_keeps before after slot (λ entry. record entry { domain = domain }) (λ e. (refl, refl)) set
 moving_keeps before after (found.File slot) domain set = record {
@@ -133,19 +154,27 @@ issuer_kept before after keeps is = by (held before ISSUER_SLOT) refl is
         (let other = keeps ISSUER_SLOT entry at in
         subst (λ (o : Option Entry). MatchOption o ⊥ (λ e. e.aid ≡ ISSUER)) (sym other.1) (other.2 ∙ is))
 
--- tables are a card's after an entry joined, went or was changed, where they say a registry that a card may have
+-- tables with other entries in as many slots are a card's, where they say a registry that a card may have
+pub entries_cards : (before after : Tables) → length after.entries.items ≡ length before.entries.items → after.files.items ≡ before.files.items
+    → after.keys.items ≡ before.keys.items → after.objects.items ≡ before.objects.items → KeepsAids before.entries.items after.entries.items
+    → ((page : ℕ → List ℕ) (said : Registry) → Represents page before said → Well said → (now : Registry) × Represents page after now × Well now)
+    → AreCards before → AreCards after
+entries_cards before after entries files keys objects keeps each cards =
+    cards_from before after
+    entries
+    (ap (λ (slots : List (Option LoadFile)). length slots) files)
+    (ap (λ (slots : List (Option KeyRec)). length slots) keys)
+    (ap (λ (slots : List (Option Object)). length slots) objects)
+    (issuer_kept before.entries.items after.entries.items keeps)
+    (λ are. subst AreFiles (sym files) are)
+    each cards
+
+-- and so after an entry joined, went or was changed
 pub entry_cards : (before after : Tables) (slot : ℕ) (entry : Option Entry) → SetsEntry before after slot entry → KeepsAids before.entries.items after.entries.items
     → ((page : ℕ → List ℕ) (said : Registry) → Represents page before said → Well said → (now : Registry) × Represents page after now × Well now)
     → AreCards before → AreCards after
 entry_cards before after slot entry set keeps each cards =
-    cards_from before after
-    (ap (λ (slots : List (Option Entry)). length slots) set.entries ∙ length-set before.entries.items slot entry)
-    (ap (λ (slots : List (Option LoadFile)). length slots) set.files)
-    (ap (λ (slots : List (Option KeyRec)). length slots) set.keys)
-    (ap (λ (slots : List (Option Object)). length slots) set.objects)
-    (issuer_kept before.entries.items after.entries.items keeps)
-    (λ files. subst AreFiles (sym set.files) files)
-    each cards
+    entries_cards before after (ap (λ (slots : List (Option Entry)). length slots) set.entries ∙ length-set before.entries.items slot entry) set.files set.keys set.objects keeps each cards
 
 abbrev in_domain : ℕ → LoadFile → LoadFile
 in_domain domain file = record file { domain = domain }

@@ -85,8 +85,8 @@ carried_out page state bytes command session plain card body reply (Err rule) so
 -- what a class takes is built
 is_built_all : (class : Class) → All IsBuilt (instructions_of class)
 is_built_all Interindustry = All-from_recursion IsBuilt (instructions_of Interindustry) (inl tt, (inl tt, (inl tt, tt)))
-is_built_all Plain = All-from_recursion IsBuilt (instructions_of Plain) (inl tt, (inl tt, (inl tt, (inl tt, (inl tt, (inl tt, (inl tt, tt)))))))
-is_built_all Secure = All-from_recursion IsBuilt (instructions_of Secure) (inl tt, (inl tt, (inl tt, (inl tt, (inl tt, (inl tt, (inl tt, tt)))))))
+is_built_all Plain = All-from_recursion IsBuilt (instructions_of Plain) (inl tt, (inl tt, (inl tt, (inl tt, (inl tt, (inl tt, (inl tt, (inl tt, tt))))))))
+is_built_all Secure = All-from_recursion IsBuilt (instructions_of Secure) (inl tt, (inl tt, (inl tt, (inl tt, (inl tt, (inl tt, (inl tt, (inl tt, tt))))))))
 
 pub is_built : (class : Option Class) (ins : ℕ) → MatchOption class ⊥ (λ c. Contains (instructions_of c) ins) → IsBuilt ins
 is_built None ins known = absurd known

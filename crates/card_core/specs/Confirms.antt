@@ -1,8 +1,8 @@
 -- How a command of card content management is answered: by a receipt of the domain that confirms it, or by 00.
-use Rattle.std.specs.Prelude.{◌≡◌, ◌⊎◌, ℕ, ◌++◌, List, [], Option, Some}
+use Rattle.std.specs.Prelude.{◌≡◌, ◌⊎◌, ◌↔◌, ℕ, ◌++◌, List, [], Option, None, Some, IfSome}
 use Rattle.card_types.specs.KeySets.{HoldsKeyOf}
+use Rattle.card_types.specs.Layout.{HasIssuer}
 use Rattle.card_types.specs.Least.{NoneFits}
-use Rattle.card_types.specs.Privileges.{delegated_management}
 use Rattle.card_types.specs.Registry.{Registry}
 use Rattle.card_types.specs.Represents.{Represents}
 use Rattle.card_types.specs.Slots.{held}
@@ -12,42 +12,54 @@ use Rattle.card_types.specs.declared.tables.Object.{Object}
 use Rattle.card_types.specs.declared.tables.Tables.{Tables}
 use Rattle.card_types.specs.declared.tables.TheConstants.{ISSUER_SLOT}
 use Rattle.policy_rules.specs.Admission.{Admitted}
-use Rattle.policy_rules.specs.Delegation.{Holds, IsAnswered}
-use Rattle.policy_rules.specs.InstallRequests.{FindsConfirmer}
+use Rattle.policy_rules.specs.Delegation.{IsConfirmed, IsUnconfirmed}
+use Rattle.policy_rules.specs.HoldersFound.{IsReceipterIn}
 use Rattle.policy_rules.specs.ObjectsFound.{is_tagged_in}
 use Rattle.policy_rules.specs.Requests.{ActsIn}
 use Rattle.policy_rules.specs.State.{Effect}
 use Rattle.tokens_receipts.specs.Receipt.{receipt}
 
--- What a receipt is made from is as it was: each used slot holds an entry with the AID and the receipt number that it had, and the
--- keys and data objects are the same.
-pub record KeepsReceipts (before after : Tables) : Type 0 where
-  pub entries : (slot : ℕ) (entry : Entry) → held before.entries.items slot ≡ Some entry
-      → (other : Entry) × (held after.entries.items slot ≡ Some other) × (other.aid ≡ entry.aid) × (other.receipts ≡ entry.receipts)
-  pub keys : after.keys.items ≡ before.keys.items
-  pub objects : after.objects.items ≡ before.objects.items
+-- the slot holds an entry with the AID and the receipt number that it had
+abbrev pub KeepsNumber : Tables → Tables → ℕ → Type 0
+KeepsNumber before after slot =
+    (entry : Entry) → held before.entries.items slot ≡ Some entry
+    → (other : Entry) × (held after.entries.items slot ≡ Some other) × (other.aid ≡ entry.aid) × (other.receipts ≡ entry.receipts)
+
+-- What a receipt is made from is as it was: the AID and the receipt number of who confirms, the keys that are left, and the data objects of
+-- the Issuer Security Domain.
+pub record KeepsReceipts (before after : Tables) (receipter : Option ℕ) : Type 0 where
+  pub entry : IfSome receipter (KeepsNumber before after)
+  pub keys : (slot : ℕ) (key : KeyRec) → held after.keys.items slot ≡ Some key → held before.keys.items slot ≡ Some key
+  pub objects : (slot : ℕ) (object : Object) → object.owner ≡ ISSUER_SLOT
+      → (held after.objects.items slot ≡ Some object ↔ held before.objects.items slot ≡ Some object)
 
 -- A command of the domain in a slot has changed the registry to this one, and the domain in the other slot confirms it, or nobody.
 pub record HasChanged (page : ℕ → List ℕ) (before after : Tables) (domain : ℕ) (receipter : Option ℕ) (admitted : Admitted) (changed : Registry) : Type 0 where
   pub acts : ActsIn page before domain admitted
-  pub finds : FindsConfirmer before admitted receipter
-  pub keeps : KeepsReceipts before after
+  pub issuer : HasIssuer before.entries.items
+  pub finds : IfSome receipter (IsReceipterIn before admitted)
+  pub keeps : KeepsReceipts before after receipter
   pub says : Represents page after changed
 
 -- the command leaves this registry, nothing else is changed, and it is answered by these bytes
 abbrev pub leaves : Admitted → Registry → List ℕ → Effect
 leaves admitted registry body = record { state = record { registry = registry; volatile = admitted.at.volatile }; body = body; status = 0x9000 }
 
--- the command, which was about these things, is answered, and the tables say the registry that it leaves then
-abbrev pub AnswersFor : (ℕ → List ℕ) → Tables → Admitted → List (List ℕ) → Registry → List ℕ → Type 0
-AnswersFor page tables admitted aids changed body =
-    (left : Registry) × Represents page tables left × IsAnswered (Holds admitted delegated_management) admitted aids changed (leaves admitted left body)
+-- the domain in the slot confirms a command that was about these things, or nobody does
+abbrev pub IsAnsweredBy : Option ℕ → Admitted → List (List ℕ) → Registry → Effect → Type 0
+IsAnsweredBy None admitted aids changed done = IsUnconfirmed changed done
+IsAnsweredBy (Some slot) admitted aids changed done = IsConfirmed admitted aids changed done
+
+-- so it is answered, and the tables say the registry that it leaves then
+abbrev pub AnswersFor : (ℕ → List ℕ) → Tables → Option ℕ → Admitted → List (List ℕ) → Registry → List ℕ → Type 0
+AnswersFor page tables receipter admitted aids changed body =
+    (left : Registry) × Represents page tables left × IsAnsweredBy receipter admitted aids changed (leaves admitted left body)
 
 -- each command whose change led to the first tables is answered by these bytes, and the second tables are left
 abbrev pub Confirms : Tables → Tables → Option ℕ → List (List ℕ) → List ℕ → Type 0
 Confirms tables tables' receipter aids body =
     (page : ℕ → List ℕ) (admitted : Admitted) (before : Tables) (domain : ℕ) (changed : Registry)
-    → HasChanged page before tables domain receipter admitted changed → AnswersFor page tables' admitted aids changed body
+    → HasChanged page before tables domain receipter admitted changed → AnswersFor page tables' receipter admitted aids changed body
 
 -- the value of the data object of the Issuer Security Domain with this tag, or nothing where it has none
 abbrev pub IsValueIn : List (Option Object) → ℕ → List ℕ → Type 0

@@ -2,12 +2,14 @@ pub mod AesKinds
 pub mod Card
 pub mod Commits
 pub mod Confirms
+pub mod Deletes
 pub mod Domains
 pub mod Installs
 pub mod Kept
 pub mod Lists
 pub mod LoadRead
 pub mod Manages
+pub mod ManagesAs
 pub mod ObjectsPut
 pub mod Offers
 pub mod PowerOn
@@ -15,3 +17,4 @@ pub mod SecureChannels
 pub mod Secured
 pub mod Serves
 pub mod ShownParts
+pub mod StatusChanges

@@ -1,5 +1,5 @@
 -- What comes of a command of card content management: the registry changes, and nothing of what the channels hold.
-use Rattle.std.specs.Prelude.{◌≡◌, ℕ, List, [], Option, Result, Ok, Err, None, Some}
+use Rattle.std.specs.Prelude.{◌≡◌, ℕ, ◌<◌, List, [], Option, Result, Ok, Err, None, Some, IfSome}
 use Rattle.apdu_core.specs.declared.reply.Status.{Status}
 use Rattle.card_types.specs.Represents.{Represents}
 use Rattle.card_types.specs.Slots.{held}
@@ -8,11 +8,22 @@ use Rattle.card_types.specs.declared.tables.Tables.{Tables}
 use Rattle.policy_rules.specs.Admission.{Admitted}
 use Rattle.policy_rules.specs.Commands.{HasEffect, Judges}
 use Rattle.policy_rules.specs.State.{Effect}
+use Rattle.policy_rules.specs.declared.live.Live.{Live}
+use Rattle.policy_rules.specs.declared.live.TheConstants.{CHANNELS}
 use Rattle.policy_rules.specs.declared.rule.Rule.{Rule}
 
--- each slot that is used holds an entry with the AID that it had
+-- the slot holds an entry with the AID that it had
+abbrev pub KeepsAid : List (Option Entry) → List (Option Entry) → ℕ → Type 0
+KeepsAid before after slot = (entry : Entry) → held before slot ≡ Some entry → (other : Entry) × (held after slot ≡ Some other) × (other.aid ≡ entry.aid)
+
+-- each slot that is used does
 abbrev pub KeepsAids : List (Option Entry) → List (Option Entry) → Type 0
-KeepsAids before after = (slot : ℕ) (entry : Entry) → held before slot ≡ Some entry → (other : Entry) × (held after slot ≡ Some other) × (other.aid ≡ entry.aid)
+KeepsAids before after = (slot : ℕ) → KeepsAid before after slot
+
+-- so does the slot that is selected on a channel, and that of the load session's domain
+pub record KeepsSelected (live : Live) (before after : List (Option Entry)) : Type 0 where
+  pub selected : (number slot : ℕ) → number < CHANNELS → held live.selected number ≡ Some slot → KeepsAid before after slot
+  pub load : IfSome live.load (λ name. KeepsAid before after name.domain)
 
 -- no rule refused the command, it did what it does, and the tables say the registry that it leaves
 pub record IsManaged (admitted : Admitted) (page : ℕ → List ℕ) (tables : Tables) (body : List ℕ) (status : Status) : Type 0 where

@@ -4,13 +4,16 @@ ghost use Rattle.std.specs.Prelude.{◌≡◌, ◌≤◌, [], Contains, OnErr, l
 ghost use Rattle.card_core.specs.Domains.{is_domain_in};
 ghost use Rattle.card_core.specs.SecureChannels.{IsInSession};
 ghost use Rattle.card_core.specs.Kept.{AreCards};
-ghost use Rattle.card_core.specs.Manages.{KeepsAids, Manages};
+ghost use Rattle.card_core.specs.Manages.{KeepsSelected, Manages};
 ghost use Rattle.card_core.specs.Offers.{HoldsFor};
 ghost use Rattle.policy_rules.specs.Classes.{changing};
-ghost use Rattle.policy_rules.specs.Requests.{ForActing, IsRequestOf, IsWellFormed, RepresentsState, form_in};
+ghost use Rattle.policy_rules.specs.Requests.{ForActingLive, IsRequestOf, IsWellFormed, form_in};
 
+use crate::card_status::set_card_status;
 use crate::channel_session::ChannelSession;
 use crate::delete_key::delete_key;
+use crate::delete_object::delete_object;
+use crate::entry_status::set_entry_status;
 use crate::extradition::extradite;
 use crate::install_application::install_application;
 use crate::make_selectable::make_selectable;
@@ -41,10 +44,9 @@ pub fn manage<F: Flash>(
     requires changing { Contains changing (form_in request.now).instruction }
     requires formed { IsWellFormed request.now }
     requires empty { reply.old.items ≡ [] }
-    ensures done { ForActing records.old.tables domain (λ page admitted. RepresentsState page records.old.tables live.now admitted.at
-        → IsRequestOf request.now admitted.command → HoldsFor held.now admitted
+    ensures done { ForActingLive records.old.tables live.now domain (λ page admitted. IsRequestOf request.now admitted.command → HoldsFor held.now admitted
         → Manages admitted page records.old.tables records.new.tables reply.new.items result) }
-    ensures aids { KeepsAids records.old.tables.entries.items records.new.tables.entries.items }
+    ensures selected { KeepsSelected live.now records.old.tables.entries.items records.new.tables.entries.items }
     ensures cards { AreCards records.new.tables }
     ensures same { (records.new.flash ≡ records.old.flash) × (records.new.live ≡ true) }
     ensures refused { OnErr result (records.new ≡ records.old) }
@@ -61,9 +63,12 @@ pub fn manage<F: Flash>(
             version,
             identifier,
         } => delete_key(records, domain, *version, *identifier, reply),
+        Request::DeleteObject(request) => delete_object(records, live, domain, request, reply),
         Request::Install(request) => install_application(records, live, domain, request, reply),
         Request::MakeSelectable(request) => make_selectable(records, domain, request, reply),
         Request::Extradite(request) => extradite(records, domain, request, reply),
+        Request::CardStatus { code } => set_card_status(records, domain, *code),
+        Request::EntryStatus(request) => set_entry_status(records, domain, request),
         _ => unreachable!(),
     }
 }

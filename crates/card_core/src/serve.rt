@@ -173,9 +173,12 @@ fn carry_out<F: Flash>(
         Request::PutKey { .. }
         | Request::Store { .. }
         | Request::DeleteKey { .. }
+        | Request::DeleteObject(_)
         | Request::Install(_)
         | Request::MakeSelectable(_)
-        | Request::Extradite(_) => {
+        | Request::Extradite(_)
+        | Request::CardStatus { .. }
+        | Request::EntryStatus(_) => {
             manage(records, live, &held[at], received.selected, &request, reply)
         }
     }

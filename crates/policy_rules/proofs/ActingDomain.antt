@@ -1,16 +1,17 @@
 -- The security domain that a command acts for, in its slot and by its name.
-use Rattle.std.proofs.Common.{◌≡◌, ℕ, true, false, List, Option, Some, ap, sym, subst, ◌∙◌}
+use Rattle.std.proofs.Common.{◌≡◌, ◌≢◌, ◌⊎◌, ℕ, true, false, List, Option, Some, ap, sym, subst, ◌∙◌}
 use Rattle.std.specs.Prelude.{MatchOption}
 use Rattle.card_types.proofs.Domains.{domain_aid_is}
 use Rattle.card_types.proofs.EntryNames.{entry_in_slot}
 use Rattle.card_types.specs.Registry as registry
 use Rattle.card_types.specs.Represents.{entry_of}
+use Rattle.card_types.specs.declared.factory.TheConstants.{ISSUER}
 use Rattle.card_types.specs.declared.tables.Tables.{Tables}
 use Rattle.policy_rules.specs.Admission.{Admitted}
 use Rattle.policy_rules.specs.Management.{ManagementFails, acting}
 use Rattle.policy_rules.specs.Requests.{ActsIn}
 use Rattle.policy_rules.specs.Select.{is_card_locked}
-use Rattle.policy_rules.specs.declared.management.RuleM.TheVariants.{M1, M2}
+use Rattle.policy_rules.specs.declared.management.RuleM.TheVariants.{M1, M2, M3}
 
 module _ (page : ℕ → List ℕ) (tables : Tables) (domain : ℕ) (admitted : Admitted) (acts : ActsIn page tables domain admitted) where
   pub acting_aid : acting admitted ≡ acts.entry.aid
@@ -34,3 +35,7 @@ module _ (page : ℕ → List ℕ) (tables : Tables) (domain : ℕ) (admitted : 
   pub card_passes : is_card_locked tables.life ≡ false → ManagementFails admitted M1 → ⊥
   card_passes unlocked fails =
       (let locked = subst (λ life. is_card_locked life ≡ true) (sym acts.says.life) fails in let clash = sym locked ∙ unlocked in cc)
+
+  -- on a locked card the Issuer Security Domain alone sets a life cycle state, the card's own
+  pub closed_fails : is_card_locked tables.life ≡ true → (admitted.command.p1 ≢ 0x80) ⊎ (acting admitted ≢ ISSUER) → ManagementFails admitted M3
+  closed_fails locked other = (subst (λ life. is_card_locked life ≡ true) acts.says.life locked, other)

@@ -1,5 +1,7 @@
 -- All commands are lawful.
-use Rattle.std.proofs.Common.{ℕ, Bool, true, false, List, [], ◌∷◌}
+use Rattle.std.proofs.Common.{ℕ, Bool, true, false, List, [], ◌∷◌, refl, arith}
+use Rattle.std.specs.Prelude.{Contains}
+use Rattle.policy_rules.specs.Classes.{managing}
 use Rattle.policy_rules.specs.CommandForm.{CommandForm}
 use Rattle.policy_rules.specs.Commands.{AtMostOne, Takes, forms_of, listed}
 use Rattle.policy_rules.specs.Laws.{OneForm}
@@ -13,10 +15,15 @@ use Rattle.policy_rules.proofs.ExternalAuthenticateLaws.{external_authenticate_l
 use Rattle.policy_rules.proofs.PutKeyLaws.{put_key_lawful}
 use Rattle.policy_rules.proofs.StoreDataLaws.{store_data_lawful}
 use Rattle.policy_rules.proofs.DeleteKeyLaws.{delete_key_lawful}
+use Rattle.policy_rules.proofs.DeleteObjectLaws.{delete_object_lawful}
+use Rattle.policy_rules.proofs.DeletionForms.{deletions_apart}
 use Rattle.policy_rules.proofs.InstallApplicationLaws.{install_application_lawful}
 use Rattle.policy_rules.proofs.InstallForms.{AreApart, install_apart, managed, selectable_apart}
 use Rattle.policy_rules.proofs.MakeSelectableLaws.{make_selectable_lawful}
 use Rattle.policy_rules.proofs.ExtraditionLaws.{extradition_lawful}
+use Rattle.policy_rules.proofs.CardStatusLaws.{card_status_lawful}
+use Rattle.policy_rules.proofs.EntryStatusLaws.{entry_status_lawful}
+use Rattle.policy_rules.proofs.StatusForms.{status_forms_apart}
 
 -- it holds of all of these forms
 abbrev pub AllOf : (CommandForm → Type 0) → List CommandForm → Type 0
@@ -47,6 +54,13 @@ either : (test : Bool) (these others : List CommandForm) → AreLawful these →
 either true these others these_are others_are = these_are
 either false these others these_are others_are = others_are
 
+-- DELETE and SET STATUS manage content
+deleting : Contains managing 0xE4
+deleting = (2, omega arith, refl)
+
+setting : Contains managing 0xF0
+setting = (4, omega arith, refl)
+
 -- the one place where all commands are gone through
 pub all_lawful : (ins : ℕ) → AreLawful (forms_of ins)
 all_lawful ins =
@@ -57,10 +71,11 @@ all_lawful ins =
     (either _ _ _ (alone _ external_authenticate_lawful)
     (either _ _ _ (alone _ put_key_lawful)
     (either _ _ _ (alone _ store_data_lawful)
-    (either _ _ _ (alone _ delete_key_lawful)
+    (either _ _ _ (beside _ _ delete_key_lawful deletions_apart (alone _ (delete_object_lawful deleting)))
     (either _ _ _ (beside _ _ (install_application_lawful managed) install_apart
     (beside _ _ (make_selectable_lawful managed) selectable_apart (alone _ (extradition_lawful managed))))
-    (either _ _ _ (alone _ get_status_lawful) none)))))))))
+    (either _ _ _ (beside _ _ (card_status_lawful setting) status_forms_apart (alone _ (entry_status_lawful setting)))
+    (either _ _ _ (alone _ get_status_lawful) none))))))))))
 
 pub one_form : OneForm
 one_form ins p1 p2 body = (all_lawful ins).one ins p1 p2 body

@@ -41,10 +41,10 @@ use Rattle.policy_rules.specs.Admission.{Admitted}
 use Rattle.policy_rules.specs.Charge.{IsFileInCharge, is_privileged}
 use Rattle.policy_rules.specs.Delegation.{Holds, MayManage, delegation_rules}
 use Rattle.policy_rules.specs.FirstFailing.{IsFirst}
-use Rattle.policy_rules.specs.HoldersFound.{FindsReceipter}
+use Rattle.policy_rules.specs.HoldersFound.{FindsConfirmer, FindsReceipter}
 use Rattle.policy_rules.specs.InstallApplication.{AskedFails, AsksToInstall, InstallAsked, InstallFails, InstallingFails, IsTakenAid, guarded_privileges, install_rules}
 use Rattle.policy_rules.specs.InstallFields.{approval_in}
-use Rattle.policy_rules.specs.InstallRequests.{ApprovalFails, FindsConfirmer, IsInstallOf, IsOutOfCharge, application_rules, exceeds_by, is_loaded_as, may_manage_by}
+use Rattle.policy_rules.specs.InstallRequests.{ApprovalFails, IsInstallOf, IsOutOfCharge, application_rules, exceeds_by, is_loaded_as, may_manage_by}
 use Rattle.policy_rules.specs.Management.{ManagementFails, acting}
 use Rattle.policy_rules.specs.Requests.{ActsIn, IsLoadNamed}
 use Rattle.policy_rules.specs.Volatile.{LoadSession}
@@ -285,7 +285,7 @@ module _ (admitted : Admitted) (asked : InstallAsked) (asks : AsksToInstall admi
         (first_behind (InstallFails admitted) delegation_rules (map II application_rules) found (application_first None none) (approval_first found first))
 
 -- who confirms a delegated command
-pub confirms : (tables : Tables) (admitted : Admitted) → Holds admitted delegated_management → (result : Result (Option ℕ) Rule)
-    → IfOk result (FindsReceipter tables admitted) → IfOk result (FindsConfirmer tables admitted)
-confirms tables admitted holds (Ok slot) finds = (λ so. finds, λ lacks. absurd (lacks holds))
-confirms tables admitted holds (Err rule) finds = finds
+pub confirms : (delegated : Type 0) (tables : Tables) (admitted : Admitted) → delegated → (result : Result (Option ℕ) Rule)
+    → IfOk result (FindsReceipter tables admitted) → IfOk result (FindsConfirmer delegated tables admitted)
+confirms delegated tables admitted is (Ok slot) finds = inl (is, finds)
+confirms delegated tables admitted is (Err rule) finds = finds

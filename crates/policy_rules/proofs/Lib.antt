@@ -3,6 +3,9 @@ pub mod AllLawful
 pub mod AnsweredKeeps
 pub mod AnySlot
 pub mod Approved
+pub mod CardStatusJudging
+pub mod CardStatusLaws
+pub mod ChangedFits
 pub mod Channels
 pub mod ChargeNamed
 pub mod Chosen
@@ -13,6 +16,14 @@ pub mod DeleteKeyJudging
 pub mod DeleteKeyKeeps
 pub mod DeleteKeyLaws
 pub mod DeleteKeyOnce
+pub mod EntryStatusJudging
+pub mod EntryStatusLaws
+pub mod DeleteObjectLaws
+pub mod DeletionAsking
+pub mod DeletionForms
+pub mod DeletionJudging
+pub mod DeletionNames
+pub mod DeletionSlots
 pub mod ExternalAuthenticateLaws
 pub mod ExtraditionJudging
 pub mod ExtraditionLaws
@@ -65,6 +76,8 @@ pub mod PutKeyKeeps
 pub mod PutKeyKeys
 pub mod PutKeyLaws
 pub mod PutKeyOnce
+pub mod ReceipterKept
+pub mod RemovedFits
 pub mod SameEffect
 pub mod SameThings
 pub mod SelectLaws
@@ -72,6 +85,7 @@ pub mod Selected
 pub mod SessionSets
 pub mod SetChannel
 pub mod SecureChannelSet
+pub mod StatusForms
 pub mod StatusListed
 pub mod StatusListing
 pub mod StatusParts

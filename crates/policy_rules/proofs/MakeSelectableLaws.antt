@@ -1,13 +1,12 @@
 -- The laws of INSTALL [for make selectable].
 use Rattle.std.proofs.Common.{◌≡◌, ◌≢◌, ℕ, List, [], ◌∷◌, Option, None, Some, true, false, refl, ap, sym, subst, ◌∙◌, arith}
-use Rattle.std.specs.Prelude.{Contains, IfSome, IsSome, MatchOption, cond}
-use Rattle.std.specs.Option.{option_map}
+use Rattle.std.specs.Prelude.{Contains, IfSome, MatchOption}
 use Rattle.card_types.proofs.LifeChanges.{life_keeps}
-use Rattle.card_types.proofs.MappedEntries.{KeepsNames, domain_still, entry_changed, some_keep, unnamed_still}
+use Rattle.card_types.proofs.MappedEntries.{KeepsNames}
 use Rattle.card_types.specs.AidOrder.{same_aid}
 use Rattle.card_types.specs.ChangeLaws.{IsOfCard, MayHaveLife}
 use Rattle.card_types.specs.Privileges.{delegated_management}
-use Rattle.card_types.specs.Registry.{Entry, Registry, entry_named, is_domain}
+use Rattle.card_types.specs.Registry.{Entry, entry_named, is_domain}
 use Rattle.card_types.specs.RegistryChange.{with_life}
 use Rattle.card_types.specs.Well.{IsIssuerDomain, Well, has_life}
 use Rattle.card_types.specs.declared.factory.TheConstants.{ISSUER}
@@ -22,40 +21,19 @@ use Rattle.policy_rules.specs.InstallFields.{InstallData}
 use Rattle.policy_rules.specs.MakeSelectable.{AsksToMakeSelectable, MakeSelectableEffect, MakeSelectableFails, MakingSelectableFails, is_installed, make_selectable, selectable_rules}
 use Rattle.policy_rules.specs.Sound.{IsSound}
 use Rattle.policy_rules.specs.State.{Effect}
-use Rattle.policy_rules.specs.Volatile.{LoadSession}
 use Rattle.policy_rules.specs.declared.delegation.RuleRC.TheVariants.{RC1}
 use Rattle.policy_rules.specs.declared.make_selectable.RuleMS.TheVariants.{MS2, MS4}
 use Rattle.policy_rules.specs.declared.rule.Rule.TheVariants.{MS, RC}
 use Rattle.policy_rules.proofs.AnsweredKeeps.{answered_fits, answered_keeps, answered_once}
 use Rattle.policy_rules.proofs.FirstUnique.{none_fails}
-use Rattle.policy_rules.proofs.FitsKept.{KeepsThings, fits_kept, load_unnamed}
+use Rattle.policy_rules.proofs.ChangedFits.{changed_fits, changed_leaves_free}
+use Rattle.policy_rules.proofs.FitsKept.{load_unnamed}
 use Rattle.policy_rules.proofs.Lawful.{IsLawful, IsReady, fits_as, placeless_same}
 use Rattle.policy_rules.proofs.LengthFields.{one_data}
 use Rattle.policy_rules.proofs.SameEffect.{effect_same, state_same}
 
 abbrev pub selectable_life : LifeMark
 selectable_life = record { life = Selectable; locked = false }
-
--- another life cycle state of an entry keeps what is there
-module _ (registry : Registry) (aid : List ℕ) (life : LifeMark) where
-  names : KeepsNames (λ entry. cond (same_aid entry.aid aid) (record entry { life = life }) entry)
-  names = some_keep (λ other. same_aid other aid) (λ entry. record entry { life = life }) (record { aid = λ _. refl; file = λ _. refl; privileges = λ _. refl })
-
-  life_keeps_things : KeepsThings registry (with_life registry aid life)
-  life_keeps_things = record {
-    entries = λ other some. subst IsSome (sym (entry_changed registry _ registry.files names other)) (some_mapped (entry_named registry other) some);
-    domains = λ other is. domain_still registry _ registry.files names other is;
-    files = refl;
-  }
-    where
-      some_mapped : (o : Option Entry) → IsSome o → IsSome (option_map (λ (entry : Entry). cond (same_aid entry.aid aid) (record entry { life = life }) entry) o)
-      some_mapped None some = some
-      some_mapped (Some entry) some = refl
-
-  life_leaves_free : (load : Option LoadSession) → MatchOption load (Unit {0}) (λ l. entry_named registry l.aid ≡ None)
-      → MatchOption load (Unit {0}) (λ l. entry_named (with_life registry aid life) l.aid ≡ None)
-  life_leaves_free None free = tt
-  life_leaves_free (Some l) free = unnamed_still registry _ registry.files names l.aid free
 
 module _ (admitted : Admitted) (given : InstallData) (well : Well admitted.at.registry) (installed : MakingSelectableFails admitted given MS4 → ⊥)
     (known : MakingSelectableFails admitted given MS2 → ⊥) where
@@ -94,12 +72,15 @@ selecting_keeps admitted done ready (takes, first) does =
     let changed = with_life registry given.third selectable_life in
     let receipt : Holds admitted delegated_management → ReceiptFails admitted RC1 → ⊥
     = (λ delegated fails. passes (RC RC1) (10, omega arith, refl) first (given, does.asks, (delegated, fails))) in
-    let free = life_leaves_free registry given.third selectable_life admitted.at.volatile.load
+    let this = λ (other : List ℕ). same_aid other given.third in
+    let change = λ (entry : Entry). record entry { life = selectable_life } in
+    let names : KeepsNames change = record { aid = λ _. refl; file = λ _. refl; privileges = λ _. refl } in
+    let free = changed_leaves_free registry this change names admitted.at.volatile.load
     (load_unnamed registry admitted.at.volatile admitted.at.volatile.load ready.sound.fits.load) in
     let kept = answered_keeps (Holds admitted delegated_management) admitted (given.third ∷ []) changed done ready.sound.well receipt does.answered
     (selectable_of_card admitted given does.asks of first) in
     let fits = answered_fits (Holds admitted delegated_management) admitted (given.third ∷ []) changed done ready.sound.well receipt does.answered admitted.at.volatile free
-    (fits_kept registry changed (life_keeps_things registry given.third selectable_life) admitted.at.volatile free ready.sound.fits) in
+    (changed_fits registry this change names admitted.at.volatile ready.sound.fits) in
     record { well = kept.well; ascending = kept.ascending; fits = fits_as refl (sym does.volatile) fits }
 
 abbrev AnsweredFor : Admitted → InstallData → Effect → Type 0

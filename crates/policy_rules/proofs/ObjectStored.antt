@@ -27,7 +27,7 @@ use Rattle.policy_rules.specs.DataObjects.{is_object_of, with_object, with_objec
 
 module _ {X : Type 0} (p : X → Bool) where
   -- where none is found, all are kept
-  keeps_all : (xs : List X) → find p xs ≡ None → filter (λ x. not (p x)) xs ≡ xs
+  pub keeps_all : (xs : List X) → find p xs ≡ None → filter (λ x. not (p x)) xs ≡ xs
   keeps_all [] none = refl
   keeps_all (x ∷ xs) none = elim (cases_Bool (p x)) [
     | inl fit ↦ (let found = rw fit at none in cc)

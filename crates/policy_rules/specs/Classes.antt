@@ -17,9 +17,10 @@ class_of byte =
 abbrev pub channel_of : ℕ → ℕ
 channel_of byte = byte % 4
 
--- PUT KEY, STORE DATA, DELETE and INSTALL: the instructions of card content management that change the registry, as far as they are built
+-- PUT KEY, STORE DATA, DELETE, INSTALL and SET STATUS: the instructions of card content management that change the registry, as far as
+-- they are built
 abbrev pub changing : List ℕ
-changing = 0xD8 ∷ 0xE2 ∷ 0xE4 ∷ 0xE6 ∷ []
+changing = 0xD8 ∷ 0xE2 ∷ 0xE4 ∷ 0xE6 ∷ 0xF0 ∷ []
 
 -- and GET STATUS, which lists it
 abbrev pub managing : List ℕ

@@ -2,8 +2,11 @@
 use Rattle.std.specs.Prelude.{◌≡◌, ◌⊎◌, ℕ, List, [], ◌∷◌, ◌++◌, Bool, true, false, Option, None, Some, ◌==◌}
 use Rattle.apdu_core.specs.Apdu.{Apdu}
 use Rattle.policy_rules.specs.Admission.{Admitted}
+use Rattle.policy_rules.specs.CardStatus.{card_status}
 use Rattle.policy_rules.specs.CommandForm.{CommandForm}
 use Rattle.policy_rules.specs.DeleteKey.{delete_key}
+use Rattle.policy_rules.specs.DeleteObject.{delete_object}
+use Rattle.policy_rules.specs.EntryStatus.{entry_status}
 use Rattle.policy_rules.specs.ExternalAuthenticate.{ExternalAuthenticateFails, external_authenticate, rules_before_form}
 use Rattle.policy_rules.specs.Extradition.{extradition}
 use Rattle.policy_rules.specs.FirstFailing.{IsFirst}
@@ -36,9 +39,10 @@ forms_of ins =
     (listed (ins == external_authenticate.instruction) (external_authenticate ∷ [])
     (listed (ins == put_key.instruction) (put_key ∷ [])
     (listed (ins == store_data.instruction) (store_data ∷ [])
-    (listed (ins == delete_key.instruction) (delete_key ∷ [])
+    (listed (ins == delete_key.instruction) (delete_key ∷ delete_object ∷ [])
     (listed (ins == install_application.instruction) (install_application ∷ make_selectable ∷ extradition ∷ [])
-    (listed (ins == get_status.instruction) (get_status ∷ []) [])))))))))
+    (listed (ins == card_status.instruction) (card_status ∷ entry_status ∷ [])
+    (listed (ins == get_status.instruction) (get_status ∷ []) []))))))))))
 
 -- it holds of one of these forms
 abbrev pub OneOf : (CommandForm → Type 0) → List CommandForm → Type 0

@@ -14,9 +14,9 @@ use Rattle.policy_rules.specs.declared.management.RuleM.TheVariants.{M1, M2}
 use Rattle.policy_rules.specs.declared.rule.Rule.{Rule}
 use Rattle.policy_rules.specs.declared.rule.Rule.TheVariants.{M, DK}
 
--- P1 and P2 are 00; objects of the registry are not deleted yet
+-- P1 is 00; P2 says whether what is related to an object goes with it (80), and makes no difference to a key
 abbrev pub DeleteParameters : ℕ → ℕ → Type 0
-DeleteParameters p1 p2 = (p1 ≡ 0x00) × (p2 ≡ 0x00)
+DeleteParameters p1 p2 = (p1 ≡ 0x00) × ((p2 ≡ 0x00) ⊎ (p2 ≡ 0x80))
 
 -- the data field names a key version number (D2), and a key identifier (D0) or none, in either order
 abbrev pub Chooses : List ℕ → (version : ℕ) → (identifier : Option ℕ) → Type 0

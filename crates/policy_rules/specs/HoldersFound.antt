@@ -1,5 +1,5 @@
 -- Domains above that hold a privilege and a key, by slots, and what the code found of them.
-use Rattle.std.specs.Prelude.{◌≡◌, ◌≢◌, ℕ, Bool, false, Option, None, Some, MatchOption, ◌&&◌}
+use Rattle.std.specs.Prelude.{◌≡◌, ◌≢◌, ◌⊎◌, ℕ, Bool, false, Option, None, Some, MatchOption, ◌&&◌}
 use Rattle.std.specs.List.{list_any}
 use Rattle.card_types.specs.KeySets.{HasKey, is_key}
 use Rattle.card_types.specs.Slots.{held}
@@ -45,3 +45,7 @@ pub record IsReceipterIn (tables : Tables) (admitted : Admitted) (slot : ℕ) : 
 abbrev pub FindsReceipter : Tables → Admitted → Option ℕ → Type 0
 FindsReceipter tables admitted None = NoReceipter admitted.at.registry (acting admitted)
 FindsReceipter tables admitted (Some slot) = IsReceipterIn tables admitted slot
+
+-- a delegated command is confirmed by the domain in the slot or by none, and another by none
+abbrev pub FindsConfirmer : Type 0 → Tables → Admitted → Option ℕ → Type 0
+FindsConfirmer delegated tables admitted found = (delegated × FindsReceipter tables admitted found) ⊎ ((delegated → ⊥) × (found ≡ None))

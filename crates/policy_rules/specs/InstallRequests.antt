@@ -7,13 +7,12 @@ use Rattle.card_types.specs.Registry.{file_named}
 use Rattle.card_types.specs.declared.factory.TheConstants.{FACTORY_FILE}
 use Rattle.card_types.specs.declared.privileges.Privileges.{Privileges}
 use Rattle.card_types.specs.declared.tables.Entry.{Entry as Slot}
-use Rattle.card_types.specs.declared.tables.Tables.{Tables}
 use Rattle.domain_tree.specs.Holders.{entry_has}
 use Rattle.policy_rules.specs.Admission.{Admitted}
 use Rattle.policy_rules.specs.Charge.{IsFileInCharge}
 use Rattle.policy_rules.specs.CommandForm.{CommandForm}
 use Rattle.policy_rules.specs.Delegation.{Approval, DelegatedFails, Holds}
-use Rattle.policy_rules.specs.HoldersFound.{FindsReceipter, approval_of}
+use Rattle.policy_rules.specs.HoldersFound.{approval_of}
 use Rattle.policy_rules.specs.InstallApplication.{AsksToInstall, InstallAsked}
 use Rattle.policy_rules.specs.InstallFields.{approval_in}
 use Rattle.policy_rules.specs.Management.{acting}
@@ -73,8 +72,3 @@ IsOutOfCharge admitted aid =
 -- the rules on the approval fail for a delegated command alone
 abbrev pub ApprovalFails : Admitted → Approval → Rule → Type 0
 ApprovalFails admitted approval rule = Holds admitted delegated_management × DelegatedFails admitted approval rule
-
--- a delegated command is confirmed by the domain in the slot or by none, and another by none
-abbrev pub FindsConfirmer : Tables → Admitted → Option ℕ → Type 0
-FindsConfirmer tables admitted found =
-    (Holds admitted delegated_management → FindsReceipter tables admitted found) × ((Holds admitted delegated_management → ⊥) → found ≡ None)

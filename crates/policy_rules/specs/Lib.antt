@@ -1,5 +1,6 @@
 pub mod Admission
 pub mod Arranged
+pub mod CardStatus
 pub mod Changes
 pub mod Charge
 pub mod Classes
@@ -8,6 +9,10 @@ pub mod Commands
 pub mod DataObjects
 pub mod Delegation
 pub mod DeleteKey
+pub mod DeleteObject
+pub mod DeletionFound
+pub mod DeletionRequests
+pub mod EntryStatus
 pub mod ExternalAuthenticate
 pub mod Extradition
 pub mod ExtraditionRequests
@@ -43,6 +48,7 @@ pub mod SelectableRequests
 pub mod Sound
 pub mod State
 pub mod StatusRequests
+pub mod StatusSetRequests
 pub mod Step
 pub mod StoreData
 pub mod Volatile

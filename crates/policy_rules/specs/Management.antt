@@ -1,16 +1,18 @@
 -- The rules that the commands of card content management and INITIALIZE UPDATE have in common.
-use Rattle.std.specs.Prelude.{◌≡◌, ℕ, List, true, MatchOption, codes}
+use Rattle.std.specs.Prelude.{◌≡◌, ◌≢◌, ◌⊎◌, ℕ, List, true, MatchOption, codes}
 use Rattle.card_types.specs.Registry.{entry_named}
+use Rattle.card_types.specs.declared.factory.TheConstants.{ISSUER}
 use Rattle.policy_rules.specs.Admission.{Admitted}
 use Rattle.policy_rules.specs.Select.{is_card_locked}
 use Rattle.policy_rules.specs.Volatile.{selected_on}
 use Rattle.policy_rules.specs.Refusal.{Refusal, refusal}
 use Rattle.policy_rules.specs.declared.management.RuleM.{RuleM}
-use Rattle.policy_rules.specs.declared.management.RuleM.TheVariants.{M1, M2}
+use Rattle.policy_rules.specs.declared.management.RuleM.TheVariants.{M1, M2, M3}
 
 abbrev pub management_refusal : RuleM → Refusal
 management_refusal M1 = refusal (codes "M1") 0x6985
 management_refusal M2 = refusal (codes "M2") 0x6985
+management_refusal M3 = refusal (codes "M3") 0x6985
 
 -- the security domain that the command acts for: the one that is selected on its channel
 abbrev pub acting : Admitted → List ℕ
@@ -21,3 +23,6 @@ abbrev pub ManagementFails : Admitted → RuleM → Type 0
 ManagementFails admitted M1 = is_card_locked admitted.at.registry.life ≡ true
 -- the domain is locked
 ManagementFails admitted M2 = MatchOption (entry_named admitted.at.registry (acting admitted)) ⊥ (λ entry. entry.life.locked ≡ true)
+-- the card is locked, and it is not the Issuer Security Domain that sets the card's own life cycle state
+ManagementFails admitted M3 =
+    (is_card_locked admitted.at.registry.life ≡ true) × ((admitted.command.p1 ≢ 0x80) ⊎ (acting admitted ≢ ISSUER))

@@ -9,9 +9,13 @@ use Rattle.card_types.specs.Well.{Well}
 use Rattle.card_types.specs.declared.tables.Entry.{Entry}
 use Rattle.card_types.specs.declared.tables.Tables.{Tables}
 use Rattle.policy_rules.specs.Admission.{Admitted}
+use Rattle.policy_rules.specs.CardStatus.{card_status}
 use Rattle.policy_rules.specs.CommandForm.{CommandForm}
 use Rattle.policy_rules.specs.Commands.{HasDataField, HasParameters, TakesCommand, Takes}
 use Rattle.policy_rules.specs.DeleteKey.{Chooses, delete_key}
+use Rattle.policy_rules.specs.DeleteObject.{delete_object}
+use Rattle.policy_rules.specs.DeletionRequests.{IsDeletionRequest}
+use Rattle.policy_rules.specs.EntryStatus.{entry_status}
 use Rattle.policy_rules.specs.ExternalAuthenticate.{external_authenticate}
 use Rattle.policy_rules.specs.Extradition.{extradition}
 use Rattle.policy_rules.specs.ExtraditionRequests.{IsExtraditionRequest}
@@ -29,6 +33,7 @@ use Rattle.policy_rules.specs.Select.{select}
 use Rattle.policy_rules.specs.SelectableRequests.{IsSelectableRequest}
 use Rattle.policy_rules.specs.State.{State}
 use Rattle.policy_rules.specs.StatusRequests.{IsListRequest}
+use Rattle.policy_rules.specs.StatusSetRequests.{IsEntryStatusRequest}
 use Rattle.policy_rules.specs.StoreData.{store_data}
 use Rattle.policy_rules.specs.Volatile.{Channel, LoadSession, channel_at, place_in, selected_on}
 use Rattle.policy_rules.specs.declared.instruction.TheConstants.{EXTERNAL_AUTHENTICATE, GET_STATUS}
@@ -39,7 +44,7 @@ use Rattle.policy_rules.specs.declared.put_key.PutKeys.{PutKeys}
 use Rattle.policy_rules.specs.declared.put_key.PutKeys.TheVariants.{One, Three}
 use Rattle.policy_rules.specs.declared.put_key.SealedKey.{SealedKey}
 use Rattle.policy_rules.specs.declared.request.Request.{Request}
-use Rattle.policy_rules.specs.declared.request.Request.TheVariants.{Select, MoreChannel, LessChannel, Get, Initialize, Authenticate, PutKey, Store, DeleteKey, Install, MakeSelectable, Extradite, ListStatus}
+use Rattle.policy_rules.specs.declared.request.Request.TheVariants.{Select, MoreChannel, LessChannel, Get, Initialize, Authenticate, PutKey, Store, DeleteKey, DeleteObject, Install, MakeSelectable, Extradite, CardStatus, EntryStatus, ListStatus}
 use Rattle.policy_rules.specs.declared.rule.Rule.{Rule}
 use Rattle.policy_rules.specs.declared.rule.Rule.TheVariants.{PS}
 use Rattle.policy_rules.specs.declared.rule.RulePS.TheVariants.{P, S}
@@ -63,9 +68,12 @@ form_in (Authenticate level proof) = external_authenticate
 form_in (PutKey replaced version keys) = put_key
 form_in (Store objects) = store_data
 form_in (DeleteKey version identifier) = delete_key
+form_in (DeleteObject request) = delete_object
 form_in (Install request) = install_application
 form_in (MakeSelectable request) = make_selectable
 form_in (Extradite request) = extradition
+form_in (CardStatus code) = card_status
+form_in (EntryStatus request) = entry_status
 form_in (ListStatus request) = get_status
 
 -- the request is that of a command of its form with this P1, P2 and data field
@@ -79,9 +87,12 @@ Decodes (Authenticate level proof) p1 p2 body = (code_of level ≡ p1) × (proof
 Decodes (PutKey replaced version keys) p1 p2 body = (replaced ≡ p1) × HasKeyFields p2 body version (sent_keys keys)
 Decodes (Store objects) p1 p2 body = objects.now ≡ body
 Decodes (DeleteKey version identifier) p1 p2 body = Chooses body version identifier
+Decodes (DeleteObject request) p1 p2 body = IsDeletionRequest request p1 p2 body
 Decodes (Install request) p1 p2 body = IsInstallRequest request p1 p2 body
 Decodes (MakeSelectable request) p1 p2 body = IsSelectableRequest request p1 p2 body
 Decodes (Extradite request) p1 p2 body = IsExtraditionRequest request p1 p2 body
+Decodes (CardStatus code) p1 p2 body = code ≡ p2
+Decodes (EntryStatus request) p1 p2 body = IsEntryStatusRequest request p1 p2 body
 Decodes (ListStatus request) p1 p2 body = IsListRequest request p1 p2 body
 
 -- the rule on its form that a command breaks: P1 and P2 are judged before the data field
@@ -156,3 +167,9 @@ pub record RepresentsState (page : ℕ → List ℕ) (tables : Tables) (live : L
   pub places : (number : ℕ) → number < CHANNELS
       → option_map place_of (slice_index_or live.places number None) ≡ place_in (channel_at state.volatile number)
   pub load : IsLoadNamed tables.entries.items live.load state.volatile.load
+
+-- so it is of each command that acts for the domain in a slot, over any load pages, where what is kept beside the tables says the
+-- volatile state
+abbrev pub ForActingLive : Tables → Live → ℕ → ((ℕ → List ℕ) → Admitted → Type 0) → Type 0
+ForActingLive tables live domain So =
+    ForActing tables domain (λ page admitted. RepresentsState page tables live admitted.at → length admitted.at.volatile.channels ≡ CHANNELS → So page admitted)

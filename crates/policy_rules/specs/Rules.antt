@@ -1,9 +1,12 @@
 -- The rules of the policy: for each its name and its status word (ISO/IEC 7816-4:2013, 5.6). Those of a command stand with
 -- the command.
 use Rattle.std.specs.Prelude.{ℕ, List, [], ◌∷◌, codes, map}
+use Rattle.policy_rules.specs.CardStatus.{card_status_refusal}
 use Rattle.policy_rules.specs.CommandForm.{CommandForm}
 use Rattle.policy_rules.specs.Delegation.{receipt_refusal, token_refusal}
 use Rattle.policy_rules.specs.DeleteKey.{delete_key_refusal}
+use Rattle.policy_rules.specs.DeleteObject.{delete_object_refusal}
+use Rattle.policy_rules.specs.EntryStatus.{entry_status_refusal}
 use Rattle.policy_rules.specs.ExternalAuthenticate.{external_authenticate_refusal}
 use Rattle.policy_rules.specs.Extradition.{extradition_refusal}
 use Rattle.policy_rules.specs.GetData.{get_data_refusal}
@@ -45,6 +48,9 @@ refusal_by (group.SD rule) = store_data_refusal rule
 refusal_by (group.II rule) = install_refusal rule
 refusal_by (group.MS rule) = selectable_refusal rule
 refusal_by (group.EX rule) = extradition_refusal rule
+refusal_by (group.DO rule) = delete_object_refusal rule
+refusal_by (group.SC rule) = card_status_refusal rule
+refusal_by (group.SS rule) = entry_status_refusal rule
 refusal_by (group.GS rule) = get_status_refusal rule
 refusal_by (group.TK rule) = token_refusal rule
 refusal_by (group.RC rule) = receipt_refusal rule

@@ -27,10 +27,10 @@ const PLAIN: [u8; 2] = [GET_DATA, INITIALIZE_UPDATE];
 const SECURE: [u8; 2] = [EXTERNAL_AUTHENTICATE, GET_DATA];
 
 /// The instructions of card content management that both of these classes have.
-const MANAGING: [u8; 5] = [PUT_KEY, STORE_DATA, DELETE, INSTALL, GET_STATUS];
+const MANAGING: [u8; 6] = [PUT_KEY, STORE_DATA, DELETE, INSTALL, SET_STATUS, GET_STATUS];
 
-/// Those that no class has yet.
-const UNBUILT: [u8; 2] = [LOAD, SET_STATUS];
+/// That which no class has yet.
+const UNBUILT: [u8; 1] = [LOAD];
 
 impl Class {
     /// The class of a class byte.

@@ -1,20 +1,19 @@
 //! DELETE of a key (GlobalPlatform Card Specification 2.3.1, 11.2).
 
-ghost use Rattle.std.specs.Prelude.{◌≡◌, ◌↔◌, ℕ, List, None, Some, IfErr, IfNone, IfSome, IsTrue, OnOk};
+ghost use Rattle.std.specs.Prelude.{◌≡◌, ◌↔◌, ℕ, List, None, Some, IfErr, IfNone, IfOk, IfSome, IsTrue, OnOk};
 ghost use Rattle.std.specs.List.{list_any};
 ghost use Rattle.card_types.specs.InOrder.{IsInOrder};
 ghost use Rattle.card_types.specs.Represents.{domain_slot};
 ghost use Rattle.policy_rules.specs.Admission.{Admitted};
-ghost use Rattle.policy_rules.specs.DeleteKey.{Chooses, DeleteField, IsLastSet, NamesPart, delete_key_refusal};
+ghost use Rattle.policy_rules.specs.DeleteKey.{Chooses, DeleteField, DeleteParameters, IsLastSet, NamesPart, delete_key, delete_key_refusal};
 ghost use Rattle.policy_rules.specs.Commands.{Judges};
+ghost use Rattle.policy_rules.specs.InstallRequests.{IsRefusedBy};
 ghost use Rattle.policy_rules.specs.KeyOrder.{holds_counter_but as holds_counter_but_by};
-ghost use Rattle.policy_rules.specs.Requests.{ActsIn, IsRequestOf, Parses};
-ghost use Rattle.policy_rules.specs.declared.instruction.TheConstants.{DELETE};
+ghost use Rattle.policy_rules.specs.Requests.{ActsIn, IsRequestOf};
 ghost use Rattle.policy_rules.specs.declared.request.Request.TheVariants.{DeleteKey};
 
 use crate::key_order::keeps_counter;
 use crate::management::judge_management;
-use crate::request::Request;
 use crate::rule::{Rule, RulePS};
 use apdu_core::Status;
 use card_types::{Entry, KeyRec, Tables, in_slot};
@@ -64,18 +63,17 @@ fn read_choice(body: &[u8]) -> Option<(u8, Option<u8>)>
     }
 }
 
-/// Reads P1, P2 and the data field: the key version number, and a key identifier or none.
-pub(crate) fn parse_delete(p1: u8, p2: u8, body: &[u8]) -> Result<Request<'_>, Rule>
-    ensures { Parses DELETE p1 p2 body.now result }
+/// Reads P1, P2 and the data field of a DELETE of a key: the key version number, and a key identifier or none.
+pub(crate) fn parse_delete_key(p1: u8, p2: u8, body: &[u8]) -> Result<(u8, Option<u8>), Rule>
+    ensures form { IfOk result (λ choice. DeleteParameters p1 p2) }
+    ensures means { IfOk result (λ choice. Chooses body.now choice.0 choice.1) }
+    ensures refused { IfErr result (IsRefusedBy delete_key p1 p2 body.now) }
 {
-    if p1 != 0x00 || p2 != 0x00 {
+    if p1 != 0x00 || (p2 != 0x00 && p2 != 0x80) {
         return Err(Rule::PS(RulePS::P));
     }
     match read_choice(body) {
-        Some((version, identifier)) => Ok(Request::DeleteKey {
-            version,
-            identifier,
-        }),
+        Some(choice) => Ok(choice),
         None => Err(Rule::PS(RulePS::S)),
     }
 }

@@ -15,9 +15,9 @@ ghost use Rattle.policy_rules.specs.Delegation.{Holds};
 ghost use Rattle.policy_rules.specs.Extradition.{AsksToExtradite, ExtraditingFails, ExtraditionFails, ExtraditionParameters, IsOutOfReach, IsUnapprovable, domain_of_thing, extradition, extradition_refusal, extradition_rules, is_personalized};
 ghost use Rattle.policy_rules.specs.ExtraditionRequests.{IsExtraditionOf, IsExtraditionRequest, own_extradition_rules};
 ghost use Rattle.policy_rules.specs.FirstFailing.{IsFirst};
-ghost use Rattle.policy_rules.specs.HoldersFound.{MayReceipt};
+ghost use Rattle.policy_rules.specs.HoldersFound.{FindsConfirmer, MayReceipt};
 ghost use Rattle.policy_rules.specs.InstallFields.{InstallData};
-ghost use Rattle.policy_rules.specs.InstallRequests.{FindsConfirmer, IsRefusedBy};
+ghost use Rattle.policy_rules.specs.InstallRequests.{IsRefusedBy};
 ghost use Rattle.policy_rules.specs.Requests.{ActsIn};
 ghost use Rattle.policy_rules.specs.declared.extradition.RuleEX.TheVariants.{EX5, EX7};
 
@@ -118,7 +118,7 @@ fn is_issuer(aid: &Aid) -> bool
 }
 
 // Whether it is the AID of the Issuer Security Domain or of the factory's Executable Load File, which stay where they are.
-fn is_fixed(aid: &Aid) -> bool
+pub(crate) fn is_fixed(aid: &Aid) -> bool
     ensures { IsTrue result ↔ ((aid.now ≡ ISSUER) ⊎ (aid.now ≡ FACTORY_FILE)) }
 {
     is_issuer(aid) || is_factory_file(aid)
@@ -238,7 +238,7 @@ pub fn judge_extradition(
         → IfOk result (λ found. domain_aid tables.now.entries.items found.from ≡ domain_of_thing said request.now.aid) }
     ensures to { IfOk result (λ found. aid_of tables.now (Entry found.to) ≡ Some request.now.domain) }
     ensures receipter { (page : ℕ → List ℕ) (admitted : Admitted) → ActsIn page tables.now domain admitted
-        → IfOk result (λ found. FindsConfirmer tables.now admitted found.receipter) }
+        → IfOk result (λ found. FindsConfirmer (Holds admitted delegated_management) tables.now admitted found.receipter) }
     ensures able { IfOk result (λ found. IfSome found.receipter (MayReceipt tables.now)) }
     ensures old { IfOk result (λ found. IsSome (held tables.now.entries.items found.from)) }
 {

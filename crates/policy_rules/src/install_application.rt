@@ -18,11 +18,11 @@ ghost use Rattle.card_types.specs.declared.found.Found.TheVariants.{File};
 ghost use Rattle.card_types.specs.declared.tables.LoadFile.{LoadFile};
 ghost use Rattle.policy_rules.specs.Admission.{Admitted};
 ghost use Rattle.policy_rules.specs.Charge.{IsFileInCharge};
-ghost use Rattle.policy_rules.specs.Delegation.{delegation_rules};
+ghost use Rattle.policy_rules.specs.Delegation.{Holds, delegation_rules};
 ghost use Rattle.policy_rules.specs.FirstFailing.{IsFirst};
 ghost use Rattle.policy_rules.specs.InstallApplication.{AreInstallParameters, AsksToInstall, InstallAsked, InstallFails, InstallParameters, InstallingFails, IsTakenAid, MayBeMade, install_application, install_refusal, install_rules};
-ghost use Rattle.policy_rules.specs.HoldersFound.{IsSignedFor, MayReceipt, approval_of};
-ghost use Rattle.policy_rules.specs.InstallRequests.{ApprovalFails, FindsConfirmer, IsInstallOf, IsInstallRequest, IsOutOfCharge, IsRefusedBy, application_rules, exceeds_by, is_loaded_as, may_manage_by};
+ghost use Rattle.policy_rules.specs.HoldersFound.{FindsConfirmer, IsSignedFor, MayReceipt, approval_of};
+ghost use Rattle.policy_rules.specs.InstallRequests.{ApprovalFails, IsInstallOf, IsInstallRequest, IsOutOfCharge, IsRefusedBy, application_rules, exceeds_by, is_loaded_as, may_manage_by};
 ghost use Rattle.policy_rules.specs.Management.{acting};
 ghost use Rattle.policy_rules.specs.Requests.{ActsIn, ForActing, IsLoadNamed};
 
@@ -386,7 +386,7 @@ pub(crate) fn judge_approval(
         → OnOk result (IsFirst (ApprovalFails admitted (approval_of signed.now)) delegation_rules None) }
     ensures refused { (page : ℕ → List ℕ) (admitted : Admitted) → ActsIn page tables.now domain admitted → IsSignedFor admitted signed.now
         → IfErr result (λ rule. IsFirst (ApprovalFails admitted (approval_of signed.now)) delegation_rules (Some rule)) }
-    ensures found { (page : ℕ → List ℕ) (admitted : Admitted) → ActsIn page tables.now domain admitted → IfOk result (FindsConfirmer tables.now admitted) }
+    ensures found { (page : ℕ → List ℕ) (admitted : Admitted) → ActsIn page tables.now domain admitted → IfOk result (FindsConfirmer (Holds admitted delegated_management) tables.now admitted) }
     ensures able { IfOk result (λ found. IfSome found (MayReceipt tables.now)) }
 {
     if !holds(&tables.entries, domain, Privileges::DELEGATED_MANAGEMENT) {
@@ -414,7 +414,7 @@ pub fn judge_install(
     ensures free { OnOk result ((thing : Thing) → aid_of tables.now thing ≢ Some request.now.aid) }
     ensures room { OnOk result (NoneFree tables.now.entries.items → ⊥) }
     ensures receipter { (page : ℕ → List ℕ) (admitted : Admitted) → ActsIn page tables.now domain admitted
-        → IfOk result (λ found. FindsConfirmer tables.now admitted found.receipter) }
+        → IfOk result (λ found. FindsConfirmer (Holds admitted delegated_management) tables.now admitted found.receipter) }
     ensures able { IfOk result (λ found. IfSome found.receipter (MayReceipt tables.now)) }
 {
     judge_management(tables, domain)?;

@@ -23,7 +23,6 @@ pub const DELETE: u8 = 0xE4;
 
 pub const INSTALL: u8 = 0xE6;
 
-/// No class has it yet.
 pub const SET_STATUS: u8 = 0xF0;
 
 pub const GET_STATUS: u8 = 0xF2;

@@ -1,14 +1,19 @@
 //! The policy of a card: which rule refuses a command, and what an accepted one does.
 #![tactic(auto)]
 
+mod card_status;
 mod charge;
 mod class;
 mod delegation;
+mod delete;
 mod delete_key;
+mod delete_object;
+mod entry_status;
 mod external_authenticate;
 mod extradition;
 mod get_data;
 mod get_status;
+mod in_use;
 mod initialize_update;
 mod install;
 mod install_application;
@@ -27,11 +32,15 @@ mod request;
 mod rule;
 mod select;
 mod session_sets;
+mod set_status;
 mod store_data;
 
+pub use card_status::{RuleSC, judge_card_status};
 pub use class::{Class, channel_of, is_plain_management, is_protected};
 pub use delegation::{RuleRC, RuleTK, Signed, holds, judge_delegated};
 pub use delete_key::{RuleDK, judge_delete_key};
+pub use delete_object::{Deletion, DeletionRequest, RuleDO, judge_deletion};
+pub use entry_status::{EntryStatusRequest, RuleSS, StatusChange, judge_entry_status};
 pub use external_authenticate::RuleEA;
 pub use extradition::{Extradition, ExtraditionRequest, RuleEX, judge_extradition};
 pub use get_data::{Datum, RuleGD, judge_get_data};

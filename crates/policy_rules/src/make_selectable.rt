@@ -2,12 +2,14 @@
 
 ghost use Rattle.std.specs.Prelude.{◌≡◌, ◌↔◌, ◌≢◌, ◌≤◌, ℕ, List, None, Some, IfErr, IfNone, IfOk, IfSome, IsTrue, MatchOption, OnOk, Option, length};
 ghost use Rattle.card_types.specs.InOrder.{IsInOrder};
+ghost use Rattle.card_types.specs.Privileges.{delegated_management};
 ghost use Rattle.card_types.specs.Slots.{held};
 ghost use Rattle.policy_rules.specs.Admission.{Admitted};
+ghost use Rattle.policy_rules.specs.Delegation.{Holds};
 ghost use Rattle.policy_rules.specs.FirstFailing.{IsFirst};
-ghost use Rattle.policy_rules.specs.HoldersFound.{MayReceipt};
+ghost use Rattle.policy_rules.specs.HoldersFound.{FindsConfirmer, MayReceipt};
 ghost use Rattle.policy_rules.specs.InstallFields.{InstallData};
-ghost use Rattle.policy_rules.specs.InstallRequests.{FindsConfirmer, IsRefusedBy};
+ghost use Rattle.policy_rules.specs.InstallRequests.{IsRefusedBy};
 ghost use Rattle.policy_rules.specs.MakeSelectable.{AsksToMakeSelectable, MakeSelectableFails, MakeSelectableParameters, MakingSelectableFails, is_installed, make_selectable, selectable_refusal, selectable_rules};
 ghost use Rattle.policy_rules.specs.Requests.{ActsIn};
 ghost use Rattle.policy_rules.specs.SelectableRequests.{AreGiven, IsInstalledWith, IsSelectableOf, IsSelectableRequest, own_selectable_rules};
@@ -150,7 +152,7 @@ pub fn judge_selectable(
         → IsSelectableOf request.now admitted.command → IfErr result (λ rule. IsFirst (MakeSelectableFails admitted) selectable_rules (Some rule)) }
     ensures entry { IfOk result (λ found. IsInstalledWith request.now.aid (held tables.now.entries.items found.entry)) }
     ensures receipter { (page : ℕ → List ℕ) (admitted : Admitted) → ActsIn page tables.now domain admitted
-        → IfOk result (λ found. FindsConfirmer tables.now admitted found.receipter) }
+        → IfOk result (λ found. FindsConfirmer (Holds admitted delegated_management) tables.now admitted found.receipter) }
     ensures able { IfOk result (λ found. IfSome found.receipter (MayReceipt tables.now)) }
 {
     judge_management(tables, domain)?;

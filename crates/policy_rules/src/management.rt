@@ -1,15 +1,18 @@
 //! The rules that the commands of card content management and INITIALIZE UPDATE have in common.
 
-ghost use Rattle.std.specs.Prelude.{◌≡◌, ◌⊎◌, ℕ, List, Some, IfErr, OnOk};
+ghost use Rattle.std.specs.Prelude.{◌≡◌, ◌↔◌, ◌⊎◌, ℕ, List, Some, IfErr, IsTrue, OnOk};
 ghost use Rattle.card_types.specs.Slots.{held};
+ghost use Rattle.card_types.specs.declared.factory.TheConstants.{ISSUER};
 ghost use Rattle.card_types.specs.declared.tables.Entry.{Entry};
 ghost use Rattle.policy_rules.specs.Admission.{Admitted};
-ghost use Rattle.policy_rules.specs.Management.{ManagementFails, management_refusal};
+ghost use Rattle.policy_rules.specs.Management.{ManagementFails, acting, management_refusal};
 ghost use Rattle.policy_rules.specs.Requests.{ActsIn};
-ghost use Rattle.policy_rules.specs.declared.management.RuleM.TheVariants.{M1, M2};
+ghost use Rattle.policy_rules.specs.StatusSetRequests.{TellsCard};
+ghost use Rattle.policy_rules.specs.declared.management.RuleM.TheVariants.{M1, M2, M3};
 ghost use Rattle.policy_rules.specs.declared.rule.Rule.TheVariants.{M};
 
 use crate::rule::Rule;
+use crate::select::is_issuer;
 use apdu_core::Status;
 use card_types::{CardLife, Tables, in_slot};
 
@@ -20,6 +23,8 @@ pub enum RuleM {
     M1,
     /// The selected domain is locked.
     M2,
+    /// The card is locked, and it is not the Issuer Security Domain that sets the card's own life cycle state.
+    M3,
 }
 
 impl RuleM {
@@ -30,6 +35,7 @@ impl RuleM {
         match self {
             RuleM::M1 => Status(0x6985),
             RuleM::M2 => Status(0x6985),
+            RuleM::M3 => Status(0x6985),
         }
     }
 
@@ -40,6 +46,7 @@ impl RuleM {
         match self {
             RuleM::M1 => "M1",
             RuleM::M2 => "M2",
+            RuleM::M3 => "M3",
         }
     }
 }
@@ -66,6 +73,44 @@ pub(crate) fn judge_management(tables: &Tables, domain: u8) -> Result<(), Rule>
     }
     if is_locked(tables, domain) {
         return Err(Rule::M(RuleM::M2));
+    }
+    Ok(())
+}
+
+// Whether the domain in a slot is the Issuer Security Domain.
+pub(crate) fn is_issuer_in(tables: &Tables, domain: u8) -> bool
+    ensures { (page : ℕ → List ℕ) (admitted : Admitted) → ActsIn page tables.now domain admitted → IsTrue result ↔ (acting admitted ≡ ISSUER) }
+{
+    match in_slot(&tables.entries, domain) {
+        Some(entry) => is_issuer(&entry.aid),
+        None => false,
+    }
+}
+
+// Whether the card is locked, and it is not the Issuer Security Domain in this slot that sets the card's own life cycle state.
+fn is_closed(tables: &Tables, domain: u8, card: bool) -> bool
+    ensures { (page : ℕ → List ℕ) (admitted : Admitted) → ActsIn page tables.now domain admitted → TellsCard card admitted
+        → IsTrue result ↔ ManagementFails admitted M3 }
+{
+    if tables.life != CardLife::Locked {
+        return false;
+    }
+    !card || !is_issuer_in(tables, domain)
+}
+
+/// Judges that the domain in a slot is not locked, and that on a locked card it is the Issuer Security Domain and sets the life
+/// cycle state of the card. `card` says that it is the card's own state that is set.
+pub(crate) fn judge_setting(tables: &Tables, domain: u8, card: bool) -> Result<(), Rule>
+    ensures passed { (page : ℕ → List ℕ) (admitted : Admitted) → ActsIn page tables.now domain admitted → TellsCard card admitted
+        → OnOk result ((ManagementFails admitted M2 → ⊥) × (ManagementFails admitted M3 → ⊥)) }
+    ensures refused { (page : ℕ → List ℕ) (admitted : Admitted) → ActsIn page tables.now domain admitted → TellsCard card admitted
+        → IfErr result (λ rule. ((rule ≡ M M2) × ManagementFails admitted M2) ⊎ ((rule ≡ M M3) × (ManagementFails admitted M2 → ⊥) × ManagementFails admitted M3)) }
+{
+    if is_locked(tables, domain) {
+        return Err(Rule::M(RuleM::M2));
+    }
+    if is_closed(tables, domain, card) {
+        return Err(Rule::M(RuleM::M3));
     }
     Ok(())
 }

@@ -10,7 +10,10 @@ ghost use Rattle.policy_rules.specs.PutKey.{TellsChecks};
 ghost use Rattle.policy_rules.specs.Sound.{IsSound};
 ghost use Rattle.policy_rules.specs.declared.instruction.TheConstants.{EXTERNAL_AUTHENTICATE, GET_STATUS};
 
+use crate::card_status::judge_card_status;
 use crate::delete_key::judge_delete_key;
+use crate::delete_object::judge_deletion;
+use crate::entry_status::judge_entry_status;
 use crate::extradition::judge_extradition;
 use crate::get_data::judge_get_data;
 use crate::get_status::judge_status;
@@ -92,6 +95,10 @@ pub fn judge(
             let domain = live.selected[usize::from(channel)].unwrap();
             judge_delete_key(tables, domain, *version, *identifier).err()
         }
+        Request::DeleteObject(request) => {
+            let domain = live.selected[usize::from(channel)].unwrap();
+            judge_deletion(tables, live, domain, request).err()
+        }
         Request::Install(request) => {
             let domain = live.selected[usize::from(channel)].unwrap();
             judge_install(tables, live, domain, request).err()
@@ -103,6 +110,14 @@ pub fn judge(
         Request::Extradite(request) => {
             let domain = live.selected[usize::from(channel)].unwrap();
             judge_extradition(tables, domain, request).err()
+        }
+        Request::CardStatus { code } => {
+            let domain = live.selected[usize::from(channel)].unwrap();
+            judge_card_status(tables, domain, *code).err()
+        }
+        Request::EntryStatus(request) => {
+            let domain = live.selected[usize::from(channel)].unwrap();
+            judge_entry_status(tables, domain, request).err()
         }
         Request::ListStatus(request) => {
             let domain = live.selected[usize::from(channel)].unwrap();

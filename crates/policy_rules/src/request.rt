@@ -4,6 +4,8 @@ ghost use Rattle.std.specs.Prelude.{IfOk, IfErr};
 ghost use Rattle.policy_rules.specs.Commands.{IsBuilt, Takes};
 ghost use Rattle.policy_rules.specs.Requests.{IsMalformed, Decodes, form_in};
 
+use crate::delete_object::DeletionRequest;
+use crate::entry_status::EntryStatusRequest;
 use crate::extradition::ExtraditionRequest;
 use crate::get_status::ListRequest;
 use crate::install_application::InstallRequest;
@@ -11,8 +13,8 @@ use crate::make_selectable::SelectableRequest;
 use crate::put_key::PutKeys;
 use crate::rule::Rule;
 use crate::{
-    delete_key, external_authenticate, get_data, get_status, initialize_update, install,
-    instruction, manage_channel, put_key, select, store_data,
+    delete, external_authenticate, get_data, get_status, initialize_update, install, instruction,
+    manage_channel, put_key, select, set_status, store_data,
 };
 use card_types::Level;
 
@@ -58,12 +60,20 @@ pub enum Request<'a> {
         version: u8,
         identifier: Option<u8>,
     },
+    /// DELETE of an application, a security domain or an Executable Load File.
+    DeleteObject(DeletionRequest<'a>),
     /// INSTALL [for install], and [for install and make selectable].
     Install(InstallRequest<'a>),
     /// INSTALL [for make selectable].
     MakeSelectable(SelectableRequest<'a>),
     /// INSTALL [for extradition].
     Extradite(ExtraditionRequest<'a>),
+    /// SET STATUS of the card, to the state with this code.
+    CardStatus {
+        code: u8,
+    },
+    /// SET STATUS of an application or a security domain.
+    EntryStatus(EntryStatusRequest),
     /// GET STATUS.
     ListStatus(ListRequest<'a>),
 }
@@ -82,8 +92,9 @@ pub fn parse(ins: u8, p1: u8, p2: u8, body: &[u8]) -> Result<Request<'_>, Rule>
         instruction::INITIALIZE_UPDATE => initialize_update::parse_initialize_update(p1, p2, body),
         instruction::PUT_KEY => put_key::parse_put_key(p1, p2, body),
         instruction::STORE_DATA => store_data::parse_store_data(p1, p2, body),
-        instruction::DELETE => delete_key::parse_delete(p1, p2, body),
+        instruction::DELETE => delete::parse_delete(p1, p2, body),
         instruction::INSTALL => install::parse_install(p1, p2, body),
+        instruction::SET_STATUS => set_status::parse_set_status(p1, p2, body),
         instruction::GET_STATUS => get_status::parse_get_status(p1, p2, body),
         _ => external_authenticate::parse_external_authenticate(p1, p2, body),
     }

@@ -4,8 +4,11 @@ ghost use Rattle.std.specs.Prelude.{◌≡◌};
 ghost use Rattle.policy_rules.specs.Rules.{name_of, status_of};
 ghost use Rattle.policy_rules.specs.Step.{keeps_load as keeps_load_by};
 
+use crate::card_status::RuleSC;
 use crate::delegation::{RuleRC, RuleTK};
 use crate::delete_key::RuleDK;
+use crate::delete_object::RuleDO;
+use crate::entry_status::RuleSS;
 use crate::external_authenticate::RuleEA;
 use crate::extradition::RuleEX;
 use crate::get_data::RuleGD;
@@ -37,6 +40,9 @@ pub enum Rule {
     II(RuleII),
     MS(RuleMS),
     EX(RuleEX),
+    DO(RuleDO),
+    SC(RuleSC),
+    SS(RuleSS),
     GS(RuleGS),
     TK(RuleTK),
     RC(RuleRC),
@@ -100,6 +106,9 @@ impl Rule {
             Rule::II(rule) => rule.status(),
             Rule::MS(rule) => rule.status(),
             Rule::EX(rule) => rule.status(),
+            Rule::DO(rule) => rule.status(),
+            Rule::SC(rule) => rule.status(),
+            Rule::SS(rule) => rule.status(),
             Rule::GS(rule) => rule.status(),
             Rule::TK(rule) => rule.status(),
             Rule::RC(rule) => rule.status(),
@@ -140,6 +149,9 @@ impl Rule {
             Rule::II(rule) => rule.name(),
             Rule::MS(rule) => rule.name(),
             Rule::EX(rule) => rule.name(),
+            Rule::DO(rule) => rule.name(),
+            Rule::SC(rule) => rule.name(),
+            Rule::SS(rule) => rule.name(),
             Rule::GS(rule) => rule.name(),
             Rule::TK(rule) => rule.name(),
             Rule::RC(rule) => rule.name(),

@@ -1,13 +1,18 @@
 //! The forms of a script line.
 
 use crate::script::channel::Channel;
-use crate::script::install::{push_field, read_extradite, read_install, read_selectable};
+use crate::script::install::{
+    Body, push_field, push_token_element, read_extradite, read_install, read_selectable,
+};
 use crate::script::keys::{Keys, NewKeys, are_three, read_keys, read_new_keys};
 use crate::script::token_key::TokenKey;
 use crate::words::{Words, array, byte, bytes, cut};
 use apdu_core::{Command, Status};
 use arrayvec::ArrayVec;
 use card_types::{Aid, Level};
+
+/// The instruction byte of DELETE.
+const DELETE: u8 = 0xe4;
 
 /// What a line asks for.
 #[derive(Drop)]
@@ -31,8 +36,8 @@ pub enum Form {
     Bad(Plain),
     PutKey(Putting),
 
-    /// An INSTALL without its token.
-    Install(Plain),
+    /// A command that a token may approve, without the token.
+    Approved(Plain),
     Want(Status),
 }
 
@@ -65,12 +70,20 @@ impl Plain {
         }
     }
 
-    /// This INSTALL with its token, which is empty where there is no key.
+    /// This INSTALL or DELETE with its token. Where there is no key, that of INSTALL is empty, and DELETE has none.
     pub fn with_token(&self, key: Option<TokenKey>) -> Plain {
         let mut body = ArrayVec::new();
         let _fits = body.try_extend_from_slice(&self.body);
         let _fits = match key {
-            Some(key) => push_field(&key.token(self.p1, &self.body), &mut body),
+            Some(key) => {
+                let token = key.token(self.p1, self.p2, &self.body);
+                if self.ins == DELETE {
+                    push_token_element(&token, &mut body)
+                } else {
+                    push_field(&token, &mut body)
+                }
+            }
+            None if self.ins == DELETE => Some(()),
             None => push_field(&[], &mut body),
         };
         Plain {
@@ -164,7 +177,9 @@ fn sending(line: &[u8]) -> Option<Form> {
         b"list" => Some(Form::Send(read_listing(rest, 0x02)?)),
         b"more" => Some(Form::Send(read_listing(rest, 0x03)?)),
         b"putkey" => Some(Form::PutKey(read_putting(rest)?)),
-        b"install" | b"selectable" | b"extradite" => Some(Form::Install(read_installing(line)?)),
+        b"install" | b"selectable" | b"extradite" => Some(Form::Approved(read_installing(line)?)),
+        b"delete" => Some(Form::Approved(read_deletion(rest)?)),
+        b"life" => Some(Form::Send(read_life(rest)?)),
         _ => None,
     }
 }
@@ -223,6 +238,50 @@ fn read_listing(words: &[u8], p2: u8) -> Option<Plain> {
         p2,
         body,
     })
+}
+
+// A SET STATUS: P1, P2, and the AID where a word says it.
+fn read_life(words: &[u8]) -> Option<Plain> {
+    let mut words = Words::new(words);
+    let p1 = byte(words.take()?)?;
+    let p2 = byte(words.take()?)?;
+    let body = match words.end() {
+        Some(()) => ArrayVec::new(),
+        None => read_aid(&mut words)?,
+    };
+    words.end()?;
+    Some(Plain {
+        ins: 0xf0,
+        p1,
+        p2,
+        body,
+    })
+}
+
+// A DELETE of an object, without its token: its AID and P2.
+fn read_deletion(words: &[u8]) -> Option<Plain> {
+    let mut words = Words::new(words);
+    let aid = read_aid(&mut words)?;
+    let p2 = byte(words.take()?)?;
+    words.end()?;
+    let mut body = ArrayVec::new();
+    body.try_push(0x4f).ok()?;
+    push_field(&aid, &mut body)?;
+    Some(Plain {
+        ins: DELETE,
+        p1: 0x00,
+        p2,
+        body,
+    })
+}
+
+// The bytes of the AID that the next word writes.
+fn read_aid(words: &mut Words<'_>) -> Option<Body> {
+    let bytes: ArrayVec<u8, 16> = words.bytes()?;
+    let aid = Aid::new(&bytes)?;
+    let mut body = ArrayVec::new();
+    body.try_extend_from_slice(aid.as_bytes()).ok()?;
+    Some(body)
 }
 
 fn read_putting(words: &[u8]) -> Option<Putting> {

@@ -61,6 +61,12 @@ pub fn push_field(field: &[u8], body: &mut Body) -> Option<()> {
     body.try_extend_from_slice(field).ok()
 }
 
+/// Adds a token as the element that it is in DELETE.
+pub fn push_token_element(token: &[u8; 16], body: &mut Body) -> Option<()> {
+    body.try_push(0x9e).ok()?;
+    push_field(token, body)
+}
+
 // Adds the AID that the next word writes.
 fn push_aid(words: &mut Words<'_>, body: &mut Body) -> Option<()> {
     let aid: ArrayVec<u8, 16> = words.bytes()?;

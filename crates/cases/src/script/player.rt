@@ -98,7 +98,7 @@ impl<F: Flash> Player<F> {
             Form::Send(plain) => self.send(plain, false),
             Form::Bad(plain) => self.send(plain, true),
             Form::PutKey(putting) => self.put_key(putting),
-            Form::Install(plain) => self.install(plain),
+            Form::Approved(plain) => self.approve(plain),
             Form::Want(status) => self.want(*status),
         }
     }
@@ -240,7 +240,7 @@ impl<F: Flash> Player<F> {
         self.send(&Plain::put_key(putting, fields), false)
     }
 
-    fn install(&mut self, plain: &Plain) -> Outcome {
+    fn approve(&mut self, plain: &Plain) -> Outcome {
         let command = plain.with_token(self.host.token_key());
         self.send(&command, false)
     }

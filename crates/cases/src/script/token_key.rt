@@ -26,14 +26,14 @@ impl TokenKey {
         Some(TokenKey { key, is_spoiled })
     }
 
-    /// The token of a command with P2 00 and these bytes before the token. A spoiled one has the lowest bit of its last byte turned.
-    pub fn token(&self, p1: u8, before: &[u8]) -> [u8; 16]
+    /// The token of a command with these bytes before the token. A spoiled one has the lowest bit of its last byte turned.
+    pub fn token(&self, p1: u8, p2: u8, before: &[u8]) -> [u8; 16]
         requires { length before.now ≤ 255 }
     {
         let mut token = match &self.key {
-            AesKind::Aes128(key) => token(&SealingAes128::from_key(key), p1, 0x00, before),
-            AesKind::Aes192(key) => token(&SealingAes192::from_key(key), p1, 0x00, before),
-            AesKind::Aes256(key) => token(&SealingAes256::from_key(key), p1, 0x00, before),
+            AesKind::Aes128(key) => token(&SealingAes128::from_key(key), p1, p2, before),
+            AesKind::Aes192(key) => token(&SealingAes192::from_key(key), p1, p2, before),
+            AesKind::Aes256(key) => token(&SealingAes256::from_key(key), p1, p2, before),
         };
         if self.is_spoiled {
             token[15] ^= 1;

@@ -29,11 +29,10 @@ returns-clause-answered g c page admitted before domain changed has =
     let there : held c.deref.result.now slot ≡ Some entry = search rules in
     let slots : c.deref.result.now ≡ tables.entries.items = c.deref.ensures.value ∙ ap (λ (t : Tables). t.entries.items) c.tables.ensures.tables in
     let at : held tables.entries.items slot ≡ Some entry = ap (λ (s : List (Option Entry)). held s slot) (sym slots) ∙ there in
-    let order = in_order tables c.requires.cards in
     let aids = aids_of c.args.first.now (option_copied c.args.second) (option_copied c.args.third) in
     let is : IsReceiptIn tables slot (entry.receipts + 1) aids c.write_receipt.new.reply.items =
     subst (λ (t : Tables). IsReceiptIn t slot (entry.receipts + 1) aids c.write_receipt.new.reply.items) c.tables-2.ensures.tables c.write_receipt.ensures.receipt in
-    confirmed page before tables domain c.args.receipter admitted changed has order.layout.issuer slot c.in-Some.is entry at
+    confirmed page before tables domain c.args.receipter admitted changed has slot c.in-Some.is entry at
     c.set_receipts.new.records.tables (c.set_receipts.ensures.said page changed has.says) aids c.write_receipt.new.reply.items is
 
 pub returns-clause-aids : goal.returns-clause-aids

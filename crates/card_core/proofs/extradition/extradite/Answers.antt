@@ -4,17 +4,19 @@ use Rattle.std.specs.Option.{option_map}
 use Rattle.card_types.proofs.Domains.{domain_aid_is}
 use Rattle.card_core.proofs.Answered.{aids_on, answered_managed, still_able, thing_room, thing_room_again}
 use Rattle.card_core.proofs.Cards.{in_order}
-use Rattle.card_core.proofs.EntryCards.{aids_kept, moved_cards, moving_keeps}
+use Rattle.card_core.proofs.EntryCards.{aids_kept, moved_cards, moving_keeps, receipts_kept}
 use Rattle.card_core.proofs.Managing.{refusal_managed}
 use Rattle.card_core.proofs.SomeAdmitted.{of_card, some_acts, some_admitted}
-use Rattle.card_core.specs.Confirms.{AnswersFor}
+use Rattle.card_core.proofs.Confirming.{answered_so, finds_receipter}
+use Rattle.card_core.specs.Confirms.{AnswersFor, leaves}
 use Rattle.card_types.specs.InOrder.{IsInOrder}
+use Rattle.card_types.specs.Privileges.{delegated_management}
 use Rattle.card_types.specs.Represents.{Represents, domain_aid}
 use Rattle.card_types.specs.Slots.{held}
 use Rattle.card_types.specs.declared.tables.Tables.{Tables}
 use Rattle.policy_rules.proofs.Judging.{judged}
-use Rattle.policy_rules.specs.HoldersFound.{MayReceipt}
-use Rattle.policy_rules.specs.InstallRequests.{FindsConfirmer}
+use Rattle.policy_rules.specs.Delegation.{Holds}
+use Rattle.policy_rules.specs.HoldersFound.{FindsConfirmer, MayReceipt}
 use Rattle.policy_rules.specs.Requests.{ActsIn}
 use Rattle.card_types.specs.Found.{aid_of}
 use Rattle.card_types.specs.RegistryChange.{moved}
@@ -117,12 +119,14 @@ returns-clause-done g c page admitted acts request =
     let says = subst (λ (name : List ℕ). Represents page after (moved registry given.third name)) (into ∙ request.means.domain)
     (subst (λ (name : List ℕ). Represents page after (moved registry name (domain_aid before.entries.items to))) request.means.aid
     (c.move_to.ensures.said page registry c.args.request.now.aid there acts.says acts.well)) in
-    let finds = subst (λ (t : Tables). FindsConfirmer t admitted c.in_ok-found.found.receipter) c.tables.ensures.tables (c.in_ok-found.ensures.receipter page admitted here) in
+    let delegated = Holds admitted delegated_management in
+    let finds = subst (λ (t : Tables). FindsConfirmer delegated t admitted c.in_ok-found.found.receipter) c.tables.ensures.tables (c.in_ok-found.ensures.receipter page admitted here) in
     let changed = moved registry given.third given.first in
     let answers = c.confirm.ensures.answered page admitted before c.args.domain changed (record {
       acts = acts;
-      finds = finds;
-      keeps = moving_keeps before after thing to c.move_to.ensures.slots;
+      issuer = (in_order before c.requires.cards).layout.issuer;
+      finds = finds_receipter delegated before admitted c.in_ok-found.found.receipter finds;
+      keeps = receipts_kept before after (moving_keeps before after thing to c.move_to.ensures.slots) c.in_ok-found.found.receipter;
       says = says;
     }) in
     let at : held before.entries.items c.in_ok-found.found.from ≡ Some c.unwrap.result.now = search rules in
@@ -131,11 +135,12 @@ returns-clause-done g c page admitted acts request =
     ∙ subst (λ (t : Tables). domain_aid t.entries.items c.in_ok-found.found.from ≡ domain_of_thing registry c.args.request.now.aid) c.tables.ensures.tables
     (c.in_ok-found.ensures.from page registry here.says acts.well)
     ∙ ap (domain_of_thing registry) request.means.aid in
-    let Told : List ℕ → List ℕ → List ℕ → Type 0 = (λ (a b d : List ℕ). AnswersFor page c.confirm.new.records.tables admitted (a ∷ b ∷ d ∷ []) changed c.confirm.new.reply.items) in
+    let Told : List ℕ → List ℕ → List ℕ → Type 0 = (λ (a b d : List ℕ). AnswersFor page c.confirm.new.records.tables c.in_ok-found.found.receipter admitted (a ∷ b ∷ d ∷ []) changed c.confirm.new.reply.items) in
     let told : Told (domain_of_thing registry given.third) given.third given.first =
     subst (λ (d : List ℕ). Told (domain_of_thing registry given.third) given.third d) request.means.domain
     (subst (λ (b : List ℕ). Told (domain_of_thing registry given.third) b c.args.request.now.domain) request.means.aid
     (subst (λ (a : List ℕ). Told a c.args.request.now.aid c.args.request.now.domain) from answers)) in
+    let answered = answered_so delegated before admitted c.in_ok-found.found.receipter finds (domain_of_thing registry given.third ∷ given.third ∷ given.first ∷ []) changed (leaves admitted told.0 c.confirm.new.reply.items) told.2 in
     answered_managed extradition (λ holds found. inr (inr (inl found))) admitted request.form refl (c.in_ok-found.ensures.passed page admitted here request.means) page
-    c.confirm.new.records.tables (domain_of_thing registry given.third ∷ given.third ∷ given.first ∷ []) changed c.confirm.new.reply.items told
-    (record { given = given; asks = request.means.asks; answered = told.2; volatile = refl; status = refl }) (record { 0 = 0x9000 }) refl
+    c.confirm.new.records.tables (domain_of_thing registry given.third ∷ given.third ∷ given.first ∷ []) changed c.confirm.new.reply.items c.in_ok-found.found.receipter told
+    (record { given = given; asks = request.means.asks; answered = answered; volatile = refl; status = refl }) (record { 0 = 0x9000 }) refl

@@ -3,14 +3,16 @@ use Rattle.std.specs.Prelude.{IfSome, IsSome}
 use Rattle.std.specs.Option.{option_map}
 use Rattle.card_core.proofs.Answered.{aids_on, answered_managed, entry_room, room_again, still_able}
 use Rattle.card_core.proofs.Cards.{in_order}
-use Rattle.card_core.proofs.EntryCards.{adding_keeps, aids_kept, entry_cards}
+use Rattle.card_core.proofs.EntryCards.{adding_keeps, aids_kept, entry_cards, receipts_kept}
 use Rattle.card_core.proofs.Installing.{made_named}
 use Rattle.card_core.proofs.Managing.{refusal_managed}
 use Rattle.card_core.proofs.SomeAdmitted.{domain_named, domain_there, of_card, some_acts, some_admitted, some_load}
-use Rattle.card_core.specs.Confirms.{AnswersFor}
+use Rattle.card_core.proofs.Confirming.{answered_so, finds_receipter}
+use Rattle.card_core.specs.Confirms.{AnswersFor, leaves}
 use Rattle.card_types.specs.First.{NoneFree}
 use Rattle.card_types.specs.Found.{aid_of}
 use Rattle.card_types.specs.InOrder.{IsInOrder}
+use Rattle.card_types.specs.Privileges.{delegated_management}
 use Rattle.card_types.specs.Registry as registry
 use Rattle.card_types.specs.RegistryChange.{IsEntryAdded}
 use Rattle.card_types.specs.Represents.{entry_of}
@@ -21,9 +23,9 @@ use Rattle.card_types.specs.declared.tables.LoadFile.{LoadFile}
 use Rattle.card_types.specs.declared.tables.Tables.{Tables}
 use Rattle.policy_rules.proofs.InstallApplicationLaws.{made_of_card}
 use Rattle.policy_rules.proofs.Judging.{judged}
-use Rattle.policy_rules.specs.HoldersFound.{MayReceipt}
 use Rattle.policy_rules.specs.InstallApplication.{install_application}
-use Rattle.policy_rules.specs.InstallRequests.{FindsConfirmer}
+use Rattle.policy_rules.specs.Delegation.{Holds}
+use Rattle.policy_rules.specs.HoldersFound.{FindsConfirmer, MayReceipt}
 use Rattle.policy_rules.specs.Requests.{ActsIn, IsLoadNamed}
 use Rattle.registry.specs.Adding.{NoneHas}
 use Rattle.card_core.proofs.install_application.install_application.Goals as goal
@@ -124,16 +126,19 @@ returns-clause-done g c page admitted acts load request =
     ∙ made_named page before c.args.domain admitted acts c.args.request.now request.means c.in_ok-found.found.file file in
     let added = c.place_entry.ensures.said page said acts.says acts.well in
     let joined = subst (λ (entry : registry.Entry). IsEntryAdded entry said added.0) made added.1 in
-    let finds = subst (λ (t : Tables). FindsConfirmer t admitted c.in_ok-found.found.receipter) c.tables.ensures.tables (c.in_ok-found.ensures.receipter page admitted here) in
+    let delegated = Holds admitted delegated_management in
+    let finds = subst (λ (t : Tables). FindsConfirmer delegated t admitted c.in_ok-found.found.receipter) c.tables.ensures.tables (c.in_ok-found.ensures.receipter page admitted here) in
     let answers = c.confirm.ensures.answered page admitted before c.args.domain added.0 (record {
       acts = acts;
-      finds = finds;
-      keeps = adding_keeps before after c.place_entry.result c.made.result c.place_entry.ensures.slots;
+      issuer = (in_order before c.requires.cards).layout.issuer;
+      finds = finds_receipter delegated before admitted c.in_ok-found.found.receipter finds;
+      keeps = receipts_kept before after (adding_keeps before after c.place_entry.result c.made.result c.place_entry.ensures.slots) c.in_ok-found.found.receipter;
       says = added.2;
     }) in
-    let Told : List ℕ → List ℕ → Type 0 = (λ (a b : List ℕ). AnswersFor page c.confirm.new.records.tables admitted (a ∷ b ∷ []) added.0 c.confirm.new.reply.items) in
+    let Told : List ℕ → List ℕ → Type 0 = (λ (a b : List ℕ). AnswersFor page c.confirm.new.records.tables c.in_ok-found.found.receipter admitted (a ∷ b ∷ []) added.0 c.confirm.new.reply.items) in
     let told : Told asked.given.first asked.given.third =
     subst (λ (b : List ℕ). Told asked.given.first b) request.means.aid (subst (λ (a : List ℕ). Told a c.args.request.now.aid) request.means.file answers) in
+    let answered = answered_so delegated before admitted c.in_ok-found.found.receipter finds (asked.given.first ∷ asked.given.third ∷ []) added.0 (leaves admitted told.0 c.confirm.new.reply.items) told.2 in
     answered_managed install_application (λ holds found. inl found) admitted request.form refl (c.in_ok-found.ensures.passed page admitted here named request.means) page
-    c.confirm.new.records.tables (asked.given.first ∷ asked.given.third ∷ []) added.0 c.confirm.new.reply.items told
-    (record { asked = asked; asks = request.means.asks; changed = added.0; added = joined; answered = told.2; volatile = refl; status = refl }) (record { 0 = 0x9000 }) refl
+    c.confirm.new.records.tables (asked.given.first ∷ asked.given.third ∷ []) added.0 c.confirm.new.reply.items c.in_ok-found.found.receipter told
+    (record { asked = asked; asks = request.means.asks; changed = added.0; added = joined; answered = answered; volatile = refl; status = refl }) (record { 0 = 0x9000 }) refl

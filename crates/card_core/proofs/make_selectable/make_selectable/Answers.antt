@@ -2,12 +2,14 @@ use Rattle.std.proofs.Common.{◌≡◌, ℕ, inl, inr, List, [], ◌∷◌, Opt
 use Rattle.std.specs.Prelude.{IfSome, IsSome}
 use Rattle.card_core.proofs.Answered.{aids_on, answered_managed, entry_room, room_again, still_able}
 use Rattle.card_core.proofs.Cards.{in_order}
-use Rattle.card_core.proofs.EntryCards.{aids_kept, changing_keeps, entry_cards}
+use Rattle.card_core.proofs.EntryCards.{aids_kept, changing_keeps, entry_cards, receipts_kept}
 use Rattle.card_core.proofs.Managing.{refusal_managed}
 use Rattle.card_core.proofs.SomeAdmitted.{of_card, some_acts, some_admitted}
-use Rattle.card_core.specs.Confirms.{AnswersFor}
+use Rattle.card_core.proofs.Confirming.{answered_so, finds_receipter}
+use Rattle.card_core.specs.Confirms.{AnswersFor, leaves}
 use Rattle.card_types.proofs.Domains.{domain_aid_is}
 use Rattle.card_types.specs.InOrder.{IsInOrder}
+use Rattle.card_types.specs.Privileges.{delegated_management}
 use Rattle.card_types.specs.RegistryChange.{with_life}
 use Rattle.card_types.specs.Represents.{Represents, domain_aid}
 use Rattle.card_types.specs.Slots.{held}
@@ -15,8 +17,8 @@ use Rattle.card_types.specs.declared.tables.Entry.{Entry}
 use Rattle.card_types.specs.declared.tables.Tables.{Tables}
 use Rattle.policy_rules.proofs.Judging.{judged}
 use Rattle.policy_rules.proofs.MakeSelectableLaws.{selectable_life, selectable_of_card}
-use Rattle.policy_rules.specs.HoldersFound.{MayReceipt}
-use Rattle.policy_rules.specs.InstallRequests.{FindsConfirmer}
+use Rattle.policy_rules.specs.Delegation.{Holds}
+use Rattle.policy_rules.specs.HoldersFound.{FindsConfirmer, MayReceipt}
 use Rattle.policy_rules.specs.MakeSelectable.{make_selectable}
 use Rattle.policy_rules.specs.Requests.{ActsIn}
 use Rattle.policy_rules.specs.SelectableRequests.{IsInstalledWith}
@@ -108,14 +110,17 @@ returns-clause-done g c page admitted acts request =
     let aid = named c.args.request.now.aid before.entries.items slot at ∙ request.means.aid in
     let changed = with_life admitted.at.registry given.third selectable_life in
     let says = subst (λ (name : List ℕ). Represents page after (with_life admitted.at.registry name selectable_life)) aid (c.set_life.ensures.said page admitted.at.registry acts.says) in
-    let finds = subst (λ (t : Tables). FindsConfirmer t admitted c.in_ok-found.found.receipter) c.tables.ensures.tables (c.in_ok-found.ensures.receipter page admitted here) in
+    let delegated = Holds admitted delegated_management in
+    let finds = subst (λ (t : Tables). FindsConfirmer delegated t admitted c.in_ok-found.found.receipter) c.tables.ensures.tables (c.in_ok-found.ensures.receipter page admitted here) in
     let answers = c.confirm.ensures.answered page admitted before c.args.domain changed (record {
       acts = acts;
-      finds = finds;
-      keeps = changing_keeps before after slot (λ entry. record entry { life = selectable_life }) (λ e. (refl, refl)) c.set_life.ensures.slots;
+      issuer = (in_order before c.requires.cards).layout.issuer;
+      finds = finds_receipter delegated before admitted c.in_ok-found.found.receipter finds;
+      keeps = receipts_kept before after (changing_keeps before after slot (λ entry. record entry { life = selectable_life }) (λ e. (refl, refl)) c.set_life.ensures.slots) c.in_ok-found.found.receipter;
       says = says;
     }) in
-    let told = subst (λ (name : List ℕ). AnswersFor page c.confirm.new.records.tables admitted (name ∷ []) changed c.confirm.new.reply.items) request.means.aid answers in
+    let told = subst (λ (name : List ℕ). AnswersFor page c.confirm.new.records.tables c.in_ok-found.found.receipter admitted (name ∷ []) changed c.confirm.new.reply.items) request.means.aid answers in
+    let answered = answered_so delegated before admitted c.in_ok-found.found.receipter finds (given.third ∷ []) changed (leaves admitted told.0 c.confirm.new.reply.items) told.2 in
     answered_managed make_selectable (λ holds found. inr (inl found)) admitted request.form refl (c.in_ok-found.ensures.passed page admitted here request.means) page
-    c.confirm.new.records.tables (given.third ∷ []) changed c.confirm.new.reply.items told
-    (record { given = given; asks = request.means.asks; answered = told.2; volatile = refl; status = refl }) (record { 0 = 0x9000 }) refl
+    c.confirm.new.records.tables (given.third ∷ []) changed c.confirm.new.reply.items c.in_ok-found.found.receipter told
+    (record { given = given; asks = request.means.asks; answered = answered; volatile = refl; status = refl }) (record { 0 = 0x9000 }) refl

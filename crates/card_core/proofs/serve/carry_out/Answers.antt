@@ -12,6 +12,8 @@ use Rattle.card_types.specs.declared.tables.Tables.{Tables}
 use Rattle.card_core.specs.Lists.{Lists}
 use Rattle.policy_rules.specs.Commands.{Judges}
 use Rattle.policy_rules.specs.declared.external_authenticate.RuleEA.TheVariants.{EA1}
+use Rattle.policy_rules.specs.declared.delete_object.DeletionRequest.{DeletionRequest}
+use Rattle.policy_rules.specs.declared.entry_status.EntryStatusRequest.{EntryStatusRequest}
 use Rattle.policy_rules.specs.declared.extradition.ExtraditionRequest.{ExtraditionRequest}
 use Rattle.policy_rules.specs.declared.install_application.InstallRequest.{InstallRequest}
 use Rattle.policy_rules.specs.declared.make_selectable.SelectableRequest.{SelectableRequest}
@@ -20,7 +22,7 @@ use Rattle.policy_rules.specs.declared.rule.Rule.{Rule}
 use Rattle.policy_rules.specs.declared.rule.Rule.TheVariants.{EA}
 use Rattle.policy_rules.specs.declared.live.TheConstants.{CHANNELS}
 use Rattle.policy_rules.specs.declared.request.Request.{Request}
-use Rattle.policy_rules.specs.declared.request.Request.TheVariants.{Authenticate, DeleteKey, Extradite, Initialize, Install, ListStatus, MakeSelectable, MoreChannel, PutKey, Store}
+use Rattle.policy_rules.specs.declared.request.Request.TheVariants.{Authenticate, CardStatus, DeleteKey, DeleteObject, EntryStatus, Extradite, Initialize, Install, ListStatus, MakeSelectable, MoreChannel, PutKey, Store}
 use Rattle.policy_rules.specs.declared.put_key.PutKeys.{PutKeys}
 use Rattle.card_core.proofs.Acting.{acts_for, answer_carried, held_there, listing_carried, low, managed_carried, offer_carried}
 use Rattle.card_core.proofs.Cards.{in_order}
@@ -38,27 +40,33 @@ abbrev IsOfForm : Request → ℕ → Type 0
 IsOfForm request ins = ins ≡ (form_in request).instruction
 
 -- the requests of card content management that change the registry
-managed : (request : Request)
-    → ((replaced version : ℕ) × (keys : PutKeys) × (request ≡ PutKey replaced version keys))
+abbrev ChangesRegistry : Request → Type 0
+ChangesRegistry request =
+    ((replaced version : ℕ) × (keys : PutKeys) × (request ≡ PutKey replaced version keys))
     ⊎ ((objects : Bor (List ℕ)) × (request ≡ Store objects))
     ⊎ ((version : ℕ) × (identifier : Option ℕ) × (request ≡ DeleteKey version identifier))
+    ⊎ ((deletion : DeletionRequest) × (request ≡ DeleteObject deletion))
     ⊎ ((install : InstallRequest) × (request ≡ Install install))
     ⊎ ((selecting : SelectableRequest) × (request ≡ MakeSelectable selecting))
-    ⊎ ((move : ExtraditionRequest) × (request ≡ Extradite move)) → Contains changing (form_in request).instruction
-managed request (inl put) = subst (λ (r : Request). Contains changing (form_in r).instruction) (sym put.3) (0, omega arith, refl)
-managed request (inr (inl store)) = subst (λ (r : Request). Contains changing (form_in r).instruction) (sym store.1) (1, omega arith, refl)
-managed request (inr (inr (inl delete))) = subst (λ (r : Request). Contains changing (form_in r).instruction) (sym delete.2) (2, omega arith, refl)
-managed request (inr (inr (inr (inl install)))) = subst (λ (r : Request). Contains changing (form_in r).instruction) (sym install.1) (3, omega arith, refl)
-managed request (inr (inr (inr (inr (inl selecting))))) = subst (λ (r : Request). Contains changing (form_in r).instruction) (sym selecting.1) (3, omega arith, refl)
-managed request (inr (inr (inr (inr (inr move))))) = subst (λ (r : Request). Contains changing (form_in r).instruction) (sym move.1) (3, omega arith, refl)
+    ⊎ ((move : ExtraditionRequest) × (request ≡ Extradite move))
+    ⊎ ((code : ℕ) × (request ≡ CardStatus code))
+    ⊎ ((status : EntryStatusRequest) × (request ≡ EntryStatus status))
 
-manages : (request : Request)
-    → ((replaced version : ℕ) × (keys : PutKeys) × (request ≡ PutKey replaced version keys))
-    ⊎ ((objects : Bor (List ℕ)) × (request ≡ Store objects))
-    ⊎ ((version : ℕ) × (identifier : Option ℕ) × (request ≡ DeleteKey version identifier))
-    ⊎ ((install : InstallRequest) × (request ≡ Install install))
-    ⊎ ((selecting : SelectableRequest) × (request ≡ MakeSelectable selecting))
-    ⊎ ((move : ExtraditionRequest) × (request ≡ Extradite move)) → Contains managing (form_in request).instruction
+changes_as : (request other : Request) → request ≡ other → Contains changing (form_in other).instruction → Contains changing (form_in request).instruction
+changes_as request other is changes = subst (λ (r : Request). Contains changing (form_in r).instruction) (sym is) changes
+
+managed : (request : Request) → ChangesRegistry request → Contains changing (form_in request).instruction
+managed request (inl put) = changes_as request _ put.3 (0, omega arith, refl)
+managed request (inr (inl store)) = changes_as request _ store.1 (1, omega arith, refl)
+managed request (inr (inr (inl delete))) = changes_as request _ delete.2 (2, omega arith, refl)
+managed request (inr (inr (inr (inl deletion)))) = changes_as request _ deletion.1 (2, omega arith, refl)
+managed request (inr (inr (inr (inr (inl install))))) = changes_as request _ install.1 (3, omega arith, refl)
+managed request (inr (inr (inr (inr (inr (inl selecting)))))) = changes_as request _ selecting.1 (3, omega arith, refl)
+managed request (inr (inr (inr (inr (inr (inr (inl move))))))) = changes_as request _ move.1 (3, omega arith, refl)
+managed request (inr (inr (inr (inr (inr (inr (inr (inl card)))))))) = changes_as request _ card.1 (4, omega arith, refl)
+managed request (inr (inr (inr (inr (inr (inr (inr (inr entry)))))))) = changes_as request _ entry.1 (4, omega arith, refl)
+
+manages : (request : Request) → ChangesRegistry request → Contains managing (form_in request).instruction
 manages request which = Contains-append_left changing (0xF2 ∷ []) (form_in request).instruction (managed request which)
 
 pub returns-in_err-judge_offer-clause-done : goal.returns-in_err-judge_offer-clause-done
@@ -194,10 +202,10 @@ returns-in-PutKey-clause-done g c = λ page judged stands passed.
     let here = held_there page tables live all judged stands c.told-held c.args.received.now.channel slot c.requires.channel at c.requires.selected
     c.from-at.result c.index-held-at-in-PutKey.result c.from-at.ensures in
     let acts = acts_for page tables live all judged stands c.told-held c.args.received.now.channel slot c.requires.channel at c.requires.selected in
-    let managed = c.manage.ensures.done page judged acts stands.shows.says (subst (IsRequestOf c.in-Ok.request) (sym is) request)
+    let managed = c.manage.ensures.done page judged acts stands.shows.says stands.sound.fits.channels (subst (IsRequestOf c.in-Ok.request) (sym is) request)
     (subst (λ (h : ChannelSession). RepresentsSecureChannel h (secure_channel_for judged)) (sym here) (stands.shows.holds judged.channel low)) in
     managed_carried page tables live all judged stands (record { held = c.told-held; channels = stands.sound.fits.channels }) low
-    c.manage.new.records.tables c.manage.new.reply.items c.manage.result c.manage.ensures.aids managed
+    c.manage.new.records.tables c.manage.new.reply.items c.manage.result c.manage.ensures.selected managed
 
 pub returns-in-PutKey-clause-idle : goal.returns-in-PutKey-clause-idle
 returns-in-PutKey-clause-idle g c = λ other unmanaged.

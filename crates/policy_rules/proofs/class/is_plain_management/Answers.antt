@@ -4,11 +4,11 @@ use Rattle.std.specs.Prelude.{◌||◌, ◌==◌}
 use Rattle.policy_rules.proofs.Instructed.{all_among, among, each_byte}
 use Rattle.policy_rules.specs.Classes.{management, managing}
 use Rattle.policy_rules.specs.declared.class.Class.TheVariants.{Plain}
-use Rattle.policy_rules.specs.declared.instruction.TheConstants.{LOAD, SET_STATUS}
+use Rattle.policy_rules.specs.declared.instruction.TheConstants.{LOAD}
 use Rattle.policy_rules.proofs.class.is_plain_management.Goals as goal
 
 abbrev unbuilt : List ℕ
-unbuilt = LOAD ∷ SET_STATUS ∷ []
+unbuilt = LOAD ∷ []
 
 second : (a b : Bool) → a ≡ false → (a || b) ≡ true → b ≡ true
 second true b none either = cc

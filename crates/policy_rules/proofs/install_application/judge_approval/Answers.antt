@@ -1,7 +1,8 @@
-use Rattle.std.proofs.Common.{None, Some, refl, sym, ◌∙◌}
+use Rattle.std.proofs.Common.{inr, None, Some, refl, sym, ◌∙◌}
 use Rattle.policy_rules.proofs.FirstLike.{if_err, none_first, on_ok, first_like}
 use Rattle.policy_rules.proofs.InstallJudging.{confirms, holds_named}
-use Rattle.policy_rules.specs.Delegation.{DelegatedFails, delegation_rules}
+use Rattle.card_types.specs.Privileges.{delegated_management}
+use Rattle.policy_rules.specs.Delegation.{DelegatedFails, Holds, delegation_rules}
 use Rattle.policy_rules.specs.FirstFailing.{IsFirst}
 use Rattle.policy_rules.specs.HoldersFound.{approval_of}
 use Rattle.policy_rules.specs.InstallRequests.{ApprovalFails}
@@ -17,7 +18,7 @@ pub returns-then-not-holds-clause-found : goal.returns-then-not-holds-clause-fou
 returns-then-not-holds-clause-found c page admitted acts =
     let held_so = rw c.deref.ensures.value at c.holds.ensures in
     let by_name = holds_named page c.args.tables.now c.args.domain admitted acts (record { 0 = 0x200000 }) in
-    (λ holds. (let clash = sym holds ∙ sym by_name ∙ sym held_so ∙ c.if-not-holds.true in cc), λ lacks. refl)
+    inr (λ holds. (let clash = sym holds ∙ sym by_name ∙ sym held_so ∙ c.if-not-holds.true in cc), refl)
 
 pub returns-clause-passed : goal.returns-clause-passed
 returns-clause-passed c page admitted acts signed =
@@ -42,4 +43,4 @@ pub returns-clause-found : goal.returns-clause-found
 returns-clause-found c page admitted acts =
     let held_so = rw c.deref.ensures.value at c.holds.ensures in
     let holds = sym (holds_named page c.args.tables.now c.args.domain admitted acts (record { 0 = 0x200000 })) ∙ sym held_so ∙ c.if-not-holds.false in
-    confirms c.args.tables.now admitted holds c.judge_delegated.result (c.judge_delegated.ensures.found page admitted acts)
+    confirms (Holds admitted delegated_management) c.args.tables.now admitted holds c.judge_delegated.result (c.judge_delegated.ensures.found page admitted acts)

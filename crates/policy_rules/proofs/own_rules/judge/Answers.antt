@@ -4,6 +4,10 @@ use Rattle.std.specs.Option.{option_map}
 use Rattle.std.proofs.lemmas.List.{get_or_default}
 use Rattle.policy_rules.specs.declared.live.TheConstants.{CHANNELS}
 use Rattle.policy_rules.specs.Commands.{Judges}
+use Rattle.policy_rules.specs.CardStatus.{CardStatusFails, card_status, card_status_rules}
+use Rattle.policy_rules.specs.DeleteObject.{DeleteObjectFails, delete_object, delete_object_rules}
+use Rattle.policy_rules.specs.EntryStatus.{EntryStatusFails, entry_status, entry_status_rules}
+use Rattle.policy_rules.specs.StatusSetRequests.{IsCardStatusOf}
 use Rattle.policy_rules.specs.Extradition.{ExtraditionFails, extradition, extradition_rules}
 use Rattle.policy_rules.specs.FirstFailing.{IsFirst}
 use Rattle.policy_rules.specs.InstallApplication.{InstallFails, install_application, install_rules}
@@ -114,6 +118,21 @@ returns-in-DeleteKey-clause-judged c page admitted says sound here request behin
     rw c.err-in-DeleteKey.ensures.value (by_err (Judges admitted) c.judge_delete_key.result
     (c.judge_delete_key.ensures.passed page admitted acts asked) (c.judge_delete_key.ensures.refused page admitted acts asked))
 
+pub judge_deletion-requires-clause-short : goal.judge_deletion-requires-clause-short
+judge_deletion-requires-clause-short c =
+    let meant = rw c.in-DeleteObject.is at c.requires.meant in
+    omega (arith, meant.3.short, meant.4)
+
+pub returns-in-DeleteObject-clause-judged : goal.returns-in-DeleteObject-clause-judged
+returns-in-DeleteObject-clause-judged c page admitted says sound here request behind checks =
+    let asked = rw c.in-DeleteObject.is at request in
+    let is : slice_index_or c.args.live.now.selected c.args.channel None ≡ Some c.unwrap-domain-in-DeleteObject.result = search rules in
+    let acts = selected_acts page c.args.tables.now c.args.live.now admitted c.args.channel c.unwrap-domain-in-DeleteObject.result says sound c.requires.channel is here in
+    judged delete_object (λ holds here. inr (inl here)) admitted asked.form refl _
+    (rw c.err-in-DeleteObject.ensures.value (by_err (λ found. IsFirst (DeleteObjectFails admitted) delete_object_rules found) c.judge_deletion.result
+    (c.judge_deletion.ensures.passed page admitted acts says sound.fits.channels asked.means)
+    (c.judge_deletion.ensures.refused page admitted acts says sound.fits.channels asked.means)))
+
 pub judge_install-requires-clause-short : goal.judge_install-requires-clause-short
 judge_install-requires-clause-short c =
     let meant = rw c.in-Install.is at c.requires.meant in
@@ -155,6 +174,25 @@ returns-in-Extradite-clause-judged c page admitted says sound here request behin
     judged extradition (λ holds here. inr (inr (inl here))) admitted asked.form refl _
     (rw c.err-in-Extradite.ensures.value (by_err (λ found. IsFirst (ExtraditionFails admitted) extradition_rules found) c.judge_extradition.result
     (c.judge_extradition.ensures.passed page admitted acts asked.means) (c.judge_extradition.ensures.refused page admitted acts asked.means)))
+
+pub returns-in-CardStatus-clause-judged : goal.returns-in-CardStatus-clause-judged
+returns-in-CardStatus-clause-judged c page admitted says sound here request behind checks =
+    let asked = rw c.in-CardStatus.is at request in
+    let is : slice_index_or c.args.live.now.selected c.args.channel None ≡ Some c.unwrap-domain-in-CardStatus.result = search rules in
+    let acts = selected_acts page c.args.tables.now c.args.live.now admitted c.args.channel c.unwrap-domain-in-CardStatus.result says sound c.requires.channel is here in
+    let means : IsCardStatusOf c.in-CardStatus.code admitted.command = record { parameters = asked.form.1; code_is = asked.means } in
+    judged card_status (λ holds here. inl here) admitted asked.form refl _
+    (rw c.err-in-CardStatus.ensures.value (by_err (λ found. IsFirst (CardStatusFails admitted) card_status_rules found) c.judge_card_status.result
+    (c.judge_card_status.ensures.passed page admitted acts means) (c.judge_card_status.ensures.refused page admitted acts means)))
+
+pub returns-in-EntryStatus-clause-judged : goal.returns-in-EntryStatus-clause-judged
+returns-in-EntryStatus-clause-judged c page admitted says sound here request behind checks =
+    let asked = rw c.in-EntryStatus.is at request in
+    let is : slice_index_or c.args.live.now.selected c.args.channel None ≡ Some c.unwrap-domain-in-EntryStatus.result = search rules in
+    let acts = selected_acts page c.args.tables.now c.args.live.now admitted c.args.channel c.unwrap-domain-in-EntryStatus.result says sound c.requires.channel is here in
+    judged entry_status (λ holds here. inr (inl here)) admitted asked.form refl _
+    (rw c.err-in-EntryStatus.ensures.value (by_err (λ found. IsFirst (EntryStatusFails admitted) entry_status_rules found) c.judge_entry_status.result
+    (c.judge_entry_status.ensures.passed page admitted acts asked.means) (c.judge_entry_status.ensures.refused page admitted acts asked.means)))
 
 pub returns-in-ListStatus-clause-judged : goal.returns-in-ListStatus-clause-judged
 returns-in-ListStatus-clause-judged c page admitted says sound here request behind checks =

@@ -1,0 +1,83 @@
+use Rattle.std.proofs.Common.{◌≡◌, [], None, Some, refl, ap, sym, subst, ◌∙◌}
+use Rattle.card_core.proofs.Cards.{in_order}
+use Rattle.card_core.proofs.ManagedAs.{refused_as}
+use Rattle.card_core.proofs.SomeAdmitted.{of_card, some_acts, some_admitted}
+use Rattle.card_core.proofs.StatusChanged.{change_says, changed_aids, changed_cards, used_by_name}
+use Rattle.card_types.specs.Found.{aid_of}
+use Rattle.card_types.specs.InOrder.{IsInOrder}
+use Rattle.card_types.specs.declared.found.Found.TheVariants as found
+use Rattle.card_types.specs.declared.tables.Tables.{Tables}
+use Rattle.domain_tree.proofs.AboveNamed.{free_of_loops}
+use Rattle.policy_rules.proofs.EntryStatusLaws.{set_of_card}
+use Rattle.policy_rules.specs.EntryStatus.{entry_status}
+use Rattle.policy_rules.specs.Requests.{ActsIn}
+use Rattle.policy_rules.specs.StatusSetRequests.{IsOther, slot_of}
+use Rattle.card_core.proofs.entry_status.set_entry_status.Goals as goal
+
+pub judge_entry_status-requires : goal.judge_entry_status-requires
+judge_entry_status-requires g c = record { in_order = subst IsInOrder (sym c.tables.ensures.tables) (in_order c.args.records.now.tables c.requires.cards) }
+
+pub returns-in_err-change-clause-done : goal.returns-in_err-change-clause-done
+returns-in_err-change-clause-done g c page admitted acts is =
+    let here = subst (λ (t : Tables). ActsIn page t c.args.domain admitted) (sym c.tables.ensures.tables) acts in
+    refused_as entry_status admitted page c.args.records.now.tables [] c.from_residual.result c.in_err-change.field-0.0 c.from_residual.ensures.1
+    (c.in_err-change.ensures.refused page admitted here is) refl
+
+pub make_change-requires-clause-slot : goal.make_change-requires-clause-slot
+make_change-requires-clause-slot g c =
+    let change = c.in_ok-change.change in
+    let named = subst (λ (t : Tables). aid_of t (found.Entry (slot_of change)) ≡ Some c.args.request.now.aid) c.tables.ensures.tables c.in_ok-change.ensures.named in
+    used_by_name c.args.records.now.tables.entries.items (slot_of change) c.args.request.now.aid named
+
+pub make_change-requires-clause-no_loops : goal.make_change-requires-clause-no_loops
+make_change-requires-clause-no_loops g c =
+    let order = in_order c.args.records.now.tables c.requires.cards in
+    free_of_loops order.page c.args.records.now.tables order.said order.says order.well
+
+pub make_change-requires-clause-other : goal.make_change-requires-clause-other
+make_change-requires-clause-other g c = subst (λ (t : Tables). IsOther t.entries.items c.in_ok-change.change) c.tables.ensures.tables c.in_ok-change.ensures.other
+
+pub returns-clause-done : goal.returns-clause-done
+returns-clause-done g c page admitted acts is =
+    let before = c.args.records.now.tables in
+    let after = c.make_change.new.records.tables in
+    let change = c.in_ok-change.change in
+    let here = subst (λ (t : Tables). ActsIn page t c.args.domain admitted) (sym c.tables.ensures.tables) acts in
+    let named = subst (λ (t : Tables). aid_of t (found.Entry (slot_of change)) ≡ Some c.args.request.now.aid) c.tables.ensures.tables c.in_ok-change.ensures.named in
+    let left = change_says page before after admitted change (named ∙ ap Some is.aid) (c.in_ok-change.ensures.change page admitted here is)
+    (c.make_change.ensures.said page admitted.at.registry acts.says acts.well) in
+    record {
+      first = c.in_ok-change.ensures.passed page admitted here is;
+      done = record { state = record { registry = left.0; volatile = admitted.at.volatile }; body = []; status = 0x9000 };
+      does = record { set = left.2; volatile = refl; body = refl; status = refl };
+      volatile = refl;
+      says = left.1;
+      body_is = refl;
+      status_is = refl;
+    }
+
+pub returns-clause-aids : goal.returns-clause-aids
+returns-clause-aids g c =
+    let before = c.args.records.now.tables in
+    let change = c.in_ok-change.change in
+    let named = subst (λ (t : Tables). aid_of t (found.Entry (slot_of change)) ≡ Some c.args.request.now.aid) c.tables.ensures.tables c.in_ok-change.ensures.named in
+    changed_aids before c.make_change.new.records.tables change c.requires.cards
+    (used_by_name before.entries.items (slot_of change) c.args.request.now.aid named) c.make_change.ensures.made c.make_change.ensures.said
+
+pub returns-clause-cards : goal.returns-clause-cards
+returns-clause-cards g c =
+    let before = c.args.records.now.tables in
+    let after = c.make_change.new.records.tables in
+    let change = c.in_ok-change.change in
+    let asked = c.requires.formed in
+    let named = subst (λ (t : Tables). aid_of t (found.Entry (slot_of change)) ≡ Some c.args.request.now.aid) c.tables.ensures.tables c.in_ok-change.ensures.named in
+    let aids = changed_aids before after change c.requires.cards
+    (used_by_name before.entries.items (slot_of change) c.args.request.now.aid named) c.make_change.ensures.made c.make_change.ensures.said in
+    changed_cards before after change c.make_change.ensures.made aids (λ page said says well.
+    (let some = some_admitted page before said says well c.args.domain c.requires.domain None asked.0 in
+    let acts = some_acts page before said says well c.args.domain c.requires.domain None asked.0 in
+    let here = subst (λ (t : Tables). ActsIn page t c.args.domain some) (sym c.tables.ensures.tables) acts in
+    let left = change_says page before after some change (named ∙ ap Some asked.1.aid) (c.in_ok-change.ensures.change page some here asked.1)
+    (c.make_change.ensures.said page said says well) in
+    let kept = set_of_card some (c.in_ok-change.ensures.passed page some here asked.1) (of_card page before said says well c.args.domain c.requires.domain) left.0 left.2 in
+    (left.0, left.1, kept.well))) c.requires.cards

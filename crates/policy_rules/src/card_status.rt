@@ -1,0 +1,117 @@
+//! SET STATUS of the card (GlobalPlatform Card Specification 2.3.1, 5.1 and 11.10).
+
+ghost use Rattle.std.specs.Prelude.{◌≡◌, ◌↔◌, ℕ, List, None, Some, IfErr, IfNone, IfOk, IfSome, IsTrue, OnOk};
+ghost use Rattle.card_types.specs.CardLife.{card_life_code};
+ghost use Rattle.policy_rules.specs.Admission.{Admitted};
+ghost use Rattle.policy_rules.specs.CardStatus.{CardStatusFails, CardStatusParameters, IsCardStep, card_status, card_status_refusal, card_status_rules};
+ghost use Rattle.policy_rules.specs.FirstFailing.{IsFirst};
+ghost use Rattle.policy_rules.specs.InstallRequests.{IsRefusedBy};
+ghost use Rattle.policy_rules.specs.Requests.{ActsIn};
+ghost use Rattle.policy_rules.specs.StatusSetRequests.{IsCardStatusOf, IsStepBy, MayStep};
+
+use crate::delegation::holds;
+use crate::management::{is_issuer_in, judge_setting};
+use crate::rule::{Rule, RulePS};
+use apdu_core::Status;
+use card_types::{CardLife, Privileges, Tables};
+
+/// The rules of SET STATUS of the card.
+#[derive(Clone, Copy, Debug, PartialEq, Eq)]
+pub enum RuleSC {
+    /// The card's life cycle has no such step.
+    SC1,
+    /// The step is not the domain's to take.
+    SC2,
+}
+
+impl RuleSC {
+    /// The status word of a command that the rule refuses.
+    pub fn status(&self) -> Status
+        ensures { result.0 ≡ (card_status_refusal self.now).status }
+    {
+        match self {
+            RuleSC::SC1 => Status(0x6985),
+            RuleSC::SC2 => Status(0x6982),
+        }
+    }
+
+    /// The rule's name.
+    pub fn name(&self) -> &'static str
+        ensures { result.now ≡ (card_status_refusal self.now).name }
+    {
+        match self {
+            RuleSC::SC1 => "SC1",
+            RuleSC::SC2 => "SC2",
+        }
+    }
+}
+
+/// The kinds of steps in a card's life cycle, by who may take them.
+#[derive(Clone, Copy, Debug, PartialEq, Eq)]
+pub(crate) enum CardStep {
+    /// From OP_READY to INITIALIZED, and from there to SECURED.
+    Prepare,
+    /// From SECURED to CARD_LOCKED, and back.
+    Lock,
+    /// To TERMINATED.
+    Terminate,
+}
+
+// What kind of step leads from one state to another, if any does.
+fn step_between(life: CardLife, next: CardLife) -> Option<CardStep>
+    ensures some { IfSome result (λ step. IsStepBy step life (card_life_code next)) }
+    ensures none { IfNone result (IsCardStep life (card_life_code next) → ⊥) }
+{
+    match (life, next) {
+        (CardLife::OpReady, CardLife::Initialized) => Some(CardStep::Prepare),
+        (CardLife::Initialized, CardLife::Secured) => Some(CardStep::Prepare),
+        (CardLife::Secured, CardLife::Locked) => Some(CardStep::Lock),
+        (CardLife::Locked, CardLife::Secured) => Some(CardStep::Lock),
+        (_, CardLife::Terminated) => Some(CardStep::Terminate),
+        _ => None,
+    }
+}
+
+// Whether the domain in a slot may take such a step.
+fn may_step(tables: &Tables, domain: u8, step: CardStep) -> bool
+    ensures { (page : ℕ → List ℕ) (admitted : Admitted) → ActsIn page tables.now domain admitted → IsTrue result ↔ MayStep step admitted }
+{
+    match step {
+        CardStep::Prepare => is_issuer_in(tables, domain),
+        CardStep::Lock => holds(&tables.entries, domain, Privileges::CARD_LOCK),
+        CardStep::Terminate => holds(&tables.entries, domain, Privileges::CARD_TERMINATE),
+    }
+}
+
+/// Judges a SET STATUS of the card for the domain in a slot: the new life cycle state.
+pub fn judge_card_status(tables: &Tables, domain: u8, code: u8) -> Result<CardLife, Rule>
+    ensures passed { (page : ℕ → List ℕ) (admitted : Admitted) → ActsIn page tables.now domain admitted
+        → IsCardStatusOf code admitted.command → OnOk result (IsFirst (CardStatusFails admitted) card_status_rules None) }
+    ensures refused { (page : ℕ → List ℕ) (admitted : Admitted) → ActsIn page tables.now domain admitted
+        → IsCardStatusOf code admitted.command → IfErr result (λ rule. IsFirst (CardStatusFails admitted) card_status_rules (Some rule)) }
+    ensures life { IfOk result (λ life. card_life_code life ≡ code) }
+{
+    judge_setting(tables, domain, true)?;
+    let Some(life) = CardLife::from_code(code) else {
+        return Err(Rule::SC(RuleSC::SC1));
+    };
+    let Some(step) = step_between(tables.life, life) else {
+        return Err(Rule::SC(RuleSC::SC1));
+    };
+    if !may_step(tables, domain, step) {
+        return Err(Rule::SC(RuleSC::SC2));
+    }
+    Ok(life)
+}
+
+/// Reads P1 and P2 of a SET STATUS of the card: the code of the new life cycle state. Any data field is taken.
+pub(crate) fn parse_card_status(p1: u8, p2: u8, body: &[u8]) -> Result<u8, Rule>
+    ensures form { IfOk result (λ code. CardStatusParameters p1 p2) }
+    ensures means { IfOk result (λ code. code ≡ p2) }
+    ensures refused { IfErr result (IsRefusedBy card_status p1 p2 body.now) }
+{
+    if p1 != 0x80 {
+        return Err(Rule::PS(RulePS::P));
+    }
+    Ok(p2)
+}

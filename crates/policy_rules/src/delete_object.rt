@@ -1,0 +1,292 @@
+//! DELETE of an application, a security domain or an Executable Load File (GlobalPlatform Card Specification 2.3.1, 9.5 and 11.2).
+
+ghost use Rattle.std.specs.Prelude.{◌≡◌, ◌↔◌, ◌⊎◌, ◌≤◌, ◌==◌, ℕ, List, None, Some, IfErr, IfNone, IfOk, IfSome, IsTrue, OnOk, length};
+ghost use Rattle.card_types.specs.Found.{aid_of};
+ghost use Rattle.card_types.specs.InOrder.{IsInOrder};
+ghost use Rattle.policy_rules.specs.Admission.{Admitted};
+ghost use Rattle.policy_rules.specs.DeleteKey.{DeleteParameters};
+ghost use Rattle.policy_rules.specs.DeleteObject.{AsksToDelete, DeleteObjectFails, DeletingFails, DeletionAsked, IsDelegated, IsTokenField, delete_object, delete_object_refusal, delete_object_rules};
+ghost use Rattle.policy_rules.specs.DeletionFound.{DeletionApprovalFails, HasNoneFrom, IsAlone, IsPartOutOfCharge, IsRemovable, IsUnselected};
+ghost use Rattle.policy_rules.specs.DeletionRequests.{IsDeletionOf, IsDeletionRequest, own_deletion_rules};
+ghost use Rattle.policy_rules.specs.FirstFailing.{IsFirst};
+ghost use Rattle.policy_rules.specs.HoldersFound.{FindsConfirmer, IsSignedFor, MayReceipt, approval_of};
+ghost use Rattle.policy_rules.specs.Delegation.{delegation_rules};
+ghost use Rattle.policy_rules.specs.InstallRequests.{IsRefusedBy};
+ghost use Rattle.policy_rules.specs.Requests.{ActsIn, ForActingLive};
+ghost use Rattle.policy_rules.specs.declared.delete_object.RuleDO.TheVariants.{DO3, DO4};
+
+use crate::charge::has_charge;
+use crate::delegation::{Signed, holds, judge_delegated};
+use crate::extradition::is_fixed;
+use crate::in_use::{has_stranger, has_user, is_in_use, is_source};
+use crate::install_application::may_manage;
+use crate::live::Live;
+use crate::management::judge_management;
+use crate::rule::{Rule, RulePS};
+use apdu_core::Status;
+use bertlv::read;
+use card_types::{Aid, Found, Privileges, Tables, find};
+
+/// The rules of DELETE of an object.
+#[derive(Clone, Copy, Debug, PartialEq, Eq)]
+pub enum RuleDO {
+    /// Nothing has the AID.
+    DO1,
+    /// It is the Issuer Security Domain or the factory's Executable Load File.
+    DO2,
+    /// It is not the domain's to delete.
+    DO3,
+    /// It is in use.
+    DO4,
+}
+
+impl RuleDO {
+    /// The status word of a command that the rule refuses.
+    pub fn status(&self) -> Status
+        ensures { result.0 ≡ (delete_object_refusal self.now).status }
+    {
+        match self {
+            RuleDO::DO1 => Status(0x6A88),
+            RuleDO::DO2 => Status(0x6985),
+            RuleDO::DO3 => Status(0x6982),
+            RuleDO::DO4 => Status(0x6985),
+        }
+    }
+
+    /// The rule's name.
+    pub fn name(&self) -> &'static str
+        ensures { result.now ≡ (delete_object_refusal self.now).name }
+    {
+        match self {
+            RuleDO::DO1 => "DO1",
+            RuleDO::DO2 => "DO2",
+            RuleDO::DO3 => "DO3",
+            RuleDO::DO4 => "DO4",
+        }
+    }
+}
+
+/// What a DELETE of an object asks for: the AID of the thing, whether what comes from an Executable Load File goes with it, and what
+/// approves it.
+#[derive(Clone, Copy, Debug)]
+pub struct DeletionRequest<'a> {
+    pub aid: Aid,
+    pub related: bool,
+    pub signed: Signed<'a>,
+}
+
+/// What the judgement of a DELETE of an object found: the thing, and the slot of the domain that confirms the command, or none where
+/// nobody does.
+#[derive(Clone, Copy, Debug)]
+pub struct Deletion {
+    pub thing: Found,
+    pub receipter: Option<u8>,
+}
+
+// Whether something that is to go is not in the charge of the domain in a slot.
+fn is_out_of_charge(tables: &Tables, domain: u8, thing: Found, related: bool) -> bool
+    requires in_order { IsInOrder tables.now }
+    ensures { (page : ℕ → List ℕ) (admitted : Admitted) (named : List ℕ) → ActsIn page tables.now domain admitted
+        → aid_of tables.now thing ≡ Some named → related ≡ (admitted.command.p2 == 0x80)
+        → IsTrue result ↔ IsPartOutOfCharge admitted named }
+{
+    if !has_charge(tables, domain, thing) {
+        return true;
+    }
+    match thing {
+        Found::Entry(_) => false,
+        Found::File(slot) => related && has_stranger(tables, domain, slot),
+    }
+}
+
+// Whether what is to go is not the domain's, in a slot, to delete.
+fn is_barred(tables: &Tables, domain: u8, thing: Found, request: &DeletionRequest<'_>) -> bool
+    requires in_order { IsInOrder tables.now }
+    ensures { (page : ℕ → List ℕ) (admitted : Admitted) → ActsIn page tables.now domain admitted
+        → (is : IsDeletionOf request.now admitted.command) → aid_of tables.now thing ≡ Some request.now.aid
+        → IsTrue result ↔ DeletingFails admitted is.asked DO3 }
+{
+    if holds(&tables.entries, domain, Privileges::GLOBAL_DELETE) {
+        return false;
+    }
+    !may_manage(&tables.entries, domain) || is_out_of_charge(tables, domain, thing, request.related)
+}
+
+// Whether something that is to go is in use, or something comes from an Executable Load File that is to go alone.
+fn is_needed(tables: &Tables, live: &Live, thing: Found, request: &DeletionRequest<'_>) -> bool
+    requires in_order { IsInOrder tables.now }
+    requires there { aid_of tables.now thing ≡ Some request.now.aid }
+    ensures told { (domain : ℕ) → ForActingLive tables.now live.now domain (λ page admitted.
+        (is : IsDeletionOf request.now admitted.command) → IsTrue result ↔ DeletingFails admitted is.asked DO4) }
+    ensures alone { (IsTrue result) ⊎ IsAlone tables.now request.now.related thing }
+    ensures unselected { (IsTrue result) ⊎ IsUnselected tables.now live.now request.now.related thing }
+    ensures unloaded { (IsTrue result) ⊎ HasNoneFrom tables.now request.now.related thing }
+{
+    match thing {
+        Found::Entry(slot) => is_in_use(tables, live, slot),
+        Found::File(slot) => {
+            if request.related {
+                has_user(tables, live, slot)
+            } else {
+                is_source(&tables.entries, slot)
+            }
+        }
+    }
+}
+
+// The rules of DELETE of an object itself, for the domain in a slot: the thing.
+fn judge_removal(
+    tables: &Tables,
+    live: &Live,
+    domain: u8,
+    request: &DeletionRequest<'_>,
+) -> Result<Found, RuleDO>
+    requires in_order { IsInOrder tables.now }
+    ensures passed { ForActingLive tables.now live.now domain (λ page admitted. (is : IsDeletionOf request.now admitted.command)
+        → OnOk result (IsFirst (DeletingFails admitted is.asked) own_deletion_rules None)) }
+    ensures refused { ForActingLive tables.now live.now domain (λ page admitted. (is : IsDeletionOf request.now admitted.command)
+        → IfErr result (λ rule. IsFirst (DeletingFails admitted is.asked) own_deletion_rules (Some rule))) }
+    ensures thing { IfOk result (λ thing. aid_of tables.now thing ≡ Some request.now.aid) }
+    ensures alone { IfOk result (λ thing. IsAlone tables.now request.now.related thing) }
+    ensures unselected { IfOk result (λ thing. IsUnselected tables.now live.now request.now.related thing) }
+    ensures unloaded { IfOk result (λ thing. HasNoneFrom tables.now request.now.related thing) }
+    ensures lasting { IfOk result (λ thing. IsRemovable tables.now thing) }
+{
+    let Some(thing) = find(tables, &request.aid) else {
+        return Err(RuleDO::DO1);
+    };
+    if is_fixed(&request.aid) {
+        return Err(RuleDO::DO2);
+    }
+    if is_barred(tables, domain, thing, request) {
+        return Err(RuleDO::DO3);
+    }
+    if is_needed(tables, live, thing, request) {
+        return Err(RuleDO::DO4);
+    }
+    Ok(thing)
+}
+
+// Whether the domain in a slot deletes as it is delegated to.
+fn is_delegated(tables: &Tables, domain: u8) -> bool
+    ensures { (page : ℕ → List ℕ) (admitted : Admitted) → ActsIn page tables.now domain admitted → IsTrue result ↔ IsDelegated admitted }
+{
+    holds(&tables.entries, domain, Privileges::DELEGATED_MANAGEMENT)
+        && !holds(&tables.entries, domain, Privileges::GLOBAL_DELETE)
+}
+
+// The rules on the approval of a deletion by the domain in a slot, which are for a delegated one: the slot of the domain that confirms
+// it, or none where nobody does.
+fn judge_approval(tables: &Tables, domain: u8, signed: &Signed<'_>) -> Result<Option<u8>, Rule>
+    requires in_order { IsInOrder tables.now }
+    requires short { length signed.now.before.now ≤ 255 }
+    ensures passed { (page : ℕ → List ℕ) (admitted : Admitted) → ActsIn page tables.now domain admitted → IsSignedFor admitted signed.now
+        → OnOk result (IsFirst (DeletionApprovalFails admitted (approval_of signed.now)) delegation_rules None) }
+    ensures refused { (page : ℕ → List ℕ) (admitted : Admitted) → ActsIn page tables.now domain admitted → IsSignedFor admitted signed.now
+        → IfErr result (λ rule. IsFirst (DeletionApprovalFails admitted (approval_of signed.now)) delegation_rules (Some rule)) }
+    ensures found { (page : ℕ → List ℕ) (admitted : Admitted) → ActsIn page tables.now domain admitted
+        → IfOk result (FindsConfirmer (IsDelegated admitted) tables.now admitted) }
+    ensures able { IfOk result (λ found. IfSome found (MayReceipt tables.now)) }
+{
+    if !is_delegated(tables, domain) {
+        return Ok(None);
+    }
+    judge_delegated(tables, domain, signed)
+}
+
+/// Judges a DELETE of an object for the domain in a slot. What is kept of the state beside the tables tells what is selected, and the
+/// load session.
+pub fn judge_deletion(
+    tables: &Tables,
+    live: &Live,
+    domain: u8,
+    request: &DeletionRequest<'_>,
+) -> Result<Deletion, Rule>
+    requires in_order { IsInOrder tables.now }
+    requires short { length request.now.signed.before.now ≤ 255 }
+    ensures passed { ForActingLive tables.now live.now domain (λ page admitted. IsDeletionOf request.now admitted.command
+        → OnOk result (IsFirst (DeleteObjectFails admitted) delete_object_rules None)) }
+    ensures refused { ForActingLive tables.now live.now domain (λ page admitted. IsDeletionOf request.now admitted.command
+        → IfErr result (λ rule. IsFirst (DeleteObjectFails admitted) delete_object_rules (Some rule))) }
+    ensures thing { IfOk result (λ found. aid_of tables.now found.thing ≡ Some request.now.aid) }
+    ensures receipter { (page : ℕ → List ℕ) (admitted : Admitted) → ActsIn page tables.now domain admitted
+        → IfOk result (λ found. FindsConfirmer (IsDelegated admitted) tables.now admitted found.receipter) }
+    ensures able { IfOk result (λ found. IfSome found.receipter (MayReceipt tables.now)) }
+    ensures alone { IfOk result (λ found. IsAlone tables.now request.now.related found.thing) }
+    ensures unselected { IfOk result (λ found. IsUnselected tables.now live.now request.now.related found.thing) }
+    ensures unloaded { IfOk result (λ found. HasNoneFrom tables.now request.now.related found.thing) }
+    ensures lasting { IfOk result (λ found. IsRemovable tables.now found.thing) }
+{
+    judge_management(tables, domain)?;
+    let thing = match judge_removal(tables, live, domain, request) {
+        Ok(thing) => thing,
+        Err(rule) => return Err(Rule::DO(rule)),
+    };
+    let receipter = judge_approval(tables, domain, &request.signed)?;
+    Ok(Deletion { thing, receipter })
+}
+
+// The token that a field has, or no bytes where the field has none.
+fn read_token(field: &[u8]) -> Option<&[u8]>
+    ensures some { IfSome result (λ token. IsTokenField token.now field.now) }
+    ensures none { IfNone result ((token : List ℕ) → IsTokenField token field.now → ⊥) }
+{
+    if field.is_empty() {
+        return Some(field);
+    }
+    let Ok((token, end)) = read(field) else {
+        return None;
+    };
+    if token.tag != 0x9E || !end.is_empty() {
+        return None;
+    }
+    Some(token.value)
+}
+
+// What the data field asks for.
+fn read_request(p1: u8, p2: u8, body: &[u8]) -> Option<DeletionRequest<'_>>
+    requires form { DeleteParameters p1 p2 }
+    ensures some { IfSome result (λ request. IsDeletionRequest request p1 p2 body.now) }
+    ensures none { IfNone result ((asked : DeletionAsked) → AsksToDelete body.now asked → ⊥) }
+{
+    let Ok((named, rest)) = read(body) else {
+        return None;
+    };
+    if named.tag != 0x4F {
+        return None;
+    }
+    let aid = Aid::new(named.value)?;
+    let token = read_token(rest)?;
+    Some(DeletionRequest {
+        aid,
+        related: p2 == 0x80,
+        signed: Signed {
+            p1,
+            p2,
+            before: &body[..body.len() - rest.len()],
+            token,
+        },
+    })
+}
+
+// Whether DELETE of an object takes a P1 and a P2.
+fn takes_parameters(p1: u8, p2: u8) -> bool
+    ensures { IsTrue result ↔ DeleteParameters p1 p2 }
+{
+    p1 == 0x00 && matches!(p2, 0x00 | 0x80)
+}
+
+/// Reads P1, P2 and the data field of a DELETE of an object.
+pub(crate) fn parse_delete_object(p1: u8, p2: u8, body: &[u8]) -> Result<DeletionRequest<'_>, Rule>
+    ensures form { IfOk result (λ request. DeleteParameters p1 p2) }
+    ensures means { IfOk result (λ request. IsDeletionRequest request p1 p2 body.now) }
+    ensures refused { IfErr result (IsRefusedBy delete_object p1 p2 body.now) }
+{
+    if !takes_parameters(p1, p2) {
+        return Err(Rule::PS(RulePS::P));
+    }
+    match read_request(p1, p2, body) {
+        Some(request) => Ok(request),
+        None => Err(Rule::PS(RulePS::S)),
+    }
+}

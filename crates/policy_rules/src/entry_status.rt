@@ -1,0 +1,249 @@
+//! SET STATUS of an application or a security domain (GlobalPlatform Card Specification 2.3.1, 5.3 and 11.10).
+
+ghost use Rattle.std.specs.Prelude.{◌≡◌, ◌↔◌, ◌⊎◌, ℕ, List, None, Some, false, IfErr, IfNone, IfOk, IfSome, IsTrue, OnOk};
+ghost use Rattle.card_types.specs.Found.{aid_of};
+ghost use Rattle.card_types.specs.InOrder.{IsInOrder};
+ghost use Rattle.card_types.specs.Privileges.{has, security_domain};
+ghost use Rattle.card_types.specs.declared.found.Found.TheVariants.{Entry as At};
+ghost use Rattle.domain_tree.specs.AboveLaws.{IsAboveIn};
+ghost use Rattle.policy_rules.specs.Admission.{Admitted};
+ghost use Rattle.policy_rules.specs.Delegation.{Holds};
+ghost use Rattle.policy_rules.specs.EntryStatus.{EntryStatusFails, EntryStatusParameters, PersonalizesItself, SettingStatusFails, entry_status, entry_status_refusal, entry_status_rules, global_lock};
+ghost use Rattle.policy_rules.specs.FirstFailing.{IsFirst};
+ghost use Rattle.policy_rules.specs.InstallRequests.{IsRefusedBy};
+ghost use Rattle.policy_rules.specs.Management.{acting};
+ghost use Rattle.policy_rules.specs.Requests.{ActsIn};
+ghost use Rattle.policy_rules.specs.StatusSetRequests.{IsChangeFor, IsEntryStatusOf, IsEntryStatusRequest, IsOther, IsSlotStep, MaySet, own_status_rules, slot_of};
+ghost use Rattle.policy_rules.specs.declared.entry_status.RuleSS.TheVariants.{SS1};
+
+use crate::charge::{find_domain, find_entry};
+use crate::delegation::holds;
+use crate::management::judge_setting;
+use crate::rule::{Rule, RulePS};
+use crate::select::is_issuer;
+use apdu_core::Status;
+use bitflags::Flags;
+use card_types::{Aid, Entry, Life, LifeMark, Privileges, Tables, in_slot};
+use domain_tree::above;
+
+/// The rules of SET STATUS of an entry.
+#[derive(Clone, Copy, Debug, PartialEq, Eq)]
+pub enum RuleSS {
+    /// No entry has the AID, or no security domain where one is to be set with all below it.
+    SS1,
+    /// It is the Issuer Security Domain.
+    SS2,
+    /// It is not the domain's to set.
+    SS3,
+    /// The entry's life cycle has no such step.
+    SS4,
+}
+
+impl RuleSS {
+    /// The status word of a command that the rule refuses.
+    pub fn status(&self) -> Status
+        ensures { result.0 ≡ (entry_status_refusal self.now).status }
+    {
+        match self {
+            RuleSS::SS1 => Status(0x6A88),
+            RuleSS::SS2 => Status(0x6985),
+            RuleSS::SS3 => Status(0x6982),
+            RuleSS::SS4 => Status(0x6985),
+        }
+    }
+
+    /// The rule's name.
+    pub fn name(&self) -> &'static str
+        ensures { result.now ≡ (entry_status_refusal self.now).name }
+    {
+        match self {
+            RuleSS::SS1 => "SS1",
+            RuleSS::SS2 => "SS2",
+            RuleSS::SS3 => "SS3",
+            RuleSS::SS4 => "SS4",
+        }
+    }
+}
+
+/// What a SET STATUS of an entry asks for: whether the entry is set with all below it, the new state's code, and the AID.
+#[derive(Clone, Copy, Debug)]
+pub struct EntryStatusRequest {
+    pub tree: bool,
+    pub code: u8,
+    pub aid: Aid,
+}
+
+/// What a SET STATUS of an entry changes.
+#[derive(Clone, Copy, Debug, PartialEq, Eq)]
+pub enum StatusChange {
+    /// The entry in a slot comes to a life cycle state and lock mark.
+    One { entry: u8, life: LifeMark },
+    /// The security domain in a slot and each entry below it get a lock mark.
+    Tree { domain: u8, locked: bool },
+}
+
+/// From this code on it has the lock mark.
+const LOCKED: u8 = 0x80;
+
+/// The code of a security domain that is personalized, and not locked.
+const PERSONALIZED: u8 = 0x0F;
+
+fn is_domain(entry: &Entry) -> bool
+    ensures { result ≡ has security_domain entry.now.privileges }
+{
+    entry.privileges.contains(Privileges::SECURITY_DOMAIN)
+}
+
+// Whether a request asks for one entry to be personalized.
+fn is_personalizing(request: &EntryStatusRequest) -> bool
+    ensures { IsTrue result ↔ ((request.now.tree ≡ false) × (request.now.code ≡ 0x0F)) }
+{
+    !request.tree && request.code == PERSONALIZED
+}
+
+// The slot of the entry that a request names, which is a security domain where all below it is set too.
+fn find_named(tables: &Tables, request: &EntryStatusRequest) -> Option<u8>
+    requires in_order { IsInOrder tables.now }
+    ensures some { IfSome result (λ slot. aid_of tables.now (At slot) ≡ Some request.now.aid) }
+    ensures known { (page : ℕ → List ℕ) (admitted : Admitted) (domain : ℕ) → ActsIn page tables.now domain admitted
+        → IsEntryStatusOf request.now admitted.command → IfSome result (λ slot. SettingStatusFails admitted SS1 → ⊥) }
+    ensures none { (page : ℕ → List ℕ) (admitted : Admitted) (domain : ℕ) → ActsIn page tables.now domain admitted
+        → IsEntryStatusOf request.now admitted.command → IfNone result (SettingStatusFails admitted SS1) }
+{
+    if request.tree {
+        find_domain(tables, &request.aid)
+    } else {
+        find_entry(tables, &request.aid)
+    }
+}
+
+// Whether the domain in a slot is above the entry in another one, or may lock any entry.
+fn may_lock(tables: &Tables, domain: u8, slot: u8) -> bool
+    requires in_order { IsInOrder tables.now }
+    ensures { (page : ℕ → List ℕ) (admitted : Admitted) (aid : List ℕ) → ActsIn page tables.now domain admitted → aid_of tables.now (At slot) ≡ Some aid
+        → IsTrue result ↔ (IsAboveIn admitted.at.registry (acting admitted) aid ⊎ Holds admitted global_lock) }
+{
+    above(&tables.entries, domain, slot) || holds(&tables.entries, domain, Privileges::GLOBAL_LOCK)
+}
+
+// Whether the domain in a slot asks to be personalized itself.
+fn personalizes_itself(tables: &Tables, domain: u8, request: &EntryStatusRequest) -> bool
+    ensures { (page : ℕ → List ℕ) (admitted : Admitted) → ActsIn page tables.now domain admitted
+        → IsEntryStatusOf request.now admitted.command → IsTrue result ↔ PersonalizesItself admitted }
+{
+    match in_slot(&tables.entries, domain) {
+        Some(entry) => is_personalizing(request) && entry.aid == request.aid,
+        None => false,
+    }
+}
+
+// Whether the domain in a slot may set the entry in another one.
+fn may_set(tables: &Tables, domain: u8, slot: u8, request: &EntryStatusRequest) -> bool
+    requires in_order { IsInOrder tables.now }
+    ensures { (page : ℕ → List ℕ) (admitted : Admitted) → ActsIn page tables.now domain admitted
+        → IsEntryStatusOf request.now admitted.command → aid_of tables.now (At slot) ≡ Some request.now.aid → IsTrue result ↔ MaySet admitted }
+{
+    may_lock(tables, domain, slot) || personalizes_itself(tables, domain, request)
+}
+
+// The life cycle state and lock mark that an entry comes to, if its life cycle has such a step.
+fn step_of(entry: &Entry, request: &EntryStatusRequest) -> Option<LifeMark>
+    ensures some { IfSome result (IsSlotStep request.now entry.now) }
+    ensures none { IfNone result ((life : LifeMark) → IsSlotStep request.now entry.now life → ⊥) }
+{
+    let locked = request.code >= LOCKED;
+    if entry.life.locked != locked {
+        return Some(LifeMark {
+            life: entry.life.life,
+            locked,
+        });
+    }
+    if is_personalizing(request) && is_domain(entry) && entry.life.life == Life::Selectable {
+        return Some(LifeMark {
+            life: Life::Personalized,
+            locked: false,
+        });
+    }
+    None
+}
+
+// The rules of SET STATUS of an entry itself, for the domain in a slot: what changes.
+fn judge_change(
+    tables: &Tables,
+    domain: u8,
+    request: &EntryStatusRequest,
+) -> Result<StatusChange, RuleSS>
+    requires in_order { IsInOrder tables.now }
+    ensures passed { (page : ℕ → List ℕ) (admitted : Admitted) → ActsIn page tables.now domain admitted
+        → IsEntryStatusOf request.now admitted.command → OnOk result (IsFirst (SettingStatusFails admitted) own_status_rules None) }
+    ensures refused { (page : ℕ → List ℕ) (admitted : Admitted) → ActsIn page tables.now domain admitted
+        → IsEntryStatusOf request.now admitted.command → IfErr result (λ rule. IsFirst (SettingStatusFails admitted) own_status_rules (Some rule)) }
+    ensures named { IfOk result (λ change. aid_of tables.now (At (slot_of change)) ≡ Some request.now.aid) }
+    ensures other { IfOk result (IsOther tables.now.entries.items) }
+    ensures change { (page : ℕ → List ℕ) (admitted : Admitted) → ActsIn page tables.now domain admitted
+        → IsEntryStatusOf request.now admitted.command → IfOk result (IsChangeFor admitted) }
+{
+    let Some(slot) = find_named(tables, request) else {
+        return Err(RuleSS::SS1);
+    };
+    if is_issuer(&request.aid) {
+        return Err(RuleSS::SS2);
+    }
+    if !may_set(tables, domain, slot, request) {
+        return Err(RuleSS::SS3);
+    }
+    let entry = in_slot(&tables.entries, slot).unwrap();
+    let Some(life) = step_of(entry, request) else {
+        return Err(RuleSS::SS4);
+    };
+    Ok(if request.tree {
+        StatusChange::Tree {
+            domain: slot,
+            locked: life.locked,
+        }
+    } else {
+        StatusChange::One { entry: slot, life }
+    })
+}
+
+/// Judges a SET STATUS of an entry for the domain in a slot: what changes.
+pub fn judge_entry_status(
+    tables: &Tables,
+    domain: u8,
+    request: &EntryStatusRequest,
+) -> Result<StatusChange, Rule>
+    requires in_order { IsInOrder tables.now }
+    ensures passed { (page : ℕ → List ℕ) (admitted : Admitted) → ActsIn page tables.now domain admitted
+        → IsEntryStatusOf request.now admitted.command → OnOk result (IsFirst (EntryStatusFails admitted) entry_status_rules None) }
+    ensures refused { (page : ℕ → List ℕ) (admitted : Admitted) → ActsIn page tables.now domain admitted
+        → IsEntryStatusOf request.now admitted.command → IfErr result (λ rule. IsFirst (EntryStatusFails admitted) entry_status_rules (Some rule)) }
+    ensures named { IfOk result (λ change. aid_of tables.now (At (slot_of change)) ≡ Some request.now.aid) }
+    ensures other { IfOk result (IsOther tables.now.entries.items) }
+    ensures change { (page : ℕ → List ℕ) (admitted : Admitted) → ActsIn page tables.now domain admitted
+        → IsEntryStatusOf request.now admitted.command → IfOk result (IsChangeFor admitted) }
+{
+    judge_setting(tables, domain, false)?;
+    match judge_change(tables, domain, request) {
+        Ok(change) => Ok(change),
+        Err(rule) => Err(Rule::SS(rule)),
+    }
+}
+
+/// Reads P1, P2 and the data field of a SET STATUS of an entry.
+pub(crate) fn parse_entry_status(p1: u8, p2: u8, body: &[u8]) -> Result<EntryStatusRequest, Rule>
+    ensures form { IfOk result (λ request. EntryStatusParameters p1 p2) }
+    ensures means { IfOk result (λ request. IsEntryStatusRequest request p1 p2 body.now) }
+    ensures refused { IfErr result (IsRefusedBy entry_status p1 p2 body.now) }
+{
+    if p1 != 0x40 && p1 != 0x60 {
+        return Err(Rule::PS(RulePS::P));
+    }
+    match Aid::new(body) {
+        Some(aid) => Ok(EntryStatusRequest {
+            tree: p1 == 0x60,
+            code: p2,
+            aid,
+        }),
+        None => Err(Rule::PS(RulePS::S)),
+    }
+}

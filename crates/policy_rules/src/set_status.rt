@@ -1,0 +1,24 @@
+//! SET STATUS (GlobalPlatform Card Specification 2.3.1, 11.10): P1 tells which of its forms a command has.
+
+ghost use Rattle.std.specs.Prelude.{ℕ, List};
+ghost use Rattle.policy_rules.specs.Requests.{Parses};
+ghost use Rattle.policy_rules.specs.declared.instruction.TheConstants.{SET_STATUS};
+
+use crate::card_status::parse_card_status;
+use crate::entry_status::parse_entry_status;
+use crate::request::Request;
+use crate::rule::Rule;
+
+/// Reads P1, P2 and the data field of a SET STATUS.
+pub(crate) fn parse_set_status(p1: u8, p2: u8, body: &[u8]) -> Result<Request<'_>, Rule>
+    ensures { Parses SET_STATUS p1 p2 body.now result }
+{
+    if p1 == 0x80 {
+        let code = parse_card_status(p1, p2, body)?;
+        return Ok(Request::CardStatus { code });
+    }
+    match parse_entry_status(p1, p2, body) {
+        Ok(request) => Ok(Request::EntryStatus(request)),
+        Err(rule) => Err(rule),
+    }
+}
