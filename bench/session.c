@@ -1,4 +1,4 @@
-/* The yardstick of session.sh and install.sh: the card side of SCP03 sessions at level 33 over the AES
+/* The yardstick of session.sh and install.sh, and the host of list.sh: the card side of SCP03 sessions at level 33 over the AES
    of OpenSSL, and the lines of their host.
 
      session keys SIZE                writes the lines of a session with the factory card that puts
@@ -10,7 +10,10 @@
                                       keys in turns
      session installs SIZE COUNT      writes the lines of a session with COUNT times INSTALL, 31 at
                                       most, of security domains; where COUNT is 0 it only begins
-     session answers SIZE             reads such lines and answers each by one call of write; at
+     session lists SIZE WHAT COUNT    writes the lines of a session that installs 31 security domains, puts
+                                      two data objects, and sends COUNT times GET STATUS (`parts`), GET
+                                      DATA of 12 bytes (`short`) or GET DATA of 121 bytes (`long`)
+     session answers SIZE             reads the lines of sessions and installs and answers each by one call of write; at
                                       INITIALIZE UPDATE and at INSTALL it commits a page to the file
                                       c.img first, as gp does
 
@@ -446,6 +449,17 @@ static void put_get_data(uint8_t tag)
     put_line(line, sizeof line);
 }
 
+/* A command of this header and a data field of this size behind it, as it is sent. */
+static void put_sealed(uint8_t *line, size_t size)
+{
+    number++;
+    size = seal(0, line + 5, size);
+    line[4] = (uint8_t)(size + 8);
+    chain_on(line, line + 5, size);
+    memcpy(line + 5 + size, chain, 8);
+    put_line(line, 13 + size);
+}
+
 /* A key field of PUT KEY. The key goes under the Key-DEK of the session, and zeros fill its last block. */
 static size_t put_key_field(size_t size, uint8_t *to)
 {
@@ -475,12 +489,7 @@ static void put_put_key(size_t size)
 
     for (int i = 0; i < 3; i++)
         field += put_key_field(size, line + 5 + field);
-    number++;
-    field = seal(0, line + 5, field);
-    line[4] = (uint8_t)(field + 8);
-    chain_on(line, line + 5, field);
-    memcpy(line + 5 + field, chain, 8);
-    put_line(line, 13 + field);
+    put_sealed(line, field);
 }
 
 static int keys(size_t size)
@@ -510,16 +519,27 @@ static void put_install(uint8_t last)
         5, 0xd2, 0, 0, 0, 0, 1, 0x80, 2, 0xc9, 0, 0,
     };
     uint8_t line[MOST] = { 0x84, 0xe6, 0x0c };
-    size_t size = sizeof fields;
 
-    memcpy(line + 5, fields, size);
+    memcpy(line + 5, fields, sizeof fields);
     line[5 + 22] = last;
-    number++;
-    size = seal(0, line + 5, size);
-    line[4] = (uint8_t)(size + 8);
-    chain_on(line, line + 5, size);
-    memcpy(line + 5 + size, chain, 8);
-    put_line(line, 13 + size);
+    put_sealed(line, sizeof fields);
+}
+
+/* STORE DATA of a data object with this tag, whose value has so many bytes. */
+static void put_store_data(uint8_t tag, uint8_t size)
+{
+    uint8_t line[MOST] = { 0x84, 0xe2, 0x90, 0, 0, tag, size };
+
+    memset(line + 7, 0xaa, size);
+    put_sealed(line, 2 + (size_t)size);
+}
+
+/* The first part of a listing of all entries but the Issuer Security Domain. */
+static void put_get_status(void)
+{
+    uint8_t line[MOST] = { 0x84, 0xf2, 0x40, 2, 0, 0x4f, 0 };
+
+    put_sealed(line, 2);
 }
 
 static int installs(unsigned long count)
@@ -528,6 +548,23 @@ static int installs(unsigned long count)
     put_external_authenticate();
     for (unsigned long i = 1; i <= count; i++)
         put_install((uint8_t)i);
+    return fflush(stdout) == 0 ? 0 : 6;
+}
+
+static int lists(const char *what, unsigned long count)
+{
+    put_initialize_update();
+    put_external_authenticate();
+    for (unsigned long i = 1; i <= 31; i++)
+        put_install((uint8_t)i);
+    put_store_data(0x42, 10);
+    put_store_data(0x66, 119);
+    for (unsigned long i = 0; i < count; i++) {
+        if (strcmp(what, "parts") == 0)
+            put_get_status();
+        else
+            put_get_data(strcmp(what, "long") == 0 ? 0x66 : 0x42);
+    }
     return fflush(stdout) == 0 ? 0 : 6;
 }
 
@@ -551,6 +588,8 @@ int main(int argc, char **argv)
         return lines(strtoul(argv[3], NULL, 10), strtoul(argv[4], NULL, 10));
     if (argc == 4 && strcmp(argv[1], "installs") == 0)
         return installs(strtoul(argv[3], NULL, 10));
+    if (argc == 5 && strcmp(argv[1], "lists") == 0)
+        return lists(argv[3], strtoul(argv[4], NULL, 10));
     if (argc == 3 && strcmp(argv[1], "answers") == 0) {
         open_device("c.img");
         return answers();
