@@ -1,0 +1,7 @@
+pub mod Digests
+pub mod PagesInUse
+pub mod Writes
+pub mod PagesKept
+pub mod Adding
+pub mod Judged
+pub mod Stays

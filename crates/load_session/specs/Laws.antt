@@ -1,0 +1,21 @@
+-- Laws of load sessions beside other commands.
+use Rattle.std.specs.Prelude.{◌≡◌, ℕ, List, Contains}
+use Rattle.card_types.specs.Represents.{domain_aid}
+use Rattle.card_types.specs.declared.tables.Tables.{Tables}
+use Rattle.load_session.specs.Session.{IsReady, RepresentsLoad, pages_taken, load_slot}
+use Rattle.load_session.specs.declared.session.LoadSession.{LoadSession}
+use Rattle.policy_rules.specs.Volatile as volatile
+use Rattle.rec_store.specs.Reopens.{IsFree}
+
+-- no Executable Load File took a page of the session
+abbrev pub StayFree : Tables → Tables → LoadSession → Type 0
+StayFree before after kept = (page : ℕ) → Contains (pages_taken kept) page → IsFree before page → IsFree after page
+
+abbrev pub ReadyStays : Type 0
+ReadyStays = (before after : Tables) (kept : LoadSession) → StayFree before after kept → IsReady before kept → IsReady after kept
+
+abbrev pub SessionStays : Type 0
+SessionStays = (page then : ℕ → List ℕ) (before after : Tables) (kept : LoadSession) (load : volatile.LoadSession) → StayFree before after kept
+    → ((number : ℕ) → Contains (pages_taken kept) number → then number ≡ page number)
+    → domain_aid after.entries.items (load_slot kept) ≡ domain_aid before.entries.items (load_slot kept)
+    → RepresentsLoad page before kept load → RepresentsLoad then after kept load

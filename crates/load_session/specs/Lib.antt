@@ -1,0 +1,7 @@
+pub mod Hash
+pub mod Judging
+pub mod Laws
+pub mod Paged
+pub mod Pages
+pub mod Session
+pub mod Written
