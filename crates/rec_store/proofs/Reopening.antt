@@ -16,12 +16,13 @@ use Rattle.card_types.specs.declared.limits.TheConstants.{ENTRIES, FILES, KEYS, 
 use Rattle.card_types.specs.declared.tables.LoadFile.{LoadFile}
 use Rattle.card_types.specs.declared.tables.Tables.{Tables}
 use Rattle.flash_core.specs.Device.{NoneNew, Only}
+use Rattle.flash_core.specs.declared.flash.Flash.{Ghosts as Flash}
 use Rattle.flash_core.specs.declared.page.Page.{Page}
 use Rattle.page_journal.specs.Journal.{HasValidJournal, bytes_of, stored}
 use Rattle.page_journal.specs.Moments.{Always, Leaves, current, first_of}
 use Rattle.rec_store.specs.EntrySlot.{HoldsEntry}
 use Rattle.rec_store.specs.FileSlot.{HoldsFile}
-use Rattle.rec_store.specs.Reopens.{IsFree, KeepsPages, NoLoadPage, Reopens, load_in, load_page, store_in, store_page}
+use Rattle.rec_store.specs.Reopens.{AreSpare, IsFree, IsSpare, KeepsPages, NoLoadPage, Reopens, load_in, load_page, store_in, store_page}
 use Rattle.rec_store.specs.KeySlot.{HoldsKey}
 use Rattle.rec_store.specs.ObjectSlot.{HoldsObject}
 use Rattle.rec_store.specs.Places.{slot_at, slot_from}
@@ -166,6 +167,15 @@ free_same t u page same free =
 -- the same tables, as other tables that the same store pages hold: no file has a page of which none of theirs has it
 pub free_of_held : (store : ℕ → List ℕ) (t u : Tables) (page : ℕ) → {first second : Layout} → HoldsTables first store t → HoldsTables second store u → IsFree t page → IsFree u page
 free_of_held store t u page first second = free_same t u page (same_pages store (λ _. []) t u first second)
+
+-- a page that no file of these tables has is one of no file of any that the same store pages hold
+pub spare_of_held : {F : Type 0} (device : Flash F) (flash : F) (t : Tables) → {layout : Layout} → HoldsTables layout (store_page (device.pages flash)) t → AreSpare device flash t
+spare_of_held device flash t held page free of u other = free_of_held (store_page (device.pages flash)) t u page held other free
+
+-- what was spare is so where the store pages are the same
+pub spare_same : {F : Type 0} (device : Flash F) (old new : F) → ((n : ℕ) → n < 45 → store_page (device.pages new) n ≡ store_page (device.pages old) n) → (page : ℕ) → IsSpare device old page → IsSpare device new page
+spare_same device old new same page spare of t held =
+    spare of t (tables_same (store_page (device.pages new)) (store_page (device.pages old)) (λ n lt. sym (same n lt)) t held)
 
 -- pages that power loss leaves of a list, and what it leaves then
 pub keeps_left : (list : ℕ → Option Page) (loose : List ℕ) (t : Tables) (registry : Registry) → ((n : ℕ) → Contains loose n → IsFree t n) → {layout : Layout} → HoldsTables layout (store_in list) t → IsCardOf (load_in list) t registry

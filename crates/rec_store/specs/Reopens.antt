@@ -68,6 +68,14 @@ ReopensAsOne registries pages = (registry : Registry) × Contains registries reg
 abbrev pub IsFree : Tables → ℕ → Type 0
 IsFree tables page = All (λ file. Contains (pages_named file) page → ⊥) (used tables.files.items)
 
+-- no Executable Load File of the tables that the device holds has this load page
+abbrev pub IsSpare : {F : Type 0} → Flash F → F → ℕ → Type 0
+IsSpare device flash page = (layout : Layout) (tables : Tables) → HoldsTables layout (store_page (device.pages flash)) tables → IsFree tables page
+
+-- each load page that is free by these tables is spare
+abbrev pub AreSpare : {F : Type 0} → Flash F → F → Tables → Type 0
+AreSpare device flash tables = (page : ℕ) → IsFree tables page → IsSpare device flash page
+
 -- Of pages and what power lost now may leave: it leaves this registry: all store pages stand, and all load pages that its files have.
 pub record KeepsPages (pages : List Page) (may_leave : List Page → Type 0) (registry : Registry) : Type 0 where
   pub reopens : Always may_leave (λ outcome. Reopens outcome registry)

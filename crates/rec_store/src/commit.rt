@@ -6,7 +6,7 @@ ghost use Rattle.card_types.specs.Registry.{Registry};
 ghost use Rattle.card_types.specs.Represents.{Represents};
 ghost use Rattle.faults.specs.Faults.{HasCause};
 ghost use Rattle.page_journal.specs.Moments.{LeavesOnly};
-ghost use Rattle.rec_store.specs.Reopens.{Keeps, ReopensEither, load_page};
+ghost use Rattle.rec_store.specs.Reopens.{AreSpare, Keeps, ReopensEither, load_page};
 
 use crate::records::Records;
 use flash_core::{Flash, FlashFailed};
@@ -25,6 +25,8 @@ impl<F: Flash> Records<F> {
             → Represents (load_page (F.pages self.old.flash)) self.old.tables after
             → OnOk result (Keeps F.Flash self.new.flash after) }
         ensures load { F.tells → OnOk result (load_page (F.pages self.new.flash) ≡ load_page (F.pages self.old.flash)) }
+        // What the tables leave free, the device has to spare.
+        ensures spare { F.tells → OnOk result (AreSpare F.Flash self.new.flash self.new.tables) }
         ensures tables { self.new.tables ≡ self.old.tables }
         ensures idle { self.old.staged ≡ [] → IsOk result × (self.new ≡ self.old) }
         ensures ok { OnOk result ((self.new.staged ≡ []) × (self.new.live ≡ true)) }

@@ -20,7 +20,9 @@
 //!  4. A change is made in one slot, and makes no call on the device (`set_entry` and its like, `tables` and `same`).
 //!  5. While changes are committed, power lost leaves the registry from before or the one with all changes (`commit`,
 //!     `moments`), and once they are, the latter (`commit`, `keeps`).
-//!  6. A load page that no Executable Load File has may be written, and power lost leaves the registry (`write_load`).
+//!  6. A load page is *spare* where no Executable Load File on the device has it. Such a page may be written, also while changes
+//!     are staged, and power lost at any moment leaves the registry (`write_load`, `moments` and `keeps`). After `mount` and
+//!     after a commit each load page is spare that the tables leave free (`spare`).
 //!  7. A card is laid out on a device whatever the device held, and once it is, power lost leaves the registry of its tables
 //!     (`lay_out`, `keeps`). No load page is written (`lay_out`, `load`).
 //!  8. A call fails only where the device's count of faults rose (`cause` on each call, and `mount`, `err`).

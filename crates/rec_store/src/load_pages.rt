@@ -1,11 +1,11 @@
 //! Load pages.
 
-ghost use Rattle.std.specs.Prelude.{◌≡◌, ◌≢◌, ◌<◌, ◌≤◌, ℕ, [], true, OnOk};
+ghost use Rattle.std.specs.Prelude.{◌≡◌, ◌≢◌, ◌<◌, ◌≤◌, ℕ, true, OnOk};
 ghost use Rattle.card_types.specs.Registry.{Registry};
 ghost use Rattle.card_types.specs.Represents.{Represents};
 ghost use Rattle.faults.specs.Faults.{HasCause};
 ghost use Rattle.page_journal.specs.Moments.{LeavesOnly};
-ghost use Rattle.rec_store.specs.Reopens.{IsFree, Keeps, Reopens, load_page};
+ghost use Rattle.rec_store.specs.Reopens.{IsFree, IsSpare, Keeps, Reopens, load_page};
 
 use crate::records::Records;
 use flash_core::{Flash, FlashFailed, Page};
@@ -30,22 +30,24 @@ impl<F: Flash> Records<F> {
         answer
     }
 
-    /// Writes a load page that no Executable Load File has. Until a commit of changes a power loss may leave any bytes
-    /// in it.
+    /// Writes a load page. Until a commit of changes a power loss may leave any bytes in it.
     pub fn write_load(&mut self, page: u16, from: &Page) -> Result<(), FlashFailed>
         requires live { self.old.live ≡ true }
         requires range { (96 ≤ page) × (page < 608) }
-        requires free { IsFree self.old.tables page }
         ensures bytes { F.tells → OnOk result (load_page (F.pages self.new.flash) page ≡ from.now.bytes) }
         ensures others { F.tells → (other : ℕ) → other ≢ page → load_page (F.pages self.new.flash) other ≡ load_page (F.pages self.old.flash) other }
-        // The files of the tables have their bytes.
-        ensures says { F.tells → (registry : Registry) → Represents (load_page (F.pages self.old.flash)) self.old.tables registry → Represents (load_page (F.pages self.new.flash)) self.old.tables registry }
+        // Where no file of the tables has the page, their files have their bytes.
+        ensures says { F.tells → (registry : Registry) → IsFree self.old.tables page
+            → Represents (load_page (F.pages self.old.flash)) self.old.tables registry
+            → Represents (load_page (F.pages self.new.flash)) self.old.tables registry }
         ensures same { (self.new.tables ≡ self.old.tables) × (self.new.staged ≡ self.old.staged) × (self.new.live ≡ true) }
-        // With nothing staged power lost at any moment leaves the registry.
-        ensures moments { F.tells → self.old.staged ≡ [] → (registry : Registry) → Keeps F.Flash self.old.flash registry
+        // Where no file on the device has it, power lost at any moment leaves the registry.
+        ensures moments { F.tells → IsSpare F.Flash self.old.flash page → (registry : Registry) → Keeps F.Flash self.old.flash registry
             → LeavesOnly F.Flash self.old.flash self.new.flash (λ outcome. Reopens outcome registry) }
-        ensures keeps { F.tells → self.old.staged ≡ [] → (registry : Registry) → Keeps F.Flash self.old.flash registry
+        ensures keeps { F.tells → IsSpare F.Flash self.old.flash page → (registry : Registry) → Keeps F.Flash self.old.flash registry
             → Keeps F.Flash self.new.flash registry }
+        // What is spare stays so.
+        ensures spare { F.tells → (other : ℕ) → IsSpare F.Flash self.old.flash other → IsSpare F.Flash self.new.flash other }
         ensures cause { HasCause (F.faults self.old.flash) (F.faults self.new.flash) result }
     {
         prove!(from.bytes[..].len() == 256);

@@ -11,7 +11,7 @@ ghost use Rattle.page_journal.specs.Journal.{HasValidJournal};
 ghost use Rattle.page_journal.specs.Moments.{Always, LeavesOnly};
 ghost use Rattle.rec_store.specs.Contents.{CardFails, IsUnwritten, OpenFails, SlotsFail, opened_cause};
 ghost use Rattle.rec_store.specs.EntrySlot.{HasThreeBytes};
-ghost use Rattle.rec_store.specs.Reopens.{IsAtRest, IsInLayout, Keeps, Reopens, ReopensAsOne, load_page, store_page};
+ghost use Rattle.rec_store.specs.Reopens.{AreSpare, IsAtRest, IsInLayout, Keeps, Reopens, ReopensAsOne, load_page, store_page};
 ghost use Rattle.rec_store.specs.Reading.{IsRead};
 ghost use Rattle.rec_store.specs.StoredTables.{AreRoomy, HasSlots, HoldsTables};
 ghost use Rattle.rec_store.specs.declared.store_layout.Layout.{Layout as LayoutOf};
@@ -40,6 +40,8 @@ impl<F: Flash> Records<F> {
         ensures says { F.tells → IfOk result (λ r. (registry : Registry) × Reopens (F.pages flash) registry
             × Represents (load_page (F.pages r.flash)) r.tables registry × Keeps F.Flash r.flash registry) }
         ensures load { F.tells → IfOk result (λ r. load_page (F.pages r.flash) ≡ load_page (F.pages flash)) }
+        // What the tables leave free, the device has to spare.
+        ensures spare { F.tells → IfOk result (λ r. AreSpare F.Flash r.flash r.tables) }
         // And it leaves layout 03.
         ensures raised { F.tells → IfOk result (λ r. Always (F.may_leave r.flash) (IsInLayout Third)) }
         // Power lost at any moment leaves no registry that it could not leave before.
@@ -95,6 +97,7 @@ fn open<F: Flash>(mut tables: Tables, mut store: PageStore<F>) -> Result<Records
     ensures says { F.tells → IfOk result (λ r. (registry : Registry) × Reopens (F.pages store.flash) registry
         × Represents (load_page (F.pages r.flash)) r.tables registry × Keeps F.Flash r.flash registry) }
     ensures load { F.tells → IfOk result (λ r. load_page (F.pages r.flash) ≡ load_page (F.pages store.flash)) }
+    ensures spare { F.tells → IfOk result (λ r. AreSpare F.Flash r.flash r.tables) }
     ensures raised { F.tells → IfOk result (λ r. Always (F.may_leave r.flash) (IsInLayout Third)) }
     ensures moments { F.tells → (registry : Registry) → Reopens (F.pages store.flash) registry
         → IfOk result (λ r. LeavesOnly F.Flash store.flash r.flash (λ outcome. Reopens outcome registry)) }

@@ -1,18 +1,18 @@
-use Rattle.std.proofs.Common.{◌≡◌, ◌⊎◌, inr, ⊎_elim, ◌<◌, [], length, ap, sym, subst, ◌∙◌}
+use Rattle.std.proofs.Common.{◌≡◌, ◌⊎◌, inl, inr, ⊎_elim, ◌<◌, [], length, ap, sym, subst, ◌∙◌}
 use Rattle.std.specs.Prelude.{OnOk}
 use Rattle.card_check.specs.IsCard.{IsCard}
 use Rattle.card_types.specs.Represents.{Represents}
 use Rattle.flash_core.specs.Device.{Only}
-use Rattle.page_journal.specs.Journal.{stored}
+use Rattle.page_journal.specs.Journal.{bytes_of, stored}
 use Rattle.page_journal.specs.Moments.{LeavesOnly, current}
 use Rattle.page_journal.specs.Store.{IsListed, Store}
 use Rattle.rec_store.specs.Contents.{Contents}
-use Rattle.rec_store.specs.Reopens.{Keeps, Reopens, load_in, load_page}
+use Rattle.rec_store.specs.Reopens.{AreSpare, Keeps, Reopens, load_in, load_page, store_in, store_page}
 use Rattle.rec_store.proofs.Committing.{Either, done, either, idle, load_now, some_or_none}
 use Rattle.rec_store.proofs.Leaving.{weaker}
 use Rattle.rec_store.proofs.OneRegistry.{card_of_said}
 use Rattle.rec_store.proofs.Readings.{now_left}
-use Rattle.rec_store.proofs.Reopening.{always_ok, both_ok, load_same, on_ok}
+use Rattle.rec_store.proofs.Reopening.{always_ok, both_ok, load_same, on_ok, spare_of_held, tables_same}
 use Rattle.rec_store.proofs.records.Records.commit.Goals as goal
 
 pub returns-clause-moments : goal.returns-clause-moments
@@ -67,4 +67,15 @@ returns-clause-load g c told =
     (λ listed.
     let loads : load_page (F.pages new) ≡ load_in list = λ i n. load_same (stored (F.pages new)) list n (λ high. listed n (inr high)) i in
     loads ∙ load_now store.staged (F.pages old) c.self.invariant.2 ∙ ap (λ r. load_page (F.pages r.flash)) c.self.view_is)
+    (c.commit.ensures.list told)
+
+pub returns-clause-spare : goal.returns-clause-spare
+returns-clause-spare g c told =
+    let F = g.F.Flash in
+    let store = c.self.inside.store in
+    let new = c.commit.new.self.flash in
+    let list = current store.staged (F.pages store.flash) in
+    let held = c.self.invariant.3 told (ap (λ r. r.live) c.self.view_is ∙ c.requires.live) in
+    on_ok c.commit.result (IsListed list (F.pages new)) (AreSpare F new c.self.inside.tables)
+    (λ listed. spare_of_held F new c.self.inside.tables (tables_same (store_in list) (store_page (F.pages new)) (λ n lt. ap bytes_of (listed n (inl lt))) c.self.inside.tables held))
     (c.commit.ensures.list told)
