@@ -11,7 +11,7 @@ use Rattle.policy_rules.specs.CardStatus.{CardStatusEffect, card_status}
 use Rattle.policy_rules.specs.Classes.{managing}
 use Rattle.policy_rules.specs.Sound.{IsSound}
 use Rattle.policy_rules.specs.State.{Effect}
-use Rattle.policy_rules.proofs.Lawful.{IsLawful, IsReady, fits_as, placeless_same}
+use Rattle.policy_rules.proofs.Lawful.{IsLawful, IsReady, fits_as, load_same, placeless_same}
 use Rattle.policy_rules.proofs.SameEffect.{effect_same, state_same}
 use Rattle.policy_rules.proofs.SameThings.{same_fits}
 use Rattle.std.proofs.Common.{subst}
@@ -50,4 +50,5 @@ card_status_lawful managed = record {
   one = setting_one;
   quiet = λ unmanaged. absurd (unmanaged managed);
   without_place = λ other admitted done none does. placeless_same admitted.at.volatile done.state.volatile admitted.channel does.volatile none;
+  loads_stay = λ admitted done takes other does. load_same admitted.at.volatile done.state.volatile does.volatile;
 }

@@ -9,7 +9,7 @@ use Rattle.policy_rules.specs.State.{Effect}
 use Rattle.policy_rules.proofs.DeleteKeyKeeps.{delete_keeps}
 use Rattle.policy_rules.proofs.SameThings.{same_fits}
 use Rattle.policy_rules.proofs.DeleteKeyOnce.{delete_one}
-use Rattle.policy_rules.proofs.Lawful.{IsLawful, IsReady, fits_as, placeless_same}
+use Rattle.policy_rules.proofs.Lawful.{IsLawful, IsReady, fits_as, load_same, placeless_same}
 use Rattle.policy_rules.proofs.Judging.{judged}
 use Rattle.policy_rules.specs.Commands.{TakesCommand, Judges}
 use Rattle.policy_rules.specs.FirstFailing.{IsFirst}
@@ -32,6 +32,7 @@ delete_key_lawful = record {
   one = delete_one;
   quiet = λ unmanaged. absurd (unmanaged (2, omega arith, refl));
   without_place = λ other admitted done none does. placeless_same admitted.at.volatile done.state.volatile admitted.channel does.volatile none;
+  loads_stay = λ admitted done takes other does. load_same admitted.at.volatile done.state.volatile does.volatile;
 }
 
 pub deletion_judged : (admitted : Admitted) (found : Option Rule) → TakesCommand delete_key admitted.command → IsFirst (DeleteFails admitted) deletion_rules found → Judges admitted found

@@ -31,7 +31,7 @@ use Rattle.policy_rules.proofs.AnsweredKeeps.{answered_fits, answered_keeps, ans
 use Rattle.policy_rules.proofs.DeletionAsking.{one_deletion}
 use Rattle.policy_rules.proofs.FirstUnique.{none_fails}
 use Rattle.policy_rules.proofs.FitsKept.{load_unnamed}
-use Rattle.policy_rules.proofs.Lawful.{IsLawful, IsReady, fits_as, placeless_same}
+use Rattle.policy_rules.proofs.Lawful.{IsLawful, IsReady, fits_as, load_same, placeless_same}
 use Rattle.policy_rules.proofs.RemovedFits.{KeepsHeld, removed_fits}
 use Rattle.policy_rules.proofs.SameEffect.{effect_same, state_same}
 use Rattle.policy_rules.specs.Volatile.{LoadSession}
@@ -183,4 +183,5 @@ delete_object_lawful managed = record {
   one = deleting_one;
   quiet = λ unmanaged. absurd (unmanaged managed);
   without_place = λ other admitted done none does. placeless_same admitted.at.volatile done.state.volatile admitted.channel does.volatile none;
+  loads_stay = λ admitted done takes other does. load_same admitted.at.volatile done.state.volatile does.volatile;
 }

@@ -28,7 +28,7 @@ use Rattle.policy_rules.specs.declared.entry_status.RuleSS.TheVariants.{SS2}
 use Rattle.policy_rules.specs.declared.rule.Rule.TheVariants.{SS}
 use Rattle.policy_rules.proofs.ChangedFits.{changed_fits}
 use Rattle.policy_rules.proofs.FirstUnique.{none_fails}
-use Rattle.policy_rules.proofs.Lawful.{IsLawful, IsReady, fits_as, placeless_same, some_same}
+use Rattle.policy_rules.proofs.Lawful.{IsLawful, IsReady, fits_as, load_same, placeless_same, some_same}
 use Rattle.policy_rules.proofs.SameEffect.{effect_same, state_same}
 
 -- nothing is above the Issuer Security Domain
@@ -160,4 +160,5 @@ entry_status_lawful managed = record {
   one = setting_one;
   quiet = λ unmanaged. absurd (unmanaged managed);
   without_place = λ other admitted done none does. placeless_same admitted.at.volatile done.state.volatile admitted.channel does.volatile none;
+  loads_stay = λ admitted done takes other does. load_same admitted.at.volatile done.state.volatile does.volatile;
 }

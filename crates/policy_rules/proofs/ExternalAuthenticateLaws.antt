@@ -5,7 +5,7 @@ use Rattle.policy_rules.specs.Admission.{Admitted}
 use Rattle.policy_rules.specs.ExternalAuthenticate.{ExternalAuthenticateEffect, external_authenticate}
 use Rattle.policy_rules.specs.Sound.{Fits, IsSound}
 use Rattle.policy_rules.specs.State.{Effect}
-use Rattle.policy_rules.specs.Volatile.{with_secure_channel, Secured}
+use Rattle.policy_rules.specs.Volatile.{Secured, Volatile, with_secure_channel}
 use Rattle.scp03_card.specs.Offer.{Offer}
 use Rattle.scp03_card.specs.Session.{HasCryptogram, HasMac, answered}
 use Rattle.policy_rules.proofs.SecureChannelSet.{offer_stands, secured_fits}
@@ -67,6 +67,7 @@ external_authenticate_lawful = record {
   one = external_authenticate_one;
   quiet = λ unmanaged admitted done does. same_as admitted.at.registry done.state.registry does.registry;
   without_place = λ other admitted done none does. place_leaves_secure_channel admitted.at.volatile done.state.volatile admitted.channel _ does.volatile none;
+  loads_stay = λ admitted done takes other does. inl (ap (λ (v : Volatile). v.load) does.volatile);
 }
 
 -- that there is an offer stands before the rules on the form, of this command alone

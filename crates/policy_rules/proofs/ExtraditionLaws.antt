@@ -25,7 +25,7 @@ use Rattle.policy_rules.specs.declared.rule.Rule.TheVariants.{EX, RC}
 use Rattle.policy_rules.proofs.AnsweredKeeps.{answered_fits, answered_keeps, answered_once}
 use Rattle.policy_rules.proofs.FirstUnique.{none_fails}
 use Rattle.policy_rules.proofs.FitsKept.{load_unnamed}
-use Rattle.policy_rules.proofs.Lawful.{IsLawful, IsReady, fits_as, placeless_same}
+use Rattle.policy_rules.proofs.Lawful.{IsLawful, IsReady, fits_as, load_same, placeless_same}
 use Rattle.policy_rules.proofs.LengthFields.{one_data}
 use Rattle.policy_rules.proofs.MovedFits.{moved_fits, moved_leaves_free}
 use Rattle.policy_rules.proofs.SameEffect.{effect_same, state_same}
@@ -102,4 +102,5 @@ extradition_lawful managed = record {
   one = extraditing_one;
   quiet = λ unmanaged. absurd (unmanaged managed);
   without_place = λ other admitted done none does. placeless_same admitted.at.volatile done.state.volatile admitted.channel does.volatile none;
+  loads_stay = λ admitted done takes other does. load_same admitted.at.volatile done.state.volatile does.volatile;
 }

@@ -1,5 +1,5 @@
 -- The laws of GET STATUS.
-use Rattle.std.proofs.Common.{◌≡◌, ℕ, ◌<◌, List, [], ◌∷◌, ◌++◌, Option, None, Some, refl, sym, subst, ◌∙◌, arith}
+use Rattle.std.proofs.Common.{ap, ◌≡◌, ℕ, ◌<◌, List, [], ◌∷◌, ◌++◌, Option, None, Some, refl, sym, subst, ◌∙◌, arith, inl}
 use Rattle.std.specs.Prelude.{IsSome, MatchOption}
 use Rattle.card_types.specs.Registry.{Registry}
 use Rattle.policy_rules.specs.Admission.{Admitted}
@@ -7,6 +7,7 @@ use Rattle.policy_rules.specs.GetStatus.{AreTemplates, GetStatusEffect, IsFullFo
 use Rattle.policy_rules.specs.Sound.{Fits, IsSecured, IsSound, IsWellChannel}
 use Rattle.policy_rules.specs.State.{Effect}
 use Rattle.policy_rules.specs.Volatile.{Channel, Place, Volatile, channel_at}
+use Rattle.policy_rules.specs.Laws.{LoadStays}
 use Rattle.policy_rules.proofs.Lawful.{IsLawful, IsReady, same_as, sound_with}
 use Rattle.policy_rules.proofs.SameEffect.{effect_same, state_same}
 use Rattle.policy_rules.proofs.SecureChannelSet.{within}
@@ -55,6 +56,11 @@ left_one : (admitted : Admitted) (a b : Effect) (shown left : List Thing) → Is
 left_one admitted a b shown [] one other = (one.0 ∙ sym other.0, one.1 ∙ sym other.1)
 left_one admitted a b shown (next ∷ left) one other = (one.0 ∙ sym other.0, one.1 ∙ sym other.1)
 
+-- and that a place is all that it sets
+left_loads : (admitted : Admitted) (done : Effect) (shown left : List Thing) → IsLeftAt admitted done shown left → LoadStays admitted.at.volatile done.state.volatile
+left_loads admitted done shown [] at = inl (ap (λ (v : Volatile). v.load) at.0)
+left_loads admitted done shown (next ∷ left) at = inl (ap (λ (v : Volatile). v.load) at.0)
+
 full_from_first : (registry : Registry) (p1 : ℕ) (left : List Thing) (bytes : List ℕ) → IsFullFor registry p1 left bytes → IsFullBehind registry p1 0 left bytes
 full_from_first registry p1 [] bytes full = tt
 full_from_first registry p1 (next ∷ left) bytes (template, is, above) = (template, is, omega (arith, above))
@@ -80,4 +86,5 @@ get_status_lawful = record {
   one = listing_one;
   quiet = λ unmanaged admitted done does. same_as admitted.at.registry done.state.registry does.registry;
   without_place = λ other admitted done none does. absurd (other refl);
+  loads_stay = λ admitted done takes other does. left_loads admitted done does.shown does.left does.left_at;
 }

@@ -11,7 +11,7 @@ use Rattle.policy_rules.specs.InitializeUpdate.{AsksForSet, InitializeUpdateEffe
 use Rattle.policy_rules.specs.Management.{acting}
 use Rattle.policy_rules.specs.Sound.{IsSound}
 use Rattle.policy_rules.specs.State.{Effect}
-use Rattle.policy_rules.specs.Volatile.{Offered, with_secure_channel}
+use Rattle.policy_rules.specs.Volatile.{Offered, Volatile, with_secure_channel}
 use Rattle.policy_rules.specs.declared.initialize_update.RuleIU.TheVariants.{IU3}
 use Rattle.policy_rules.specs.declared.instruction.TheConstants.{SELECT, MANAGE_CHANNEL, INITIALIZE_UPDATE, LOAD}
 use Rattle.policy_rules.specs.declared.rule.Rule.TheVariants.{IU}
@@ -109,6 +109,7 @@ initialize_update_lawful = record {
   one = initialize_update_one;
   quiet = λ unmanaged. counters_raised;
   without_place = λ other admitted done none does. place_leaves_secure_channel admitted.at.volatile done.state.volatile admitted.channel _ does.volatile none;
+  loads_stay = λ admitted done takes other does. inl (ap (λ (v : Volatile). v.load) does.volatile);
 }
 
 pub offer_judged : (admitted : Admitted) (found : Option Rule) → TakesCommand initialize_update admitted.command → IsFirst (InitializeUpdateFails admitted) offer_rules found → Judges admitted found

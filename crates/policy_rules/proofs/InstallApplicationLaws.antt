@@ -23,7 +23,7 @@ use Rattle.policy_rules.proofs.AnsweredKeeps.{answered_fits, answered_keeps, ans
 use Rattle.policy_rules.proofs.FirstUnique.{none_fails}
 use Rattle.policy_rules.proofs.FitsKept.{KeepsThings, fits_kept, load_unnamed}
 use Rattle.policy_rules.proofs.InstallAsking.{one_asked}
-use Rattle.policy_rules.proofs.Lawful.{IsLawful, IsReady, fits_as, managed_apart, placeless_same}
+use Rattle.policy_rules.proofs.Lawful.{IsLawful, IsReady, fits_as, load_same, managed_apart, placeless_same}
 use Rattle.policy_rules.proofs.SameEffect.{effect_same, state_same}
 use Rattle.policy_rules.specs.Admission.{Admitted}
 use Rattle.policy_rules.specs.Classes.{managing}
@@ -214,4 +214,5 @@ install_application_lawful managed = record {
   one = install_one;
   quiet = λ unmanaged. absurd (unmanaged managed);
   without_place = λ other admitted done none does. placeless_same admitted.at.volatile done.state.volatile admitted.channel does.volatile none;
+  loads_stay = λ admitted done takes other does. load_same admitted.at.volatile done.state.volatile does.volatile;
 }

@@ -6,11 +6,12 @@ use Rattle.card_types.specs.Registry.{Registry}
 use Rattle.card_types.specs.Well.{IsDomainNamed, Well}
 use Rattle.policy_rules.specs.Admission.{Admitted}
 use Rattle.policy_rules.specs.Classes.{managing}
-use Rattle.policy_rules.specs.Commands.{JudgesAs}
+use Rattle.policy_rules.specs.Commands.{JudgesAs, TakesCommand}
+use Rattle.policy_rules.specs.Laws.{IsLoading, LoadStays}
 use Rattle.policy_rules.specs.Management.{acting}
 use Rattle.policy_rules.specs.Sound.{Fits, IsSound}
 use Rattle.policy_rules.specs.State.{Effect, State}
-use Rattle.policy_rules.specs.Volatile.{Channel, SecureChannel, Volatile, channel_at, load_without_channel, place_in, channel_with, with_channel, with_secure_channel}
+use Rattle.policy_rules.specs.Volatile.{Channel, LoadSession, SecureChannel, Volatile, channel_at, load_without_channel, place_in, channel_with, with_channel, with_secure_channel}
 use Rattle.policy_rules.specs.declared.instruction.TheConstants.{GET_STATUS, SELECT, MANAGE_CHANNEL, LOAD}
 use Rattle.policy_rules.specs.Changes.{IsSameButCounters}
 use Rattle.policy_rules.specs.CommandForm.{CommandForm}
@@ -28,8 +29,8 @@ pub record IsReady (admitted : Admitted) : Type 0 where
 abbrev pub HasNoPlaceOn : Volatile → ℕ → Type 0
 HasNoPlaceOn volatile number = place_in (channel_at volatile number) ≡ None
 
--- It leaves a card sound, it does one thing, without secure messaging it changes no more than the numbers of sequence counters, and
--- unless it is GET STATUS it sets no place in a listing on its channel.
+-- It leaves a card sound, it does one thing, without secure messaging it changes no more than the numbers of sequence counters,
+-- unless it is GET STATUS it sets no place in a listing on its channel, and unless it loads it leaves the load session or ends it.
 pub record IsLawful (form : CommandForm) : Type 0 where
   pub keeps : (admitted : Admitted) (done : Effect) → IsReady admitted → JudgesAs form admitted None → form.does admitted done → IsSound done.state
   pub one : (admitted : Admitted) (a b : Effect) → form.does admitted a → form.does admitted b → a ≡ b
@@ -37,6 +38,8 @@ pub record IsLawful (form : CommandForm) : Type 0 where
       → IsSameButCounters admitted.at.registry done.state.registry
   pub without_place : form.instruction ≢ GET_STATUS → (admitted : Admitted) (done : Effect) → HasNoPlaceOn admitted.at.volatile admitted.channel → form.does admitted done
       → HasNoPlaceOn done.state.volatile admitted.channel
+  pub loads_stay : (admitted : Admitted) (done : Effect) → TakesCommand form admitted.command → (IsLoading admitted.command → ⊥) → form.does admitted done
+      → LoadStays admitted.at.volatile done.state.volatile
 
 -- a sound card with other channels
 pub sound_with : (state : State) (after : State) → IsSound state → after.registry ≡ state.registry → Fits state.registry after.volatile → IsSound after
@@ -85,3 +88,18 @@ same_as before after same = subst (IsSameButCounters before) (sym same) (same_al
 
 pub some_same : {A : Type 0} (a b : A) → Some a ≡ Some b → a ≡ b
 some_same a b same = cc
+
+-- the same volatile state has the same load session
+pub load_same : (before after : Volatile) → after ≡ before → LoadStays before after
+load_same before after same = inl (ap (λ (v : Volatile). v.load) same)
+
+-- that of a channel has ended
+pub load_ended : (before after : Volatile) (number : ℕ) → after.load ≡ load_without_channel number before.load → LoadStays before after
+load_ended before after number ends = by before.load refl
+  where
+    by : (load : Option LoadSession) → before.load ≡ load → LoadStays before after
+    by None at = inr (ends ∙ ap (load_without_channel number) at)
+    by (Some load) at = elim (eqb_tells load.channel number) [
+      | inl same ↦ inr (ends ∙ ap (load_without_channel number) at ∙ rw same.0 refl)
+      | inr differs ↦ inl (ends ∙ ap (load_without_channel number) at ∙ rw differs.0 (sym at))
+    ]

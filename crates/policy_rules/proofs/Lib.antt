@@ -54,6 +54,7 @@ pub mod KeysByName
 pub mod LastSet
 pub mod Lawful
 pub mod LengthFields
+pub mod LoadsLeft
 pub mod MakeSelectableJudging
 pub mod MakeSelectableLaws
 pub mod ManageChannelLaws

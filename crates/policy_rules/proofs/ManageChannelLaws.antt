@@ -10,7 +10,8 @@ use Rattle.policy_rules.specs.Volatile.{Channel, fresh, with_channel, without_ch
 use Rattle.policy_rules.proofs.SetChannel.{ended_fits, lowest_is_closed, set_fits}
 use Rattle.policy_rules.proofs.SecureChannelSet.{within}
 use Rattle.policy_rules.specs.Changes.{IsSameButCounters}
-use Rattle.policy_rules.proofs.Lawful.{HasNoPlaceOn, IsLawful, placeless_same, placeless_set, same_as, sound_with}
+use Rattle.policy_rules.specs.Laws.{LoadStays}
+use Rattle.policy_rules.proofs.Lawful.{HasNoPlaceOn, IsLawful, load_ended, placeless_same, placeless_set, same_as, sound_with}
 use Rattle.policy_rules.proofs.FreshChannel.{issuer_is_well}
 use Rattle.policy_rules.proofs.Judging.{judged}
 use Rattle.policy_rules.specs.Commands.{TakesCommand, Judges}
@@ -105,12 +106,28 @@ channel_placeless : (admitted : Admitted) (done : Effect) → HasNoPlaceOn admit
 channel_placeless admitted done none (inl opens) = opens_placeless admitted done _ none opens.1
 channel_placeless admitted done none (inr closes) = closes_placeless admitted done _ none closes.1
 
+opens_loads : (admitted : Admitted) (done : Effect) (found : Option ℕ) → MatchOption found ⊥ (IsChannelOpened admitted done)
+    → LoadStays admitted.at.volatile done.state.volatile
+opens_loads admitted done None does = absurd does
+opens_loads admitted done (Some number) does = inl (ap (λ (e : Effect). e.state.volatile.load) does)
+
+closes_loads : (admitted : Admitted) (done : Effect) (channel : Option Channel)
+    → MatchOption channel (IsClosedAlready admitted done) (λ c. IsClosed admitted done) → LoadStays admitted.at.volatile done.state.volatile
+closes_loads admitted done None does = inl (ap (λ (e : Effect). e.state.volatile.load) does)
+closes_loads admitted done (Some channel) does =
+    load_ended admitted.at.volatile done.state.volatile admitted.command.p2 (ap (λ (e : Effect). e.state.volatile.load) does)
+
+channel_loads : (admitted : Admitted) (done : Effect) → ManageChannelEffect admitted done → LoadStays admitted.at.volatile done.state.volatile
+channel_loads admitted done (inl opens) = opens_loads admitted done _ opens.1
+channel_loads admitted done (inr closes) = closes_loads admitted done _ closes.1
+
 pub manage_channel_lawful : IsLawful manage_channel
 manage_channel_lawful = record {
   keeps = λ admitted done ready judges does. manage_channel_keeps admitted done ready.sound judges.0.1 does;
   one = manage_channel_one;
   quiet = λ unmanaged. channel_same;
   without_place = λ other. channel_placeless;
+  loads_stay = λ admitted done takes other. channel_loads admitted done;
 }
 
 -- how it is judged, by what was found

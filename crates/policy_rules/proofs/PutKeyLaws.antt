@@ -11,7 +11,7 @@ use Rattle.policy_rules.proofs.FirstUnique.{none_fails}
 use Rattle.policy_rules.proofs.PutKeyKeeps.{put_keeps}
 use Rattle.policy_rules.proofs.SameThings.{same_fits}
 use Rattle.policy_rules.proofs.PutKeyOnce.{put_key_one}
-use Rattle.policy_rules.proofs.Lawful.{IsLawful, IsReady, fits_as, managed_apart, placeless_same}
+use Rattle.policy_rules.proofs.Lawful.{IsLawful, IsReady, fits_as, load_same, managed_apart, placeless_same}
 use Rattle.policy_rules.proofs.Judging.{judged}
 use Rattle.policy_rules.specs.Commands.{TakesCommand, Judges}
 use Rattle.policy_rules.specs.FirstFailing.{IsFirst}
@@ -35,6 +35,7 @@ put_key_lawful = record {
   one = put_key_one;
   quiet = λ unmanaged. absurd (unmanaged (0, omega arith, refl));
   without_place = λ other admitted done none does. placeless_same admitted.at.volatile done.state.volatile admitted.channel does.volatile none;
+  loads_stay = λ admitted done takes other does. load_same admitted.at.volatile done.state.volatile does.volatile;
 }
 
 pub put_judged : (admitted : Admitted) (found : Option Rule) → TakesCommand put_key admitted.command → IsFirst (PutKeyFails admitted) put_rules found → Judges admitted found

@@ -8,14 +8,15 @@ use Rattle.policy_rules.specs.Admission.{Admitted}
 use Rattle.policy_rules.specs.Select.{IsSelected, fits_select, least_fitting, IsControlInformation, control_parts, select}
 use Rattle.policy_rules.specs.Sound.{Fits, IsSound}
 use Rattle.policy_rules.specs.State.{Effect}
-use Rattle.policy_rules.specs.Volatile.{fresh, with_selected}
+use Rattle.policy_rules.specs.Volatile.{Volatile, fresh, with_selected}
 use Rattle.policy_rules.proofs.SetChannel.{ended_fits}
 use Rattle.policy_rules.proofs.SecureChannelSet.{within}
 use Rattle.bertlv.proofs.SpellingLemmas.{one_spelling, one_spelling_each}
 use Rattle.bertlv.specs.Spelling.{AreElements, Spelling}
 use Rattle.policy_rules.proofs.SameEffect.{effect_same, state_same}
 use Rattle.policy_rules.specs.Changes.{IsSameButCounters}
-use Rattle.policy_rules.proofs.Lawful.{HasNoPlaceOn, IsLawful, IsReady, placeless_same, placeless_set, same_as, sound_with}
+use Rattle.policy_rules.specs.Laws.{LoadStays}
+use Rattle.policy_rules.proofs.Lawful.{HasNoPlaceOn, IsLawful, IsReady, load_ended, placeless_same, placeless_set, same_as, sound_with}
 use Rattle.policy_rules.proofs.FreshChannel.{fresh_is_well}
 use Rattle.card_types.specs.Registry as registry
 use Rattle.policy_rules.proofs.Judging.{judged}
@@ -80,12 +81,19 @@ selects_placeless admitted done (Some entry) none does =
     placeless_same (with_selected admitted.at.volatile admitted.channel entry.aid) done.state.volatile admitted.channel does.volatile
     (placeless_set admitted.at.volatile admitted.channel admitted.channel (Some (fresh entry.aid)) refl none)
 
+selects_loads : (admitted : Admitted) (done : Effect) (found : Option _) → MatchOption found ⊥ (IsSelected admitted done)
+    → LoadStays admitted.at.volatile done.state.volatile
+selects_loads admitted done None does = absurd does
+selects_loads admitted done (Some entry) does =
+    load_ended admitted.at.volatile done.state.volatile admitted.channel (ap (λ (v : Volatile). v.load) does.volatile)
+
 pub select_lawful : IsLawful select
 select_lawful = record {
   keeps = λ admitted done ready judges does. select_keeps admitted done admitted.command.body _ ready refl does;
   one = λ admitted a b one other. select_one admitted a b _ one other;
   quiet = λ unmanaged admitted done does. selects_same admitted done _ does;
   without_place = λ other admitted done none does. selects_placeless admitted done _ none does;
+  loads_stay = λ admitted done takes other does. selects_loads admitted done _ does;
 }
 
 -- how it is judged, by what was found

@@ -35,7 +35,7 @@ use Rattle.policy_rules.specs.Commands.{JudgesAs, TakesCommand, Judges}
 use Rattle.policy_rules.specs.Sound.{IsSound}
 use Rattle.policy_rules.proofs.FirstUnique.{none_fails}
 use Rattle.policy_rules.proofs.SameThings.{same_fits}
-use Rattle.policy_rules.proofs.Lawful.{IsLawful, IsReady, fits_as, managed_apart, placeless_same}
+use Rattle.policy_rules.proofs.Lawful.{IsLawful, IsReady, fits_as, load_same, managed_apart, placeless_same}
 use Rattle.policy_rules.proofs.Judging.{judged}
 use Rattle.policy_rules.specs.declared.rule.Rule.{Rule}
 use Rattle.policy_rules.proofs.DataWell.{data_well}
@@ -156,6 +156,7 @@ store_data_lawful = record {
   one = store_data_one;
   quiet = λ unmanaged. absurd (unmanaged (1, omega arith, refl));
   without_place = λ other admitted done none does. placeless_same admitted.at.volatile done.state.volatile admitted.channel does.volatile none;
+  loads_stay = λ admitted done takes other does. load_same admitted.at.volatile done.state.volatile does.volatile;
 }
 
 pub store_judged : (admitted : Admitted) (found : Option Rule) → TakesCommand store_data admitted.command → IsFirst (StoreDataFails admitted) store_rules found → Judges admitted found
