@@ -25,6 +25,7 @@ pub mod HoldersFound
 pub mod InitializeUpdate
 pub mod InstallApplication
 pub mod InstallFields
+pub mod InstallLoad
 pub mod InstallRequests
 pub mod KeyFields
 pub mod KeyOrder
