@@ -31,7 +31,7 @@ use Rattle.policy_rules.proofs.MovedFits.{moved_fits, moved_leaves_free}
 use Rattle.policy_rules.proofs.SameEffect.{effect_same, state_same}
 
 -- what can't be no domain is one
-domain_stable : (o : Option Entry) → ((MatchOption o ⊥ (λ entry. is_domain entry ≡ true) → ⊥) → ⊥) → MatchOption o ⊥ (λ entry. is_domain entry ≡ true)
+pub domain_stable : (o : Option Entry) → ((MatchOption o ⊥ (λ entry. is_domain entry ≡ true) → ⊥) → ⊥) → MatchOption o ⊥ (λ entry. is_domain entry ≡ true)
 domain_stable None other = other (λ is. is)
 domain_stable (Some entry) other = elim (cases_Bool (is_domain entry)) [
   | inl is ↦ is

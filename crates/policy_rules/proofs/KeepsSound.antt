@@ -13,7 +13,8 @@ use Rattle.policy_rules.specs.Step.{Outcome, keeps_load, refusal_leaves}
 use Rattle.policy_rules.specs.Volatile.{Nothing, Volatile, channel_at, first_volatile, with_offer_dropped, without_session, without_load}
 use Rattle.policy_rules.specs.declared.rule.RuleG.{RuleG}
 use Rattle.policy_rules.specs.declared.rule.RuleG.TheVariants.{G1, G2, G3, G4, G5, G6, G7, G8}
-use Rattle.policy_rules.proofs.Passing.{admitted_fits, admitted_loads, admitted_selected, channel_is_low, class_fits, domain_selected, either, placeless_fits}
+use Rattle.policy_rules.proofs.Opened.{passed_protected}
+use Rattle.policy_rules.proofs.Passing.{admitted_fits, admitted_loads, admitted_selected, admitted_session, channel_is_low, class_fits, domain_selected, either, placeless_fits}
 use Rattle.policy_rules.proofs.SetChannel.{without_load_fits}
 use Rattle.policy_rules.proofs.SecureChannelSet.{dropped_fits, secure_channel_fits}
 use Rattle.policy_rules.specs.CommandForm.{CommandForm}
@@ -48,6 +49,7 @@ admitted_is_ready state bytes admitted sound admits =
       loads = admitted_loads state command sound.fits taken.0 taken.1;
       domain = λ selects manages. subst (IsDomainNamed state.registry) (sym (admitted_selected state command sound.fits taken.0 taken.1))
           (domain_selected state bytes command admits.1.1 admits.0 sound.fits selects manages);
+      session = λ managed. admitted_session state command sound.fits taken.0 taken.1 taken.2 (passed_protected state bytes command admits.1.1 admits.0 managed);
     })
 
 does_keeps : (admitted : Admitted) (done : Effect) → IsReady admitted → (forms : List CommandForm) → AllOf IsLawful forms

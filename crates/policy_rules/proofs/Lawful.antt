@@ -16,7 +16,7 @@ use Rattle.policy_rules.specs.declared.instruction.TheConstants.{GET_STATUS, SEL
 use Rattle.policy_rules.specs.Changes.{IsSameButCounters}
 use Rattle.policy_rules.specs.CommandForm.{CommandForm}
 use Rattle.std.proofs.lemmas.Bool.Decides.{eqb_tells}
-use Rattle.policy_rules.proofs.SetChannel.{set_other, set_there}
+use Rattle.policy_rules.proofs.SetChannel.{HasSession, set_other, set_there}
 
 -- what a command that has passed finds
 pub record IsReady (admitted : Admitted) : Type 0 where
@@ -24,6 +24,7 @@ pub record IsReady (admitted : Admitted) : Type 0 where
   pub low : admitted.channel < 4
   pub loads : (admitted.command.ins == LOAD) ≡ false → load_without_channel admitted.channel admitted.at.volatile.load ≡ admitted.at.volatile.load
   pub domain : admitted.command.ins ≢ SELECT → admitted.command.ins ≢ MANAGE_CHANNEL → IsDomainNamed admitted.at.registry (acting admitted)
+  pub session : Contains managing admitted.command.ins → HasSession admitted.at.volatile admitted.channel
 
 -- the channel has no place in a listing
 abbrev pub HasNoPlaceOn : Volatile → ℕ → Type 0

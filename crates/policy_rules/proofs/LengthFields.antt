@@ -6,6 +6,7 @@ use Rattle.std.proofs.lemmas.List.Elements.{All-cons, All-head, All-nil, All-tai
 use Rattle.tokens_receipts.specs.Receipt.{with_length}
 use Rattle.policy_rules.specs.FieldsRead.{BeginsWithField}
 use Rattle.policy_rules.specs.InstallFields.{AreLengthFields, InstallData, IsInstallData, signed_fields}
+use Rattle.policy_rules.specs.InstallLoad.{IsLoadData, LoadData, signed_load_fields}
 
 abbrev pub IsShort : List ℕ → Type 0
 IsShort field = length field ≤ 0x7F
@@ -93,3 +94,17 @@ one_data a b body one other =
 
 pub no_data : (body : List ℕ) → NoLengthFields 6 body → (given : InstallData) → IsInstallData given body → ⊥
 no_data body none given is = none (signed_fields given ++ given.token ∷ []) refl is
+
+-- the five of an INSTALL [for load]
+pub one_load_data : (a b : LoadData) (body : List ℕ) → IsLoadData a body → IsLoadData b body → a ≡ b
+one_load_data a b body one other =
+    let same = one_fields (signed_load_fields a ++ a.token ∷ []) (signed_load_fields b ++ b.token ∷ []) body refl one other in
+    let file : a.file ≡ b.file = cc in
+    let domain : a.domain ≡ b.domain = cc in
+    let hash : a.hash ≡ b.hash = cc in
+    let parameters : a.parameters ≡ b.parameters = cc in
+    let token : a.token ≡ b.token = cc in
+    (λ i. record { file = file i; domain = domain i; hash = hash i; parameters = parameters i; token = token i })
+
+pub no_load_data : (body : List ℕ) → NoLengthFields 5 body → (given : LoadData) → IsLoadData given body → ⊥
+no_load_data body none given is = none (signed_load_fields given ++ given.token ∷ []) refl is

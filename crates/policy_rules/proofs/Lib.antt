@@ -44,6 +44,8 @@ pub mod InstallApplicationLaws
 pub mod InstallAsking
 pub mod InstallForms
 pub mod InstallJudging
+pub mod InstallLoadJudging
+pub mod InstallLoadLaws
 pub mod Instructed
 pub mod Judging
 pub mod KeepsSound

@@ -1,11 +1,12 @@
 -- What changes more than a sequence counter opens in a session.
 use Rattle.std.proofs.Common.{◌≡◌, ℕ, List, [], ◌∷◌, true, false, Option, None, Some, refl, sym, ap, subst, ◌∙◌, inl, inr, arith}
 use Rattle.std.specs.Prelude.{not, ◌==◌, Contains, MatchOption}
-use Rattle.apdu_core.specs.Apdu.{Apdu}
+use Rattle.apdu_core.specs.Apdu.{Apdu, Short}
 use Rattle.card_types.specs.Registry.{Registry}
 use Rattle.policy_rules.specs.Admission.{Admits, Admitted, GeneralFails, IsTaken, general_rules, session_for}
 use Rattle.policy_rules.specs.Changes.{Changes, OpensInSession, IsSameButCounters}
 use Rattle.policy_rules.specs.Classes.{class_of, instructions_of, is_protected, management, managing, protects}
+use Rattle.policy_rules.specs.FirstFailing.{IsFirst}
 use Rattle.policy_rules.specs.Laws.{ChangesAreOpened}
 use Rattle.policy_rules.specs.State.{Effect, State}
 use Rattle.policy_rules.specs.Step.{Outcome}
@@ -15,7 +16,7 @@ use Rattle.policy_rules.specs.declared.rule.RuleG.TheVariants.{G4, G6}
 use Rattle.policy_rules.proofs.FirstUnique.{none_fails}
 use Rattle.scp03_card.specs.Opens.{Opens, accepting}
 use Rattle.scp03_card.specs.Session.{Session}
-use Rattle.std.proofs.lemmas.Bool.{true≢false}
+use Rattle.std.proofs.lemmas.Bool.{cases_Bool, true≢false}
 use Rattle.std.specs.List.{list_any}
 use Rattle.policy_rules.specs.CommandForm.{CommandForm}
 use Rattle.policy_rules.specs.Commands.{HasEffect, DoesAs, OneOf, forms_of}
@@ -52,6 +53,21 @@ managed_protected (Some Interindustry) ins known other managed = absurd (never_i
 managed_protected (Some Plain) ins known other managed = absurd (other refl)
 managed_protected (Some Secure) ins known other managed = always_protected ins managed
 
+pub passed_protected : (state : State) (bytes : List ℕ) (command : Apdu) → Short command bytes → IsFirst (GeneralFails state bytes) general_rules None
+    → Contains managing command.ins → is_protected command ≡ true
+passed_protected state bytes command short first managed = elim (cases_Bool (is_protected command)) [
+  | inl protected ↦ protected
+  | inr plain ↦ absurd (none_fails (GeneralFails state bytes) general_rules G4 (3, omega arith, refl) first (
+    command,
+    short,
+    inl (λ known.
+        (let protected = managed_protected (class_of command.class) command.ins known
+        (λ class. none_fails (GeneralFails state bytes) general_rules G6 (5, omega arith, refl) first (command, short, inl (class, is_management command.ins managed)))
+        managed in
+        let clash = sym protected ∙ plain in cc)),
+  ))
+]
+
 module _ (state : State) (bytes : List ℕ) (admitted : Admitted) (done : Effect) (admits : Admits state bytes admitted) (does : HasEffect admitted done)
     (changes : Changes state.registry done.state.registry) where
   abbrev command : Apdu
@@ -63,16 +79,7 @@ module _ (state : State) (bytes : List ℕ) (admitted : Admitted) (done : Effect
       let ins : admitted.command.ins ≡ command.ins = ap (λ (a : Admitted). a.command.ins) taken.3 in
       let at : admitted.at.registry ≡ state.registry = ap (λ (a : Admitted). a.at.registry) taken.3 in
       let managed_not : Contains managing admitted.command.ins → ⊥ = λ managed.
-      (let there = subst (Contains managing) ins managed in
-      none_fails (GeneralFails state bytes) general_rules G4 (3, omega arith, refl) admits.0 (
-        command,
-        admits.1.1,
-        inl (λ known.
-            (let protected = managed_protected (class_of command.class) command.ins known
-            (λ class. none_fails (GeneralFails state bytes) general_rules G6 (5, omega arith, refl) admits.0
-            (command, admits.1.1, inl (class, is_management command.ins there))) there in
-            let clash = sym protected ∙ plain in cc)),
-      )) in
+      (let clash = sym (passed_protected state bytes command admits.1.1 admits.0 (subst (Contains managing) ins managed)) ∙ plain in cc) in
       changes (subst (λ (r : Registry). IsSameButCounters r done.state.registry) at
       (others_quiet admitted done managed_not (forms_of admitted.command.ins) (all_lawful admitted.command.ins).each does))
 

@@ -6,7 +6,7 @@ use Rattle.apdu_core.specs.Apdu.{Apdu, Short}
 use Rattle.card_types.specs.Registry.{Entry, Registry, entry_named, is_domain}
 use Rattle.card_types.specs.Well.{IsDomainNamed}
 use Rattle.policy_rules.specs.Admission.{GeneralFails, IsTaken, admitted_as, channel_passed, class_passed, general_rules, message_joined, offer_passed, without_place, session_for}
-use Rattle.policy_rules.specs.Classes.{channel_of}
+use Rattle.policy_rules.specs.Classes.{channel_of, is_protected}
 use Rattle.policy_rules.specs.FirstFailing.{IsFirst}
 use Rattle.policy_rules.specs.Sound.{Fits, IsSecured, IsWellChannel, FitsSecureChannel}
 use Rattle.policy_rules.specs.State.{State}
@@ -16,7 +16,7 @@ use Rattle.policy_rules.specs.declared.rule.RuleG.TheVariants.{G3, G4}
 use Rattle.scp03_card.specs.Opens.{Opens, accepting}
 use Rattle.scp03_card.specs.Session.{Session}
 use Rattle.policy_rules.proofs.FirstUnique.{none_fails}
-use Rattle.policy_rules.proofs.SetChannel.{set_fits, set_same, without_load_fits}
+use Rattle.policy_rules.proofs.SetChannel.{HasSession, set_fits, set_same, without_load_fits}
 use Rattle.policy_rules.proofs.SecureChannelSet.{secured_dropped, secured_fits, session_stands, well_dropped, within}
 
 -- behind the check of the class
@@ -165,6 +165,25 @@ module _ (state : State) (command : Apdu) (fits : Fits state.registry state.vola
   joined_selected (Some session) =
       stays selected_of passed number (channel_with (Secured session) (channel_at passed number)) low_after (so_selected (Secured session) (channel_at passed number))
 
+  joined_session : (session : Option Session) (plain : List ℕ) → IsTaken state command session plain → is_protected command ≡ true
+      → HasSession (message_joined passed number session) number
+  joined_session None plain taken protected = (let clash = sym protected ∙ taken.0 in cc)
+  joined_session (Some accepted) plain taken protected =
+      subst (λ (c : Option Channel). MatchOption c ⊥ (λ opened. IsSecured opened.secure_channel))
+      (sym (set_same passed number (channel_with (Secured accepted) (channel_at passed number)) low_after))
+      (by (session_for state command) refl taken.1)
+    where
+      joined_to : (channel : Option Channel) → IsSome (session_in (secure_channel_of channel))
+          → MatchOption (channel_with (Secured accepted) channel) ⊥ (λ opened. IsSecured opened.secure_channel)
+      joined_to None some = cc
+      joined_to (Some channel) some = tt
+
+      by : (found : Option Session) → session_for state command ≡ found
+          → MatchOption found ⊥ (λ session. Opens session command plain × (accepted ≡ accepting session command))
+          → MatchOption (channel_with (Secured accepted) (channel_at passed number)) ⊥ (λ opened. IsSecured opened.secure_channel)
+      by None is opens = absurd opens
+      by (Some session) is opens = joined_to (channel_at passed number) (subst IsSome (sym (passed_session ∙ is)) refl)
+
   module _ (session : Option Session) (plain : List ℕ) where
     abbrev joined : Volatile
     joined = message_joined passed number session
@@ -190,3 +209,7 @@ module _ (state : State) (command : Apdu) (fits : Fits state.registry state.vola
             → load_without_channel number (if goes then joined else without_load joined number).load ≡ (if goes then joined else without_load joined number).load
         by true is = absurd (true≢false is)
         by false is = others_left number joined.load
+
+    -- the session that protects the command is the channel's still
+    pub admitted_session : IsTaken state command session plain → is_protected command ≡ true → HasSession (admitted_as state command session plain).at.volatile number
+    admitted_session taken protected = (let has = joined_session session plain taken protected in either (λ (v : Volatile). HasSession v number) (command.ins == LOAD) joined (without_load joined number) has has)

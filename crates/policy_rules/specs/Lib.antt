@@ -25,6 +25,8 @@ pub mod HoldersFound
 pub mod InitializeUpdate
 pub mod InstallApplication
 pub mod InstallFields
+pub mod InstallLoad
+pub mod InstallLoadRequests
 pub mod InstallRequests
 pub mod KeyFields
 pub mod KeyOrder

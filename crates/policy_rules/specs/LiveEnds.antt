@@ -22,6 +22,10 @@ abbrev pub kept_of_others : ℕ → Option LoadName → Option LoadName
 kept_of_others number None = None
 kept_of_others number (Some load) = if load.channel == number then None else Some load
 
+-- a load session has begun, which is named so
+abbrev pub live_with_load : Live → LoadName → Live
+live_with_load live load = record { selected = live.selected; load = Some load; places = live.places }
+
 -- the channel's load session has ended
 abbrev pub live_without_load : Live → ℕ → Live
 live_without_load live number = record { selected = live.selected; load = kept_of_others number live.load; places = live.places }

@@ -13,6 +13,7 @@ use Rattle.policy_rules.specs.GetData.{get_data_refusal}
 use Rattle.policy_rules.specs.GetStatus.{get_status_refusal}
 use Rattle.policy_rules.specs.InitializeUpdate.{initialize_update_refusal}
 use Rattle.policy_rules.specs.InstallApplication.{install_refusal}
+use Rattle.policy_rules.specs.InstallLoad.{install_load_refusal}
 use Rattle.policy_rules.specs.MakeSelectable.{selectable_refusal}
 use Rattle.policy_rules.specs.ManageChannel.{manage_channel_refusal}
 use Rattle.policy_rules.specs.Management.{management_refusal}
@@ -46,6 +47,7 @@ refusal_by (group.PK rule) = put_key_refusal rule
 refusal_by (group.DK rule) = delete_key_refusal rule
 refusal_by (group.SD rule) = store_data_refusal rule
 refusal_by (group.II rule) = install_refusal rule
+refusal_by (group.IL rule) = install_load_refusal rule
 refusal_by (group.MS rule) = selectable_refusal rule
 refusal_by (group.EX rule) = extradition_refusal rule
 refusal_by (group.DO rule) = delete_object_refusal rule

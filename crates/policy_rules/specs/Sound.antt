@@ -45,12 +45,16 @@ abbrev pub IsAnnounced : ℕ → Option ℕ → Type 0
 IsAnnounced blocks None = blocks ≡ 0
 IsAnnounced blocks (Some size) = (blocks ≢ 0) × (1 ≤ size) × (size ≤ FILE_LIMIT)
 
+-- no hash, or that of SHA-1 or of SHA-256
+abbrev pub IsHashLength : ℕ → Type 0
+IsHashLength size = (size ≡ 0) ⊎ (size ≡ 20) ⊎ (size ≡ 32)
+
 pub record IsWellLoad (registry : Registry) (volatile : Volatile) (load : LoadSession) : Type 0 where
   pub session : MatchOption (channel_at volatile load.channel) ⊥ (λ channel. IsSecured channel.secure_channel)
   pub no_entry : entry_named registry load.aid ≡ None
   pub no_file : file_named registry load.aid ≡ None
   pub domain : IsDomainNamed registry load.domain
-  pub hash : (length load.hash ≡ 0) ⊎ (length load.hash ≡ 20) ⊎ (length load.hash ≡ 32)
+  pub hash : IsHashLength (length load.hash)
   pub few_files : length registry.files < FILES
   pub few_blocks : load.blocks ≤ 256
   pub announced : IsAnnounced load.blocks load.announced

@@ -114,6 +114,10 @@ load_without_channel number (Some load) = if load.channel == number then None el
 abbrev pub without_load : Volatile → ℕ → Volatile
 without_load volatile number = record { channels = volatile.channels; load = load_without_channel number volatile.load }
 
+-- a load session begins, or goes on so
+abbrev pub with_load : Volatile → LoadSession → Volatile
+with_load volatile load = record { channels = volatile.channels; load = Some load }
+
 -- the channel's session ends, and its load session with it
 abbrev pub without_session : Volatile → ℕ → Volatile
 without_session volatile number = without_load (with_secure_channel volatile number Nothing) number

@@ -196,7 +196,7 @@ fn is_token(key: &KeyRec, signed: &Signed<'_>) -> bool
 }
 
 // Judges the token of a delegated command of the domain in a slot.
-fn judge_token(tables: &Tables, domain: u8, signed: &Signed<'_>) -> Result<(), RuleTK>
+pub(crate) fn judge_token(tables: &Tables, domain: u8, signed: &Signed<'_>) -> Result<(), RuleTK>
     requires in_order { IsInOrder tables.now }
     requires short { length signed.now.before.now ≤ 255 }
     ensures passed { (page : ℕ → List ℕ) (admitted : Admitted) → ActsIn page tables.now domain admitted → IsSignedFor admitted signed.now

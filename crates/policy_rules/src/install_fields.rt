@@ -22,7 +22,7 @@ pub struct InstallFields<'a> {
 const LONGEST: usize = 0x7F;
 
 // The field that the bytes begin with, and the bytes behind it.
-fn read_field(bytes: &[u8]) -> Option<(&[u8], &[u8])>
+pub(crate) fn read_field(bytes: &[u8]) -> Option<(&[u8], &[u8])>
     ensures some { IfSome result (λ read. BeginsWithField read.0.now bytes.now read.1.now) }
     ensures none { IfNone result ((field rest : List ℕ) → BeginsWithField field bytes.now rest → ⊥) }
 {
@@ -38,7 +38,7 @@ fn read_field(bytes: &[u8]) -> Option<(&[u8], &[u8])>
 }
 
 // The bytes that stand before others which end them.
-fn front<'a>(bytes: &'a [u8], behind: &[u8]) -> &'a [u8]
+pub(crate) fn front<'a>(bytes: &'a [u8], behind: &[u8]) -> &'a [u8]
     requires { length behind.now ≤ length bytes.now }
     ensures before { (all : List ℕ) → bytes.now ≡ all ++ behind.now → result.now ≡ all }
     ensures short { length result.now ≤ length bytes.now }

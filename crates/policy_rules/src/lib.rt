@@ -18,6 +18,7 @@ mod initialize_update;
 mod install;
 mod install_application;
 mod install_fields;
+mod install_load;
 mod instruction;
 mod key_order;
 mod laws;
@@ -48,6 +49,7 @@ pub use get_status::{ListRequest, RuleGS, judge_status, next_shown};
 pub use initialize_update::{OfferedSet, RuleIU, judge_initialize_update};
 pub use install_application::{InstallRequest, Installation, RuleII, judge_install};
 pub use install_fields::InstallFields;
+pub use install_load::{LoadInstallRequest, RuleIL, judge_load_install};
 pub use instruction::{
     EXTERNAL_AUTHENTICATE, GET_DATA, GET_STATUS, INITIALIZE_UPDATE, LOAD, MANAGE_CHANNEL, SELECT,
     instruction_bytes,

@@ -50,7 +50,7 @@ pub struct Live {
 }
 
 impl Live {
-    ghost use Rattle.policy_rules.specs.LiveEnds.{first_live, live_with_channel, live_with_place, live_without_load, live_without_place};
+    ghost use Rattle.policy_rules.specs.LiveEnds.{first_live, live_with_channel, live_with_load, live_with_place, live_without_load, live_without_place};
 
     /// After power on or reset: channel 0 alone is open, with the Issuer Security Domain selected.
     pub fn powered_on() -> Live
@@ -96,6 +96,13 @@ impl Live {
         ensures four { length self.old.places ≡ CHANNELS }
     {
         self.places[usize::from(channel)] = Some(place);
+    }
+
+    /// A load session begins.
+    pub fn begin_load(&mut self, load: LoadName)
+        ensures { self.new ≡ live_with_load self.old load }
+    {
+        self.load = Some(load);
     }
 
     /// The channel's load session ends, if it has one.

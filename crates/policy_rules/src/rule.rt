@@ -15,6 +15,7 @@ use crate::get_data::RuleGD;
 use crate::get_status::RuleGS;
 use crate::initialize_update::RuleIU;
 use crate::install_application::RuleII;
+use crate::install_load::RuleIL;
 use crate::make_selectable::RuleMS;
 use crate::manage_channel::RuleMC;
 use crate::management::RuleM;
@@ -38,6 +39,7 @@ pub enum Rule {
     DK(RuleDK),
     SD(RuleSD),
     II(RuleII),
+    IL(RuleIL),
     MS(RuleMS),
     EX(RuleEX),
     DO(RuleDO),
@@ -104,6 +106,7 @@ impl Rule {
             Rule::DK(rule) => rule.status(),
             Rule::SD(rule) => rule.status(),
             Rule::II(rule) => rule.status(),
+            Rule::IL(rule) => rule.status(),
             Rule::MS(rule) => rule.status(),
             Rule::EX(rule) => rule.status(),
             Rule::DO(rule) => rule.status(),
@@ -147,6 +150,7 @@ impl Rule {
             Rule::DK(rule) => rule.name(),
             Rule::SD(rule) => rule.name(),
             Rule::II(rule) => rule.name(),
+            Rule::IL(rule) => rule.name(),
             Rule::MS(rule) => rule.name(),
             Rule::EX(rule) => rule.name(),
             Rule::DO(rule) => rule.name(),

@@ -1,0 +1,151 @@
+-- The rules of INSTALL [for load] behind its form, by its request.
+use Rattle.std.proofs.Common.{◌≡◌, ◌≢◌, ◌↔◌, ◌⊎◌, inl, inr, ℕ, Bool, true, false, List, [], ◌∷◌, ◌++◌, length, Option, None, Some, refl, ap, sym, subst, ◌∙◌, arith}
+use Rattle.std.specs.Prelude.{IfSome, IsSome, IsTrue, is_some, map}
+use Rattle.std.specs.Option.{option_map}
+use Rattle.card_types.proofs.Room.{file_room, no_file_room}
+use Rattle.card_types.specs.Aid.{IsAid}
+use Rattle.card_types.specs.First.{IsFirstFree, NoneFree}
+use Rattle.card_types.specs.Found.{aid_of}
+use Rattle.card_types.specs.Registry.{entry_named, file_named}
+use Rattle.card_types.specs.Slots.{held}
+use Rattle.card_types.specs.Well.{IsDomainNamed}
+use Rattle.card_types.specs.declared.found.Found.{Found}
+use Rattle.card_types.specs.declared.found.Found.TheVariants as found
+use Rattle.card_types.specs.declared.limits.TheConstants.{FILES}
+use Rattle.card_types.specs.declared.tables.Entry.{Entry}
+use Rattle.card_types.specs.declared.tables.Tables.{Tables}
+use Rattle.policy_rules.specs.Admission.{Admitted}
+use Rattle.policy_rules.specs.Charge.{IsAtOrAbove}
+use Rattle.policy_rules.specs.Delegation.{token_rules}
+use Rattle.policy_rules.specs.FirstFailing.{IsFirst}
+use Rattle.policy_rules.specs.InstallLoad.{AsksToLoad, InstallLoadFails, InstallingLoadFails, LoadAskedFails, LoadData, file_domain_for, install_load_rules, load_approval, named_or}
+use Rattle.policy_rules.specs.InstallLoadRequests.{IsLoadInstallOf, LoadTokenFails, NamesDomain, own_install_load_rules}
+use Rattle.policy_rules.specs.InstallRequests.{may_manage_by}
+use Rattle.policy_rules.specs.Management.{ManagementFails, acting}
+use Rattle.policy_rules.specs.Requests.{ActsIn, IsLoadNamed}
+use Rattle.policy_rules.specs.Volatile.{LoadSession}
+use Rattle.policy_rules.specs.declared.delegation.RuleTK.{RuleTK}
+use Rattle.policy_rules.specs.declared.install_load.LoadInstallRequest.{LoadInstallRequest}
+use Rattle.policy_rules.specs.declared.install_load.RuleIL.{RuleIL}
+use Rattle.policy_rules.specs.declared.install_load.RuleIL.TheVariants.{IL1, IL2, IL3, IL4, IL5, IL7}
+use Rattle.policy_rules.specs.declared.live.LoadName.{LoadName}
+use Rattle.policy_rules.specs.declared.management.RuleM.TheVariants.{M1, M2}
+use Rattle.policy_rules.specs.declared.rule.Rule.{Rule}
+use Rattle.policy_rules.specs.declared.rule.Rule.TheVariants.{IL, TK}
+use Rattle.policy_rules.proofs.FirstJoined.{first_behind, first_within}
+use Rattle.policy_rules.proofs.FirstLike.{first_like, first_of_group}
+use Rattle.policy_rules.proofs.InstallJudging.{manages, may_manage, not_there, there}
+use Rattle.policy_rules.proofs.LengthFields.{one_load_data}
+use Rattle.policy_rules.proofs.ManagementFirst.{behind_management}
+use Rattle.policy_rules.proofs.ThingsFound.{acting_named}
+
+-- a name of a domain is not empty
+named_is : (field other : List ℕ) → IsAid field → named_or field other ≡ field
+named_is [] other is = absurd (omega arith)
+named_is (byte ∷ bytes) other is = refl
+
+not_empty : (field : List ℕ) → IsAid field → field ≢ []
+not_empty [] is same = absurd (omega arith)
+not_empty (byte ∷ bytes) is same = cc
+
+-- a field that names a domain or none is one that the command takes
+pub names_some : (named : Option (List ℕ)) (field : List ℕ) → NamesDomain named field → (field ≡ []) ⊎ IsAid field
+names_some None field none = inl none
+names_some (Some aid) field names = inr names.1
+
+-- the domain that is named, and the acting one where none is
+module _ (page : ℕ → List ℕ) (tables : Tables) (domain : ℕ) (admitted : Admitted) (given : LoadData) (acts : ActsIn page tables domain admitted) where
+  pub acting_for : given.domain ≡ [] → aid_of tables (found.Entry domain) ≡ Some (file_domain_for admitted given)
+  acting_for none = acting_named page tables domain admitted acts ∙ ap (λ (field : List ℕ). Some (named_or field (acting admitted))) (sym none)
+
+  pub acting_passes : given.domain ≡ [] → InstallingLoadFails admitted given IL4 → ⊥
+  acting_passes none fails = fails.0 none
+
+  module _ (aid : List ℕ) (names : NamesDomain (Some aid) given.domain) where
+    pub named_for : (slot : ℕ) → aid_of tables (found.Entry slot) ≡ Some aid → aid_of tables (found.Entry slot) ≡ Some (file_domain_for admitted given)
+    named_for slot at = at ∙ ap Some (sym (named_is given.domain (acting admitted) names.1 ∙ names.0))
+
+    pub named_passes : IsDomainNamed admitted.at.registry aid → InstallingLoadFails admitted given IL4 → ⊥
+    named_passes there fails = fails.1 (subst (IsDomainNamed admitted.at.registry) (sym names.0) there)
+
+    pub named_fails : (IsDomainNamed admitted.at.registry aid → ⊥) → InstallingLoadFails admitted given IL4
+    named_fails none = (not_empty given.domain names.1, λ there. none (subst (IsDomainNamed admitted.at.registry) names.0 there))
+
+-- there is a load session where one is named
+load_told : (entries : List (Option Entry)) (name : Option LoadName) (load : Option LoadSession) → IsLoadNamed entries name load → is_some name ≡ is_some load
+load_told entries None None named = refl
+load_told entries None (Some load) named = absurd named
+load_told entries (Some name) None named = absurd named
+load_told entries (Some name) (Some load) named = refl
+
+-- what the tests of the code tell of these rules
+module _ (page : ℕ → List ℕ) (tables : Tables) (domain : ℕ) (admitted : Admitted) (acts : ActsIn page tables domain admitted)
+    (request : LoadInstallRequest) (is : IsLoadInstallOf request admitted.command) where
+  abbrev Fails : RuleIL → Type 0
+  Fails = InstallingLoadFails admitted is.given
+
+  pub unmanaged : (may : Bool) → may ≡ may_manage_by (held tables.entries.items domain) → may ≡ false → Fails IL1
+  unmanaged may told lacks manages_ = (let clash = sym (told ∙ manages page tables domain admitted acts manages_) ∙ lacks in cc)
+
+  pub managed : (may : Bool) → may ≡ may_manage_by (held tables.entries.items domain) → may ≡ true → Fails IL1 → ⊥
+  managed may told has fails = fails (may_manage page tables domain admitted acts (sym told ∙ has))
+
+  pub loading : (name : Option LoadName) → IsLoadNamed tables.entries.items name admitted.at.volatile.load → is_some name ≡ true → Fails IL2
+  loading name named some = sym (load_told tables.entries.items name admitted.at.volatile.load named) ∙ some
+
+  pub idle : (name : Option LoadName) → IsLoadNamed tables.entries.items name admitted.at.volatile.load → is_some name ≡ false → Fails IL2 → ⊥
+  idle name named none fails = (let clash = sym fails ∙ sym (load_told tables.entries.items name admitted.at.volatile.load named) ∙ none in cc)
+
+  pub taken : (thing : Option Found) → IfSome thing (λ f. aid_of tables f ≡ Some request.file) → is_some thing ≡ true → Fails IL3
+  taken thing at some =
+      subst (λ (aid : List ℕ). IsSome (entry_named admitted.at.registry aid) ⊎ IsSome (file_named admitted.at.registry aid)) is.file
+      (there page tables admitted.at.registry acts.says request.file thing at some)
+
+  pub free : ((thing : Found) → aid_of tables thing ≢ Some request.file) → Fails IL3 → ⊥
+  free none fails =
+      not_there page tables admitted.at.registry acts.says request.file none
+      (subst (λ (aid : List ℕ). IsSome (entry_named admitted.at.registry aid) ⊎ IsSome (file_named admitted.at.registry aid)) (sym is.file) fails)
+
+  pub within : (above : Bool) → IsTrue above ↔ IsAtOrAbove admitted.at.registry (acting admitted) (file_domain_for admitted is.given) → above ≡ true → Fails IL5 → ⊥
+  within above told so fails = fails (told.0 so)
+
+  module _ (whole : length tables.files.items ≡ FILES) where
+    pub full : NoneFree tables.files.items → Fails IL7
+    full none = (let all = no_file_room page tables admitted.at.registry acts.says none in omega (arith, all, whole))
+
+    pub roomy : (slot : ℕ) → IsFirstFree tables.files.items slot → Fails IL7 → ⊥
+    roomy slot first fails = (let below = file_room page tables admitted.at.registry acts.says slot first.within first.free in omega (arith, below, whole, fails))
+
+-- the rules of its own, and those on its token, are rules of the command
+module _ (admitted : Admitted) (given : LoadData) (asks : AsksToLoad admitted.command.body given) where
+  abbrev FailsAsked : Rule → Type 0
+  FailsAsked rule = (other : LoadData) × AsksToLoad admitted.command.body other × LoadAskedFails admitted other rule
+
+  of_command : (rules : List Rule) (found : Option Rule) → IsFirst (LoadAskedFails admitted given) rules found → IsFirst FailsAsked rules found
+  of_command rules found first =
+      first_like (LoadAskedFails admitted given) FailsAsked (λ rule fails. (given, asks, fails))
+      (λ rule fails. subst (λ (a : LoadData). LoadAskedFails admitted a rule) (one_load_data fails.0 given admitted.command.body fails.1.fields asks.fields) fails.2) rules found first
+
+  own_first : (found : Option RuleIL) → IsFirst (InstallingLoadFails admitted given) own_install_load_rules found
+      → IsFirst (InstallLoadFails admitted) (map IL own_install_load_rules) (option_map IL found)
+  own_first found first =
+      of_command (map IL own_install_load_rules) (option_map IL found) (first_of_group IL (LoadAskedFails admitted given) own_install_load_rules found first)
+
+  token_first : (found : Option RuleTK) → IsFirst (LoadTokenFails admitted (load_approval given)) token_rules found
+      → IsFirst (InstallLoadFails admitted) (map TK token_rules) (option_map TK found)
+  token_first found first = of_command (map TK token_rules) (option_map TK found) (first_of_group TK (LoadAskedFails admitted given) token_rules found first)
+
+  module _ (managed_ : (ManagementFails admitted M1 → ⊥) × (ManagementFails admitted M2 → ⊥)) where
+    -- a rule of its own fails first
+    pub own_refuses : (rule : RuleIL) → IsFirst (InstallingLoadFails admitted given) own_install_load_rules (Some rule)
+        → IsFirst (InstallLoadFails admitted) install_load_rules (Some (IL rule))
+    own_refuses rule first =
+        behind_management (InstallLoadFails admitted) (map IL own_install_load_rules ++ map TK token_rules) (Some (IL rule)) managed_.0 managed_.1
+        (first_within (InstallLoadFails admitted) (map TK token_rules) (map IL own_install_load_rules) (IL rule) (own_first (Some rule) first))
+
+    -- none of its own fails, and its token decides
+    pub token_decides : (found : Option RuleTK) → IsFirst (InstallingLoadFails admitted given) own_install_load_rules None
+        → IsFirst (LoadTokenFails admitted (load_approval given)) token_rules found → IsFirst (InstallLoadFails admitted) install_load_rules (option_map TK found)
+    token_decides found none first =
+        behind_management (InstallLoadFails admitted) (map IL own_install_load_rules ++ map TK token_rules) (option_map TK found) managed_.0 managed_.1
+        (first_behind (InstallLoadFails admitted) (map TK token_rules) (map IL own_install_load_rules) (option_map TK found) (own_first None none) (token_first found first))

@@ -1,0 +1,116 @@
+-- The laws of INSTALL [for load].
+use Rattle.std.proofs.Common.{◌≡◌, ◌≢◌, inl, inr, ℕ, List, [], ◌∷◌, Option, None, Some, length, refl, sym, subst, ◌∙◌, arith}
+use Rattle.std.specs.Prelude.{Contains, IsSome}
+use Rattle.std.proofs.lemmas.Bool.Decides.{eqb_tells}
+use Rattle.card_types.specs.Registry.{Registry, entry_named, file_named}
+use Rattle.card_types.specs.Well.{IsDomainNamed}
+use Rattle.policy_rules.specs.Admission.{Admitted}
+use Rattle.policy_rules.specs.Classes.{managing}
+use Rattle.policy_rules.specs.Commands.{JudgesAs}
+use Rattle.policy_rules.specs.FirstFailing.{IsFirst}
+use Rattle.policy_rules.specs.InstallLoad.{AsksToLoad, InstallLoadEffect, InstallLoadFails, InstallingLoadFails, LoadData, install_load, install_load_rules, load_begun, named_or}
+use Rattle.policy_rules.specs.Management.{acting}
+use Rattle.policy_rules.specs.Sound.{Fits, IsHashLength, IsSound, IsWellLoad}
+use Rattle.policy_rules.specs.State.{Effect}
+use Rattle.policy_rules.specs.Volatile.{Volatile, with_load}
+use Rattle.policy_rules.specs.declared.install_load.RuleIL.{RuleIL}
+use Rattle.policy_rules.specs.declared.install_load.RuleIL.TheVariants.{IL1, IL2, IL3, IL4, IL5, IL6, IL7}
+use Rattle.policy_rules.specs.declared.rule.Rule.TheVariants.{IL}
+use Rattle.policy_rules.proofs.ExtraditionLaws.{domain_stable}
+use Rattle.policy_rules.proofs.FirstUnique.{none_fails}
+use Rattle.policy_rules.proofs.Lawful.{HasNoPlaceOn, IsLawful, IsReady, managed_apart, sound_with}
+use Rattle.policy_rules.proofs.LengthFields.{one_load_data}
+use Rattle.policy_rules.proofs.SameEffect.{effect_same, state_same}
+
+-- what is not there
+gone : {A : Type 0} (o : Option A) → (IsSome o → ⊥) → o ≡ None
+gone None none = refl
+gone (Some x) none = absurd (none refl)
+
+-- a length that can't be none of a hash is one
+hash_stable : (size : ℕ) → ((IsHashLength size → ⊥) → ⊥) → IsHashLength size
+hash_stable size other = elim (eqb_tells size 0) [
+  | inl none ↦ inl none.1
+  | inr some ↦ elim (eqb_tells size 20) [
+    | inl short ↦ inr (inl short.1)
+    | inr longer ↦ elim (eqb_tells size 32) [
+      | inl long ↦ inr (inr long.1)
+      | inr another ↦ absurd (other (λ is. elim is [
+        | inl none ↦ some.1 none
+        | inr (inl short) ↦ longer.1 short
+        | inr (inr long) ↦ another.1 long
+      ]))
+    ]
+  ]
+]
+
+-- the domain of the file is one: it is named, or the command acts for it
+domain_given : (registry : Registry) (field other : List ℕ) → IsDomainNamed registry other → ((field ≢ []) × (IsDomainNamed registry field → ⊥) → ⊥)
+    → IsDomainNamed registry (named_or field other)
+domain_given registry [] other domain passes = domain
+domain_given registry (byte ∷ bytes) other domain passes =
+    domain_stable (entry_named registry (byte ∷ bytes)) (λ none. passes ((λ same. cc), none))
+
+-- none of its own rules fails where none fails
+no_rule : (admitted : Admitted) → IsFirst (InstallLoadFails admitted) install_load_rules None → (given : LoadData) → AsksToLoad admitted.command.body given
+    → (rule : RuleIL) → InstallingLoadFails admitted given rule → ⊥
+no_rule admitted first given asks rule fails = none_fails (InstallLoadFails admitted) install_load_rules (IL rule) (among rule) first (given, asks, fails)
+  where
+    among : (rule : RuleIL) → Contains install_load_rules (IL rule)
+    among IL1 = (2, omega arith, refl)
+    among IL2 = (3, omega arith, refl)
+    among IL3 = (4, omega arith, refl)
+    among IL4 = (5, omega arith, refl)
+    among IL5 = (6, omega arith, refl)
+    among IL6 = (7, omega arith, refl)
+    among IL7 = (8, omega arith, refl)
+
+managed_install : Contains managing 0xE6
+managed_install = (3, omega arith, refl)
+
+-- the load session that begins goes with the registry
+begun_well : (admitted : Admitted) (given : LoadData) → IsReady admitted → admitted.command.ins ≡ install_load.instruction
+    → ((rule : RuleIL) → InstallingLoadFails admitted given rule → ⊥)
+    → IsWellLoad admitted.at.registry (with_load admitted.at.volatile (load_begun admitted given)) (load_begun admitted given)
+begun_well admitted given ready is passes =
+    let registry = admitted.at.registry in
+    let apart = managed_apart admitted.command.ins install_load.instruction is (omega arith) in
+    record {
+      session = ready.session (subst (Contains managing) (sym is) managed_install);
+      no_entry = gone (entry_named registry given.file) (λ some. passes IL3 (inl some));
+      no_file = gone (file_named registry given.file) (λ some. passes IL3 (inr some));
+      domain = domain_given registry given.domain (acting admitted) (ready.domain apart.0 apart.1) (passes IL4);
+      hash = hash_stable (length given.hash) (λ other. passes IL6 (inl other));
+      few_files = (let room = passes IL7 in omega (arith, room));
+      few_blocks = omega arith;
+      announced = refl;
+      within = omega arith;
+      few_pages = (let few = ready.sound.well.few_pages in omega (arith, few));
+    }
+
+begun_fits : (admitted : Admitted) (given : LoadData) → Fits admitted.at.registry admitted.at.volatile
+    → IsWellLoad admitted.at.registry (with_load admitted.at.volatile (load_begun admitted given)) (load_begun admitted given)
+    → Fits admitted.at.registry (with_load admitted.at.volatile (load_begun admitted given))
+begun_fits admitted given fits well = record { channels = fits.channels; basic = fits.basic; each = fits.each; load = well }
+
+install_load_keeps : (admitted : Admitted) (done : Effect) → IsReady admitted → JudgesAs install_load admitted None → InstallLoadEffect admitted done
+    → IsSound done.state
+install_load_keeps admitted done ready (takes, first) does =
+    let well = begun_well admitted does.given ready takes.0 (no_rule admitted first does.given does.asks) in
+    sound_with admitted.at done.state ready.sound does.registry
+    (subst (Fits admitted.at.registry) (sym does.volatile) (begun_fits admitted does.given ready.sound.fits well))
+
+install_load_one : (admitted : Admitted) (a b : Effect) → InstallLoadEffect admitted a → InstallLoadEffect admitted b → a ≡ b
+install_load_one admitted a b one other =
+    let given = one_load_data one.given other.given admitted.command.body one.asks.fields other.asks.fields in
+    let volatile = subst (λ (g : LoadData). a.state.volatile ≡ with_load admitted.at.volatile (load_begun admitted g)) given one.volatile in
+    effect_same a b (state_same a.state b.state (one.registry ∙ sym other.registry) (volatile ∙ sym other.volatile)) (one.body ∙ sym other.body) (one.status ∙ sym other.status)
+
+-- once its instruction is one of those that manage content
+pub install_load_lawful : Contains managing install_load.instruction → IsLawful install_load
+install_load_lawful managed = record {
+  keeps = install_load_keeps;
+  one = install_load_one;
+  quiet = λ unmanaged. absurd (unmanaged managed);
+  without_place = λ other admitted done none does. subst (λ (v : Volatile). HasNoPlaceOn v admitted.channel) (sym does.volatile) none;
+}

@@ -1,0 +1,52 @@
+-- What the code reads of an INSTALL [for load], and its own rules.
+use Rattle.std.specs.Prelude.{◌≡◌, ℕ, ◌≤◌, List, [], ◌∷◌, Option, None, Some, length}
+use Rattle.apdu_core.specs.Apdu.{Apdu}
+use Rattle.card_types.specs.Aid.{IsAid}
+use Rattle.card_types.specs.Privileges.{delegated_management}
+use Rattle.policy_rules.specs.Admission.{Admitted}
+use Rattle.policy_rules.specs.Delegation.{Approval, Holds, TokenFails}
+use Rattle.policy_rules.specs.HoldersFound.{approval_of}
+use Rattle.policy_rules.specs.InstallLoad.{AsksToLoad, LoadData, load_approval}
+use Rattle.policy_rules.specs.declared.delegation.RuleTK.{RuleTK}
+use Rattle.policy_rules.specs.declared.install_load.LoadFields.{LoadFields}
+use Rattle.policy_rules.specs.declared.install_load.LoadInstallRequest.{LoadInstallRequest}
+use Rattle.policy_rules.specs.declared.install_load.RuleIL.{RuleIL}
+use Rattle.policy_rules.specs.declared.install_load.RuleIL.TheVariants.{IL1, IL2, IL3, IL4, IL5, IL6, IL7}
+
+-- the fields that were read
+abbrev pub load_data_of : LoadFields → LoadData
+load_data_of fields = record {
+  file = fields.file.now;
+  domain = fields.domain.now;
+  hash = fields.hash.now;
+  parameters = fields.parameters.now;
+  token = fields.token.now;
+}
+
+-- the field names this domain, or it is empty
+abbrev pub NamesDomain : Option (List ℕ) → List ℕ → Type 0
+NamesDomain None field = field ≡ []
+NamesDomain (Some aid) field = (field ≡ aid) × IsAid field
+
+-- The request is that of a command with this P1, P2 and data field.
+pub record IsLoadInstallRequest (request : LoadInstallRequest) (p1 p2 : ℕ) (body : List ℕ) : Type 0 where
+  pub given : LoadData
+  pub asks : AsksToLoad body given
+  pub file : request.file ≡ given.file
+  pub domain : NamesDomain request.domain given.domain
+  pub hash : request.hash.now ≡ given.hash
+  pub parameters : (request.signed.p1 ≡ p1) × (request.signed.p2 ≡ p2)
+  pub approval : approval_of request.signed ≡ load_approval given
+  pub short : length request.signed.before.now ≤ length body
+
+-- and that of this command
+abbrev pub IsLoadInstallOf : LoadInstallRequest → Apdu → Type 0
+IsLoadInstallOf request command = IsLoadInstallRequest request command.p1 command.p2 command.body
+
+-- its rules but for those of management and on its token
+abbrev pub own_install_load_rules : List RuleIL
+own_install_load_rules = IL1 ∷ IL2 ∷ IL3 ∷ IL4 ∷ IL5 ∷ IL6 ∷ IL7 ∷ []
+
+-- the rules on the token fail for a delegated command alone
+abbrev pub LoadTokenFails : Admitted → Approval → RuleTK → Type 0
+LoadTokenFails admitted approval rule = Holds admitted delegated_management × TokenFails admitted approval rule

@@ -1,0 +1,307 @@
+//! INSTALL [for load] (GlobalPlatform Card Specification 2.3.1, 9.3 and 11.5).
+
+ghost use Rattle.std.specs.Prelude.{◌≡◌, ◌↔◌, ◌≢◌, ◌≤◌, ◌⊎◌, ℕ, List, [], None, Some, IfErr, IfNone, IfOk, IfSome, IsSome, IsTrue, OnOk, length};
+ghost use Rattle.std.specs.List.{flat_map};
+ghost use Rattle.card_types.specs.Aid.{IsAid};
+ghost use Rattle.card_types.specs.First.{NoneFree};
+ghost use Rattle.card_types.specs.Found.{aid_of};
+ghost use Rattle.card_types.specs.InOrder.{IsInOrder};
+ghost use Rattle.card_types.specs.Privileges.{delegated_management};
+ghost use Rattle.card_types.specs.Represents.{domain_aid};
+ghost use Rattle.card_types.specs.Slots.{held};
+ghost use Rattle.card_types.specs.declared.found.Found.{Found as Thing};
+ghost use Rattle.card_types.specs.declared.found.Found.TheVariants.{Entry};
+ghost use Rattle.policy_rules.specs.Admission.{Admitted};
+ghost use Rattle.policy_rules.specs.Delegation.{Holds, token_rules};
+ghost use Rattle.policy_rules.specs.FirstFailing.{IsFirst};
+ghost use Rattle.policy_rules.specs.HoldersFound.{IsSignedFor, approval_of};
+ghost use Rattle.policy_rules.specs.InstallLoad.{AsksToLoad, InstallLoadFails, InstallLoadParameters, InstallingLoadFails, IsLoadData, LoadData, file_domain_for, install_load, install_load_refusal, install_load_rules, signed_load_fields};
+ghost use Rattle.policy_rules.specs.InstallLoadRequests.{IsLoadInstallOf, IsLoadInstallRequest, LoadTokenFails, NamesDomain, load_data_of, own_install_load_rules};
+ghost use Rattle.policy_rules.specs.InstallRequests.{IsRefusedBy};
+ghost use Rattle.policy_rules.specs.Requests.{ActsIn, ForActing, IsLoadNamed};
+ghost use Rattle.policy_rules.specs.Sound.{IsHashLength};
+ghost use Rattle.policy_rules.specs.declared.install_load.RuleIL.TheVariants.{IL4, IL6};
+ghost use Rattle.tokens_receipts.specs.Receipt.{with_length};
+
+use crate::charge::{find_domain, is_at_or_above};
+use crate::delegation::{RuleTK, Signed, holds, judge_token};
+use crate::install_application::may_manage;
+use crate::install_fields::{front, read_field};
+use crate::live::Live;
+use crate::management::judge_management;
+use crate::rule::{Rule, RulePS};
+use apdu_core::Status;
+use card_types::{Aid, Entry as Slot, Privileges, Tables, find, first_free};
+
+/// The rules of INSTALL [for load].
+#[derive(Clone, Copy, Debug, PartialEq, Eq)]
+pub enum RuleIL {
+    /// The domain does not manage content.
+    IL1,
+    /// Another channel has a load session.
+    IL2,
+    /// Something has the AID of the Executable Load File.
+    IL3,
+    /// What is named as its security domain is none.
+    IL4,
+    /// The domain may not load into that one.
+    IL5,
+    /// The hash has another length than SHA-1 and SHA-256, or there is none, and the command is delegated.
+    IL6,
+    /// The card has no room for another Executable Load File.
+    IL7,
+}
+
+impl RuleIL {
+    /// The status word of a command that the rule refuses.
+    pub fn status(&self) -> Status
+        ensures { result.0 ≡ (install_load_refusal self.now).status }
+    {
+        match self {
+            RuleIL::IL1 => Status(0x6982),
+            RuleIL::IL2 => Status(0x6985),
+            RuleIL::IL3 => Status(0x6A80),
+            RuleIL::IL4 => Status(0x6A88),
+            RuleIL::IL5 => Status(0x6982),
+            RuleIL::IL6 => Status(0x6A80),
+            RuleIL::IL7 => Status(0x6A84),
+        }
+    }
+
+    /// The rule's name.
+    pub fn name(&self) -> &'static str
+        ensures { result.now ≡ (install_load_refusal self.now).name }
+    {
+        match self {
+            RuleIL::IL1 => "IL1",
+            RuleIL::IL2 => "IL2",
+            RuleIL::IL3 => "IL3",
+            RuleIL::IL4 => "IL4",
+            RuleIL::IL5 => "IL5",
+            RuleIL::IL6 => "IL6",
+            RuleIL::IL7 => "IL7",
+        }
+    }
+}
+
+/// What an INSTALL [for load] asks for: the AIDs of the Executable Load File and of its security domain, where one is named, the hash
+/// of the file, and what approves it.
+#[derive(Clone, Copy, Debug)]
+pub struct LoadInstallRequest<'a> {
+    pub file: Aid,
+    pub domain: Option<Aid>,
+    pub hash: &'a [u8],
+    pub signed: Signed<'a>,
+}
+
+/// The five fields of an INSTALL [for load], and the bytes before the token and its length, which the token signs.
+#[derive(Clone, Copy, Debug)]
+struct LoadFields<'a> {
+    file: &'a [u8],
+    domain: &'a [u8],
+    hash: &'a [u8],
+    parameters: &'a [u8],
+    token: &'a [u8],
+    before: &'a [u8],
+}
+
+// The fields of the data field of an INSTALL [for load], or none where it is not five such fields.
+fn read_fields(body: &[u8]) -> Option<LoadFields<'_>>
+    ensures some { IfSome result (λ fields. IsLoadData (load_data_of fields) body.now) }
+    ensures before { IfSome result (λ fields. fields.before.now ≡ flat_map with_length (signed_load_fields (load_data_of fields))) }
+    ensures short { IfSome result (λ fields. length fields.before.now ≤ length body.now) }
+    ensures none { IfNone result ((given : LoadData) → IsLoadData given body.now → ⊥) }
+{
+    let (file, rest) = read_field(body)?;
+    let (domain, rest) = read_field(rest)?;
+    let (hash, rest) = read_field(rest)?;
+    let (parameters, last) = read_field(rest)?;
+    let (token, rest) = read_field(last)?;
+    if !rest.is_empty() {
+        return None;
+    }
+    Some(LoadFields {
+        file,
+        domain,
+        hash,
+        parameters,
+        token,
+        before: front(body, last),
+    })
+}
+
+// The AID of the security domain, or none where the field is empty and names none.
+fn read_domain(field: &[u8]) -> Option<Option<Aid>>
+    ensures some { IfSome result (λ named. NamesDomain named field.now) }
+    ensures none { IfNone result ((field.now ≡ []) ⊎ IsAid field.now → ⊥) }
+{
+    if field.is_empty() {
+        return Some(None);
+    }
+    let aid = Aid::new(field)?;
+    Some(Some(aid))
+}
+
+// What the data field asks for.
+fn read_request(p1: u8, p2: u8, body: &[u8]) -> Option<LoadInstallRequest<'_>>
+    ensures some { IfSome result (λ request. IsLoadInstallRequest request p1 p2 body.now) }
+    ensures none { IfNone result ((given : LoadData) → AsksToLoad body.now given → ⊥) }
+{
+    let fields = read_fields(body)?;
+    let file = Aid::new(fields.file)?;
+    let domain = read_domain(fields.domain)?;
+    Some(LoadInstallRequest {
+        file,
+        domain,
+        hash: fields.hash,
+        signed: Signed {
+            p1,
+            p2,
+            before: fields.before,
+            token: fields.token,
+        },
+    })
+}
+
+/// Reads P1, P2 and the data field of an INSTALL [for load].
+pub(crate) fn parse_load_install(
+    p1: u8,
+    p2: u8,
+    body: &[u8],
+) -> Result<LoadInstallRequest<'_>, Rule>
+    ensures form { IfOk result (λ request. InstallLoadParameters p1 p2) }
+    ensures means { IfOk result (λ request. IsLoadInstallRequest request p1 p2 body.now) }
+    ensures refused { IfErr result (IsRefusedBy install_load p1 p2 body.now) }
+{
+    if p1 != 0x02 || p2 != 0x00 {
+        return Err(Rule::PS(RulePS::P));
+    }
+    match read_request(p1, p2, body) {
+        Some(request) => Ok(request),
+        None => Err(Rule::PS(RulePS::S)),
+    }
+}
+
+// The slot of the security domain that is named, or of the one in the slot `domain` where none is named.
+fn find_named(tables: &Tables, domain: u8, named: &Option<Aid>) -> Option<u8>
+    requires in_order { IsInOrder tables.now }
+    ensures some { (page : ℕ → List ℕ) (admitted : Admitted) (given : LoadData) → ActsIn page tables.now domain admitted → NamesDomain named.now given.domain
+        → IfSome result (λ slot. aid_of tables.now (Entry slot) ≡ Some (file_domain_for admitted given)) }
+    ensures passed { (page : ℕ → List ℕ) (admitted : Admitted) (given : LoadData) → ActsIn page tables.now domain admitted → NamesDomain named.now given.domain
+        → IfSome result (λ slot. InstallingLoadFails admitted given IL4 → ⊥) }
+    ensures none { (page : ℕ → List ℕ) (admitted : Admitted) (given : LoadData) → ActsIn page tables.now domain admitted → NamesDomain named.now given.domain
+        → IfNone result (InstallingLoadFails admitted given IL4) }
+{
+    match named {
+        Some(aid) => find_domain(tables, aid),
+        None => Some(domain),
+    }
+}
+
+// Whether a hash has the length of SHA-1 or SHA-256, or is none.
+fn is_hash(hash: &[u8]) -> bool
+    ensures { IsTrue result ↔ IsHashLength (length hash.now) }
+{
+    matches!(hash.len(), 0 | 20 | 32)
+}
+
+// Whether a hash is none that a command of the domain in a slot may bring.
+fn is_unfit_hash(tables: &Tables, domain: u8, hash: &[u8]) -> bool
+    ensures told { (page : ℕ → List ℕ) (admitted : Admitted) (given : LoadData) → ActsIn page tables.now domain admitted → hash.now ≡ given.hash
+        → IsTrue result ↔ InstallingLoadFails admitted given IL6 }
+    ensures length { (IsTrue result) ⊎ IsHashLength (length hash.now) }
+{
+    !is_hash(hash)
+        || (hash.is_empty() && holds(&tables.entries, domain, Privileges::DELEGATED_MANAGEMENT))
+}
+
+// The rules of INSTALL [for load] itself, for the domain in a slot: the slot of the security domain of the Executable Load File.
+fn judge_loading(
+    tables: &Tables,
+    live: &Live,
+    domain: u8,
+    request: &LoadInstallRequest<'_>,
+) -> Result<u8, RuleIL>
+    requires in_order { IsInOrder tables.now }
+    ensures passed { ForActing tables.now domain (λ page admitted. IsLoadNamed tables.now.entries.items live.now.load admitted.at.volatile.load
+        → (is : IsLoadInstallOf request.now admitted.command) → OnOk result (IsFirst (InstallingLoadFails admitted is.given) own_install_load_rules None)) }
+    ensures refused { ForActing tables.now domain (λ page admitted. IsLoadNamed tables.now.entries.items live.now.load admitted.at.volatile.load
+        → (is : IsLoadInstallOf request.now admitted.command)
+        → IfErr result (λ rule. IsFirst (InstallingLoadFails admitted is.given) own_install_load_rules (Some rule))) }
+    ensures found { ForActing tables.now domain (λ page admitted. (is : IsLoadInstallOf request.now admitted.command)
+        → IfOk result (λ slot. aid_of tables.now (Entry slot) ≡ Some (file_domain_for admitted is.given))) }
+    ensures hash { OnOk result (IsHashLength (length request.now.hash.now)) }
+    ensures free { OnOk result ((thing : Thing) → aid_of tables.now thing ≢ Some request.now.file) }
+    ensures room { OnOk result (NoneFree tables.now.files.items → ⊥) }
+{
+    if !may_manage(&tables.entries, domain) {
+        return Err(RuleIL::IL1);
+    }
+    if live.load.is_some() {
+        return Err(RuleIL::IL2);
+    }
+    if find(tables, &request.file).is_some() {
+        return Err(RuleIL::IL3);
+    }
+    let Some(to) = find_named(tables, domain, &request.domain) else {
+        return Err(RuleIL::IL4);
+    };
+    if !is_at_or_above(tables, domain, to) {
+        return Err(RuleIL::IL5);
+    }
+    if is_unfit_hash(tables, domain, request.hash) {
+        return Err(RuleIL::IL6);
+    }
+    match first_free(&tables.files) {
+        Some(_) => Ok(to),
+        None => Err(RuleIL::IL7),
+    }
+}
+
+// The rules on the token of a command of the domain in a slot, which are for a delegated one.
+fn judge_load_token(tables: &Tables, domain: u8, signed: &Signed<'_>) -> Result<(), RuleTK>
+    requires in_order { IsInOrder tables.now }
+    requires short { length signed.now.before.now ≤ 255 }
+    ensures passed { (page : ℕ → List ℕ) (admitted : Admitted) → ActsIn page tables.now domain admitted → IsSignedFor admitted signed.now
+        → OnOk result (IsFirst (LoadTokenFails admitted (approval_of signed.now)) token_rules None) }
+    ensures refused { (page : ℕ → List ℕ) (admitted : Admitted) → ActsIn page tables.now domain admitted → IsSignedFor admitted signed.now
+        → IfErr result (λ rule. IsFirst (LoadTokenFails admitted (approval_of signed.now)) token_rules (Some rule)) }
+{
+    if !holds(&tables.entries, domain, Privileges::DELEGATED_MANAGEMENT) {
+        return Ok(());
+    }
+    judge_token(tables, domain, signed)
+}
+
+/// Judges an INSTALL [for load] for the domain in a slot: the slot of the security domain of the Executable Load File. What is kept of
+/// the state beside the tables tells the load session.
+pub fn judge_load_install(
+    tables: &Tables,
+    live: &Live,
+    domain: u8,
+    request: &LoadInstallRequest<'_>,
+) -> Result<u8, Rule>
+    requires in_order { IsInOrder tables.now }
+    requires short { length request.now.signed.before.now ≤ 255 }
+    ensures passed { (page : ℕ → List ℕ) (admitted : Admitted) → ActsIn page tables.now domain admitted
+        → IsLoadNamed tables.now.entries.items live.now.load admitted.at.volatile.load
+        → IsLoadInstallOf request.now admitted.command → OnOk result (IsFirst (InstallLoadFails admitted) install_load_rules None) }
+    ensures refused { (page : ℕ → List ℕ) (admitted : Admitted) → ActsIn page tables.now domain admitted
+        → IsLoadNamed tables.now.entries.items live.now.load admitted.at.volatile.load
+        → IsLoadInstallOf request.now admitted.command → IfErr result (λ rule. IsFirst (InstallLoadFails admitted) install_load_rules (Some rule)) }
+    ensures found { (page : ℕ → List ℕ) (admitted : Admitted) → ActsIn page tables.now domain admitted → (is : IsLoadInstallOf request.now admitted.command)
+        → IfOk result (λ slot. aid_of tables.now (Entry slot) ≡ Some (file_domain_for admitted is.given)) }
+    ensures hash { OnOk result (IsHashLength (length request.now.hash.now)) }
+    ensures free { OnOk result ((thing : Thing) → aid_of tables.now thing ≢ Some request.now.file) }
+    ensures room { OnOk result (NoneFree tables.now.files.items → ⊥) }
+{
+    judge_management(tables, domain)?;
+    let to = match judge_loading(tables, live, domain, request) {
+        Ok(to) => to,
+        Err(rule) => return Err(Rule::IL(rule)),
+    };
+    match judge_load_token(tables, domain, &request.signed) {
+        Ok(()) => Ok(to),
+        Err(rule) => Err(Rule::TK(rule)),
+    }
+}
