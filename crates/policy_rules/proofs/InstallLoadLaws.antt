@@ -113,4 +113,5 @@ install_load_lawful managed = record {
   one = install_load_one;
   quiet = λ unmanaged. absurd (unmanaged managed);
   without_place = λ other admitted done none does. subst (λ (v : Volatile). HasNoPlaceOn v admitted.channel) (sym does.volatile) none;
+  loads_stay = λ admitted done takes other does. absurd (other (inr (takes.0, takes.1.0)));
 }
