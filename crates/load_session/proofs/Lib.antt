@@ -2,6 +2,6 @@ pub mod Digests
 pub mod PagesInUse
 pub mod Writes
 pub mod PagesKept
-pub mod Adding
+pub mod Loading
 pub mod Judged
 pub mod Stays

@@ -1,8 +1,12 @@
--- Laws of load sessions beside other commands.
-use Rattle.std.specs.Prelude.{◌≡◌, ℕ, List, Contains}
-use Rattle.card_types.specs.Represents.{domain_aid}
+-- Laws of load sessions beside other commands, and of load pages that are written.
+use Rattle.std.specs.Prelude.{◌≡◌, ℕ, List, All, Contains}
+use Rattle.card_check.specs.IsCard.{HasPages}
+use Rattle.card_types.specs.Registry.{Registry}
+use Rattle.card_types.specs.Represents.{Represents, domain_aid}
 use Rattle.card_types.specs.declared.tables.Tables.{Tables}
+use Rattle.load_session.specs.Loaded.{IsWhole, loaded, numbers}
 use Rattle.load_session.specs.Session.{IsReady, RepresentsLoad, pages_taken, load_slot}
+use Rattle.load_session.specs.declared.load_write.LoadWrite.{LoadWrite}
 use Rattle.load_session.specs.declared.session.LoadSession.{LoadSession}
 use Rattle.policy_rules.specs.Volatile as volatile
 use Rattle.rec_store.specs.Reopens.{IsFree}
@@ -19,3 +23,11 @@ SessionStays = (page then : ℕ → List ℕ) (before after : Tables) (kept : Lo
     → ((number : ℕ) → Contains (pages_taken kept) number → then number ≡ page number)
     → domain_aid after.entries.items (load_slot kept) ≡ domain_aid before.entries.items (load_slot kept)
     → RepresentsLoad page before kept load → RepresentsLoad then after kept load
+
+-- pages are written that no Executable Load File of the tables has
+abbrev pub TablesSayTheSame : Type 0
+TablesSayTheSame = (page : ℕ → List ℕ) (tables : Tables) (writes : List LoadWrite) (registry : Registry) → All (IsFree tables) (numbers writes)
+    → Represents page tables registry → Represents (loaded page writes) tables registry
+
+abbrev pub PagesStayWhole : Type 0
+PagesStayWhole = (page : ℕ → List ℕ) (writes : List LoadWrite) → All IsWhole writes → HasPages page → HasPages (loaded page writes)

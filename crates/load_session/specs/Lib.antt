@@ -1,7 +1,7 @@
 pub mod Hash
 pub mod Judging
 pub mod Laws
+pub mod Loaded
 pub mod Paged
 pub mod Pages
 pub mod Session
-pub mod Written

@@ -1,19 +1,20 @@
 //! The bytes of an Executable Load File that comes: in load pages, and the last ones in memory.
 
-ghost use Rattle.std.specs.Prelude.{◌≡◌, ◌+◌, ◌<◌, ◌≤◌, ◌++◌, ℕ, [], ◌∷◌, true, Contains, OnOk, length, map, take};
+ghost use Rattle.std.specs.Prelude.{◌≡◌, ◌+◌, ◌<◌, ◌≤◌, ◌++◌, ℕ, [], List, length, map, take};
 ghost use Rattle.std.specs.List.{concat};
+ghost use Rattle.card_check.specs.IsCard.{HasPages};
 ghost use Rattle.card_types.specs.Well.{pages_of};
 ghost use Rattle.card_types.specs.declared.limits.TheConstants.{LOAD_PAGES};
-ghost use Rattle.faults.specs.Faults.{HasCause};
+ghost use Rattle.load_session.specs.Loaded.{AreTaken, loaded};
 ghost use Rattle.load_session.specs.Pages.{AreOwn, pages_in};
 ghost use Rattle.load_session.specs.Paged.{HasLoadRoom, IsOpen, bytes_in, padded, size_of};
-ghost use Rattle.load_session.specs.Written.{IsLoadWritten};
-ghost use Rattle.rec_store.specs.Reopens.{load_page};
+ghost use Rattle.rec_store.specs.StoredTables.{AreRoomy};
 
 use crate::free_page::free_page;
+use crate::load_write::{LoadWrite, WRITES};
 use arrayvec::ArrayVec;
-use flash_core::{Flash, FlashFailed, Page};
-use rec_store::Records;
+use card_types::Tables;
+use flash_core::Page;
 
 /// Bytes in load pages, and behind them those that fill none yet.
 #[derive(Drop)]
@@ -42,70 +43,77 @@ impl PagedBytes {
         256 * self.pages.len() + self.rest.len()
     }
 
-    /// Adds bytes, and writes each page that is full.
-    pub(crate) fn add<F: Flash>(
+    /// Adds bytes. A page that is full is to be written.
+    pub(crate) fn add(
         &mut self,
-        records: &mut Records<F>,
+        tables: &Tables,
         bytes: &[u8],
-    ) -> Result<(), FlashFailed>
-        requires live { records.old.live ≡ true }
-        requires ready { IsOpen records.old.tables self.old }
-        requires room { HasLoadRoom records.old.tables self.old (length bytes.now) }
-        ensures ready { OnOk result (IsOpen records.old.tables self.new) }
-        ensures size { OnOk result (size_of self.new ≡ size_of self.old + length bytes.now) }
-        ensures bytes { F.tells → OnOk result (bytes_in (load_page (F.pages records.new.flash)) self.new
-            ≡ bytes_in (load_page (F.pages records.old.flash)) self.old ++ bytes.now) }
-        ensures grown { OnOk result ((page : ℕ) → Contains self.old.pages.items page → Contains self.new.pages.items page) }
-        ensures written { IsLoadWritten F.Flash self.old.pages.items records.old records.new }
-        ensures cause { HasCause (F.faults records.old.flash) (F.faults records.new.flash) result }
+        writes: &mut ArrayVec<LoadWrite, WRITES>,
+    )
+        requires roomy { AreRoomy tables.now }
+        requires ready { IsOpen tables.now self.old }
+        requires room { HasLoadRoom tables.now self.old (length bytes.now) }
+        requires short { length bytes.now ≤ 255 }
+        requires none { writes.old.items ≡ [] }
+        ensures ready { IsOpen tables.now self.new }
+        ensures size { size_of self.new ≡ size_of self.old + length bytes.now }
+        ensures bytes { (page : ℕ → List ℕ) → bytes_in (loaded page writes.new.items) self.new ≡ bytes_in page self.old ++ bytes.now }
+        ensures taken { AreTaken tables.now self.old.pages.items self.new.pages.items writes.new.items }
+        ensures few { length writes.new.items ≤ 1 }
     {
-        for byte in bytes {
-            self.rest.push(*byte);
-            if self.rest.is_full() {
-                self.write_rest(records)?;
-            }
+        let free = self.rest.remaining_capacity();
+        if bytes.len() < free {
+            self.rest.try_extend_from_slice(bytes).unwrap();
+            return;
         }
-        Ok(())
+        let (first, later) = bytes.split_at(free);
+        self.rest.try_extend_from_slice(first).unwrap();
+        self.write_rest(tables, writes);
+        self.rest.try_extend_from_slice(later).unwrap();
     }
 
-    /// Writes the last page, where it has bytes.
-    pub(crate) fn close<F: Flash>(&mut self, records: &mut Records<F>) -> Result<(), FlashFailed>
-        requires live { records.old.live ≡ true }
-        requires ready { IsOpen records.old.tables self.old }
-        requires room { HasLoadRoom records.old.tables self.old 0 }
-        ensures own { OnOk result (AreOwn records.old.tables self.new.pages.items) }
-        ensures whole { OnOk result (length self.new.pages.items ≡ pages_of (size_of self.old)) }
-        ensures bytes { F.tells → OnOk result (take (size_of self.old) (concat (map (load_page (F.pages records.new.flash)) self.new.pages.items))
-            ≡ bytes_in (load_page (F.pages records.old.flash)) self.old) }
-        ensures written { IsLoadWritten F.Flash self.old.pages.items records.old records.new }
-        ensures cause { HasCause (F.faults records.old.flash) (F.faults records.new.flash) result }
+    /// The last page, where it has bytes, is to be written too.
+    pub(crate) fn close(&mut self, tables: &Tables, writes: &mut ArrayVec<LoadWrite, WRITES>)
+        requires roomy { AreRoomy tables.now }
+        requires ready { IsOpen tables.now self.old }
+        requires room { HasLoadRoom tables.now self.old 0 }
+        requires few { length writes.old.items ≤ 1 }
+        ensures own { AreOwn tables.now self.new.pages.items }
+        ensures whole { length self.new.pages.items ≡ pages_of (size_of self.old) }
+        ensures bytes { (page : ℕ → List ℕ) → HasPages (loaded page writes.old.items)
+            → take (size_of self.old) (concat (map (loaded page writes.new.items) self.new.pages.items)) ≡ bytes_in (loaded page writes.old.items) self.old }
+        ensures taken { (taken : List ℕ) → AreTaken tables.now taken self.old.pages.items writes.old.items
+            → AreTaken tables.now taken self.new.pages.items writes.new.items }
     {
         if self.rest.is_empty() {
-            return Ok(());
+            return;
         }
-        self.write_rest(records)?;
-        Ok(())
+        self.write_rest(tables, writes);
     }
 
-    // Writes the bytes that are in no page to one, with zeros behind them.
-    fn write_rest<F: Flash>(&mut self, records: &mut Records<F>) -> Result<(), FlashFailed>
-        requires live { records.old.live ≡ true }
-        requires own { AreOwn records.old.tables self.old.pages.items }
+    // The bytes that are in no page are to be written to one, with zeros behind them.
+    fn write_rest(&mut self, tables: &Tables, writes: &mut ArrayVec<LoadWrite, WRITES>)
+        requires roomy { AreRoomy tables.now }
+        requires own { AreOwn tables.now self.old.pages.items }
         requires few { length self.old.pages.items < 128 }
-        requires room { pages_in records.old.tables + length self.old.pages.items < LOAD_PAGES }
-        ensures own { OnOk result (AreOwn records.old.tables self.new.pages.items) }
-        ensures pages { OnOk result ((page : ℕ) × (self.new.pages.items ≡ self.old.pages.items ++ page ∷ [])) }
-        ensures rest { OnOk result (self.new.rest.items ≡ []) }
-        ensures bytes { F.tells → OnOk result (concat (map (load_page (F.pages records.new.flash)) self.new.pages.items)
-            ≡ concat (map (load_page (F.pages records.old.flash)) self.old.pages.items) ++ padded self.old.rest.items) }
-        ensures written { IsLoadWritten F.Flash self.old.pages.items records.old records.new }
-        ensures cause { HasCause (F.faults records.old.flash) (F.faults records.new.flash) result }
+        requires room { pages_in tables.now + length self.old.pages.items < LOAD_PAGES }
+        requires place { length writes.old.items < WRITES }
+        ensures own { AreOwn tables.now self.new.pages.items }
+        ensures pages { length self.new.pages.items ≡ length self.old.pages.items + 1 }
+        ensures writes { length writes.new.items ≡ length writes.old.items + 1 }
+        ensures rest { self.new.rest.items ≡ [] }
+        ensures bytes { (page : ℕ → List ℕ) → concat (map (loaded page writes.new.items) self.new.pages.items)
+            ≡ concat (map (loaded page writes.old.items) self.old.pages.items) ++ padded self.old.rest.items }
+        ensures taken { (taken : List ℕ) → AreTaken tables.now taken self.old.pages.items writes.old.items
+            → AreTaken tables.now taken self.new.pages.items writes.new.items }
     {
-        let page = free_page(records.tables(), &self.pages);
-        records.write_load(page, &page_of(&self.rest))?;
-        self.pages.push(page);
+        let number = free_page(tables, &self.pages);
+        writes.push(LoadWrite {
+            number,
+            page: page_of(&self.rest),
+        });
+        self.pages.push(number);
         self.rest.clear();
-        Ok(())
     }
 }
 

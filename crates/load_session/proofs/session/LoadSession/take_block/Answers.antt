@@ -1,12 +1,44 @@
-use Rattle.load_session.proofs.Writes.{writes_on}
+use Rattle.std.proofs.Common.{◌≡◌, ◌++◌, ◌+◌, ◌-◌, drop, take, true, ℕ, List, Some, refl, ap, sym, subst, ◌∙◌}
+use Rattle.std.specs.Prelude.{length, map}
+use Rattle.std.specs.List.{concat}
+use Rattle.card_types.specs.Well.{pages_of}
+use Rattle.load_session.proofs.Judged.{up_to_end}
+use Rattle.load_session.proofs.Loading.{pages_stay_whole}
+use Rattle.load_session.specs.Loaded.{loaded}
+use Rattle.load_session.specs.Paged.{size_of}
+use Rattle.load_session.specs.Session.{RepresentsAfter, RepresentsWhole}
+use Rattle.load_session.specs.declared.session.LoadSession.{LoadSession}
+use Rattle.policy_rules.specs.LoadBlocks.{with_block}
 use Rattle.load_session.proofs.session.LoadSession.take_block.Goals as goal
 
-pub returns-in_err-close-clause-written : goal.returns-in_err-close-clause-written
-returns-in_err-close-clause-written g c =
-    writes_on g.F.Flash c.args.self.now.paged.pages.items c.add.new.self.pages.items c.args.records.now c.add.new.records c.close.new.records c.in_ok-add.ensures.grown c.add.ensures.written
-    c.close.ensures.written
-
-pub returns-clause-written : goal.returns-clause-written
-returns-clause-written g c =
-    writes_on g.F.Flash c.args.self.now.paged.pages.items c.add.new.self.pages.items c.args.records.now c.add.new.records c.close.new.records c.in_ok-add.ensures.grown c.add.ensures.written
-    c.close.ensures.written
+pub returns-clause-stands : goal.returns-clause-stands
+returns-clause-stands c page load has stands =
+    let block = c.args.block.now in
+    let start = c.args.taken.start in
+    let bytes = take (length block - start) (drop start block) in
+    let sent : bytes ≡ drop start block = up_to_end block start in
+    let after = loaded page c.close.new.writes.items in
+    let kept : LoadSession = record c.args.self.now { announced = Some c.args.taken.size; hasher = c.feed.new.self; paged = c.close.new.self; blocks = c.args.self.now.blocks + 1 } in
+    let last : c.args.last ≡ true = cc (c.if-not-last.false) in
+    let size : size_of c.add.new.self ≡ c.args.taken.size = c.add.ensures.size ∙ ap (λ (b : List ℕ). size_of c.args.self.now.paged + length b) sent ∙ c.requires.taken.all last in
+    let whole : RepresentsWhole after c.args.tables.now kept (with_block load c.args.taken.size (drop start block)) = record {
+      of = record {
+        aid = stands.of.aid;
+        domain = stands.of.domain;
+        hash = stands.of.hash;
+        announced = refl;
+        blocks = ap (λ n. n + 1) stands.of.blocks;
+      };
+      whole = record {
+        own = c.close.ensures.own;
+        pages = c.close.ensures.whole ∙ ap pages_of size;
+        limit = c.requires.taken.limit;
+      };
+      bytes =
+          ap (λ n. take n (concat (map after c.close.new.self.pages.items))) (sym size)
+          ∙ c.close.ensures.bytes page (pages_stay_whole page c.add.new.writes.items c.add.ensures.taken.new.whole has)
+          ∙ c.add.ensures.bytes page
+          ∙ ap (λ (front : List ℕ). front ++ bytes) stands.bytes
+          ∙ ap (λ (b : List ℕ). load.bytes ++ b) sent;
+    } in
+    subst (λ end. RepresentsAfter end after c.args.tables.now kept (with_block load c.args.taken.size (drop start block))) (sym last) whole

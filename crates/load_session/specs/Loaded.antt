@@ -1,0 +1,33 @@
+-- Load pages that are to be written, and what load pages hold then.
+use Rattle.std.specs.Prelude.{◌≡◌, ◌==◌, ℕ, List, [], ◌∷◌, ◌++◌, All, Contains, if◌then◌else◌, length, map}
+use Rattle.card_types.specs.declared.tables.Tables.{Tables}
+use Rattle.load_session.specs.Pages.{AreOwn}
+use Rattle.load_session.specs.declared.load_write.LoadWrite.{LoadWrite}
+
+-- load pages with one written
+abbrev pub page_written : (ℕ → List ℕ) → LoadWrite → ℕ → List ℕ
+page_written page write number = if number == write.number then write.page.bytes else page number
+
+-- and with each of these, one after the other
+abbrev pub loaded : (ℕ → List ℕ) → List LoadWrite → ℕ → List ℕ
+loaded page [] = page
+loaded page (write ∷ rest) = loaded (page_written page write) rest
+
+-- which pages are written
+abbrev pub numbers : List LoadWrite → List ℕ
+numbers writes = map (λ write. write.number) writes
+
+-- the write is of 256 bytes
+abbrev pub IsWhole : LoadWrite → Type 0
+IsWhole write = length write.page.bytes ≡ 256
+
+-- load pages that no file of the tables names, none twice, and none of them taken before
+pub record AreNewPages (tables : Tables) (taken : List ℕ) (writes : List LoadWrite) : Type 0 where
+  pub own : AreOwn tables (numbers writes)
+  pub apart : All (λ page. Contains taken page → ⊥) (numbers writes)
+  pub whole : All IsWhole writes
+
+-- the pages are those that were taken, and behind them those that are to be written
+pub record AreTaken (tables : Tables) (taken pages : List ℕ) (writes : List LoadWrite) : Type 0 where
+  pub new : AreNewPages tables taken writes
+  pub pages_are : pages ≡ taken ++ numbers writes

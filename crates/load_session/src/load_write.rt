@@ -1,0 +1,46 @@
+//! Load pages that are to be written.
+
+ghost use Rattle.std.specs.Prelude.{◌≡◌, [], true, All, IsOk, OnOk};
+ghost use Rattle.card_check.specs.IsCard.{IsLoadPage};
+ghost use Rattle.card_types.specs.Registry.{Registry};
+ghost use Rattle.faults.specs.Faults.{HasCause};
+ghost use Rattle.load_session.specs.Loaded.{loaded, numbers};
+ghost use Rattle.page_journal.specs.Moments.{LeavesOnly};
+ghost use Rattle.rec_store.specs.Reopens.{IsSpare, Keeps, Reopens, load_page};
+
+use flash_core::{Flash, FlashFailed, Page};
+use rec_store::Records;
+
+/// A load page that is to be written: its number, and its bytes.
+#[derive(Clone, Copy, Debug)]
+pub struct LoadWrite {
+    pub number: u16,
+    pub page: Page,
+}
+
+/// How many load pages one block may fill, the last one among them.
+pub const WRITES: usize = 2;
+
+/// Writes load pages, one after the other.
+pub fn write_pages<F: Flash>(
+    records: &mut Records<F>,
+    writes: &[LoadWrite],
+) -> Result<(), FlashFailed>
+    requires live { records.old.live ≡ true }
+    requires range { All IsLoadPage (numbers writes.now) }
+    ensures bytes { F.tells → OnOk result (load_page (F.pages records.new.flash) ≡ loaded (load_page (F.pages records.old.flash)) writes.now) }
+    ensures same { (records.new.tables ≡ records.old.tables) × (records.new.staged ≡ records.old.staged) × (records.new.live ≡ true) }
+    // Where no file on the device has one of the pages, power lost at any moment leaves the registry.
+    ensures moments { F.tells → All (IsSpare F.Flash records.old.flash) (numbers writes.now)
+        → (registry : Registry) → Keeps F.Flash records.old.flash registry
+        → LeavesOnly F.Flash records.old.flash records.new.flash (λ outcome. Reopens outcome registry) }
+    ensures keeps { F.tells → All (IsSpare F.Flash records.old.flash) (numbers writes.now)
+        → (registry : Registry) → Keeps F.Flash records.old.flash registry → Keeps F.Flash records.new.flash registry }
+    ensures idle { writes.now ≡ [] → IsOk result × (records.new ≡ records.old) }
+    ensures cause { HasCause (F.faults records.old.flash) (F.faults records.new.flash) result }
+{
+    for write in writes {
+        records.write_load(write.number, &write.page)?;
+    }
+    Ok(())
+}
