@@ -35,6 +35,7 @@ pub mod Laws
 pub mod MakeSelectable
 pub mod ManageChannel
 pub mod LiveEnds
+pub mod Load
 pub mod LoadBlocks
 pub mod Management
 pub mod ObjectsFound

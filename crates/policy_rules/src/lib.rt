@@ -23,6 +23,7 @@ mod key_order;
 mod laws;
 mod literals;
 mod live;
+mod load;
 mod make_selectable;
 mod manage_channel;
 mod management;
@@ -59,6 +60,7 @@ pub use laws::{
 };
 pub use literals::{classes, constants, key_fields, status_words};
 pub use live::{CHANNELS, Live, LoadName, Place};
+pub use load::RuleLO;
 pub use make_selectable::{RuleMS, SelectableRequest, Selecting, judge_selectable};
 pub use manage_channel::{RuleMC, judge_more_channel};
 pub use management::RuleM;

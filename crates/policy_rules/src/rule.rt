@@ -15,6 +15,7 @@ use crate::get_data::RuleGD;
 use crate::get_status::RuleGS;
 use crate::initialize_update::RuleIU;
 use crate::install_application::RuleII;
+use crate::load::RuleLO;
 use crate::make_selectable::RuleMS;
 use crate::manage_channel::RuleMC;
 use crate::management::RuleM;
@@ -44,6 +45,7 @@ pub enum Rule {
     SC(RuleSC),
     SS(RuleSS),
     GS(RuleGS),
+    LO(RuleLO),
     TK(RuleTK),
     RC(RuleRC),
 }
@@ -110,6 +112,7 @@ impl Rule {
             Rule::SC(rule) => rule.status(),
             Rule::SS(rule) => rule.status(),
             Rule::GS(rule) => rule.status(),
+            Rule::LO(rule) => rule.status(),
             Rule::TK(rule) => rule.status(),
             Rule::RC(rule) => rule.status(),
         }
@@ -119,7 +122,7 @@ impl Rule {
     pub fn keeps_load(&self) -> bool
         ensures { result ≡ keeps_load_by self.now }
     {
-        matches!(self, Rule::PS(RulePS::P))
+        matches!(self, Rule::PS(RulePS::P) | Rule::LO(RuleLO::LO2))
     }
 
     /// The rule's name.
@@ -153,6 +156,7 @@ impl Rule {
             Rule::SC(rule) => rule.name(),
             Rule::SS(rule) => rule.name(),
             Rule::GS(rule) => rule.name(),
+            Rule::LO(rule) => rule.name(),
             Rule::TK(rule) => rule.name(),
             Rule::RC(rule) => rule.name(),
         }
