@@ -37,6 +37,8 @@ pub mod ManageChannel
 pub mod LiveEnds
 pub mod Load
 pub mod LoadBlocks
+pub mod LoadLaws
+pub mod LoadRequests
 pub mod Management
 pub mod ObjectsFound
 pub mod PutKey
