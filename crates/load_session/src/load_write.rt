@@ -10,12 +10,23 @@ ghost use Rattle.rec_store.specs.Reopens.{IsSpare, Keeps, Reopens, load_page};
 
 use flash_core::{Flash, FlashFailed, Page};
 use rec_store::Records;
+use std::default::Default;
 
 /// A load page that is to be written: its number, and its bytes.
 #[derive(Clone, Copy, Debug)]
 pub struct LoadWrite {
     pub number: u16,
     pub page: Page,
+}
+
+impl Default for LoadWrite {
+    /// Zeros in a page of no number that is written.
+    fn default() -> LoadWrite {
+        LoadWrite {
+            number: 0,
+            page: Page { bytes: [0; 256] },
+        }
+    }
 }
 
 /// How many load pages one block may fill, the last one among them.

@@ -76,6 +76,10 @@ pub receipt_refuses : (admitted : Admitted) (approval : Approval) (rule : RuleRC
     → IsFirst (DelegatedFails admitted approval) (RC RC1 ∷ []) (Some (RC rule))
 receipt_refuses admitted approval RC1 fails = inl (fails, refl)
 
+-- there is one rule on the receipt
+pub receipt_rule : (admitted : Admitted) (rule : RuleRC) → ReceiptFails admitted rule → ReceiptFails admitted RC1
+receipt_rule admitted RC1 fails = fails
+
 -- a receipter that may make another receipt, or none, is no reason to refuse
 pub receipt_passes : (page : ℕ → List ℕ) (tables : Tables) (domain : ℕ) (admitted : Admitted) → ActsIn page tables domain admitted → (found : Option ℕ)
     → FindsReceipter tables admitted found → ReceiptFails admitted RC1 → ⊥

@@ -32,6 +32,7 @@ module _ (before after : Registry) (keeps : KeepsThings before after) where
   load_still volatile None free well = tt
   load_still volatile (Some load) free well = record {
     session = well.session;
+    aid = well.aid;
     no_entry = free;
     no_file = subst (λ (files : List LoadFile). file_named (record before { files = files }) load.aid ≡ None) (sym keeps.files) well.no_file;
     domain = keeps.domains load.domain well.domain;

@@ -59,6 +59,10 @@ pub mod LengthFields
 pub mod LoadsLeft
 pub mod MakeSelectableJudging
 pub mod MakeSelectableLaws
+pub mod LoadBlocksBrought
+pub mod LoadJudging
+pub mod LoadLaws
+pub mod LoadNamed
 pub mod ManageChannelLaws
 pub mod ManagementFirst
 pub mod MovedFits

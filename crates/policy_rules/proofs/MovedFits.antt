@@ -35,6 +35,7 @@ module _ (registry : Registry) (files : List LoadFile)
   load_still volatile None well = tt
   load_still volatile (Some load) well = record {
     session = well.session;
+    aid = well.aid;
     no_entry = well.no_entry;
     no_file = unnamed load.aid well.no_file;
     domain = well.domain;

@@ -48,6 +48,7 @@ module _ (before after : Registry) (volatile : Volatile) (keeps : KeepsHeld befo
       let here : IsLoadedInto volatile load.domain = subst (λ (o : Option LoadSession). MatchOption o ⊥ (λ l. l.domain ≡ load.domain)) (sym at) refl in
       record {
         session = well.session;
+        aid = well.aid;
         no_entry = keeps.no_entry load.aid well.no_entry;
         no_file = keeps.no_file load.aid well.no_file;
         domain = domain_kept load.domain (inr here) well.domain;

@@ -19,6 +19,7 @@ module _ (registry : Registry) (life : CardLife) (keys : List Key) (counters : L
   load_still volatile None well = tt
   load_still volatile (Some load) well = record {
     session = well.session;
+    aid = well.aid;
     no_entry = well.no_entry;
     no_file = well.no_file;
     domain = well.domain;

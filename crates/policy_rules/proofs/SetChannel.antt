@@ -46,6 +46,7 @@ pub load_goes_on : (registry : Registry) (before after : Volatile) (load : Optio
 load_goes_on registry before after None well kept = tt
 load_goes_on registry before after (Some opened) well kept = record {
   session = kept opened refl well.session;
+  aid = well.aid;
   no_entry = well.no_entry;
   no_file = well.no_file;
   domain = well.domain;

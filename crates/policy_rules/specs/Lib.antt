@@ -37,7 +37,10 @@ pub mod Laws
 pub mod MakeSelectable
 pub mod ManageChannel
 pub mod LiveEnds
+pub mod Load
 pub mod LoadBlocks
+pub mod LoadLaws
+pub mod LoadRequests
 pub mod Management
 pub mod ObjectsFound
 pub mod PutKey

@@ -1,5 +1,6 @@
--- What the code keeps of the channels and of the load session: how it begins, where some of it ends, and a place in a listing.
-use Rattle.std.specs.Prelude.{ℕ, [], ◌∷◌, Option, None, Some, slice_set, if◌then◌else◌, ◌==◌}
+-- What the code keeps of the channels and of the load session: how it begins, where some of it ends, a place in a listing,
+-- and a block that is counted.
+use Rattle.std.specs.Prelude.{ℕ, ◌+◌, [], ◌∷◌, Option, None, Some, slice_set, if◌then◌else◌, ◌==◌}
 use Rattle.card_types.specs.declared.tables.TheConstants.{ISSUER_SLOT}
 use Rattle.policy_rules.specs.declared.live.Live.{Live}
 use Rattle.policy_rules.specs.declared.live.LoadName.{LoadName}
@@ -29,6 +30,14 @@ live_with_load live load = record { selected = live.selected; load = Some load; 
 -- the channel's load session has ended
 abbrev pub live_without_load : Live → ℕ → Live
 live_without_load live number = record { selected = live.selected; load = kept_of_others number live.load; places = live.places }
+
+-- one more block of the load session has come
+abbrev pub counted : Option LoadName → Option LoadName
+counted None = None
+counted (Some load) = Some (record { channel = load.channel; aid = load.aid; domain = load.domain; next = load.next + 1 })
+
+abbrev pub live_with_block : Live → Live
+live_with_block live = record { selected = live.selected; load = counted live.load; places = live.places }
 
 -- the channel has this selected, or is closed, and all that it had has ended
 abbrev pub live_with_channel : Live → ℕ → Option ℕ → Live

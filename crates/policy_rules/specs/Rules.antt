@@ -14,6 +14,7 @@ use Rattle.policy_rules.specs.GetStatus.{get_status_refusal}
 use Rattle.policy_rules.specs.InitializeUpdate.{initialize_update_refusal}
 use Rattle.policy_rules.specs.InstallApplication.{install_refusal}
 use Rattle.policy_rules.specs.InstallLoad.{install_load_refusal}
+use Rattle.policy_rules.specs.Load.{load_refusal}
 use Rattle.policy_rules.specs.MakeSelectable.{selectable_refusal}
 use Rattle.policy_rules.specs.ManageChannel.{manage_channel_refusal}
 use Rattle.policy_rules.specs.Management.{management_refusal}
@@ -54,6 +55,7 @@ refusal_by (group.DO rule) = delete_object_refusal rule
 refusal_by (group.SC rule) = card_status_refusal rule
 refusal_by (group.SS rule) = entry_status_refusal rule
 refusal_by (group.GS rule) = get_status_refusal rule
+refusal_by (group.LO rule) = load_refusal rule
 refusal_by (group.TK rule) = token_refusal rule
 refusal_by (group.RC rule) = receipt_refusal rule
 

@@ -2,6 +2,7 @@
 -- what it holds while it has power goes with it.
 use Rattle.std.specs.Prelude.{◌≡◌, ◌≢◌, ◌⊎◌, ℕ, ◌+◌, ◌<◌, ◌≤◌, List, length, Option, None, Some, MatchOption, IsSome}
 use Rattle.std.specs.List.{sum_by}
+use Rattle.card_types.specs.Aid.{IsAid}
 use Rattle.card_types.specs.Ascending.{IsAscending}
 use Rattle.card_types.specs.Registry.{Registry, entry_named, file_named}
 use Rattle.card_types.specs.Well.{IsDomainNamed, IsKeyLength, Well, pages_of}
@@ -51,6 +52,7 @@ IsHashLength size = (size ≡ 0) ⊎ (size ≡ 20) ⊎ (size ≡ 32)
 
 pub record IsWellLoad (registry : Registry) (volatile : Volatile) (load : LoadSession) : Type 0 where
   pub session : MatchOption (channel_at volatile load.channel) ⊥ (λ channel. IsSecured channel.secure_channel)
+  pub aid : IsAid load.aid
   pub no_entry : entry_named registry load.aid ≡ None
   pub no_file : file_named registry load.aid ≡ None
   pub domain : IsDomainNamed registry load.domain

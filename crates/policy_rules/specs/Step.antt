@@ -9,8 +9,9 @@ use Rattle.policy_rules.specs.FirstFailing.{IsFirst}
 use Rattle.policy_rules.specs.Rules.{status_of}
 use Rattle.policy_rules.specs.State.{Effect, State}
 use Rattle.policy_rules.specs.Volatile.{Volatile, with_offer_dropped, without_load}
+use Rattle.policy_rules.specs.declared.load.RuleLO.TheVariants.{LO2}
 use Rattle.policy_rules.specs.declared.rule.Rule.{Rule}
-use Rattle.policy_rules.specs.declared.rule.Rule.TheVariants.{G, PS}
+use Rattle.policy_rules.specs.declared.rule.Rule.TheVariants.{G, LO, PS}
 use Rattle.policy_rules.specs.declared.rule.RuleG.{RuleG}
 use Rattle.policy_rules.specs.declared.rule.RulePS.TheVariants.{P}
 
@@ -36,6 +37,7 @@ refused state left session found = record {
 -- a rule that leaves the channel's load session: after it the host may go on with LOAD
 abbrev pub keeps_load : Rule → Bool
 keeps_load (PS P) = true
+keeps_load (LO LO2) = true
 keeps_load rule = false
 
 -- what a refusal by a rule of the command's own leaves: no offer, so EXTERNAL AUTHENTICATE loses the one that it answers, and no load

@@ -218,7 +218,7 @@ pub(crate) fn judge_token(tables: &Tables, domain: u8, signed: &Signed<'_>) -> R
 }
 
 // The slot of the domain that confirms a delegated command of the domain in a slot, unless there is none.
-fn judge_receipt(tables: &Tables, domain: u8) -> Result<Option<u8>, RuleRC>
+pub(crate) fn judge_receipt(tables: &Tables, domain: u8) -> Result<Option<u8>, RuleRC>
     requires in_order { IsInOrder tables.now }
     ensures found { (page : ℕ → List ℕ) (admitted : Admitted) → ActsIn page tables.now domain admitted → IfOk result (FindsReceipter tables.now admitted) }
     ensures refused { (page : ℕ → List ℕ) (admitted : Admitted) → ActsIn page tables.now domain admitted → IfErr result (ReceiptFails admitted) }

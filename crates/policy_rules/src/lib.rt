@@ -24,6 +24,7 @@ mod key_order;
 mod laws;
 mod literals;
 mod live;
+mod load;
 mod make_selectable;
 mod manage_channel;
 mod management;
@@ -61,6 +62,9 @@ pub use laws::{
 };
 pub use literals::{classes, constants, key_fields, status_words};
 pub use live::{CHANNELS, Live, LoadName, Place};
+pub use load::{
+    LoadRequest, RuleLO, judge_load, judge_loaded, judge_loaded_by, load_laws, parse_load,
+};
 pub use make_selectable::{RuleMS, SelectableRequest, Selecting, judge_selectable};
 pub use manage_channel::{RuleMC, judge_more_channel};
 pub use management::RuleM;

@@ -50,7 +50,7 @@ pub struct Live {
 }
 
 impl Live {
-    ghost use Rattle.policy_rules.specs.LiveEnds.{first_live, live_with_channel, live_with_load, live_with_place, live_without_load, live_without_place};
+    ghost use Rattle.policy_rules.specs.LiveEnds.{first_live, live_with_block, live_with_channel, live_with_load, live_with_place, live_without_load, live_without_place};
 
     /// After power on or reset: channel 0 alone is open, with the Issuer Security Domain selected.
     pub fn powered_on() -> Live
@@ -113,6 +113,16 @@ impl Live {
             if load.channel == channel {
                 self.load = None;
             }
+        }
+    }
+
+    /// A block of the load session has come.
+    pub fn count_block(&mut self)
+        requires { IfSome self.old.load (λ load. load.next < 256) }
+        ensures { self.new ≡ live_with_block self.old }
+    {
+        if let Some(load) = &mut self.load {
+            load.next += 1;
         }
     }
 

@@ -16,6 +16,7 @@ use crate::get_status::RuleGS;
 use crate::initialize_update::RuleIU;
 use crate::install_application::RuleII;
 use crate::install_load::RuleIL;
+use crate::load::RuleLO;
 use crate::make_selectable::RuleMS;
 use crate::manage_channel::RuleMC;
 use crate::management::RuleM;
@@ -46,6 +47,7 @@ pub enum Rule {
     SC(RuleSC),
     SS(RuleSS),
     GS(RuleGS),
+    LO(RuleLO),
     TK(RuleTK),
     RC(RuleRC),
 }
@@ -113,6 +115,7 @@ impl Rule {
             Rule::SC(rule) => rule.status(),
             Rule::SS(rule) => rule.status(),
             Rule::GS(rule) => rule.status(),
+            Rule::LO(rule) => rule.status(),
             Rule::TK(rule) => rule.status(),
             Rule::RC(rule) => rule.status(),
         }
@@ -122,7 +125,7 @@ impl Rule {
     pub fn keeps_load(&self) -> bool
         ensures { result ≡ keeps_load_by self.now }
     {
-        matches!(self, Rule::PS(RulePS::P))
+        matches!(self, Rule::PS(RulePS::P) | Rule::LO(RuleLO::LO2))
     }
 
     /// The rule's name.
@@ -157,6 +160,7 @@ impl Rule {
             Rule::SC(rule) => rule.name(),
             Rule::SS(rule) => rule.name(),
             Rule::GS(rule) => rule.name(),
+            Rule::LO(rule) => rule.name(),
             Rule::TK(rule) => rule.name(),
             Rule::RC(rule) => rule.name(),
         }
