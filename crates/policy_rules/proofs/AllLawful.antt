@@ -18,7 +18,8 @@ use Rattle.policy_rules.proofs.DeleteKeyLaws.{delete_key_lawful}
 use Rattle.policy_rules.proofs.DeleteObjectLaws.{delete_object_lawful}
 use Rattle.policy_rules.proofs.DeletionForms.{deletions_apart}
 use Rattle.policy_rules.proofs.InstallApplicationLaws.{install_application_lawful}
-use Rattle.policy_rules.proofs.InstallForms.{AreApart, install_apart, managed, selectable_apart}
+use Rattle.policy_rules.proofs.InstallForms.{AreApart, extradition_apart, install_apart, managed, selectable_apart}
+use Rattle.policy_rules.proofs.InstallLoadLaws.{install_load_lawful}
 use Rattle.policy_rules.proofs.MakeSelectableLaws.{make_selectable_lawful}
 use Rattle.policy_rules.proofs.ExtraditionLaws.{extradition_lawful}
 use Rattle.policy_rules.proofs.CardStatusLaws.{card_status_lawful}
@@ -73,7 +74,8 @@ all_lawful ins =
     (either _ _ _ (alone _ store_data_lawful)
     (either _ _ _ (beside _ _ delete_key_lawful deletions_apart (alone _ (delete_object_lawful deleting)))
     (either _ _ _ (beside _ _ (install_application_lawful managed) install_apart
-    (beside _ _ (make_selectable_lawful managed) selectable_apart (alone _ (extradition_lawful managed))))
+    (beside _ _ (make_selectable_lawful managed) selectable_apart
+    (beside _ _ (extradition_lawful managed) extradition_apart (alone _ (install_load_lawful managed)))))
     (either _ _ _ (beside _ _ (card_status_lawful setting) status_forms_apart (alone _ (entry_status_lawful setting)))
     (either _ _ _ (alone _ get_status_lawful) none))))))))))
 

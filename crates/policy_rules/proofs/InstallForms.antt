@@ -1,11 +1,13 @@
 -- The forms of INSTALL: P1 tells which one takes a command.
-use Rattle.std.proofs.Common.{◌≡◌, ℕ, List, [], ◌∷◌, refl, inl, inr, arith}
-use Rattle.std.specs.Prelude.{Contains}
+use Rattle.std.proofs.Common.{◌≡◌, ℕ, List, [], ◌∷◌, false, refl, sym, ◌∙◌, inl, inr, arith}
+use Rattle.std.specs.Prelude.{Contains, ◌==◌}
+use Rattle.std.proofs.lemmas.Bool.{eqb-false}
 use Rattle.policy_rules.specs.Classes.{managing}
 use Rattle.policy_rules.specs.CommandForm.{CommandForm}
 use Rattle.policy_rules.specs.Commands.{OneOf, Takes}
 use Rattle.policy_rules.specs.Extradition.{extradition}
 use Rattle.policy_rules.specs.InstallApplication.{install_application}
+use Rattle.policy_rules.specs.InstallLoad.{install_load}
 use Rattle.policy_rules.specs.MakeSelectable.{make_selectable}
 
 -- none of the forms takes a command that this one takes
@@ -15,28 +17,24 @@ AreApart form forms = (ins p1 p2 : ℕ) (body : List ℕ) → Takes form ins p1 
 pub managed : Contains managing 0xE6
 managed = (3, omega arith, refl)
 
-not_eight : (p1 : ℕ) → p1 ≡ 0x08 → p1 ≡ 0x04 → ⊥
-not_eight p1 is other = omega arith
+-- a P1 is one byte
+not_both : (p1 a b : ℕ) → (a == b) ≡ false → p1 ≡ a → p1 ≡ b → ⊥
+not_both p1 a b differ is other = eqb-false a b differ (sym is ∙ other)
 
-twelve_not_eight : (p1 : ℕ) → p1 ≡ 0x08 → p1 ≡ 0x0C → ⊥
-twelve_not_eight p1 is other = omega arith
+pub install_apart : AreApart install_application (make_selectable ∷ extradition ∷ install_load ∷ [])
+install_apart ins p1 p2 body (is, (inl four, zero), field) (inl other) = not_both p1 0x04 0x08 refl four other.1.0
+install_apart ins p1 p2 body (is, (inr twelve, zero), field) (inl other) = not_both p1 0x0C 0x08 refl twelve other.1.0
+install_apart ins p1 p2 body (is, (inl four, zero), field) (inr (inl other)) = not_both p1 0x04 0x10 refl four other.1.0
+install_apart ins p1 p2 body (is, (inr twelve, zero), field) (inr (inl other)) = not_both p1 0x0C 0x10 refl twelve other.1.0
+install_apart ins p1 p2 body (is, (inl four, zero), field) (inr (inr (inl other))) = not_both p1 0x04 0x02 refl four other.1.0
+install_apart ins p1 p2 body (is, (inr twelve, zero), field) (inr (inr (inl other))) = not_both p1 0x0C 0x02 refl twelve other.1.0
+install_apart ins p1 p2 body takes (inr (inr (inr none))) = none
 
-not_sixteen : (p1 : ℕ) → p1 ≡ 0x10 → p1 ≡ 0x04 → ⊥
-not_sixteen p1 is other = omega arith
+pub selectable_apart : AreApart make_selectable (extradition ∷ install_load ∷ [])
+selectable_apart ins p1 p2 body takes (inl other) = not_both p1 0x08 0x10 refl takes.1.0 other.1.0
+selectable_apart ins p1 p2 body takes (inr (inl other)) = not_both p1 0x08 0x02 refl takes.1.0 other.1.0
+selectable_apart ins p1 p2 body takes (inr (inr none)) = none
 
-twelve_not_sixteen : (p1 : ℕ) → p1 ≡ 0x10 → p1 ≡ 0x0C → ⊥
-twelve_not_sixteen p1 is other = omega arith
-
-eight_not_sixteen : (p1 : ℕ) → p1 ≡ 0x10 → p1 ≡ 0x08 → ⊥
-eight_not_sixteen p1 is other = omega arith
-
-pub install_apart : AreApart install_application (make_selectable ∷ extradition ∷ [])
-install_apart ins p1 p2 body (is, (inl four, zero), field) (inl other) = not_eight p1 other.1.0 four
-install_apart ins p1 p2 body (is, (inr twelve, zero), field) (inl other) = twelve_not_eight p1 other.1.0 twelve
-install_apart ins p1 p2 body (is, (inl four, zero), field) (inr (inl other)) = not_sixteen p1 other.1.0 four
-install_apart ins p1 p2 body (is, (inr twelve, zero), field) (inr (inl other)) = twelve_not_sixteen p1 other.1.0 twelve
-install_apart ins p1 p2 body takes (inr (inr none)) = none
-
-pub selectable_apart : AreApart make_selectable (extradition ∷ [])
-selectable_apart ins p1 p2 body takes (inl other) = eight_not_sixteen p1 other.1.0 takes.1.0
-selectable_apart ins p1 p2 body takes (inr none) = none
+pub extradition_apart : AreApart extradition (install_load ∷ [])
+extradition_apart ins p1 p2 body takes (inl other) = not_both p1 0x10 0x02 refl takes.1.0 other.1.0
+extradition_apart ins p1 p2 body takes (inr none) = none

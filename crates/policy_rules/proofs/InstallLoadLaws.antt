@@ -6,7 +6,7 @@ use Rattle.card_types.specs.Registry.{Registry, entry_named, file_named}
 use Rattle.card_types.specs.Well.{IsDomainNamed}
 use Rattle.policy_rules.specs.Admission.{Admitted}
 use Rattle.policy_rules.specs.Classes.{managing}
-use Rattle.policy_rules.specs.Commands.{JudgesAs}
+use Rattle.policy_rules.specs.Commands.{Judges, JudgesAs, TakesCommand}
 use Rattle.policy_rules.specs.FirstFailing.{IsFirst}
 use Rattle.policy_rules.specs.InstallLoad.{AsksToLoad, InstallLoadEffect, InstallLoadFails, InstallingLoadFails, LoadData, install_load, install_load_rules, load_begun, named_or}
 use Rattle.policy_rules.specs.Management.{acting}
@@ -15,9 +15,12 @@ use Rattle.policy_rules.specs.State.{Effect}
 use Rattle.policy_rules.specs.Volatile.{Volatile, with_load}
 use Rattle.policy_rules.specs.declared.install_load.RuleIL.{RuleIL}
 use Rattle.policy_rules.specs.declared.install_load.RuleIL.TheVariants.{IL1, IL2, IL3, IL4, IL5, IL6, IL7}
+use Rattle.policy_rules.specs.declared.rule.Rule.{Rule}
 use Rattle.policy_rules.specs.declared.rule.Rule.TheVariants.{IL}
 use Rattle.policy_rules.proofs.ExtraditionLaws.{domain_stable}
 use Rattle.policy_rules.proofs.FirstUnique.{none_fails}
+use Rattle.policy_rules.proofs.InstallForms.{managed}
+use Rattle.policy_rules.proofs.Judging.{judged}
 use Rattle.policy_rules.proofs.Lawful.{HasNoPlaceOn, IsLawful, IsReady, managed_apart, sound_with}
 use Rattle.policy_rules.proofs.LengthFields.{one_load_data}
 use Rattle.policy_rules.proofs.SameEffect.{effect_same, state_same}
@@ -65,9 +68,6 @@ no_rule admitted first given asks rule fails = none_fails (InstallLoadFails admi
     among IL6 = (7, omega arith, refl)
     among IL7 = (8, omega arith, refl)
 
-managed_install : Contains managing 0xE6
-managed_install = (3, omega arith, refl)
-
 -- the load session that begins goes with the registry
 begun_well : (admitted : Admitted) (given : LoadData) → IsReady admitted → admitted.command.ins ≡ install_load.instruction
     → ((rule : RuleIL) → InstallingLoadFails admitted given rule → ⊥)
@@ -76,7 +76,7 @@ begun_well admitted given ready is passes =
     let registry = admitted.at.registry in
     let apart = managed_apart admitted.command.ins install_load.instruction is (omega arith) in
     record {
-      session = ready.session (subst (Contains managing) (sym is) managed_install);
+      session = ready.session (subst (Contains managing) (sym is) managed);
       no_entry = gone (entry_named registry given.file) (λ some. passes IL3 (inl some));
       no_file = gone (file_named registry given.file) (λ some. passes IL3 (inr some));
       domain = domain_given registry given.domain (acting admitted) (ready.domain apart.0 apart.1) (passes IL4);
@@ -106,12 +106,17 @@ install_load_one admitted a b one other =
     let volatile = subst (λ (g : LoadData). a.state.volatile ≡ with_load admitted.at.volatile (load_begun admitted g)) given one.volatile in
     effect_same a b (state_same a.state b.state (one.registry ∙ sym other.registry) (volatile ∙ sym other.volatile)) (one.body ∙ sym other.body) (one.status ∙ sym other.status)
 
+-- how it is judged by what was found
+pub load_install_judged : (admitted : Admitted) (found : Option Rule) → TakesCommand install_load admitted.command → IsFirst (InstallLoadFails admitted) install_load_rules found
+    → Judges admitted found
+load_install_judged admitted found takes first = judged install_load (λ P is. inr (inr (inr (inl is)))) admitted takes refl found first
+
 -- once its instruction is one of those that manage content
 pub install_load_lawful : Contains managing install_load.instruction → IsLawful install_load
-install_load_lawful managed = record {
+install_load_lawful among = record {
   keeps = install_load_keeps;
   one = install_load_one;
-  quiet = λ unmanaged. absurd (unmanaged managed);
+  quiet = λ unmanaged. absurd (unmanaged among);
   without_place = λ other admitted done none does. subst (λ (v : Volatile). HasNoPlaceOn v admitted.channel) (sym does.volatile) none;
   loads_stay = λ admitted done takes other does. absurd (other (inr (takes.0, takes.1.0)));
 }

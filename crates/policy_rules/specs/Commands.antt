@@ -14,6 +14,7 @@ use Rattle.policy_rules.specs.GetData.{get_data}
 use Rattle.policy_rules.specs.GetStatus.{get_status}
 use Rattle.policy_rules.specs.InitializeUpdate.{initialize_update}
 use Rattle.policy_rules.specs.InstallApplication.{install_application}
+use Rattle.policy_rules.specs.InstallLoad.{install_load}
 use Rattle.policy_rules.specs.MakeSelectable.{make_selectable}
 use Rattle.policy_rules.specs.ManageChannel.{manage_channel}
 use Rattle.policy_rules.specs.PutKey.{put_key}
@@ -40,7 +41,7 @@ forms_of ins =
     (listed (ins == put_key.instruction) (put_key ∷ [])
     (listed (ins == store_data.instruction) (store_data ∷ [])
     (listed (ins == delete_key.instruction) (delete_key ∷ delete_object ∷ [])
-    (listed (ins == install_application.instruction) (install_application ∷ make_selectable ∷ extradition ∷ [])
+    (listed (ins == install_application.instruction) (install_application ∷ make_selectable ∷ extradition ∷ install_load ∷ [])
     (listed (ins == card_status.instruction) (card_status ∷ entry_status ∷ [])
     (listed (ins == get_status.instruction) (get_status ∷ []) []))))))))))
 

@@ -1,4 +1,4 @@
--- INSTALL [for load] (GlobalPlatform Card Specification 2.3.1, 9.3 and 11.5): a load session begins, in which an Executable Load File
+-- INSTALL [for load] (GlobalPlatform Card Specification 2.3.1, 9.3.1 and 11.5): a load session begins, in which an Executable Load File
 -- comes by LOAD. That the session is the only one, and the order of the rules, are this profile's own.
 use Rattle.std.specs.Prelude.{◌≡◌, ◌≢◌, ◌⊎◌, ℕ, ◌≤◌, List, [], ◌∷◌, ◌++◌, None, codes, IsSome, length, map}
 use Rattle.std.specs.List.{flat_map}

@@ -24,6 +24,8 @@ use Rattle.policy_rules.specs.GetStatus.{get_status}
 use Rattle.policy_rules.specs.InitializeUpdate.{initialize_update}
 use Rattle.policy_rules.specs.InstallApplication.{install_application}
 use Rattle.policy_rules.specs.InstallRequests.{IsInstallRequest}
+use Rattle.policy_rules.specs.InstallLoad.{install_load}
+use Rattle.policy_rules.specs.InstallLoadRequests.{IsLoadInstallRequest}
 use Rattle.policy_rules.specs.MakeSelectable.{make_selectable}
 use Rattle.policy_rules.specs.KeptPlaces.{place_of}
 use Rattle.policy_rules.specs.ManageChannel.{manage_channel}
@@ -44,7 +46,7 @@ use Rattle.policy_rules.specs.declared.put_key.PutKeys.{PutKeys}
 use Rattle.policy_rules.specs.declared.put_key.PutKeys.TheVariants.{One, Three}
 use Rattle.policy_rules.specs.declared.put_key.SealedKey.{SealedKey}
 use Rattle.policy_rules.specs.declared.request.Request.{Request}
-use Rattle.policy_rules.specs.declared.request.Request.TheVariants.{Select, MoreChannel, LessChannel, Get, Initialize, Authenticate, PutKey, Store, DeleteKey, DeleteObject, Install, MakeSelectable, Extradite, CardStatus, EntryStatus, ListStatus}
+use Rattle.policy_rules.specs.declared.request.Request.TheVariants.{Select, MoreChannel, LessChannel, Get, Initialize, Authenticate, PutKey, Store, DeleteKey, DeleteObject, Install, MakeSelectable, Extradite, BeginLoad, CardStatus, EntryStatus, ListStatus}
 use Rattle.policy_rules.specs.declared.rule.Rule.{Rule}
 use Rattle.policy_rules.specs.declared.rule.Rule.TheVariants.{PS}
 use Rattle.policy_rules.specs.declared.rule.RulePS.TheVariants.{P, S}
@@ -72,6 +74,7 @@ form_in (DeleteObject request) = delete_object
 form_in (Install request) = install_application
 form_in (MakeSelectable request) = make_selectable
 form_in (Extradite request) = extradition
+form_in (BeginLoad request) = install_load
 form_in (CardStatus code) = card_status
 form_in (EntryStatus request) = entry_status
 form_in (ListStatus request) = get_status
@@ -91,6 +94,7 @@ Decodes (DeleteObject request) p1 p2 body = IsDeletionRequest request p1 p2 body
 Decodes (Install request) p1 p2 body = IsInstallRequest request p1 p2 body
 Decodes (MakeSelectable request) p1 p2 body = IsSelectableRequest request p1 p2 body
 Decodes (Extradite request) p1 p2 body = IsExtraditionRequest request p1 p2 body
+Decodes (BeginLoad request) p1 p2 body = IsLoadInstallRequest request p1 p2 body
 Decodes (CardStatus code) p1 p2 body = code ≡ p2
 Decodes (EntryStatus request) p1 p2 body = IsEntryStatusRequest request p1 p2 body
 Decodes (ListStatus request) p1 p2 body = IsListRequest request p1 p2 body

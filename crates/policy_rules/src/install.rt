@@ -6,6 +6,7 @@ ghost use Rattle.policy_rules.specs.declared.instruction.TheConstants.{INSTALL};
 
 use crate::extradition::parse_extradition;
 use crate::install_application::parse_application;
+use crate::install_load::parse_load_install;
 use crate::make_selectable::parse_selectable;
 use crate::request::Request;
 use crate::rule::Rule;
@@ -15,6 +16,10 @@ pub(crate) fn parse_install(p1: u8, p2: u8, body: &[u8]) -> Result<Request<'_>, 
     ensures { Parses INSTALL p1 p2 body.now result }
 {
     match p1 {
+        0x02 => match parse_load_install(p1, p2, body) {
+            Ok(request) => Ok(Request::BeginLoad(request)),
+            Err(rule) => Err(rule),
+        },
         0x08 => match parse_selectable(p1, p2, body) {
             Ok(request) => Ok(Request::MakeSelectable(request)),
             Err(rule) => Err(rule),

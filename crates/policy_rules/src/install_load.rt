@@ -1,18 +1,15 @@
-//! INSTALL [for load] (GlobalPlatform Card Specification 2.3.1, 9.3 and 11.5).
+//! INSTALL [for load] (GlobalPlatform Card Specification 2.3.1, 9.3.1 and 11.5).
 
-ghost use Rattle.std.specs.Prelude.{◌≡◌, ◌↔◌, ◌≢◌, ◌≤◌, ◌⊎◌, ℕ, List, [], None, Some, IfErr, IfNone, IfOk, IfSome, IsSome, IsTrue, OnOk, length};
+ghost use Rattle.std.specs.Prelude.{◌≡◌, ◌↔◌, ◌≢◌, ◌≤◌, ◌⊎◌, ℕ, List, [], None, Some, IfErr, IfNone, IfOk, IfSome, IsTrue, OnOk, length};
 ghost use Rattle.std.specs.List.{flat_map};
 ghost use Rattle.card_types.specs.Aid.{IsAid};
 ghost use Rattle.card_types.specs.First.{NoneFree};
 ghost use Rattle.card_types.specs.Found.{aid_of};
 ghost use Rattle.card_types.specs.InOrder.{IsInOrder};
-ghost use Rattle.card_types.specs.Privileges.{delegated_management};
-ghost use Rattle.card_types.specs.Represents.{domain_aid};
-ghost use Rattle.card_types.specs.Slots.{held};
 ghost use Rattle.card_types.specs.declared.found.Found.{Found as Thing};
 ghost use Rattle.card_types.specs.declared.found.Found.TheVariants.{Entry};
 ghost use Rattle.policy_rules.specs.Admission.{Admitted};
-ghost use Rattle.policy_rules.specs.Delegation.{Holds, token_rules};
+ghost use Rattle.policy_rules.specs.Delegation.{token_rules};
 ghost use Rattle.policy_rules.specs.FirstFailing.{IsFirst};
 ghost use Rattle.policy_rules.specs.HoldersFound.{IsSignedFor, approval_of};
 ghost use Rattle.policy_rules.specs.InstallLoad.{AsksToLoad, InstallLoadFails, InstallLoadParameters, InstallingLoadFails, IsLoadData, LoadData, file_domain_for, install_load, install_load_refusal, install_load_rules, signed_load_fields};
@@ -31,7 +28,7 @@ use crate::live::Live;
 use crate::management::judge_management;
 use crate::rule::{Rule, RulePS};
 use apdu_core::Status;
-use card_types::{Aid, Entry as Slot, Privileges, Tables, find, first_free};
+use card_types::{Aid, Privileges, Tables, find, first_free};
 
 /// The rules of INSTALL [for load].
 #[derive(Clone, Copy, Debug, PartialEq, Eq)]

@@ -8,6 +8,7 @@ ghost use Rattle.policy_rules.specs.Commands.{forms_of};
 ghost use Rattle.policy_rules.specs.ExternalAuthenticate.{rules_before_form};
 ghost use Rattle.policy_rules.specs.Extradition.{extradition};
 ghost use Rattle.policy_rules.specs.InstallApplication.{install_application};
+ghost use Rattle.policy_rules.specs.InstallLoad.{install_load};
 ghost use Rattle.policy_rules.specs.MakeSelectable.{make_selectable};
 ghost use Rattle.policy_rules.specs.PutKey.{key_field, sealed_size};
 ghost use Rattle.policy_rules.specs.Rules.{status_of, statuses_of};
@@ -52,11 +53,13 @@ pub fn status_words()
         ∷ (0x6985 ∷ 0x6985 ∷ 0x6A88 ∷ 0x6985 ∷ 0x6982 ∷ 0x6985 ∷ 0x6A80 ∷ 0x6982 ∷ 0x6982 ∷ 0x6985 ∷ []) ∷ [] }
     ensures set_status { statuses_of (forms_of 0xF0) ≡ (0x6985 ∷ 0x6985 ∷ 0x6985 ∷ 0x6982 ∷ [])
         ∷ (0x6985 ∷ 0x6985 ∷ 0x6A88 ∷ 0x6985 ∷ 0x6982 ∷ 0x6985 ∷ []) ∷ [] }
-    ensures install { statuses_of (forms_of 0xE6) ≡ statuses_of (install_application ∷ make_selectable ∷ extradition ∷ []) }
+    ensures install { statuses_of (forms_of 0xE6) ≡ statuses_of (install_application ∷ make_selectable ∷ extradition ∷ install_load ∷ []) }
     ensures for_install { map status_of install_application.rules
         ≡ 0x6985 ∷ 0x6985 ∷ 0x6982 ∷ 0x6A88 ∷ 0x6982 ∷ 0x6A80 ∷ 0x6A80 ∷ 0x6982 ∷ 0x6A84 ∷ 0x6A80 ∷ 0x6982 ∷ 0x6982 ∷ 0x6985 ∷ [] }
     ensures for_make_selectable { map status_of make_selectable.rules
         ≡ 0x6985 ∷ 0x6985 ∷ 0x6982 ∷ 0x6A88 ∷ 0x6982 ∷ 0x6985 ∷ 0x6A80 ∷ 0x6A80 ∷ 0x6982 ∷ 0x6982 ∷ 0x6985 ∷ [] }
     ensures for_extradition { map status_of extradition.rules
         ≡ 0x6985 ∷ 0x6985 ∷ 0x6982 ∷ 0x6A88 ∷ 0x6985 ∷ 0x6982 ∷ 0x6985 ∷ 0x6985 ∷ 0x6982 ∷ 0x6A80 ∷ 0x6982 ∷ 0x6982 ∷ 0x6985 ∷ [] }
+    ensures for_load { map status_of install_load.rules
+        ≡ 0x6985 ∷ 0x6985 ∷ 0x6982 ∷ 0x6985 ∷ 0x6A80 ∷ 0x6A88 ∷ 0x6982 ∷ 0x6A80 ∷ 0x6A84 ∷ 0x6A80 ∷ 0x6982 ∷ 0x6982 ∷ [] }
 {}

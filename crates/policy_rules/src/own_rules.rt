@@ -19,6 +19,7 @@ use crate::get_data::judge_get_data;
 use crate::get_status::judge_status;
 use crate::initialize_update::judge_initialize_update;
 use crate::install_application::judge_install;
+use crate::install_load::judge_load_install;
 use crate::live::{CHANNELS, Live};
 use crate::make_selectable::judge_selectable;
 use crate::manage_channel::judge_more_channel;
@@ -110,6 +111,10 @@ pub fn judge(
         Request::Extradite(request) => {
             let domain = live.selected[usize::from(channel)].unwrap();
             judge_extradition(tables, domain, request).err()
+        }
+        Request::BeginLoad(request) => {
+            let domain = live.selected[usize::from(channel)].unwrap();
+            judge_load_install(tables, live, domain, request).err()
         }
         Request::CardStatus { code } => {
             let domain = live.selected[usize::from(channel)].unwrap();

@@ -9,6 +9,7 @@ use crate::entry_status::EntryStatusRequest;
 use crate::extradition::ExtraditionRequest;
 use crate::get_status::ListRequest;
 use crate::install_application::InstallRequest;
+use crate::install_load::LoadInstallRequest;
 use crate::make_selectable::SelectableRequest;
 use crate::put_key::PutKeys;
 use crate::rule::Rule;
@@ -68,6 +69,8 @@ pub enum Request<'a> {
     MakeSelectable(SelectableRequest<'a>),
     /// INSTALL [for extradition].
     Extradite(ExtraditionRequest<'a>),
+    /// INSTALL [for load].
+    BeginLoad(LoadInstallRequest<'a>),
     /// SET STATUS of the card, to the state with this code.
     CardStatus {
         code: u8,

@@ -11,6 +11,7 @@ use Rattle.policy_rules.specs.StatusSetRequests.{IsCardStatusOf}
 use Rattle.policy_rules.specs.Extradition.{ExtraditionFails, extradition, extradition_rules}
 use Rattle.policy_rules.specs.FirstFailing.{IsFirst}
 use Rattle.policy_rules.specs.InstallApplication.{InstallFails, install_application, install_rules}
+use Rattle.policy_rules.specs.InstallLoad.{InstallLoadFails, install_load_rules}
 use Rattle.policy_rules.specs.MakeSelectable.{MakeSelectableFails, make_selectable, selectable_rules}
 use Rattle.policy_rules.specs.PutKey.{PutKeyFails, put_rules}
 use Rattle.policy_rules.specs.GetStatus.{GetStatusFails, get_status, get_status_rules}
@@ -25,6 +26,7 @@ use Rattle.policy_rules.proofs.GetDataLaws.{get_passes, get_refused}
 use Rattle.policy_rules.proofs.InitializeUpdateLaws.{offer_judged}
 use Rattle.policy_rules.proofs.Judging.{by_err, judged}
 use Rattle.policy_rules.proofs.ManageChannelLaws.{open_passes, open_refused}
+use Rattle.policy_rules.proofs.InstallLoadLaws.{load_install_judged}
 use Rattle.policy_rules.proofs.PutKeyLaws.{put_judged}
 use Rattle.policy_rules.proofs.SelectLaws.{select_passes, select_refused}
 use Rattle.policy_rules.proofs.Selected.{selected_acts, selected_entry}
@@ -174,6 +176,20 @@ returns-in-Extradite-clause-judged c page admitted says sound here request behin
     judged extradition (λ holds here. inr (inr (inl here))) admitted asked.form refl _
     (rw c.err-in-Extradite.ensures.value (by_err (λ found. IsFirst (ExtraditionFails admitted) extradition_rules found) c.judge_extradition.result
     (c.judge_extradition.ensures.passed page admitted acts asked.means) (c.judge_extradition.ensures.refused page admitted acts asked.means)))
+
+pub judge_load_install-requires-clause-short : goal.judge_load_install-requires-clause-short
+judge_load_install-requires-clause-short c =
+    let meant = rw c.in-BeginLoad.is at c.requires.meant in
+    omega (arith, meant.3.short, meant.4)
+
+pub returns-in-BeginLoad-clause-judged : goal.returns-in-BeginLoad-clause-judged
+returns-in-BeginLoad-clause-judged c page admitted says sound here request behind checks =
+    let asked = rw c.in-BeginLoad.is at request in
+    let is : slice_index_or c.args.live.now.selected c.args.channel None ≡ Some c.unwrap-domain-in-BeginLoad.result = search rules in
+    let acts = selected_acts page c.args.tables.now c.args.live.now admitted c.args.channel c.unwrap-domain-in-BeginLoad.result says sound c.requires.channel is here in
+    load_install_judged admitted _ asked.form
+    (rw c.err-in-BeginLoad.ensures.value (by_err (λ found. IsFirst (InstallLoadFails admitted) install_load_rules found) c.judge_load_install.result
+    (c.judge_load_install.ensures.passed page admitted acts says.load asked.means) (c.judge_load_install.ensures.refused page admitted acts says.load asked.means)))
 
 pub returns-in-CardStatus-clause-judged : goal.returns-in-CardStatus-clause-judged
 returns-in-CardStatus-clause-judged c page admitted says sound here request behind checks =
