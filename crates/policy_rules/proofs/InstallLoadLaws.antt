@@ -2,6 +2,7 @@
 use Rattle.std.proofs.Common.{◌≡◌, ◌≢◌, inl, inr, ℕ, List, [], ◌∷◌, Option, None, Some, length, refl, sym, subst, ◌∙◌, arith}
 use Rattle.std.specs.Prelude.{Contains, IsSome}
 use Rattle.std.proofs.lemmas.Bool.Decides.{eqb_tells}
+use Rattle.card_types.specs.Aid.{IsAid}
 use Rattle.card_types.specs.Registry.{Registry, entry_named, file_named}
 use Rattle.card_types.specs.Well.{IsDomainNamed}
 use Rattle.policy_rules.specs.Admission.{Admitted}
@@ -69,13 +70,14 @@ no_rule admitted first given asks rule fails = none_fails (InstallLoadFails admi
     among IL7 = (8, omega arith, refl)
 
 -- the load session that begins goes with the registry
-begun_well : (admitted : Admitted) (given : LoadData) → IsReady admitted → admitted.command.ins ≡ install_load.instruction
+begun_well : (admitted : Admitted) (given : LoadData) → IsAid given.file → IsReady admitted → admitted.command.ins ≡ install_load.instruction
     → ((rule : RuleIL) → InstallingLoadFails admitted given rule → ⊥)
     → IsWellLoad admitted.at.registry (with_load admitted.at.volatile (load_begun admitted given)) (load_begun admitted given)
-begun_well admitted given ready is passes =
+begun_well admitted given aid ready is passes =
     let registry = admitted.at.registry in
     let apart = managed_apart admitted.command.ins install_load.instruction is (omega arith) in
     record {
+      aid = aid;
       session = ready.session (subst (Contains managing) (sym is) managed);
       no_entry = gone (entry_named registry given.file) (λ some. passes IL3 (inl some));
       no_file = gone (file_named registry given.file) (λ some. passes IL3 (inr some));
@@ -96,7 +98,7 @@ begun_fits admitted given fits well = record { channels = fits.channels; basic =
 install_load_keeps : (admitted : Admitted) (done : Effect) → IsReady admitted → JudgesAs install_load admitted None → InstallLoadEffect admitted done
     → IsSound done.state
 install_load_keeps admitted done ready (takes, first) does =
-    let well = begun_well admitted does.given ready takes.0 (no_rule admitted first does.given does.asks) in
+    let well = begun_well admitted does.given does.asks.file ready takes.0 (no_rule admitted first does.given does.asks) in
     sound_with admitted.at done.state ready.sound does.registry
     (subst (Fits admitted.at.registry) (sym does.volatile) (begun_fits admitted does.given ready.sound.fits well))
 
