@@ -280,14 +280,12 @@ pub fn judge_load_install(
 ) -> Result<u8, Rule>
     requires in_order { IsInOrder tables.now }
     requires short { length request.now.signed.before.now ≤ 255 }
-    ensures passed { (page : ℕ → List ℕ) (admitted : Admitted) → ActsIn page tables.now domain admitted
-        → IsLoadNamed tables.now.entries.items live.now.load admitted.at.volatile.load
-        → IsLoadInstallOf request.now admitted.command → OnOk result (IsFirst (InstallLoadFails admitted) install_load_rules None) }
-    ensures refused { (page : ℕ → List ℕ) (admitted : Admitted) → ActsIn page tables.now domain admitted
-        → IsLoadNamed tables.now.entries.items live.now.load admitted.at.volatile.load
-        → IsLoadInstallOf request.now admitted.command → IfErr result (λ rule. IsFirst (InstallLoadFails admitted) install_load_rules (Some rule)) }
-    ensures found { (page : ℕ → List ℕ) (admitted : Admitted) → ActsIn page tables.now domain admitted → (is : IsLoadInstallOf request.now admitted.command)
-        → IfOk result (λ slot. aid_of tables.now (Entry slot) ≡ Some (file_domain_for admitted is.given)) }
+    ensures passed { ForActing tables.now domain (λ page admitted. IsLoadNamed tables.now.entries.items live.now.load admitted.at.volatile.load
+        → IsLoadInstallOf request.now admitted.command → OnOk result (IsFirst (InstallLoadFails admitted) install_load_rules None)) }
+    ensures refused { ForActing tables.now domain (λ page admitted. IsLoadNamed tables.now.entries.items live.now.load admitted.at.volatile.load
+        → IsLoadInstallOf request.now admitted.command → IfErr result (λ rule. IsFirst (InstallLoadFails admitted) install_load_rules (Some rule))) }
+    ensures found { ForActing tables.now domain (λ page admitted. (is : IsLoadInstallOf request.now admitted.command)
+        → IfOk result (λ slot. aid_of tables.now (Entry slot) ≡ Some (file_domain_for admitted is.given))) }
     ensures hash { OnOk result (IsHashLength (length request.now.hash.now)) }
     ensures free { OnOk result ((thing : Thing) → aid_of tables.now thing ≢ Some request.now.file) }
     ensures room { OnOk result (NoneFree tables.now.files.items → ⊥) }
