@@ -20,6 +20,7 @@ use Rattle.policy_rules.proofs.DeletionForms.{deletions_apart}
 use Rattle.policy_rules.proofs.InstallApplicationLaws.{install_application_lawful}
 use Rattle.policy_rules.proofs.InstallForms.{AreApart, extradition_apart, install_apart, managed, selectable_apart}
 use Rattle.policy_rules.proofs.InstallLoadLaws.{install_load_lawful}
+use Rattle.policy_rules.proofs.LoadLaws.{load_lawful}
 use Rattle.policy_rules.proofs.MakeSelectableLaws.{make_selectable_lawful}
 use Rattle.policy_rules.proofs.ExtraditionLaws.{extradition_lawful}
 use Rattle.policy_rules.proofs.CardStatusLaws.{card_status_lawful}
@@ -55,12 +56,15 @@ either : (test : Bool) (these others : List CommandForm) → AreLawful these →
 either true these others these_are others_are = these_are
 either false these others these_are others_are = others_are
 
--- DELETE and SET STATUS manage content
+-- DELETE, LOAD and SET STATUS manage content
 deleting : Contains managing 0xE4
 deleting = (2, omega arith, refl)
 
+loading : Contains managing 0xE8
+loading = (4, omega arith, refl)
+
 setting : Contains managing 0xF0
-setting = (4, omega arith, refl)
+setting = (5, omega arith, refl)
 
 -- the one place where all commands are gone through
 pub all_lawful : (ins : ℕ) → AreLawful (forms_of ins)
@@ -77,7 +81,8 @@ all_lawful ins =
     (beside _ _ (make_selectable_lawful managed) selectable_apart
     (beside _ _ (extradition_lawful managed) extradition_apart (alone _ (install_load_lawful managed)))))
     (either _ _ _ (beside _ _ (card_status_lawful setting) status_forms_apart (alone _ (entry_status_lawful setting)))
-    (either _ _ _ (alone _ get_status_lawful) none))))))))))
+    (either _ _ _ (alone _ (load_lawful loading))
+    (either _ _ _ (alone _ get_status_lawful) none)))))))))))
 
 pub one_form : OneForm
 one_form ins p1 p2 body = (all_lawful ins).one ins p1 p2 body

@@ -6,7 +6,7 @@ use Rattle.policy_rules.specs.Admission.{Admitted}
 use Rattle.policy_rules.specs.FirstFailing.{IsFirst}
 use Rattle.policy_rules.specs.Load.{IsLoadOn, LoadFails, LoadingFails, block_of, block_rules, front_rules, last_rules, load_rules}
 use Rattle.policy_rules.specs.LoadBlocks.{Block, HasNoLength, HasNoRoom, HasOtherCount, HasOtherHash}
-use Rattle.policy_rules.specs.LoadRequests.{number_rules}
+use Rattle.policy_rules.specs.LoadFound.{number_rules}
 use Rattle.policy_rules.specs.Management.{ManagementFails}
 use Rattle.policy_rules.specs.Volatile.{LoadSession}
 use Rattle.policy_rules.specs.declared.load.RuleLO.{RuleLO}

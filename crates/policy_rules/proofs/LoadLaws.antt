@@ -148,6 +148,15 @@ ended number load opened is on =
     let none : load_without_channel number (Some opened) ≡ None = rw here refl in
     subst (λ (o : Option LoadSession). load_without_channel number o ≡ None) (sym is) none
 
+-- the registry with the file is one that a card may have
+pub loaded_of_card : (admitted : Admitted) (load : LoadSession) → IsLoadOn admitted load → (size : ℕ) (bytes : List ℕ)
+    → BringsBytes load.announced (block_of admitted.command) size bytes → IsWellLoad admitted.at.registry admitted.at.volatile load
+    → IsOfCard admitted.at.registry → admitted.command.p1 ≡ 0x80 → IsFirst (LoadFails admitted) load_rules None → (changed : Registry)
+    → IsFileAdded (file_of_load (with_block load size bytes)) admitted.at.registry changed → IsOfCard changed
+loaded_of_card admitted load on size bytes brings well of last first changed added =
+    file_added_keeps (file_of_load (with_block load size bytes)) admitted.at.registry changed of
+    (may_be_added admitted load on size bytes brings (no_rule admitted first) well last) added
+
 -- it leaves a card sound
 pub loading_keeps : (admitted : Admitted) (done : Effect) → IsSound admitted.at → JudgesAs loading admitted None → LoadEffect admitted done → IsSound done.state
 loading_keeps admitted done sound (takes, first) does = by does.taken
@@ -164,8 +173,7 @@ loading_keeps admitted done sound (takes, first) does = by does.taken
         (fits_as refl (sym goes.volatile) (next_fits admitted does.load does.on does.size does.bytes does.brings passes well sound.fits))
     by (inr ends) =
         (let of : IsOfCard admitted.at.registry = record { well = sound.well; ascending = sound.ascending } in
-        let may = may_be_added admitted does.load does.on does.size does.bytes does.brings passes well ends.last in
-        let changed = file_added_keeps (file_of_load (with_block does.load does.size does.bytes)) admitted.at.registry ends.changed of may ends.added in
+        let changed = loaded_of_card admitted does.load does.on does.size does.bytes does.brings well of ends.last first ends.changed ends.added in
         let receipts : Holds admitted delegated_management → ReceiptFails admitted RC1 → ⊥ = (λ holds fails. passes LO8 (ends.last, holds, fails)) in
         let aids = does.load.aid ∷ does.load.domain ∷ [] in
         let kept = answered_keeps (Holds admitted delegated_management) admitted aids ends.changed done sound.well receipts ends.answered changed in

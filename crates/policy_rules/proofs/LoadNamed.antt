@@ -19,7 +19,7 @@ use Rattle.policy_rules.specs.Admission.{Admitted}
 use Rattle.policy_rules.specs.LiveEnds.{counted}
 use Rattle.policy_rules.specs.Load.{InLoad, IsLoadOn, LoadingFails}
 use Rattle.policy_rules.specs.LoadBlocks.{with_block}
-use Rattle.policy_rules.specs.LoadRequests.{IsForLast, named_on}
+use Rattle.policy_rules.specs.LoadFound.{IsForLast, named_on}
 use Rattle.policy_rules.specs.Charge.{IsAtOrAbove}
 use Rattle.policy_rules.specs.Management.{acting}
 use Rattle.policy_rules.specs.Requests.{ActsIn, IsLoadNamed}

@@ -17,16 +17,15 @@ class_of byte =
 abbrev pub channel_of : ℕ → ℕ
 channel_of byte = byte % 4
 
--- PUT KEY, STORE DATA, DELETE, INSTALL and SET STATUS: the instructions of card content management that change the registry, as far as
--- they are built
+-- PUT KEY, STORE DATA, DELETE, INSTALL, LOAD and SET STATUS: the instructions of card content management that change the registry
 abbrev pub changing : List ℕ
-changing = 0xD8 ∷ 0xE2 ∷ 0xE4 ∷ 0xE6 ∷ 0xF0 ∷ []
+changing = 0xD8 ∷ 0xE2 ∷ 0xE4 ∷ 0xE6 ∷ 0xE8 ∷ 0xF0 ∷ []
 
 -- and GET STATUS, which lists it
 abbrev pub managing : List ℕ
 managing = changing ++ 0xF2 ∷ []
 
--- the instructions of a class, as far as they are built
+-- the instructions of a class
 abbrev pub instructions_of : Class → List ℕ
 instructions_of Interindustry = SELECT ∷ MANAGE_CHANNEL ∷ GET_DATA ∷ []
 instructions_of Plain = GET_DATA ∷ INITIALIZE_UPDATE ∷ managing

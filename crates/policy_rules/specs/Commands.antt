@@ -15,6 +15,7 @@ use Rattle.policy_rules.specs.GetStatus.{get_status}
 use Rattle.policy_rules.specs.InitializeUpdate.{initialize_update}
 use Rattle.policy_rules.specs.InstallApplication.{install_application}
 use Rattle.policy_rules.specs.InstallLoad.{install_load}
+use Rattle.policy_rules.specs.Load.{loading}
 use Rattle.policy_rules.specs.MakeSelectable.{make_selectable}
 use Rattle.policy_rules.specs.ManageChannel.{manage_channel}
 use Rattle.policy_rules.specs.PutKey.{put_key}
@@ -43,7 +44,8 @@ forms_of ins =
     (listed (ins == delete_key.instruction) (delete_key ∷ delete_object ∷ [])
     (listed (ins == install_application.instruction) (install_application ∷ make_selectable ∷ extradition ∷ install_load ∷ [])
     (listed (ins == card_status.instruction) (card_status ∷ entry_status ∷ [])
-    (listed (ins == get_status.instruction) (get_status ∷ []) []))))))))))
+    (listed (ins == loading.instruction) (loading ∷ [])
+    (listed (ins == get_status.instruction) (get_status ∷ []) [])))))))))))
 
 -- it holds of one of these forms
 abbrev pub OneOf : (CommandForm → Type 0) → List CommandForm → Type 0

@@ -39,7 +39,7 @@ pub mod ManageChannel
 pub mod LiveEnds
 pub mod Load
 pub mod LoadBlocks
-pub mod LoadLaws
+pub mod LoadFound
 pub mod LoadRequests
 pub mod Management
 pub mod ObjectsFound

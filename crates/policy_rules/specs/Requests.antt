@@ -26,6 +26,8 @@ use Rattle.policy_rules.specs.InstallApplication.{install_application}
 use Rattle.policy_rules.specs.InstallRequests.{IsInstallRequest}
 use Rattle.policy_rules.specs.InstallLoad.{install_load}
 use Rattle.policy_rules.specs.InstallLoadRequests.{IsLoadInstallRequest}
+use Rattle.policy_rules.specs.Load.{loading}
+use Rattle.policy_rules.specs.LoadRequests.{IsLoadRequest}
 use Rattle.policy_rules.specs.MakeSelectable.{make_selectable}
 use Rattle.policy_rules.specs.KeptPlaces.{place_of}
 use Rattle.policy_rules.specs.ManageChannel.{manage_channel}
@@ -38,7 +40,7 @@ use Rattle.policy_rules.specs.StatusRequests.{IsListRequest}
 use Rattle.policy_rules.specs.StatusSetRequests.{IsEntryStatusRequest}
 use Rattle.policy_rules.specs.StoreData.{store_data}
 use Rattle.policy_rules.specs.Volatile.{Channel, LoadSession, channel_at, place_in, selected_on}
-use Rattle.policy_rules.specs.declared.instruction.TheConstants.{EXTERNAL_AUTHENTICATE, GET_STATUS}
+use Rattle.policy_rules.specs.declared.instruction.TheConstants.{EXTERNAL_AUTHENTICATE, GET_STATUS, LOAD}
 use Rattle.policy_rules.specs.declared.live.Live.{Live}
 use Rattle.policy_rules.specs.declared.live.LoadName.{LoadName}
 use Rattle.policy_rules.specs.declared.live.TheConstants.{CHANNELS}
@@ -46,7 +48,7 @@ use Rattle.policy_rules.specs.declared.put_key.PutKeys.{PutKeys}
 use Rattle.policy_rules.specs.declared.put_key.PutKeys.TheVariants.{One, Three}
 use Rattle.policy_rules.specs.declared.put_key.SealedKey.{SealedKey}
 use Rattle.policy_rules.specs.declared.request.Request.{Request}
-use Rattle.policy_rules.specs.declared.request.Request.TheVariants.{Select, MoreChannel, LessChannel, Get, Initialize, Authenticate, PutKey, Store, DeleteKey, DeleteObject, Install, MakeSelectable, Extradite, BeginLoad, CardStatus, EntryStatus, ListStatus}
+use Rattle.policy_rules.specs.declared.request.Request.TheVariants.{Select, MoreChannel, LessChannel, Get, Initialize, Authenticate, PutKey, Store, DeleteKey, DeleteObject, Install, MakeSelectable, Extradite, BeginLoad, CardStatus, EntryStatus, Load, ListStatus}
 use Rattle.policy_rules.specs.declared.rule.Rule.{Rule}
 use Rattle.policy_rules.specs.declared.rule.Rule.TheVariants.{PS}
 use Rattle.policy_rules.specs.declared.rule.RulePS.TheVariants.{P, S}
@@ -77,6 +79,7 @@ form_in (Extradite request) = extradition
 form_in (BeginLoad request) = install_load
 form_in (CardStatus code) = card_status
 form_in (EntryStatus request) = entry_status
+form_in (Load request) = loading
 form_in (ListStatus request) = get_status
 
 -- the request is that of a command of its form with this P1, P2 and data field
@@ -97,6 +100,7 @@ Decodes (Extradite request) p1 p2 body = IsExtraditionRequest request p1 p2 body
 Decodes (BeginLoad request) p1 p2 body = IsLoadInstallRequest request p1 p2 body
 Decodes (CardStatus code) p1 p2 body = code ≡ p2
 Decodes (EntryStatus request) p1 p2 body = IsEntryStatusRequest request p1 p2 body
+Decodes (Load request) p1 p2 body = IsLoadRequest request p1 p2 body
 Decodes (ListStatus request) p1 p2 body = IsListRequest request p1 p2 body
 
 -- the rule on its form that a command breaks: P1 and P2 are judged before the data field
@@ -138,10 +142,10 @@ pub record ActsIn (page : ℕ → List ℕ) (tables : Tables) (domain : ℕ) (ad
   pub at : held tables.entries.items domain ≡ Some entry
   pub on : acting admitted ≡ domain_aid tables.entries.items domain
 
--- the command is judged by what the card has once it has passed: all but EXTERNAL AUTHENTICATE, which needs the keys of the offer, and GET
--- STATUS, which goes on at the place that the channel had before
+-- the command is judged whole by what the card has once it has passed: all but EXTERNAL AUTHENTICATE, which needs the keys of the offer,
+-- GET STATUS, which goes on at the place that the channel had before, and LOAD, whose block is judged where its bytes are kept
 abbrev pub IsJudgedBehind : ℕ → Type 0
-IsJudgedBehind ins = (ins ≢ EXTERNAL_AUTHENTICATE) × (ins ≢ GET_STATUS)
+IsJudgedBehind ins = (ins ≢ EXTERNAL_AUTHENTICATE) × (ins ≢ GET_STATUS) × (ins ≢ LOAD)
 
 -- a command that has passed acts on the registry that the card had before, for the domain that was selected then
 abbrev pub ActsAsBefore : Admitted → Type 0

@@ -27,10 +27,9 @@ const PLAIN: [u8; 2] = [GET_DATA, INITIALIZE_UPDATE];
 const SECURE: [u8; 2] = [EXTERNAL_AUTHENTICATE, GET_DATA];
 
 /// The instructions of card content management that both of these classes have.
-const MANAGING: [u8; 6] = [PUT_KEY, STORE_DATA, DELETE, INSTALL, SET_STATUS, GET_STATUS];
-
-/// That which no class has yet.
-const UNBUILT: [u8; 1] = [LOAD];
+const MANAGING: [u8; 7] = [
+    PUT_KEY, STORE_DATA, DELETE, INSTALL, LOAD, SET_STATUS, GET_STATUS,
+];
 
 impl Class {
     /// The class of a class byte.
@@ -61,7 +60,7 @@ impl Class {
 pub fn is_plain_management(class: Class, ins: u8) -> bool
     ensures { IsTrue result ↔ ((class ≡ ThePlain) × Contains management ins) }
 {
-    class == Class::Plain && (MANAGING.contains(&ins) || UNBUILT.contains(&ins))
+    class == Class::Plain && MANAGING.contains(&ins)
 }
 
 /// Whether a command of this class and instruction is protected by the session of its channel.

@@ -12,7 +12,6 @@ pub const INITIALIZE_UPDATE: u8 = 0x50;
 
 pub const EXTERNAL_AUTHENTICATE: u8 = 0x82;
 
-/// No class has it yet.
 pub const LOAD: u8 = 0xE8;
 
 pub const PUT_KEY: u8 = 0xD8;

@@ -62,9 +62,7 @@ pub use laws::{
 };
 pub use literals::{classes, constants, key_fields, status_words};
 pub use live::{CHANNELS, Live, LoadName, Place};
-pub use load::{
-    LoadRequest, RuleLO, judge_load, judge_loaded, judge_loaded_by, load_laws, parse_load,
-};
+pub use load::{LoadRequest, RuleLO, judge_load, judge_loaded, judge_loaded_by};
 pub use make_selectable::{RuleMS, SelectableRequest, Selecting, judge_selectable};
 pub use manage_channel::{RuleMC, judge_more_channel};
 pub use management::RuleM;

@@ -8,19 +8,20 @@ ghost use Rattle.policy_rules.specs.Admission.{Admitted};
 ghost use Rattle.policy_rules.specs.Delegation.{Holds};
 ghost use Rattle.policy_rules.specs.FirstFailing.{IsFirst};
 ghost use Rattle.policy_rules.specs.HoldersFound.{FindsConfirmer, MayReceipt};
-ghost use Rattle.policy_rules.specs.InstallRequests.{IsRefusedBy};
-ghost use Rattle.policy_rules.specs.Load.{IsLoadOn, LoadFails, LoadParameters, LoadingFails, front_rules, last_rules, load_refusal, loading};
-ghost use Rattle.policy_rules.specs.LoadLaws.{LoadKeepsSound, OneLoad};
-ghost use Rattle.policy_rules.specs.LoadRequests.{IsForLast, IsForLoad, IsLoadOf, IsLoadRequest, named_on, number_rules};
-ghost use Rattle.policy_rules.specs.Requests.{ActsIn, RepresentsState};
+ghost use Rattle.policy_rules.specs.Load.{IsLoadOn, LoadFails, LoadParameters, LoadingFails, front_rules, last_rules, load_refusal};
+ghost use Rattle.policy_rules.specs.LoadFound.{IsForLast, IsForLoad, named_on, number_rules};
+ghost use Rattle.policy_rules.specs.LoadRequests.{IsLoadOf};
+ghost use Rattle.policy_rules.specs.Requests.{ActsIn, Parses, RepresentsState};
 ghost use Rattle.policy_rules.specs.Sound.{IsSound};
 ghost use Rattle.policy_rules.specs.Volatile.{LoadSession};
+ghost use Rattle.policy_rules.specs.declared.instruction.TheConstants.{LOAD};
 ghost use Rattle.policy_rules.specs.declared.load.RuleLO.TheVariants.{LO7};
 
 use crate::charge::is_at_or_above;
 use crate::delegation::{holds, judge_receipt};
 use crate::live::{CHANNELS, Live, LoadName};
 use crate::management::judge_management;
+use crate::request::Request;
 use crate::rule::{Rule, RulePS};
 use apdu_core::Status;
 use card_types::{Privileges, Tables};
@@ -99,10 +100,8 @@ fn takes_p1(p1: u8) -> bool
 }
 
 /// Reads P1, P2 and the data field of a LOAD.
-pub fn parse_load(p1: u8, p2: u8, body: &[u8]) -> Result<LoadRequest<'_>, Rule>
-    ensures form { IfOk result (λ request. LoadParameters p1 × (body.now ≢ [])) }
-    ensures means { IfOk result (λ request. IsLoadRequest request p1 p2 body.now) }
-    ensures refused { IfErr result (IsRefusedBy loading p1 p2 body.now) }
+pub(crate) fn parse_load(p1: u8, p2: u8, body: &[u8]) -> Result<Request<'_>, Rule>
+    ensures { Parses LOAD p1 p2 body.now result }
 {
     if !takes_p1(p1) {
         return Err(Rule::PS(RulePS::P));
@@ -110,11 +109,11 @@ pub fn parse_load(p1: u8, p2: u8, body: &[u8]) -> Result<LoadRequest<'_>, Rule>
     if body.is_empty() {
         return Err(Rule::PS(RulePS::S));
     }
-    Ok(LoadRequest {
+    Ok(Request::Load(LoadRequest {
         last: p1 == 0x80,
         number: p2,
         block: body,
-    })
+    }))
 }
 
 // The load session of a channel.
@@ -218,9 +217,3 @@ pub fn judge_loaded(tables: &Tables, live: &Live, channel: u8) -> Option<Rule>
     };
     judge_loaded_by(tables, domain, &name).err()
 }
-
-/// LOAD leaves a card sound, and it does one thing.
-pub fn load_laws()
-    ensures sound { LoadKeepsSound }
-    ensures one { OneLoad }
-{}

@@ -5,10 +5,12 @@ ghost use Rattle.apdu_core.specs.Apdu.{Apdu};
 ghost use Rattle.card_types.specs.InOrder.{IsInOrder};
 ghost use Rattle.policy_rules.specs.Admission.{Admitted};
 ghost use Rattle.policy_rules.specs.Commands.{Judges};
+ghost use Rattle.policy_rules.specs.FirstFailing.{IsFirst};
+ghost use Rattle.policy_rules.specs.Load.{LoadFails, front_rules};
 ghost use Rattle.policy_rules.specs.Requests.{ActsAsBefore, IsJudgedBehind, IsMeant, IsRequestOf, RepresentsState};
 ghost use Rattle.policy_rules.specs.PutKey.{TellsChecks};
 ghost use Rattle.policy_rules.specs.Sound.{IsSound};
-ghost use Rattle.policy_rules.specs.declared.instruction.TheConstants.{EXTERNAL_AUTHENTICATE, GET_STATUS};
+ghost use Rattle.policy_rules.specs.declared.instruction.TheConstants.{EXTERNAL_AUTHENTICATE, GET_STATUS, LOAD};
 
 use crate::card_status::judge_card_status;
 use crate::delete_key::judge_delete_key;
@@ -21,6 +23,7 @@ use crate::initialize_update::judge_initialize_update;
 use crate::install_application::judge_install;
 use crate::install_load::judge_load_install;
 use crate::live::{CHANNELS, Live};
+use crate::load::judge_load;
 use crate::make_selectable::judge_selectable;
 use crate::manage_channel::judge_more_channel;
 use crate::put_key::judge_put_key;
@@ -33,7 +36,8 @@ use card_types::Tables;
 /// The first of a well-formed command's own rules that fails, or none. Whether the check values of PUT KEY fit is told by the
 /// caller, who has the Key-DEK; of other commands it is not read.
 /// Of EXTERNAL AUTHENTICATE the answer is none, since its rules need the keys of the offer. A GET STATUS is judged by what is kept
-/// before it, since it goes on at the place that the channel had then.
+/// before it, since it goes on at the place that the channel had then. Of a LOAD the rules are judged up to the number of its block:
+/// the block is judged where the bytes are kept, and behind it the last one by `judge_loaded`.
 pub fn judge(
     tables: &Tables,
     live: &Live,
@@ -50,6 +54,8 @@ pub fn judge(
         → TellsChecks checks_fit passed → Judges passed result }
     ensures listed { (page : ℕ → List ℕ) (passed : Admitted) → RepresentsState page tables.now live.now passed.before → IsSound passed.before → channel ≡ passed.channel
         → ActsAsBefore passed → IsRequestOf request.now passed.command → passed.command.ins ≡ GET_STATUS → Judges passed result }
+    ensures numbered { (page : ℕ → List ℕ) (passed : Admitted) → RepresentsState page tables.now live.now passed.at → IsSound passed.at → channel ≡ passed.channel
+        → IsRequestOf request.now passed.command → passed.command.ins ≡ LOAD → IsFirst (LoadFails passed) front_rules result }
     ensures elsewhere { (command : Apdu) → IsRequestOf request.now command → command.ins ≡ EXTERNAL_AUTHENTICATE → result ≡ None }
 {
     match request {
@@ -123,6 +129,10 @@ pub fn judge(
         Request::EntryStatus(request) => {
             let domain = live.selected[usize::from(channel)].unwrap();
             judge_entry_status(tables, domain, request).err()
+        }
+        Request::Load(request) => {
+            let domain = live.selected[usize::from(channel)].unwrap();
+            judge_load(tables, live, channel, domain, request).err()
         }
         Request::ListStatus(request) => {
             let domain = live.selected[usize::from(channel)].unwrap();

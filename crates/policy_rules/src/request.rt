@@ -10,12 +10,13 @@ use crate::extradition::ExtraditionRequest;
 use crate::get_status::ListRequest;
 use crate::install_application::InstallRequest;
 use crate::install_load::LoadInstallRequest;
+use crate::load::LoadRequest;
 use crate::make_selectable::SelectableRequest;
 use crate::put_key::PutKeys;
 use crate::rule::Rule;
 use crate::{
     delete, external_authenticate, get_data, get_status, initialize_update, install, instruction,
-    manage_channel, put_key, select, set_status, store_data,
+    load, manage_channel, put_key, select, set_status, store_data,
 };
 use card_types::Level;
 
@@ -77,6 +78,8 @@ pub enum Request<'a> {
     },
     /// SET STATUS of an application or a security domain.
     EntryStatus(EntryStatusRequest),
+    /// LOAD.
+    Load(LoadRequest<'a>),
     /// GET STATUS.
     ListStatus(ListRequest<'a>),
 }
@@ -97,6 +100,7 @@ pub fn parse(ins: u8, p1: u8, p2: u8, body: &[u8]) -> Result<Request<'_>, Rule>
         instruction::STORE_DATA => store_data::parse_store_data(p1, p2, body),
         instruction::DELETE => delete::parse_delete(p1, p2, body),
         instruction::INSTALL => install::parse_install(p1, p2, body),
+        instruction::LOAD => load::parse_load(p1, p2, body),
         instruction::SET_STATUS => set_status::parse_set_status(p1, p2, body),
         instruction::GET_STATUS => get_status::parse_get_status(p1, p2, body),
         _ => external_authenticate::parse_external_authenticate(p1, p2, body),

@@ -5,7 +5,7 @@ use Rattle.policy_rules.proofs.LoadNamed.{named_is}
 use Rattle.policy_rules.proofs.Selected.{selected_acts}
 use Rattle.policy_rules.specs.FirstFailing.{IsFirst}
 use Rattle.policy_rules.specs.Load.{LoadFails, last_rules}
-use Rattle.policy_rules.specs.LoadRequests.{IsForLast}
+use Rattle.policy_rules.specs.LoadFound.{IsForLast}
 use Rattle.policy_rules.specs.Requests.{IsLoadNamed}
 use Rattle.policy_rules.specs.declared.live.LoadName.{LoadName}
 use Rattle.policy_rules.proofs.load.judge_loaded.Goals as goal

@@ -12,6 +12,8 @@ use Rattle.policy_rules.specs.Extradition.{ExtraditionFails, extradition, extrad
 use Rattle.policy_rules.specs.FirstFailing.{IsFirst}
 use Rattle.policy_rules.specs.InstallApplication.{InstallFails, install_application, install_rules}
 use Rattle.policy_rules.specs.InstallLoad.{InstallLoadFails, install_load_rules}
+use Rattle.policy_rules.specs.Load.{LoadFails, front_rules}
+use Rattle.policy_rules.specs.LoadFound.{IsForLoad}
 use Rattle.policy_rules.specs.MakeSelectable.{MakeSelectableFails, make_selectable, selectable_rules}
 use Rattle.policy_rules.specs.PutKey.{PutKeyFails, put_rules}
 use Rattle.policy_rules.specs.GetStatus.{GetStatusFails, get_status, get_status_rules}
@@ -238,3 +240,17 @@ returns-in-ListStatus-clause-listed c page admitted says sound here before reque
     judged get_status (λ holds here. inl here) admitted asked.form refl _
     (rw c.err-in-ListStatus.ensures.value (by_err (λ found. IsFirst (GetStatusFails admitted) get_status_rules found) c.judge_status.result
     (c.judge_status.ensures.passed page admitted acts place asked.means) (c.judge_status.ensures.refused page admitted acts place asked.means)))
+
+pub returns-in-Load-clause-judged : goal.returns-in-Load-clause-judged
+returns-in-Load-clause-judged c page admitted says sound here request behind checks =
+    let asked = rw c.in-Load.is at request in
+    absurd (behind.2 asked.form.0)
+
+pub returns-in-Load-clause-numbered : goal.returns-in-Load-clause-numbered
+returns-in-Load-clause-numbered c page admitted says sound here request ins =
+    let asked = rw c.in-Load.is at request in
+    let is : slice_index_or c.args.live.now.selected c.args.channel None ≡ Some c.unwrap-domain-in-Load.result = search rules in
+    let acts = selected_acts page c.args.tables.now c.args.live.now admitted c.args.channel c.unwrap-domain-in-Load.result says sound c.requires.channel is here in
+    let is_for : IsForLoad c.args.tables.now c.args.live.now.load c.args.channel admitted = record { named = says.load; on = here } in
+    rw c.err-in-Load.ensures.value (by_err (λ found. IsFirst (LoadFails admitted) front_rules found) c.judge_load.result
+    (c.judge_load.ensures.passed page admitted acts is_for asked.means) (c.judge_load.ensures.refused page admitted acts is_for asked.means))
