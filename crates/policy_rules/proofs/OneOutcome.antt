@@ -111,7 +111,7 @@ done_one admitted a b (form ∷ forms) lawful (inl one) (inr other) alone = absu
 done_one admitted a b (form ∷ forms) lawful (inr one) (inl other) alone = absurd (alone.0 other.0 (takes_of admitted a forms one))
 done_one admitted a b (form ∷ forms) lawful (inr one) (inr other) alone = done_one admitted a b forms lawful.1 one other alone.1
 
-does_one : (admitted : Admitted) (a b : Effect) → HasEffect admitted a → HasEffect admitted b → a ≡ b
+pub does_one : (admitted : Admitted) (a b : Effect) → HasEffect admitted a → HasEffect admitted b → a ≡ b
 does_one admitted a b one other =
     let all = all_lawful admitted.command.ins in
     done_one admitted a b (forms_of admitted.command.ins) all.each one other

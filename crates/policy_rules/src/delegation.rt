@@ -15,7 +15,7 @@ ghost use Rattle.policy_rules.specs.Delegation.{DelegatedFails, IsNearestHolder,
 ghost use Rattle.policy_rules.specs.FirstFailing.{IsFirst};
 ghost use Rattle.policy_rules.specs.HoldersFound.{FindsReceipter, IsSignedFor, MayReceipt, approval_of, has_with_key_in, holds_lone_key as holds_lone_key_by};
 ghost use Rattle.policy_rules.specs.Management.{acting};
-ghost use Rattle.policy_rules.specs.Requests.{ActsIn};
+ghost use Rattle.policy_rules.specs.Requests.{ActsIn, ForActing};
 ghost use Rattle.policy_rules.specs.declared.delegation.RuleRC.TheVariants.{RC1};
 ghost use Rattle.tokens_receipts.specs.Token.{token};
 
@@ -154,11 +154,10 @@ pub(crate) fn nearest_with_key(
     version: u8,
 ) -> Option<(u8, &KeyRec)>
     requires in_order { IsInOrder tables.now }
-    ensures some { (page : ℕ → List ℕ) (admitted : Admitted) → ActsIn page tables.now domain admitted
-        → IfSome result (λ found. IsNearestHolder admitted.at.registry (bits_of privilege) version (acting admitted)
-        (domain_aid tables.now.entries.items found.0) (key_of tables.now.entries.items found.1.now)) }
-    ensures none { (page : ℕ → List ℕ) (admitted : Admitted) → ActsIn page tables.now domain admitted
-        → IfNone result (NoHolder admitted.at.registry (bits_of privilege) version (acting admitted)) }
+    ensures some { ForActing tables.now domain (λ page admitted. IfSome result (λ found.
+        IsNearestHolder admitted.at.registry (bits_of privilege) version (acting admitted)
+        (domain_aid tables.now.entries.items found.0) (key_of tables.now.entries.items found.1.now))) }
+    ensures none { ForActing tables.now domain (λ page admitted. IfNone result (NoHolder admitted.at.registry (bits_of privilege) version (acting admitted))) }
     ensures used { IfSome result (λ found. IsSome (held tables.now.entries.items found.0)) }
     ensures key { IfSome result (λ found. (place : ℕ) × HasKey tables.now.keys.items found.0 version 1 place) }
     ensures length { IfSome result (λ found. IsKeyLength (length found.1.now.bytes.items)) }

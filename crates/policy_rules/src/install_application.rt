@@ -404,12 +404,10 @@ pub fn judge_install(
 ) -> Result<Installation, Rule>
     requires in_order { IsInOrder tables.now }
     requires short { length request.now.signed.before.now ≤ 255 }
-    ensures passed { (page : ℕ → List ℕ) (admitted : Admitted) → ActsIn page tables.now domain admitted
-        → IsLoadNamed tables.now.entries.items live.now.load admitted.at.volatile.load
-        → IsInstallOf request.now admitted.command → OnOk result (IsFirst (InstallFails admitted) install_rules None) }
-    ensures refused { (page : ℕ → List ℕ) (admitted : Admitted) → ActsIn page tables.now domain admitted
-        → IsLoadNamed tables.now.entries.items live.now.load admitted.at.volatile.load
-        → IsInstallOf request.now admitted.command → IfErr result (λ rule. IsFirst (InstallFails admitted) install_rules (Some rule)) }
+    ensures passed { ForActing tables.now domain (λ page admitted. IsLoadNamed tables.now.entries.items live.now.load admitted.at.volatile.load
+        → IsInstallOf request.now admitted.command → OnOk result (IsFirst (InstallFails admitted) install_rules None)) }
+    ensures refused { ForActing tables.now domain (λ page admitted. IsLoadNamed tables.now.entries.items live.now.load admitted.at.volatile.load
+        → IsInstallOf request.now admitted.command → IfErr result (λ rule. IsFirst (InstallFails admitted) install_rules (Some rule))) }
     ensures file { IfOk result (λ found. aid_of tables.now (File found.file) ≡ Some request.now.file) }
     ensures free { OnOk result ((thing : Thing) → aid_of tables.now thing ≢ Some request.now.aid) }
     ensures room { OnOk result (NoneFree tables.now.entries.items → ⊥) }

@@ -222,9 +222,9 @@ fn judge_loading(
     requires in_order { IsInOrder tables.now }
     ensures passed { ForActing tables.now domain (λ page admitted. IsLoadNamed tables.now.entries.items live.now.load admitted.at.volatile.load
         → (is : IsLoadInstallOf request.now admitted.command) → OnOk result (IsFirst (InstallingLoadFails admitted is.given) own_install_load_rules None)) }
-    ensures refused { ForActing tables.now domain (λ page admitted. IsLoadNamed tables.now.entries.items live.now.load admitted.at.volatile.load
-        → (is : IsLoadInstallOf request.now admitted.command)
-        → IfErr result (λ rule. IsFirst (InstallingLoadFails admitted is.given) own_install_load_rules (Some rule))) }
+    ensures refused { ForActing tables.now domain (λ page asked. IsLoadNamed tables.now.entries.items live.now.load asked.at.volatile.load
+        → (is : IsLoadInstallOf request.now asked.command)
+        → IfErr result (λ rule. IsFirst (InstallingLoadFails asked is.given) own_install_load_rules (Some rule))) }
     ensures found { ForActing tables.now domain (λ page admitted. (is : IsLoadInstallOf request.now admitted.command)
         → IfOk result (λ slot. aid_of tables.now (Entry slot) ≡ Some (file_domain_for admitted is.given))) }
     ensures hash { OnOk result (IsHashLength (length request.now.hash.now)) }
