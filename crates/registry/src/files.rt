@@ -2,7 +2,7 @@
 
 ghost use Rattle.std.specs.Prelude.{◌≡◌, ◌↔◌, ℕ, List, [], ◌∷◌, true, None, length, Err, IfOk, OnErr, OnOk, IsSome};
 ghost use Rattle.card_check.specs.IsCard.{IsInLoadPages};
-ghost use Rattle.card_types.specs.First.{IsFirstFree};
+ghost use Rattle.card_types.specs.First.{IsFirstFree, NoneFree};
 ghost use Rattle.card_types.specs.Registry.{Registry};
 ghost use Rattle.card_types.specs.RegistryChange.{IsFileAdded, without_file};
 ghost use Rattle.card_types.specs.Represents.{Represents, file_aid, file_of};
@@ -12,15 +12,36 @@ ghost use Rattle.card_types.specs.Well.{Well};
 ghost use Rattle.card_types.specs.declared.limits.TheConstants.{FILES};
 ghost use Rattle.rec_store.specs.Places.{file_page};
 ghost use Rattle.rec_store.specs.Room.{HasRoomFor, with_staged};
-ghost use Rattle.registry.specs.Adding.{AddsFile, IsTaken};
+ghost use Rattle.registry.specs.Adding.{AddsFile, IsTaken, NoneHas};
 ghost use Rattle.registry.specs.Pages.{KeepsRoom};
 ghost use Rattle.registry.specs.Removing.{IsUnloaded};
 
 use crate::place::place;
 use crate::refusal::AddRefusal;
-use card_types::LoadFile;
+use card_types::{LoadFile, first_free};
 use flash_core::Flash;
 use rec_store::Records;
+
+/// Puts an Executable Load File, whose AID nothing has and whose bytes its load pages hold, into the first free slot, and answers the
+/// slot. It commits nothing.
+pub fn place_file<F: Flash>(records: &mut Records<F>, value: LoadFile) -> u8
+    requires live { records.old.live ≡ true }
+    requires domain { IsSome (held records.old.tables.entries.items value.domain) }
+    requires pages { IsInLoadPages value }
+    requires fresh { NoneHas records.old.tables value.aid }
+    requires free { NoneFree records.old.tables.files.items → ⊥ }
+    requires room { (slot : ℕ) → IsFirstFree records.old.tables.files.items slot → HasRoomFor (file_page slot ∷ []) records.old.staged }
+    ensures said { (page : ℕ → List ℕ) (said : Registry) → Represents page records.old.tables said → Well said → (after : Registry)
+        × IsFileAdded (file_of page records.old.tables.entries.items value) said after × Represents page records.new.tables after }
+    ensures slots { AddsFile records.old.tables records.new.tables result value }
+    ensures same { (records.new.flash ≡ records.old.flash) × (records.new.live ≡ true) }
+    ensures staged { records.new.staged ≡ with_staged records.old.staged (file_page result) }
+    ensures room { KeepsRoom (file_page result ∷ []) records.old.staged records.new.staged }
+{
+    let slot = first_free(&records.tables().files).unwrap();
+    records.set_file(slot, Some(value));
+    slot
+}
 
 /// Adds an Executable Load File, whose bytes its load pages hold. It commits nothing.
 pub fn add_file<F: Flash>(records: &mut Records<F>, value: LoadFile) -> Result<u8, AddRefusal>
@@ -40,9 +61,8 @@ pub fn add_file<F: Flash>(records: &mut Records<F>, value: LoadFile) -> Result<u
     ensures room { IfOk result (λ slot. KeepsRoom (file_page slot ∷ []) records.old.staged records.new.staged) }
 {
     let tables = records.tables();
-    let slot = place(tables, &tables.files, &value.aid)?;
-    records.set_file(slot, Some(value));
-    Ok(slot)
+    place(tables, &tables.files, &value.aid)?;
+    Ok(place_file(records, value))
 }
 
 /// Removes the Executable Load File in a slot, which no entry names. It commits nothing.
