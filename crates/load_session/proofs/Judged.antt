@@ -45,7 +45,8 @@ one_brings None block size other bytes more one another =
 one_brings (Some announced) block size other bytes more one another = (one.0 ∙ sym another.0, one.1 ∙ sym another.1)
 
 module _ (page : ℕ → List ℕ) (whole : HasPages page) (entries : List (Option Entry)) where
-  as_long : (file : LoadFile) → HasPageNumbers file → file.len ≤ FILE_LIMIT → length (file_of page entries file).bytes ≡ file.len
+  -- a file has as many bytes as it says
+  pub as_long : (file : LoadFile) → HasPageNumbers file → file.len ≤ FILE_LIMIT → length (file_of page entries file).bytes ≡ file.len
   as_long file array short =
       let all = length-take file.len (concat (map page (pages_named file))) in
       let pages = length_of_pages page whole (pages_named file) in

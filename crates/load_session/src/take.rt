@@ -6,7 +6,7 @@ ghost use Rattle.card_types.specs.Represents.{file_of};
 ghost use Rattle.card_types.specs.declared.tables.Tables.{Tables as TablesOf};
 ghost use Rattle.load_session.specs.Loaded.{AreNewPages, loaded, numbers};
 ghost use Rattle.load_session.specs.Pages.{AreOwn};
-ghost use Rattle.load_session.specs.Session.{IsAfterBlock, IsReady, IsBlockTaken, IsWholeFile, RepresentsAfter, RepresentsLoad, RepresentsWhole, load_aid, blocks_taken, pages_taken, load_slot};
+ghost use Rattle.load_session.specs.Session.{IsAfterBlock, IsReady, IsBlockTaken, IsWholeFile, RepresentsAfter, RepresentsLoad, RepresentsWhole, load_aid, blocks_taken, len_of, pages_taken, load_slot};
 ghost use Rattle.policy_rules.specs.LoadBlocks.{with_block};
 ghost use Rattle.policy_rules.specs.Volatile.{LoadSession as Load};
 ghost use Rattle.rec_store.specs.StoredTables.{AreRoomy};
@@ -59,6 +59,7 @@ impl LoadSession {
             → file_of page tables.entries.items result ≡ record { aid = load.aid; domain = load.domain; bytes = load.bytes } }
         ensures pages { (tables : TablesOf) → IsWholeFile tables self → IsInLoadPages result × AreOwn tables (pages_named result) }
         ensures name { (result.aid ≡ load_aid self) × (result.domain ≡ load_slot self) }
+        ensures len { result.len ≡ len_of self }
     {
         let mut pages = [0; 128];
         pages[..self.paged.pages.len()].copy_from_slice(&self.paged.pages);
