@@ -3,7 +3,7 @@ use Rattle.std.proofs.Common.{◌≡◌, ℕ, ◌<◌, List, true, Option, Some,
 use Rattle.std.specs.Prelude.{MatchOption, All, map, nat_eq}
 use Rattle.std.specs.List.{IsDistinct, concat}
 use Rattle.std.proofs.lemmas.List.{length-replicate, length-set}
-use Rattle.card_check.specs.IsCard.{IsInLoadPages, pages_named}
+use Rattle.card_check.specs.IsCard.{HasPages, IsInLoadPages, pages_named}
 use Rattle.card_types.proofs.DrawnCounter.{drawn_says, drawn_well}
 use Rattle.card_types.specs.Counters.{raised, raised_key}
 use Rattle.card_types.specs.InOrder.{IsInOrder}
@@ -39,15 +39,15 @@ pub record AreFiles (slots : List (Option LoadFile)) : Type 0 where
   pub apart : IsDistinct nat_eq (concat (map pages_named (used slots)))
 
 -- tables with as many slots are a card's too, where the Issuer Security Domain and the Executable Load Files stand as a card's do, and
--- where they say a registry that a card may have
+-- where they say a registry that a card may have, over load pages of 256 bytes
 module _ (before after : Tables) (entries : length after.entries.items ≡ length before.entries.items) (files : length after.files.items ≡ length before.files.items)
     (keys : length after.keys.items ≡ length before.keys.items) (objects : length after.objects.items ≡ length before.objects.items) where
-  pub cards_from : (HasIssuer before.entries.items → HasIssuer after.entries.items) → (AreFiles before.files.items → AreFiles after.files.items)
-      → ((page : ℕ → List ℕ) (said : Registry) → Represents page before said → Well said → (now : Registry) × Represents page after now × Well now)
+  pub cards_over : (HasIssuer before.entries.items → HasIssuer after.entries.items) → (AreFiles before.files.items → AreFiles after.files.items)
+      → ((page : ℕ → List ℕ) (said : Registry) → HasPages page → Represents page before said → Well said → (now : Registry) × Represents page after now × Well now)
       → AreCards before → AreCards after
-  cards_from issuer pages each cards page whole =
+  cards_over issuer pages each cards page whole =
       let is = cards page whole in
-      let now = each page is.said is.of.says is.of.well in
+      let now = each page is.said whole is.of.says is.of.well in
       let are = pages (record { factory = is.of.factory_file; pages = is.of.files; apart = is.of.apart }) in
       record {
         said = now.0;
@@ -66,6 +66,12 @@ module _ (before after : Tables) (entries : length after.entries.items ≡ lengt
           well = now.2;
         };
       }
+
+  -- and so where they say it over any
+  pub cards_from : (HasIssuer before.entries.items → HasIssuer after.entries.items) → (AreFiles before.files.items → AreFiles after.files.items)
+      → ((page : ℕ → List ℕ) (said : Registry) → Represents page before said → Well said → (now : Registry) × Represents page after now × Well now)
+      → AreCards before → AreCards after
+  cards_from issuer pages each cards = cards_over issuer pages (λ page said whole. each page said) cards
 
 -- and so with the same entries and Executable Load Files
 module _ (before after : Tables) (entries : after.entries.items ≡ before.entries.items) (files : after.files.items ≡ before.files.items)

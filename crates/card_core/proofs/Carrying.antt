@@ -1,5 +1,5 @@
 -- What a refusal leaves.
-use Rattle.std.proofs.Common.{◌≡◌, ℕ, ◌<◌, List, [], Bool, true, false, Some, Result, Ok, Err, sym, ap, subst, ◌∙◌}
+use Rattle.std.proofs.Common.{◌≡◌, ℕ, ◌<◌, List, [], Bool, true, false, Option, Some, Result, Ok, Err, refl, sym, ap, subst, ◌∙◌}
 use Rattle.std.specs.Prelude.{if◌then◌else◌, slice_index_or, slice_set}
 use Rattle.std.specs.Result.{IsErrAnd}
 use Rattle.apdu_core.specs.declared.reply.Status.{Status}
@@ -13,7 +13,11 @@ use Rattle.policy_rules.specs.declared.live.TheConstants.{CHANNELS}
 use Rattle.policy_rules.specs.declared.rule.Rule.{Rule}
 use Rattle.card_core.specs.SecureChannels.{without_offer_held}
 use Rattle.card_core.specs.Kept.{Kept, KeptRepresents}
-use Rattle.card_core.specs.Serves.{CarriesOut, CarriesOutBut, live_refused, refused_at}
+use Rattle.card_core.specs.Serves.{CarriesOut, CarriesOutBut, LoadsBy, live_refused, refused_at}
+use Rattle.card_core.specs.Loading.{RepresentsLoading}
+use Rattle.card_types.specs.declared.tables.Tables.{Tables}
+use Rattle.load_session.specs.declared.session.LoadSession.{LoadSession}
+use Rattle.card_core.proofs.LoadsKept.{refusal_loading}
 use Rattle.card_core.specs.declared.channel_session.ChannelSession.{ChannelSession}
 use Rattle.card_core.specs.declared.channel_session.ChannelSession.TheVariants as held
 use Rattle.card_core.proofs.ChannelChanges.{HasFour, load_ended_shows, lost_shows}
@@ -46,15 +50,25 @@ refusal_carried page card admitted body (Ok status) found given four low shows j
 refusal_carried page card admitted body (Err rule) found given four low shows judges empty =
     (refusal_shows page card admitted four low shows rule, subst (λ (r : Rule). Judges admitted (Some r)) (sym given) judges, empty)
 
+-- and what is kept of the load session goes with it
+pub refusal_loads : (page : ℕ → List ℕ) (tables : Tables) (loading : Option LoadSession) (admitted : Admitted) (result : Result Status Rule) (found : Rule)
+    → IsErrAnd result (λ rule. rule ≡ found) → RepresentsLoading page tables loading admitted.at.volatile.load → LoadsBy page admitted tables loading result
+refusal_loads page tables loading admitted (Ok status) found given loads = absurd given
+refusal_loads page tables loading admitted (Err rule) found given loads = loads
+
 -- what a refusal ends has ended
 pub refused_carried : (page : ℕ → List ℕ) (card : Kept) (admitted : Admitted) (body : List ℕ) (rule : Rule) (channel place : ℕ) (live : Live) (now : ChannelSession)
     → channel ≡ admitted.channel → place ≡ admitted.channel → live ≡ live_refused rule channel card.live
     → now ≡ without_offer_held (slice_index_or card.held admitted.channel held.Nothing) → CarriesOutBut page admitted card body (Err rule)
-    → CarriesOut page admitted (record { tables = card.tables; live = live; held = slice_set card.held place now }) body (Err rule)
-refused_carried page card admitted body rule channel place live now on at ended dropped carried = (
-  subst (λ (k : Kept). KeptRepresents page k (record { registry = admitted.at.registry; volatile = refusal_leaves admitted rule })) (sym same) carried.0,
-  carried.1,
-  carried.2,
+    → (loading : Option LoadSession) → RepresentsLoading page card.tables loading admitted.at.volatile.load
+    → CarriesOut page admitted (record { tables = card.tables; live = live; held = slice_set card.held place now }) loading body (Err rule)
+refused_carried page card admitted body rule channel place live now on at ended dropped carried loading loads = (
+  (
+    subst (λ (k : Kept). KeptRepresents page k (record { registry = admitted.at.registry; volatile = refusal_leaves admitted rule })) (sym same) carried.0,
+    carried.1,
+    carried.2,
+  ),
+  refusal_loading page card.tables loading admitted rule loads,
 )
   where
     same : record { tables = card.tables; live = live; held = slice_set card.held place now } ≡ refused_at card admitted.channel rule
@@ -62,3 +76,10 @@ refused_carried page card admitted body rule channel place live now on at ended 
         ap (λ (l : Live). record { tables = card.tables; live = l; held = slice_set card.held place now }) (ended ∙ ap (λ (n : ℕ). live_refused rule n card.live) on)
         ∙ ap (λ (n : ℕ). record { tables = card.tables; live = live_refused rule admitted.channel card.live; held = slice_set card.held n now }) at
         ∙ ap (λ (h : ChannelSession). record { tables = card.tables; live = live_refused rule admitted.channel card.live; held = slice_set card.held admitted.channel h }) dropped
+
+-- what was done goes with what is kept of the load session
+pub done_carried : (page : ℕ → List ℕ) (card : Kept) (admitted : Admitted) (body : List ℕ) (result : Result Status Rule) (loading : Option LoadSession)
+    → ((rule : Rule) → result ≡ Err rule → ⊥) → CarriesOutBut page admitted card body result → LoadsBy page admitted card.tables loading result
+    → CarriesOut page admitted card loading body result
+done_carried page card admitted body (Ok status) loading passed (done, shows, judges, does, body_is, word) loads = ((done, shows, judges, does, body_is, word), loads done does)
+done_carried page card admitted body (Err rule) loading passed carried loads = absurd (passed rule refl)

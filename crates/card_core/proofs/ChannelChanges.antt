@@ -38,7 +38,7 @@ use Rattle.card_core.specs.declared.channel_session.ChannelSession.TheVariants a
 use Rattle.card_core.proofs.SetAt.{IsSetAt, none_at, same_at, set_at, set_each}
 
 -- the load session of another channel is left, as the code keeps it and in the model
-load_left : (entries : List (Option Entry)) (number : ℕ) (kept : Option LoadName) (load : Option LoadSession) → IsLoadNamed entries kept load
+pub load_left : (entries : List (Option Entry)) (number : ℕ) (kept : Option LoadName) (load : Option LoadSession) → IsLoadNamed entries kept load
     → IsLoadNamed entries (kept_of_others number kept) (load_without_channel number load)
 load_left entries number None None named = tt
 load_left entries number None (Some load) named = absurd named

@@ -176,7 +176,7 @@ pub entry_cards : (before after : Tables) (slot : ℕ) (entry : Option Entry) �
 entry_cards before after slot entry set keeps each cards =
     entries_cards before after (ap (λ (slots : List (Option Entry)). length slots) set.entries ∙ length-set before.entries.items slot entry) set.files set.keys set.objects keeps each cards
 
-abbrev in_domain : ℕ → LoadFile → LoadFile
+abbrev pub in_domain : ℕ → LoadFile → LoadFile
 in_domain domain file = record file { domain = domain }
 
 -- the pages of the files are the same, with one of them in another domain
@@ -188,17 +188,21 @@ pages_alike domain (Some file ∷ slots) zero = refl
 pages_alike domain (None ∷ slots) (suc slot) = pages_alike domain slots slot
 pages_alike domain (Some file ∷ slots) (suc slot) = ap (λ rest. pages_named file ∷ rest) (pages_alike domain slots slot)
 
+-- what is so of each file, and of each that goes to another domain
+pub all_still : (P : LoadFile → Type 0) (domain : ℕ) → ((file : LoadFile) → P file → P (in_domain domain file)) → (slots : List (Option LoadFile)) (slot : ℕ) → All P (used slots)
+    → All P (used (slice_set slots slot (option_map (in_domain domain) (held slots slot))))
+all_still P domain goes [] slot all = all
+all_still P domain goes (None ∷ slots) zero all = all
+all_still P domain goes (Some file ∷ slots) zero all =
+    All-cons P (in_domain domain file) (used slots) (goes file (All-head P file (used slots) all)) (All-tail P file (used slots) all)
+all_still P domain goes (None ∷ slots) (suc slot) all = all_still P domain goes slots slot all
+all_still P domain goes (Some file ∷ slots) (suc slot) all =
+    All-cons P file (used (slice_set slots slot (option_map (in_domain domain) (held slots slot)))) (All-head P file (used slots) all)
+    (all_still P domain goes slots slot (All-tail P file (used slots) all))
+
 pages_still : (domain : ℕ) (slots : List (Option LoadFile)) (slot : ℕ) → All IsInLoadPages (used slots)
     → All IsInLoadPages (used (slice_set slots slot (option_map (in_domain domain) (held slots slot))))
-pages_still domain [] slot all = all
-pages_still domain (None ∷ slots) zero all = all
-pages_still domain (Some file ∷ slots) zero all =
-    let is = All-head IsInLoadPages file (used slots) all in
-    All-cons IsInLoadPages (in_domain domain file) (used slots) (record { size = is.size; pages = is.pages }) (All-tail IsInLoadPages file (used slots) all)
-pages_still domain (None ∷ slots) (suc slot) all = pages_still domain slots slot all
-pages_still domain (Some file ∷ slots) (suc slot) all =
-    All-cons IsInLoadPages file (used (slice_set slots slot (option_map (in_domain domain) (held slots slot)))) (All-head IsInLoadPages file (used slots) all)
-    (pages_still domain slots slot (All-tail IsInLoadPages file (used slots) all))
+pages_still domain = all_still IsInLoadPages domain (λ file is. record { size = is.size; pages = is.pages })
 
 factory_still : (domain : ℕ) (slots : List (Option LoadFile)) (slot : ℕ) → IsFactoryIn slots → IsFactoryIn (slice_set slots slot (option_map (in_domain domain) (held slots slot)))
 factory_still domain [] slot is = is

@@ -1,5 +1,8 @@
 -- The states that a card on a device stands for.
-use Rattle.std.proofs.Common.{◌≡◌, ◌⊎◌, ℕ, List, true, refl, ap, sym, subst, ◌∙◌}
+use Rattle.load_session.specs.Loaded.{loaded}
+use Rattle.load_session.specs.declared.load_write.LoadWrite.{LoadWrite}
+use Rattle.load_session.specs.declared.session.LoadSession.{LoadSession}
+use Rattle.std.proofs.Common.{◌≡◌, ◌⊎◌, ℕ, List, Option, replicate, true, refl, ap, sym, subst, ◌∙◌}
 use Rattle.card_types.specs.Registry.{Registry}
 use Rattle.card_types.specs.Represents.{Represents}
 use Rattle.card_types.specs.declared.tables.Tables.{Tables}
@@ -10,20 +13,23 @@ use Rattle.policy_rules.specs.LiveEnds.{first_live}
 use Rattle.policy_rules.specs.State.{State, powered_on}
 use Rattle.policy_rules.specs.declared.live.Live.{Live}
 use Rattle.rec_store.proofs.OneRegistry.{said_once}
-use Rattle.rec_store.proofs.Reopening.{has_pages}
-use Rattle.rec_store.specs.Reopens.{Keeps, Reopens, load_page}
+use Rattle.rec_store.proofs.Reopening.{has_pages, spare_same}
+use Rattle.rec_store.specs.Reopens.{AreSpare, Keeps, Reopens, load_page, store_page}
 use Rattle.card_core.proofs.Cards.{in_order}
 use Rattle.card_core.proofs.PoweredOn.{four_nothing, powered_on_stands}
 use Rattle.card_core.specs.Card.{CardOver, CardRepresents}
 use Rattle.card_core.specs.Kept.{AreCards}
+use Rattle.card_check.specs.IsCard.{HasPages}
+use Rattle.card_core.specs.Loading.{RepresentsSome}
+use Rattle.std.proofs.lemmas.List.{length-replicate}
 use Rattle.card_core.specs.declared.channel_session.ChannelSession.{ChannelSession}
 
-module _ {F : Type 0} (device : Flash F) (live : Live) (all : List ChannelSession) (first : live ≡ first_live) (nothing : all ≡ four_nothing) where
+module _ {F : Type 0} (device : Flash F) (live : Live) (all : List ChannelSession) (loading : Option LoadSession) (first : live ≡ first_live) (nothing : all ≡ four_nothing) where
   -- a card that was just powered on, over the tables that were read
   pub mounted_stands : (old new : F) (tables : Tables) → AreCards tables
       → (device.tells → (registry : Registry) × Reopens (device.pages old) registry × Represents (load_page (device.pages new)) tables registry × Keeps device new registry)
       → (registry : Registry) × (device.tells → Reopens (device.pages old) registry)
-      × CardRepresents device (record { flash = new; tables = tables; live = live; held = all; up = true }) (powered_on registry)
+      × CardRepresents device (record { flash = new; tables = tables; live = live; held = all; loading = loading; up = true }) (powered_on registry)
   mounted_stands old new tables cards read =
       let page : ℕ → List ℕ = load_page (device.pages new) in
       let is = cards page (has_pages (stored (device.pages new))) in
@@ -35,19 +41,34 @@ module _ {F : Type 0} (device : Flash F) (live : Live) (all : List ChannelSessio
           page = page;
           whole = has_pages (stored (device.pages new));
           on = powered_on_stands page tables live all is.said is.of.layout is.of.says is.of.well first nothing;
+          loading = tt;
           load = λ told. refl;
           keeps = λ told. subst (Keeps device new) (same told) (read told).3;
         },
       )
 
+  -- it shows some state
+  pub powered_some : (tables : Tables) → AreCards tables → RepresentsSome (record { tables = tables; live = live; held = all }) loading
+  powered_some tables cards =
+      let page : ℕ → List ℕ = λ n. replicate 256 0 in
+      let whole : HasPages page = λ n. length-replicate {A = ℕ} 256 0 in
+      let is = cards page whole in
+      record {
+        page = page;
+        whole = whole;
+        state = powered_on is.said;
+        shows = record { on = powered_on_stands page tables live all is.said is.of.layout is.of.says is.of.well first nothing; loading = tt };
+      }
+
   -- and one that was reset
   pub reset_stands : (card : CardOver F) (state : State) → AreCards card.tables → CardRepresents device card state
-      → CardRepresents device (record { flash = card.flash; tables = card.tables; live = live; held = all; up = card.up }) (powered_on state.registry)
+      → CardRepresents device (record { flash = card.flash; tables = card.tables; live = live; held = all; loading = loading; up = card.up }) (powered_on state.registry)
   reset_stands card state cards stands = record {
     up = stands.up;
     page = stands.page;
     whole = stands.whole;
     on = powered_on_stands stands.page card.tables live all state.registry (in_order card.tables cards).layout stands.on.shows.says.registry stands.on.sound.well first nothing;
+    loading = tt;
     load = stands.load;
     keeps = stands.keeps;
   }
@@ -69,17 +90,18 @@ module _ {F : Type 0} (device : Flash F) (card : CardOver F) (state : State)
   pub served_load : device.tells → load_page (device.pages served) ≡ stands.page
   served_load told = ap (λ flash. load_page (device.pages flash)) same ∙ stands.load told
 
-  pub served_says : (tables : Tables) (said : Registry) → Represents stands.page tables said → device.tells → Represents (load_page (device.pages served)) tables said
-  served_says tables said says told = subst (λ page. Represents page tables said) (sym (served_load told)) says
+  pub served_says : (writes : List LoadWrite) (tables : Tables) (said : Registry) → Represents (loaded stands.page writes) tables said → device.tells
+      → Represents (loaded (load_page (device.pages served)) writes) tables said
+  served_says writes tables said says told = subst (λ page. Represents (loaded page writes) tables said) (sym (served_load told)) says
 
   -- what power lost while the changes are committed leaves
-  pub committed : (new : F) (tables : Tables) (next : Registry) → Represents stands.page tables next
-      → (device.tells → (before after : Registry) → Keeps device served before → Represents (load_page (device.pages served)) tables after
+  pub committed : (new : F) (writes : List LoadWrite) (tables : Tables) (next : Registry) → Represents (loaded stands.page writes) tables next
+      → (device.tells → (before after : Registry) → Keeps device served before → Represents (loaded (load_page (device.pages served)) writes) tables after
       → LeavesOnly device served new (λ outcome. Reopens outcome before ⊎ Reopens outcome after))
       → device.tells → LeavesOnly device card.flash new (λ outcome. Reopens outcome state.registry ⊎ Reopens outcome next)
-  committed new tables next says moments told =
+  committed new writes tables next says moments told =
       subst (λ flash. LeavesOnly device flash new (λ outcome. Reopens outcome state.registry ⊎ Reopens outcome next)) same
-      (moments told state.registry next (served_keeps told) (served_says tables next says told))
+      (moments told state.registry next (served_keeps told) (served_says writes tables next says told))
 
   -- and while load pages are read
   pub reading : (new : F)
@@ -87,3 +109,7 @@ module _ {F : Type 0} (device : Flash F) (card : CardOver F) (state : State)
       → device.tells → LeavesOnly device card.flash new (λ outcome. Reopens outcome state.registry)
   reading new moments told =
       subst (λ flash. LeavesOnly device flash new (λ outcome. Reopens outcome state.registry)) same (moments told state.registry (served_keeps told))
+
+-- where the pages are the same, what is spare on the device is so too
+pub spare_over : {F : Type 0} (device : Flash F) (old new : F) (tables : Tables) → device.pages new ≡ device.pages old → AreSpare device old tables → AreSpare device new tables
+spare_over device old new tables same spare page free = spare_same device old new (λ n lt. ap (λ pages. store_page pages n) same) page (spare page free)

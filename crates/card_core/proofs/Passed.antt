@@ -36,6 +36,9 @@ use Rattle.card_core.specs.Serves.{IsTerminatedFor, Serves, live_passed}
 use Rattle.card_core.specs.declared.channel_session.ChannelSession.{ChannelSession}
 use Rattle.card_core.specs.declared.channel_session.ChannelSession.TheVariants as held
 use Rattle.card_core.proofs.Serving.{rejected, managed_first, no_session_first, over_first, protected_unmanaged, wrong_mac_first, wrong_padding_first}
+use Rattle.load_session.specs.declared.session.LoadSession.{LoadSession as Kept}
+use Rattle.card_core.specs.Loading.{RepresentsLoading}
+use Rattle.card_core.proofs.LoadsKept.{ended_loading}
 use Rattle.card_core.proofs.ChannelChanges.{HasFour, held_same, load_ended_shows, passed_shows, session_passed_shows, shows_same, secure_channel_shows}
 
 within : (all : List ChannelSession) (number : ℕ) → length all ≡ CHANNELS → number < CHANNELS → number < length all
@@ -183,13 +186,14 @@ module _ (page : ℕ → List ℕ) (tables : Tables) (live : Live) (all : List C
         (subst (λ (h : ChannelSession). RepresentsSecureChannel h Nothing) (sym gone) tt))
 
     -- card content management in plain ends it
-    pub managed_served : (bytes reply : List ℕ) → Short command bytes → IsKnown command.class command.ins → (class : Class) → class_of command.class ≡ Some class
+    pub managed_served : (loading : Option Kept) → RepresentsLoading page tables loading state.volatile.load → (bytes reply : List ℕ) → Short command bytes → IsKnown command.class command.ins → (class : Class) → class_of command.class ≡ Some class
         → IsFirst (GeneralFails state bytes) command_rules None → (IsTerminatedFor state.registry.life class command.ins → ⊥) → IsPlainManagement command
         → (now : ChannelSession) → now ≡ held.Nothing → reply ≡ status_bytes (status_of (G G6))
-        → Serves page state bytes (record { tables = tables; live = live_without_load passed_live number; held = slice_set all_passed number now }) reply (Some (G G6))
-    managed_served bytes reply short known class is_class front not_over managed now gone is =
-        rejected page (record { tables = tables; live = live_without_load passed_live number; held = slice_set all_passed number now }) state bytes reply G6 (without_session passed number) stands.sound
-        (managed_first state bytes command short known class is_class front not_over managed) (command, short, inl (managed, refl)) (ended_shows now gone) is
+        → Serves page state bytes (record { tables = tables; live = live_without_load passed_live number; held = slice_set all_passed number now }) loading reply (Some (G G6))
+    managed_served loading loads bytes reply short known class is_class front not_over managed now gone is =
+        rejected page (record { tables = tables; live = live_without_load passed_live number; held = slice_set all_passed number now }) loading state bytes reply G6 (without_session passed number) stands.sound
+        (managed_first state bytes command short known class is_class front not_over managed) (command, short, inl (managed, refl)) (ended_shows now gone)
+        (ended_loading page tables loading number state.volatile.load loads) is
 
   module _ (slot : ℕ) (opened : slice_index_or live.selected number None ≡ Some slot) (protected : is_protected command ≡ true) where
     -- a protected command that opens
@@ -224,40 +228,42 @@ module _ (page : ℕ → List ℕ) (tables : Tables) (live : Live) (all : List C
         (class : Class) (is_class : class_of command.class ≡ Some class) (front : IsFirst (GeneralFails state bytes) command_rules None)
         (not_over : IsTerminatedFor state.registry.life class command.ins → ⊥) where
       -- a rule on secure messaging refuses it
-      pub refused_served : (now : ChannelSession) (plain reply : List ℕ) (rule : RuleG)
+      pub refused_served : (loading : Option Kept) → RepresentsLoading page tables loading state.volatile.load → (now : ChannelSession) (plain reply : List ℕ) (rule : RuleG)
           → OpensAs command (secure_channel_of (channel_at passed number)) (slice_index_or all_passed number held.Nothing) now plain (Err rule)
           → reply ≡ status_bytes (status_of (G rule))
-          → Serves page state bytes (record { tables = tables; live = live_without_load passed_live number; held = slice_set all_passed number now }) reply (Some (G rule))
-      refused_served now plain reply G6 (none, same) is =
-          rejected page (record { tables = tables; live = live_without_load passed_live number; held = slice_set all_passed number now }) state bytes reply G6 passed stands.sound
+          → Serves page state bytes (record { tables = tables; live = live_without_load passed_live number; held = slice_set all_passed number now }) loading reply (Some (G rule))
+      refused_served loading loads now plain reply G6 (none, same) is =
+          rejected page (record { tables = tables; live = live_without_load passed_live number; held = slice_set all_passed number now }) loading state bytes reply G6 passed stands.sound
           (no_session_first state bytes command short known class is_class front not_over protected (sym (passed_session state command stands.sound.fits) ∙ none))
           (command, short, inr (protected_unmanaged command protected, refl))
-          (unloaded_shows now same (sym (passed_session state command stands.sound.fits) ∙ none)) is
-      refused_served now plain reply G7 (gone, wrong) is =
+          (unloaded_shows now same (sym (passed_session state command stands.sound.fits) ∙ none)) loads is
+      refused_served loading loads now plain reply G7 (gone, wrong) is =
           let found = session_of (λ session. IsAuthentic session command → ⊥) wrong in
-          rejected page (record { tables = tables; live = live_without_load passed_live number; held = slice_set all_passed number now }) state bytes reply G7 (without_session passed number) stands.sound
+          rejected page (record { tables = tables; live = live_without_load passed_live number; held = slice_set all_passed number now }) loading state bytes reply G7 (without_session passed number) stands.sound
           (wrong_mac_first state bytes command short known class is_class front not_over protected found.0 found.1 found.2)
-          (command, short, refl) (ended_shows slot opened now gone) is
-      refused_served now plain reply G8 (gone, wrong) is =
+          (command, short, refl) (ended_shows slot opened now gone)
+          (ended_loading page tables loading number state.volatile.load loads) is
+      refused_served loading loads now plain reply G8 (gone, wrong) is =
           let found = session_of (λ session. IsAuthentic session command × ((b : List ℕ) → Gives (accepting session command) (field_of command) b → ⊥)) wrong in
-          rejected page (record { tables = tables; live = live_without_load passed_live number; held = slice_set all_passed number now }) state bytes reply G8 (without_session passed number) stands.sound
+          rejected page (record { tables = tables; live = live_without_load passed_live number; held = slice_set all_passed number now }) loading state bytes reply G8 (without_session passed number) stands.sound
           (wrong_padding_first state bytes command short known class is_class front not_over protected found.0 found.1 found.2.0 found.2.1)
-          (command, short, refl) (ended_shows slot opened now gone) is
-      refused_served now plain reply G1 opens is = absurd opens
-      refused_served now plain reply G2 opens is = absurd opens
-      refused_served now plain reply G3 opens is = absurd opens
-      refused_served now plain reply G4 opens is = absurd opens
-      refused_served now plain reply G5 opens is = absurd opens
+          (command, short, refl) (ended_shows slot opened now gone)
+          (ended_loading page tables loading number state.volatile.load loads) is
+      refused_served loading loads now plain reply G1 opens is = absurd opens
+      refused_served loading loads now plain reply G2 opens is = absurd opens
+      refused_served loading loads now plain reply G3 opens is = absurd opens
+      refused_served loading loads now plain reply G4 opens is = absurd opens
+      refused_served loading loads now plain reply G5 opens is = absurd opens
 
   -- the card is terminated
-  pub over_served : (bytes reply : List ℕ) → Short command bytes → (class : Class) → class_of command.class ≡ Some class
+  pub over_served : (loading : Option Kept) → RepresentsLoading page tables loading state.volatile.load → (bytes reply : List ℕ) → Short command bytes → (class : Class) → class_of command.class ≡ Some class
       → IsKnown command.class command.ins → IsFirst (GeneralFails state bytes) command_rules None → IsTerminatedFor state.registry.life class command.ins
       → reply ≡ status_bytes (status_of (G G5))
-      → Serves page state bytes (record { tables = tables; live = passed_live; held = slice_set all number (held_passed false (slice_index_or all number held.Nothing)) }) reply (Some (G G5))
-  over_served bytes reply short class is_class known front over is =
-      rejected page (record { tables = tables; live = passed_live; held = slice_set all number (held_passed false (slice_index_or all number held.Nothing)) }) state bytes reply G5
+      → Serves page state bytes (record { tables = tables; live = passed_live; held = slice_set all number (held_passed false (slice_index_or all number held.Nothing)) }) loading reply (Some (G G5))
+  over_served loading loads bytes reply short class is_class known front over is =
+      rejected page (record { tables = tables; live = passed_live; held = slice_set all number (held_passed false (slice_index_or all number held.Nothing)) }) loading state bytes reply G5
       (without_place state.volatile number false) stands.sound (over_first state bytes command short known class is_class front over)
-      (command, short, refl) (passed_shows page tables live all state stands.shows four number low false) is
+      (command, short, refl) (passed_shows page tables live all state stands.shows four number low false) loads is
 
 -- the place in a listing that the channel had is that of the card before the command
 pub place_told : (page : ℕ → List ℕ) (tables : Tables) (live : Live) (all : List ChannelSession) (state : State) → RepresentsSoundly page (record { tables = tables; live = live; held = all }) state

@@ -174,7 +174,7 @@ pages_dropped first (Some file ∷ slots) (suc slot) apart =
     subst (IsDistinct nat_eq) (append_assoc first (pages_named file) (pages_in (slice_set slots slot None)))
     (pages_dropped (first ++ pages_named file) slots slot (subst (IsDistinct nat_eq) (sym (append_assoc first (pages_named file) (pages_in slots))) apart))
 
-all_left : (P : LoadFile → Type 0) (slots : List (Option LoadFile)) (slot : ℕ) → All P (used slots) → All P (used (slice_set slots slot None))
+pub all_left : (P : LoadFile → Type 0) (slots : List (Option LoadFile)) (slot : ℕ) → All P (used slots) → All P (used (slice_set slots slot None))
 all_left P [] slot all = all
 all_left P (None ∷ slots) zero all = all
 all_left P (Some file ∷ slots) zero all = All-tail P file (used slots) all

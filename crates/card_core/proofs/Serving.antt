@@ -31,14 +31,16 @@ use Rattle.policy_rules.specs.declared.rule.Rule.TheVariants.{G}
 use Rattle.policy_rules.specs.declared.rule.RuleG.{RuleG}
 use Rattle.policy_rules.specs.declared.rule.RuleG.TheVariants.{G5, G6, G7, G8}
 use Rattle.card_core.specs.Kept.{Kept, KeptRepresents}
+use Rattle.card_core.specs.Loading.{RepresentsLoading}
+use Rattle.load_session.specs.declared.session.LoadSession.{LoadSession}
 use Rattle.card_core.specs.Serves.{CarriesOut, Serves, rule_of, status_word}
 
 -- a general rule bars the bytes
-pub rejected : (page : ℕ → List ℕ) (card : Kept) (state : State) (bytes reply : List ℕ) (rule : RuleG) (left : Volatile) → IsSound state
+pub rejected : (page : ℕ → List ℕ) (card : Kept) (loading : Option LoadSession) (state : State) (bytes reply : List ℕ) (rule : RuleG) (left : Volatile) → IsSound state
     → IsFirst (GeneralFails state bytes) general_rules (Some rule) → GeneralRefusalLeaves state bytes rule left
-    → KeptRepresents page card (record { registry = state.registry; volatile = left }) → reply ≡ status_bytes (status_of (G rule))
-    → Serves page state bytes card reply (Some (G rule))
-rejected page card state bytes reply rule left sound first leaves shows is =
+    → KeptRepresents page card (record { registry = state.registry; volatile = left }) → RepresentsLoading page card.tables loading left.load → reply ≡ status_bytes (status_of (G rule))
+    → Serves page state bytes card loading reply (Some (G rule))
+rejected page card loading state bytes reply rule left sound first leaves shows loads is =
     let step = inl (record {
       rule = rule;
       left = left;
@@ -47,16 +49,16 @@ rejected page card state bytes reply rule left sound first leaves shows is =
       outcome_is = ap (λ (r : List ℕ). record { state = record { registry = state.registry; volatile = left }; reply = r; rule = Some (G rule) }) is;
     }) in (
       record { registry = state.registry; volatile = left },
-      record { shows = shows; sound = steps_keep_sound state bytes _ sound step },
+      record { on = record { shows = shows; sound = steps_keep_sound state bytes _ sound step }; loading = loads },
       step,
     )
 
 -- a command that was carried out, or refused by a rule of its own
-pub carried_out : (page : ℕ → List ℕ) (state : State) (bytes : List ℕ) (command : Apdu) (session : Option Session) (plain : List ℕ) (card : Kept) (body reply : List ℕ)
+pub carried_out : (page : ℕ → List ℕ) (state : State) (bytes : List ℕ) (command : Apdu) (session : Option Session) (plain : List ℕ) (card : Kept) (loading : Option LoadSession) (body reply : List ℕ)
     (result : Result Status Rule) → IsSound state → Admits state bytes (admitted_as state command session plain)
-    → CarriesOut page (admitted_as state command session plain) card body result → reply ≡ sent session body (status_word result)
-    → Serves page state bytes card reply (rule_of result)
-carried_out page state bytes command session plain card body reply (Ok status) sound admits (done, shows, judges, does, body_is, word) is =
+    → CarriesOut page (admitted_as state command session plain) card loading body result → reply ≡ sent session body (status_word result)
+    → Serves page state bytes card loading reply (rule_of result)
+carried_out page state bytes command session plain card loading body reply (Ok status) sound admits ((done, shows, judges, does, body_is, word), loads) is =
     let step = inr (inr (record {
       admitted = admitted_as state command session plain;
       done = done;
@@ -65,8 +67,8 @@ carried_out page state bytes command session plain card body reply (Ok status) s
       does = does;
       outcome_is = ap (λ (r : List ℕ). record { state = done.state; reply = r; rule = None }) (is ∙ (λ i. sent session (body_is i) (word i)));
     })) in
-    (done.state, record { shows = shows; sound = steps_keep_sound state bytes _ sound step }, step)
-carried_out page state bytes command session plain card body reply (Err rule) sound admits (shows, judges, empty) is =
+    (done.state, record { on = record { shows = shows; sound = steps_keep_sound state bytes _ sound step }; loading = loads }, step)
+carried_out page state bytes command session plain card loading body reply (Err rule) sound admits ((shows, judges, empty), loads) is =
     let admitted : Admitted = admitted_as state command session plain in
     let left = refusal_leaves (admitted_as state command session plain) rule in
     let step = inr (inl (record {
@@ -78,15 +80,15 @@ carried_out page state bytes command session plain card body reply (Err rule) so
           (is ∙ ap (λ (b : List ℕ). sent session b (status_of rule)) empty);
     })) in (
       record { registry = state.registry; volatile = left },
-      record { shows = shows; sound = steps_keep_sound state bytes _ sound step },
+      record { on = record { shows = shows; sound = steps_keep_sound state bytes _ sound step }; loading = loads },
       step,
     )
 
 -- what a class takes is built
 is_built_all : (class : Class) → All IsBuilt (instructions_of class)
 is_built_all Interindustry = All-from_recursion IsBuilt (instructions_of Interindustry) (inl tt, (inl tt, (inl tt, tt)))
-is_built_all Plain = All-from_recursion IsBuilt (instructions_of Plain) (inl tt, (inl tt, (inl tt, (inl tt, (inl tt, (inl tt, (inl tt, (inl tt, tt))))))))
-is_built_all Secure = All-from_recursion IsBuilt (instructions_of Secure) (inl tt, (inl tt, (inl tt, (inl tt, (inl tt, (inl tt, (inl tt, (inl tt, tt))))))))
+is_built_all Plain = All-from_recursion IsBuilt (instructions_of Plain) (inl tt, (inl tt, (inl tt, (inl tt, (inl tt, (inl tt, (inl tt, (inl tt, (inl tt, tt)))))))))
+is_built_all Secure = All-from_recursion IsBuilt (instructions_of Secure) (inl tt, (inl tt, (inl tt, (inl tt, (inl tt, (inl tt, (inl tt, (inl tt, (inl tt, tt)))))))))
 
 pub is_built : (class : Option Class) (ins : ℕ) → MatchOption class ⊥ (λ c. Contains (instructions_of c) ins) → IsBuilt ins
 is_built None ins known = absurd known

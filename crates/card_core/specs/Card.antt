@@ -12,14 +12,17 @@ use Rattle.policy_rules.specs.declared.live.Live.{Live}
 use Rattle.policy_rules.specs.declared.rule.Rule.{Rule}
 use Rattle.rec_store.specs.Reopens.{Keeps, ReopensEither, load_page}
 use Rattle.card_core.specs.Kept.{Kept, RepresentsSoundly}
+use Rattle.card_core.specs.Loading.{RepresentsLoading}
+use Rattle.load_session.specs.declared.session.LoadSession.{LoadSession}
 use Rattle.card_core.specs.declared.channel_session.ChannelSession.{ChannelSession}
 
--- the device, the tables, the channels with what they hold, and whether no call on the device has failed
+-- the device, the tables, the channels with what they hold, what is kept of the load session, and whether no call on the device has failed
 pub record CardOver (F : Type 0) : Type 0 where
   pub flash : F
   pub tables : Tables
   pub live : Live
   pub held : List ChannelSession
+  pub loading : Option LoadSession
   pub up : Bool
 
 abbrev pub kept : {F : Type 0} → CardOver F → Kept
@@ -32,6 +35,7 @@ pub record CardRepresents {F : Type 0} (device : Flash F) (card : CardOver F) (s
   pub page : ℕ → List ℕ
   pub whole : HasPages page
   pub on : RepresentsSoundly page (kept card) state
+  pub loading : RepresentsLoading page card.tables card.loading state.volatile.load
   pub load : device.tells → load_page (device.pages card.flash) ≡ page
   pub keeps : device.tells → Keeps device card.flash state.registry
 

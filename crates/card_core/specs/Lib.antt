@@ -8,6 +8,9 @@ pub mod Installs
 pub mod Kept
 pub mod Lists
 pub mod LoadRead
+pub mod LoadedFile
+pub mod Loading
+pub mod Loads
 pub mod Manages
 pub mod ManagesAs
 pub mod ObjectsPut

@@ -11,6 +11,7 @@ use Rattle.policy_rules.specs.State.{Effect}
 use Rattle.policy_rules.specs.declared.live.Live.{Live}
 use Rattle.policy_rules.specs.declared.live.TheConstants.{CHANNELS}
 use Rattle.policy_rules.specs.declared.rule.Rule.{Rule}
+use Rattle.rec_store.specs.Reopens.{IsFree}
 
 -- the slot holds an entry with the AID that it had
 abbrev pub KeepsAid : List (Option Entry) → List (Option Entry) → ℕ → Type 0
@@ -24,6 +25,10 @@ KeepsAids before after = (slot : ℕ) → KeepsAid before after slot
 pub record KeepsSelected (live : Live) (before after : List (Option Entry)) : Type 0 where
   pub selected : (number slot : ℕ) → number < CHANNELS → held live.selected number ≡ Some slot → KeepsAid before after slot
   pub load : IfSome live.load (λ name. KeepsAid before after name.domain)
+
+-- no Executable Load File takes a load page that was free
+abbrev pub KeepsFree : Tables → Tables → Type 0
+KeepsFree before after = (page : ℕ) → IsFree before page → IsFree after page
 
 -- no rule refused the command, it did what it does, and the tables say the registry that it leaves
 pub record IsManaged (admitted : Admitted) (page : ℕ → List ℕ) (tables : Tables) (body : List ℕ) (status : Status) : Type 0 where

@@ -18,6 +18,8 @@ ghost use Rattle.rec_store.specs.Contents.{IsUnwritten};
 ghost use Rattle.rec_store.specs.Reopens.{IsAtRest, Reopens, ReopensAsOne};
 
 use crate::channel_session::ChannelSession;
+use crate::commit::commit;
+use crate::loading::Loading;
 use crate::power::{PowerCause, PowerError};
 use crate::reply::{REPLY_LIMIT, write_failure};
 use crate::serve::serve;
@@ -35,20 +37,24 @@ pub struct Card<F: Flash> {
     pub(crate) records: Records<F>,
     pub(crate) live: Live,
     pub(crate) held: [ChannelSession; CHANNELS],
+    pub(crate) loading: Loading,
     pub(crate) up: bool,
 }
 
-// Contracts see the device, the tables, the channels and what they hold, and whether no call on the device has failed.
+// Contracts see the device, the tables, the channels and what they hold, what is kept of the load session, and whether no call on the
+// device has failed.
 impl<F: Flash> Model for Card<F> {
     ghost use Rattle.std.specs.Prelude.{◌≡◌, [], true};
     ghost use Rattle.card_core.specs.Card.{CardOver};
-    ghost use Rattle.card_core.specs.Kept.{AreCards};
+    ghost use Rattle.card_core.specs.Kept.{AreCards, kept_of};
+    ghost use Rattle.card_core.specs.Loading.{IsIdle, RepresentsSome};
 
     ghost Value = { CardOver F };
 
-    ghost view = { λ card. record { flash = card.records.flash; tables = card.records.tables; live = card.live; held = card.held; up = card.up } };
+    ghost view = { λ card. record { flash = card.records.flash; tables = card.records.tables; live = card.live; held = card.held; loading = card.loading.session; up = card.up } };
 
-    ghost invariant = { λ card. AreCards card.records.tables × (card.up ≡ true → (card.records.live ≡ true) × (card.records.staged ≡ [])) };
+    ghost invariant = { λ card. AreCards card.records.tables × (card.up ≡ true → IsIdle F.Flash card.records card.loading.writes.items
+        × RepresentsSome (kept_of card.records.tables card.live card.held) card.loading.session) };
 }
 
 // What the channels hold after power on.
@@ -86,6 +92,7 @@ impl<F: Flash> Card<F> {
                 records,
                 live: Live::powered_on(),
                 held: nothing_held(),
+                loading: Loading::new(),
                 up: true,
             }),
             Err(refused) => Err(PowerError {
@@ -125,11 +132,15 @@ impl<F: Flash> Card<F> {
             &mut self.records,
             &mut self.live,
             &mut self.held,
+            &mut self.loading,
             command,
             reply,
         );
-        match self.records.commit() {
-            Ok(()) => Ok(rule),
+        match commit(&mut self.records, &self.loading.writes) {
+            Ok(()) => {
+                self.loading.writes.clear();
+                Ok(rule)
+            }
             Err(failed) => {
                 self.up = false;
                 write_failure(reply);

@@ -29,6 +29,7 @@ pub fn set_card_status<F: Flash>(
         → IsCardStatusOf code admitted.command
         → ManagesAs card_status admitted page records.old.tables records.new.tables [] result }
     ensures entries { records.new.tables.entries.items ≡ records.old.tables.entries.items }
+    ensures files { records.new.tables.files.items ≡ records.old.tables.files.items }
     ensures cards { AreCards records.new.tables }
     ensures same { (records.new.flash ≡ records.old.flash) × (records.new.live ≡ true) }
     ensures refused { OnErr result (records.new ≡ records.old) }

@@ -44,6 +44,7 @@ pub fn confirm<F: Flash>(
     ensures answered { Confirms records.old.tables records.new.tables receipter (aids_of first.now (option_copied second.entry) (option_copied third.entry))
         reply.new.items }
     ensures aids { KeepsAids records.old.tables.entries.items records.new.tables.entries.items }
+    ensures files { records.new.tables.files.items ≡ records.old.tables.files.items }
     ensures cards { AreCards records.new.tables }
     ensures same { (records.new.flash ≡ records.old.flash) × (records.new.live ≡ true) }
     ensures room { length reply.new.items ≤ 239 }

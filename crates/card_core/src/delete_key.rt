@@ -32,6 +32,7 @@ pub fn delete_key<F: Flash>(
         → IsRequestOf (DeleteKey version identifier) admitted.command
         → Manages admitted page records.old.tables records.new.tables reply.new.items result }
     ensures entries { records.new.tables.entries.items ≡ records.old.tables.entries.items }
+    ensures files { records.new.tables.files.items ≡ records.old.tables.files.items }
     ensures cards { AreCards records.new.tables }
     ensures same { (records.new.flash ≡ records.old.flash) × (records.new.live ≡ true) }
     ensures refused { OnErr result (records.new ≡ records.old) }

@@ -4,7 +4,7 @@ ghost use Rattle.std.specs.Prelude.{◌≡◌, ◌≢◌, ◌≤◌, ℕ, List, 
 ghost use Rattle.card_core.specs.Deletes.{IsOfDeletion, LeavesOthers, RemovesLoaded};
 ghost use Rattle.card_core.specs.Domains.{is_domain_in};
 ghost use Rattle.card_core.specs.Kept.{AreCards};
-ghost use Rattle.card_core.specs.Manages.{KeepsSelected};
+ghost use Rattle.card_core.specs.Manages.{KeepsFree, KeepsSelected};
 ghost use Rattle.card_core.specs.ManagesAs.{ManagesAs};
 ghost use Rattle.card_types.specs.Found.{aid_of};
 ghost use Rattle.card_types.specs.Registry.{Registry};
@@ -58,6 +58,7 @@ fn remove<F: Flash>(records: &mut Records<F>, thing: Found, related: bool)
     ensures said { (page : ℕ → List ℕ) (said : Registry) → Represents page records.old.tables said → Well said → (aid : List ℕ)
         → aid_of records.old.tables thing ≡ Some aid → Represents page records.new.tables (without_thing said aid) }
     ensures slots { LeavesOthers records.old.tables records.new.tables related thing }
+    ensures free { KeepsFree records.old.tables records.new.tables }
     ensures cards { AreCards records.new.tables }
     ensures same { (records.new.flash ≡ records.old.flash) × (records.new.live ≡ true) }
     ensures room { HasRoomFor entry_pages records.new.staged }
@@ -92,6 +93,7 @@ pub fn delete_object<F: Flash>(
     ensures done { ForActingLive records.old.tables live.now domain (λ page admitted. IsDeletionOf request.now admitted.command
         → ManagesAs delete_object admitted page records.old.tables records.new.tables reply.new.items result) }
     ensures selected { KeepsSelected live.now records.old.tables.entries.items records.new.tables.entries.items }
+    ensures free { KeepsFree records.old.tables records.new.tables }
     ensures cards { AreCards records.new.tables }
     ensures same { (records.new.flash ≡ records.old.flash) × (records.new.live ≡ true) }
     ensures refused { OnErr result (records.new ≡ records.old) }

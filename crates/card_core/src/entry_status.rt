@@ -59,6 +59,7 @@ pub fn set_entry_status<F: Flash>(
         → IsEntryStatusOf request.now admitted.command
         → ManagesAs entry_status admitted page records.old.tables records.new.tables [] result }
     ensures aids { KeepsAids records.old.tables.entries.items records.new.tables.entries.items }
+    ensures files { records.new.tables.files.items ≡ records.old.tables.files.items }
     ensures cards { AreCards records.new.tables }
     ensures staged { StagesOthers records.old.tables.entries.items records.new.tables.entries.items records.new.staged }
     ensures same { (records.new.flash ≡ records.old.flash) × (records.new.live ≡ true) }

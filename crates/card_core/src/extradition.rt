@@ -3,7 +3,7 @@
 ghost use Rattle.std.specs.Prelude.{◌≡◌, ◌≤◌, ℕ, List, [], length, true, OnErr};
 ghost use Rattle.card_core.specs.Domains.{is_domain_in};
 ghost use Rattle.card_core.specs.Kept.{AreCards};
-ghost use Rattle.card_core.specs.Manages.{KeepsAids, Manages};
+ghost use Rattle.card_core.specs.Manages.{KeepsAids, KeepsFree, Manages};
 ghost use Rattle.policy_rules.specs.Admission.{Admitted};
 ghost use Rattle.policy_rules.specs.Requests.{ActsIn, IsRequestOf, IsWellFormed};
 ghost use Rattle.policy_rules.specs.declared.request.Request.TheVariants.{Extradite};
@@ -36,6 +36,7 @@ pub fn extradite<F: Flash>(
         → IsRequestOf (Extradite request.now) admitted.command
         → Manages admitted page records.old.tables records.new.tables reply.new.items result }
     ensures aids { KeepsAids records.old.tables.entries.items records.new.tables.entries.items }
+    ensures free { KeepsFree records.old.tables records.new.tables }
     ensures cards { AreCards records.new.tables }
     ensures same { (records.new.flash ≡ records.old.flash) × (records.new.live ≡ true) }
     ensures refused { OnErr result (records.new ≡ records.old) }

@@ -102,6 +102,7 @@ pub fn initialize_update<F: Flash>(
         → IsRequestOf (Initialize version challenge.entry) admitted.command
         → OffersAs admitted page records.old.tables records.new.tables held.old held.new reply.new.items result }
     ensures entries { records.new.tables.entries.items ≡ records.old.tables.entries.items }
+    ensures files { records.new.tables.files.items ≡ records.old.tables.files.items }
     ensures cards { AreCards records.new.tables }
     ensures same { (records.new.flash ≡ records.old.flash) × (records.new.live ≡ true) }
     ensures refused { OnErr result (records.new ≡ records.old) }

@@ -42,6 +42,7 @@ pub fn make_selectable<F: Flash>(
         → IsRequestOf (MakeSelectable request.now) admitted.command
         → Manages admitted page records.old.tables records.new.tables reply.new.items result }
     ensures aids { KeepsAids records.old.tables.entries.items records.new.tables.entries.items }
+    ensures files { records.new.tables.files.items ≡ records.old.tables.files.items }
     ensures cards { AreCards records.new.tables }
     ensures same { (records.new.flash ≡ records.old.flash) × (records.new.live ≡ true) }
     ensures refused { OnErr result (records.new ≡ records.old) }

@@ -4,8 +4,9 @@ ghost use Rattle.std.specs.Prelude.{◌≡◌, ◌≤◌, [], Contains, OnErr, l
 ghost use Rattle.card_core.specs.Domains.{is_domain_in};
 ghost use Rattle.card_core.specs.SecureChannels.{IsInSession};
 ghost use Rattle.card_core.specs.Kept.{AreCards};
-ghost use Rattle.card_core.specs.Manages.{KeepsSelected, Manages};
+ghost use Rattle.card_core.specs.Manages.{KeepsFree, KeepsSelected, Manages};
 ghost use Rattle.card_core.specs.Offers.{HoldsFor};
+ghost use Rattle.card_core.specs.Serves.{AsksForLoad};
 ghost use Rattle.policy_rules.specs.Classes.{changing};
 ghost use Rattle.policy_rules.specs.Requests.{ForActingLive, IsRequestOf, IsWellFormed, form_in};
 
@@ -43,10 +44,12 @@ pub fn manage<F: Flash>(
     requires secured { IsInSession held.now }
     requires changing { Contains changing (form_in request.now).instruction }
     requires formed { IsWellFormed request.now }
+    requires other { AsksForLoad request.now → ⊥ }
     requires empty { reply.old.items ≡ [] }
     ensures done { ForActingLive records.old.tables live.now domain (λ page admitted. IsRequestOf request.now admitted.command → HoldsFor held.now admitted
         → Manages admitted page records.old.tables records.new.tables reply.new.items result) }
     ensures selected { KeepsSelected live.now records.old.tables.entries.items records.new.tables.entries.items }
+    ensures free { KeepsFree records.old.tables records.new.tables }
     ensures cards { AreCards records.new.tables }
     ensures same { (records.new.flash ≡ records.old.flash) × (records.new.live ≡ true) }
     ensures refused { OnErr result (records.new ≡ records.old) }

@@ -3,12 +3,13 @@
 ghost use Rattle.std.specs.Prelude.{◌≡◌, ◌≢◌, ◌⊎◌, ◌<◌, ◌≤◌, ◌++◌, ◌==◌, ℕ, List, [], length, false, true, None, Some, IsSome, Contains, OnOk, OnErr, IfErr, option_copied, slice_index_or};
 ghost use Rattle.apdu_core.specs.Apdu.{apdu_of};
 ghost use Rattle.apdu_core.specs.Reply.{status_bytes};
+ghost use Rattle.card_check.specs.IsCard.{HasPages};
 ghost use Rattle.card_core.specs.Commits.{MayCommit};
 ghost use Rattle.card_core.specs.Domains.{is_domain_in};
 ghost use Rattle.card_core.specs.SecureChannels.{RepresentsSecureChannel, IsInSession, held_on, held_passed, without_offer_held};
-ghost use Rattle.card_core.specs.Kept.{AreCards, RepresentsSoundly, kept_of};
-ghost use Rattle.card_core.specs.Serves.{CarriesOut, CarriesOutBut, IsPassed, IsTerminatedFor, Serves, live_passed, live_refused, rule_of, status_word};
-ghost use Rattle.policy_rules.specs.Admission.{Admitted};
+ghost use Rattle.card_core.specs.Kept.{AreCards, kept_of};
+ghost use Rattle.card_core.specs.Loading.{AreFree, RepresentsAll, RepresentsSome};
+ghost use Rattle.card_core.specs.Serves.{CarriesOutLoading, ForPassed, IsPassedOver, IsTerminatedFor, ServesLoading, live_passed, live_refused, rule_of, status_word};
 ghost use Rattle.policy_rules.specs.Classes.{changing, managing};
 ghost use Rattle.policy_rules.specs.Commands.{IsBuilt};
 ghost use Rattle.policy_rules.specs.LiveEnds.{live_without_place};
@@ -19,23 +20,18 @@ ghost use Rattle.scp03_card.specs.Protected.{protected};
 ghost use Rattle.scp03_card.specs.Session.{Session};
 
 use crate::admit::{Received, admit, is_over};
+use crate::carry_out::carry_out;
 use crate::channel_session::ChannelSession;
-use crate::external_authenticate::{external_authenticate, judge_offer};
-use crate::get_data::get_data;
-use crate::get_status::get_status;
-use crate::initialize_update::initialize_update;
-use crate::manage_channel::{close_channel, open_channel};
-use crate::management::manage;
+use crate::loading::Loading;
 use crate::reply::{REPLY_LIMIT, write_status};
 use crate::secure_messaging::{close_reply, open_command};
-use crate::select::select;
 use apdu_core::{Command, Status};
 use arrayvec::ArrayVec;
 use card_types::CardLife;
 use flash_core::Flash;
 use policy_rules::{
-    CHANNELS, EXTERNAL_AUTHENTICATE, GET_STATUS, LOAD, Live, Place, Request, Rule, RuleG,
-    is_plain_management, is_protected, parse,
+    CHANNELS, EXTERNAL_AUTHENTICATE, GET_STATUS, LOAD, Live, Place, Rule, RuleG,
+    is_plain_management, is_protected,
 };
 use rec_store::Records;
 
@@ -91,104 +87,12 @@ fn refuse(rule: Rule, channel: u8, live: &mut Live, held: &mut ChannelSession)
     }
 }
 
-// Does what a command asks for, and appends the reply's data. Commands with large values of their own are out of line, so that the
-// others have a small stack frame.
-fn carry_out<F: Flash>(
-    records: &mut Records<F>,
-    live: &mut Live,
-    held: &mut [ChannelSession; CHANNELS],
-    received: &Received<'_>,
-    command: &Command<'_>,
-    place: Option<&Place>,
-    reply: &mut ArrayVec<u8, REPLY_LIMIT>,
-) -> Result<Status, Rule>
-    requires up { records.old.live ≡ true }
-    requires clean { records.old.staged ≡ [] }
-    requires cards { AreCards records.old.tables }
-    requires built { IsBuilt command.now.ins }
-    requires channel { received.now.channel < CHANNELS }
-    requires selected { slice_index_or live.old.selected received.now.channel None ≡ Some received.now.selected }
-    requires domain { command.now.ins ≢ SELECT → command.now.ins ≢ MANAGE_CHANNEL → is_domain_in records.old.tables.entries.items received.now.selected ≡ true }
-    requires secured { Contains managing command.now.ins → IsInSession (held_on held.old received.now.channel) }
-    requires short { length command.now.body.now ≤ 255 }
-    requires empty { reply.old.items ≡ [] }
-    ensures done { (page : ℕ → List ℕ) (told : Admitted) → RepresentsSoundly page (kept_of records.old.tables live.old held.old) told.at
-        → IsPassed received.now.channel (apdu_of command.now) (option_copied place.entry) told
-        → CarriesOutBut page told (kept_of records.new.tables live.new held.new) reply.new.items result }
-    ensures cards { AreCards records.new.tables }
-    ensures same { (records.new.flash ≡ records.old.flash) × (records.new.live ≡ true) }
-    ensures refused { OnErr result (records.new ≡ records.old) }
-    ensures idle { (command.now.ins ≡ INITIALIZE_UPDATE → ⊥) → (Contains changing command.now.ins → ⊥) → records.new ≡ records.old }
-    ensures kept { (command.now.ins ≡ GET_DATA) ⊎ Contains managing command.now.ins → held.new ≡ held.old }
-    ensures room { length reply.new.items ≤ 239 }
-{
-    let channel = received.channel;
-    let at = usize::from(channel);
-    judge_offer(&held[at], command.ins)?;
-    let request = match parse(command.ins, command.p1, command.p2, command.body) {
-        Ok(request) => request,
-        Err(rule) => return Err(rule),
-    };
-    match request {
-        Request::Select { partial } => {
-            select(
-                records.tables(),
-                live,
-                &mut held[at],
-                channel,
-                partial,
-                reply,
-            )
-        }
-        Request::MoreChannel => open_channel(live, reply),
-        Request::LessChannel { number } => close_channel(live, held, number),
-        Request::Get { tag } => get_data(
-            records.tables(),
-            live,
-            channel,
-            received.selected,
-            tag,
-            reply,
-        ),
-        Request::Initialize { version, challenge } => initialize_update(
-            records,
-            &mut held[at],
-            received.selected,
-            version,
-            challenge,
-            reply,
-        ),
-        Request::Authenticate { level, proof } => {
-            external_authenticate(&mut held[at], level, proof)
-        }
-        Request::ListStatus(request) => get_status(
-            records.tables(),
-            live,
-            place,
-            channel,
-            received.selected,
-            &request,
-            reply,
-        ),
-        Request::PutKey { .. }
-        | Request::Store { .. }
-        | Request::DeleteKey { .. }
-        | Request::DeleteObject(_)
-        | Request::Install(_)
-        | Request::MakeSelectable(_)
-        | Request::Extradite(_)
-        | Request::CardStatus { .. }
-        | Request::EntryStatus(_) => {
-            manage(records, live, &held[at], received.selected, &request, reply)
-        }
-    }
-}
-
-// So too, and a refusal ends what it has to.
+// Does what a command asks for, and appends the reply's data; a refusal ends what it has to.
 fn act<F: Flash>(
     records: &mut Records<F>,
     live: &mut Live,
     held: &mut [ChannelSession; CHANNELS],
+    loading: &mut Loading,
     received: &Received<'_>,
     command: &Command<'_>,
     place: Option<&Place>,
@@ -203,18 +107,22 @@ fn act<F: Flash>(
     requires domain { command.now.ins ≢ SELECT → command.now.ins ≢ MANAGE_CHANNEL → is_domain_in records.old.tables.entries.items received.now.selected ≡ true }
     requires secured { Contains managing command.now.ins → IsInSession (held_on held.old received.now.channel) }
     requires short { length command.now.body.now ≤ 255 }
+    requires passed { IsPassedOver received.now.channel (apdu_of command.now) (option_copied place) (kept_of records.old.tables live.old held.old) loading.old.session }
+    requires unwritten { loading.old.writes.items ≡ [] }
     requires empty { reply.old.items ≡ [] }
-    ensures done { (page : ℕ → List ℕ) (told : Admitted) → RepresentsSoundly page (kept_of records.old.tables live.old held.old) told.at
-        → IsPassed received.now.channel (apdu_of command.now) (option_copied place.entry) told
-        → CarriesOut page told (kept_of records.new.tables live.new held.new) reply.new.items result }
+    ensures done { ForPassed received.now.channel (apdu_of command.now) (option_copied place.entry) (kept_of records.old.tables live.old held.old) loading.old.session
+        (λ page told. CarriesOutLoading page told (kept_of records.new.tables live.new held.new) loading.new reply.new.items result) }
     ensures cards { AreCards records.new.tables }
     ensures same { (records.new.flash ≡ records.old.flash) × (records.new.live ≡ true) }
-    ensures refused { OnErr result (records.new ≡ records.old) }
-    ensures idle { (command.now.ins ≡ INITIALIZE_UPDATE → ⊥) → (Contains changing command.now.ins → ⊥) → records.new ≡ records.old }
+    ensures writes { AreFree records.old.tables loading.new.writes.items }
+    ensures refused { OnErr result ((records.new ≡ records.old) × (loading.new.writes.items ≡ [])) }
+    ensures idle { (command.now.ins ≡ INITIALIZE_UPDATE → ⊥) → (Contains changing command.now.ins → ⊥) → (records.new ≡ records.old) × (loading.new.writes.items ≡ []) }
     ensures kept { IsInSession (held_on held.old received.now.channel) → (command.now.ins ≡ GET_DATA) ⊎ Contains managing command.now.ins → held.new ≡ held.old }
     ensures room { length reply.new.items ≤ 239 }
 {
-    let served = carry_out(records, live, held, received, command, place, reply);
+    let served = carry_out(
+        records, live, held, loading, received, command, place, reply,
+    );
     if let Err(rule) = served {
         let at = usize::from(received.channel);
         refuse(rule, received.channel, live, &mut held[at]);
@@ -269,19 +177,23 @@ pub fn serve<F: Flash>(
     records: &mut Records<F>,
     live: &mut Live,
     held: &mut [ChannelSession; CHANNELS],
+    loading: &mut Loading,
     bytes: &[u8],
     reply: &mut ArrayVec<u8, REPLY_LIMIT>,
 ) -> Option<Rule>
     requires up { records.old.live ≡ true }
     requires clean { records.old.staged ≡ [] }
     requires cards { AreCards records.old.tables }
+    requires some { RepresentsSome (kept_of records.old.tables live.old held.old) loading.old.session }
+    requires unwritten { loading.old.writes.items ≡ [] }
     requires empty { reply.old.items ≡ [] }
-    ensures served { (page : ℕ → List ℕ) (state : State) → RepresentsSoundly page (kept_of records.old.tables live.old held.old) state
-        → Serves page state bytes.now (kept_of records.new.tables live.new held.new) reply.new.items result }
+    ensures served { (page : ℕ → List ℕ) (state : State) → HasPages page → RepresentsAll page (kept_of records.old.tables live.old held.old) loading.old.session state
+        → ServesLoading page state bytes.now (kept_of records.new.tables live.new held.new) loading.new reply.new.items result }
+    ensures writes { AreFree records.old.tables loading.new.writes.items }
     ensures cards { AreCards records.new.tables }
     ensures same { (records.new.flash ≡ records.old.flash) × (records.new.live ≡ true) }
-    ensures refused { IsSome result → records.new ≡ records.old }
-    ensures idle { (MayCommit bytes.now → ⊥) → records.new ≡ records.old }
+    ensures refused { IsSome result → (records.new ≡ records.old) × (loading.new.writes.items ≡ []) }
+    ensures idle { (MayCommit bytes.now → ⊥) → (records.new ≡ records.old) × (loading.new.writes.items ≡ []) }
 {
     let received = match admit(records.tables(), live, bytes) {
         Ok(received) => received,
@@ -303,6 +215,7 @@ pub fn serve<F: Flash>(
             records,
             live,
             held,
+            loading,
             &received,
             &received.command,
             place.as_ref(),
@@ -322,6 +235,7 @@ pub fn serve<F: Flash>(
                 records,
                 live,
                 held,
+                loading,
                 &received,
                 &command,
                 place.as_ref(),

@@ -92,6 +92,7 @@ pub fn store_data<F: Flash>(
         → IsRequestOf (Store objects.entry) admitted.command
         → Manages admitted page records.old.tables records.new.tables [] result }
     ensures entries { records.new.tables.entries.items ≡ records.old.tables.entries.items }
+    ensures files { records.new.tables.files.items ≡ records.old.tables.files.items }
     ensures cards { AreCards records.new.tables }
     ensures same { (records.new.flash ≡ records.old.flash) × (records.new.live ≡ true) }
     ensures refused { OnErr result (records.new ≡ records.old) }

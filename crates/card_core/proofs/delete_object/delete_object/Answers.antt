@@ -15,6 +15,7 @@ use Rattle.policy_rules.specs.DeleteObject.{IsDelegated, delete_object, without_
 use Rattle.policy_rules.specs.DeletionFound.{HasNoneFrom, IsAlone, IsRemovable, IsUnselected}
 use Rattle.policy_rules.specs.HoldersFound.{FindsConfirmer, MayReceipt}
 use Rattle.policy_rules.specs.Requests.{ActsIn, RepresentsState}
+use Rattle.card_core.proofs.FreePages.{files_free, free_twice}
 use Rattle.card_core.proofs.delete_object.delete_object.Goals as goal
 
 pub judge_deletion-requires-clause-in_order : goal.judge_deletion-requires-clause-in_order
@@ -120,3 +121,8 @@ returns-clause-done g c page admitted acts state four request =
       body_is = refl;
       status_is = refl;
     }
+
+pub returns-clause-free : goal.returns-clause-free
+returns-clause-free g c =
+    free_twice c.args.records.now.tables c.remove.new.records.tables c.confirm.new.records.tables c.remove.ensures.free
+    (files_free c.remove.new.records.tables c.confirm.new.records.tables c.confirm.ensures.files)

@@ -19,6 +19,7 @@ use Rattle.card_core.proofs.Deleting.{issuer_stays}
 use Rattle.card_core.proofs.RemovedCards.{entry_gone_cards, entry_leaves, entry_there, file_gone_cards, file_leaves, file_there, loaded_gone_cards, loaded_leaves, no_domain, no_source, none_loaded, not_factory}
 use Rattle.card_core.proofs.WithoutThing.{entry_alone, file_with_applications, without_no_applications}
 use Rattle.card_core.specs.Deletes.{LeavesOthers}
+use Rattle.card_core.proofs.FreePages.{dropped_free, files_free}
 use Rattle.card_core.proofs.delete_object.remove.Goals as goal
 
 -- an entry
@@ -116,3 +117,13 @@ returns-else-related-clause-cards g c =
     let unloaded : IsUnloaded before slot = no_source before slot (subst (HasNoneFrom before c.args.related) c.in-File.is c.requires.unloaded c.if-related.false) in
     file_gone_cards before c.remove_file.new.records.tables slot c.requires.cards there.0 there.1 (not_factory before slot there.0 there.1 lasting) c.remove_file.ensures.slots unloaded
     (λ page said says well. c.remove_file.ensures.said page said says)
+
+-- no load page that was free is taken
+pub returns-in-Entry-clause-free : goal.returns-in-Entry-clause-free
+returns-in-Entry-clause-free g c = files_free c.args.records.now.tables c.remove_entry.new.records.tables c.remove_entry.ensures.slots.files
+
+pub returns-then-related-clause-free : goal.returns-then-related-clause-free
+returns-then-related-clause-free g c = dropped_free c.args.records.now.tables c.remove_loaded.new.records.tables c.in-File.slot c.remove_loaded.ensures.slots.files
+
+pub returns-else-related-clause-free : goal.returns-else-related-clause-free
+returns-else-related-clause-free g c = dropped_free c.args.records.now.tables c.remove_file.new.records.tables c.in-File.slot c.remove_file.ensures.slots.files

@@ -24,6 +24,7 @@ use Rattle.card_types.specs.declared.found.Found.TheVariants.{Entry}
 use Rattle.card_types.specs.declared.tables.Entry.{Entry as Slot}
 use Rattle.policy_rules.proofs.ExtraditionLaws.{moved_of_card}
 use Rattle.policy_rules.specs.Extradition.{domain_of_thing, extradition}
+use Rattle.card_core.proofs.FreePages.{files_free, free_twice, moved_free}
 use Rattle.card_core.proofs.extradition.extradite.Goals as goal
 
 pub judge_extradition-requires-clause-in_order : goal.judge_extradition-requires-clause-in_order
@@ -144,3 +145,10 @@ returns-clause-done g c page admitted acts request =
     answered_managed extradition (λ holds found. inr (inr (inl found))) admitted request.form refl (c.in_ok-found.ensures.passed page admitted here request.means) page
     c.confirm.new.records.tables (domain_of_thing registry given.third ∷ given.third ∷ given.first ∷ []) changed c.confirm.new.reply.items c.in_ok-found.found.receipter told
     (record { given = given; asks = request.means.asks; answered = answered; volatile = refl; status = refl }) (record { 0 = 0x9000 }) refl
+
+pub returns-clause-free : goal.returns-clause-free
+returns-clause-free g c =
+    let before = c.args.records.now.tables in
+    let after = c.move_to.new.records.tables in
+    free_twice before after c.confirm.new.records.tables (moved_free before after c.in_ok-found.found.thing c.in_ok-found.found.to c.move_to.ensures.slots)
+    (files_free after c.confirm.new.records.tables c.confirm.ensures.files)

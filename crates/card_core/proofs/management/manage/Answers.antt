@@ -1,13 +1,23 @@
-use Rattle.std.proofs.Common.{◌≡◌, inl, inr, List, Option, Some, refl, sym, subst}
+use Rattle.std.proofs.Common.{◌≡◌, ℕ, inl, inr, false, List, Option, Some, refl, sym, subst, true≢false, ◌∙◌}
+use Rattle.std.proofs.lemmas.Bool.{eq-eqb}
+use Rattle.std.proofs.lemmas.List.Elements.{All-contains, All-from_recursion}
+use Rattle.std.specs.List.{AllByRecursion}
+use Rattle.std.specs.Prelude.{Contains, ◌==◌}
 use Rattle.card_types.specs.Slots.{held}
 use Rattle.card_types.specs.declared.tables.Entry.{Entry}
 use Rattle.policy_rules.specs.declared.live.Live.{Live}
 use Rattle.policy_rules.specs.CardStatus.{card_status}
+use Rattle.policy_rules.specs.Classes.{changing}
 use Rattle.policy_rules.specs.DeleteObject.{delete_object}
 use Rattle.policy_rules.specs.EntryStatus.{entry_status}
 use Rattle.card_core.proofs.Answered.{aids_selected}
+use Rattle.card_core.proofs.FreePages.{files_free}
 use Rattle.card_core.proofs.ManagedAs.{managed_as}
+use Rattle.policy_rules.specs.Requests.{form_in}
+use Rattle.policy_rules.specs.declared.request.Request.{Request}
+use Rattle.policy_rules.specs.declared.request.Request.TheVariants.{Authenticate, BeginLoad, CardStatus, DeleteKey, DeleteObject, EntryStatus, Extradite, Get, Initialize, Install, LessChannel, ListStatus, Load, MakeSelectable, MoreChannel, PutKey, Select, Store}
 use Rattle.card_core.specs.Manages.{KeepsAids, KeepsSelected}
+use Rattle.card_core.specs.Serves.{AsksForLoad}
 use Rattle.card_core.proofs.management.manage.Goals as goal
 
 -- STORE DATA, whose reply has no data
@@ -55,3 +65,54 @@ returns-in-EntryStatus-clause-done g c page admitted acts says channels request 
     rw c.requires.empty
     (managed_as entry_status (λ held here. inr (inl here)) admitted asked.form refl page _ _ _ _
     (c.set_entry_status.ensures.done page admitted acts asked.means))
+
+pub returns-in-PutKey-clause-free : goal.returns-in-PutKey-clause-free
+returns-in-PutKey-clause-free g c = files_free c.args.records.now.tables c.put_key.new.records.tables c.put_key.ensures.files
+
+pub returns-in-Store-clause-free : goal.returns-in-Store-clause-free
+returns-in-Store-clause-free g c = files_free c.args.records.now.tables c.store_data.new.records.tables c.store_data.ensures.files
+
+pub returns-in-DeleteKey-clause-free : goal.returns-in-DeleteKey-clause-free
+returns-in-DeleteKey-clause-free g c = files_free c.args.records.now.tables c.delete_key.new.records.tables c.delete_key.ensures.files
+
+pub returns-in-Install-clause-free : goal.returns-in-Install-clause-free
+returns-in-Install-clause-free g c = files_free c.args.records.now.tables c.install_application.new.records.tables c.install_application.ensures.files
+
+pub returns-in-MakeSelectable-clause-free : goal.returns-in-MakeSelectable-clause-free
+returns-in-MakeSelectable-clause-free g c = files_free c.args.records.now.tables c.make_selectable.new.records.tables c.make_selectable.ensures.files
+
+pub returns-in-CardStatus-clause-free : goal.returns-in-CardStatus-clause-free
+returns-in-CardStatus-clause-free g c = files_free c.args.records.now.tables c.set_card_status.new.records.tables c.set_card_status.ensures.files
+
+pub returns-in-EntryStatus-clause-free : goal.returns-in-EntryStatus-clause-free
+returns-in-EntryStatus-clause-free g c = files_free c.args.records.now.tables c.set_entry_status.new.records.tables c.set_entry_status.ensures.files
+
+-- an instruction that changes no registry
+outside : (byte : ℕ) → AllByRecursion (λ b. (b == byte) ≡ false) changing → Contains changing byte → ⊥
+outside byte differ has = true≢false (sym (eq-eqb byte byte refl) ∙ All-contains (λ b. (b == byte) ≡ false) changing byte (All-from_recursion (λ b. (b == byte) ≡ false) changing differ) has)
+
+pub unreachable-requires : goal.unreachable-requires
+unreachable-requires g c = left c.args.request.now refl
+  where
+    changes : (request : Request) → c.args.request.now ≡ request → Contains changing (form_in request).instruction
+    changes request is = subst (λ (r : Request). Contains changing (form_in r).instruction) is c.requires.changing
+
+    left : (request : Request) → c.args.request.now ≡ request → ⊥
+    left (Select partial) is = outside 0xA4 (refl, (refl, (refl, (refl, (refl, (refl, tt)))))) (changes (Select partial) is)
+    left MoreChannel is = outside 0x70 (refl, (refl, (refl, (refl, (refl, (refl, tt)))))) (changes MoreChannel is)
+    left (LessChannel number) is = outside 0x70 (refl, (refl, (refl, (refl, (refl, (refl, tt)))))) (changes (LessChannel number) is)
+    left (Get tag) is = outside 0xCA (refl, (refl, (refl, (refl, (refl, (refl, tt)))))) (changes (Get tag) is)
+    left (Initialize version challenge) is = outside 0x50 (refl, (refl, (refl, (refl, (refl, (refl, tt)))))) (changes (Initialize version challenge) is)
+    left (Authenticate level proof) is = outside 0x82 (refl, (refl, (refl, (refl, (refl, (refl, tt)))))) (changes (Authenticate level proof) is)
+    left (PutKey replaced version keys) is = c.in_default.not-PutKey replaced version keys is
+    left (Store objects) is = c.in_default.not-Store objects is
+    left (DeleteKey version identifier) is = c.in_default.not-DeleteKey version identifier is
+    left (DeleteObject request) is = c.in_default.not-DeleteObject request is
+    left (Install request) is = c.in_default.not-Install request is
+    left (MakeSelectable request) is = c.in_default.not-MakeSelectable request is
+    left (Extradite request) is = c.in_default.not-Extradite request is
+    left (BeginLoad request) is = c.requires.other (subst AsksForLoad (sym is) tt)
+    left (CardStatus code) is = c.in_default.not-CardStatus code is
+    left (EntryStatus request) is = c.in_default.not-EntryStatus request is
+    left (Load request) is = c.requires.other (subst AsksForLoad (sym is) tt)
+    left (ListStatus request) is = outside 0xF2 (refl, (refl, (refl, (refl, (refl, (refl, tt)))))) (changes (ListStatus request) is)

@@ -6,8 +6,9 @@ use Rattle.page_journal.specs.Journal.{stored}
 use Rattle.rec_store.proofs.Reopening.{has_pages}
 use Rattle.rec_store.proofs.Roomy.{of_slot}
 use Rattle.rec_store.specs.Reopens.{load_page}
-use Rattle.card_core.proofs.Over.{reading}
+use Rattle.card_core.proofs.Over.{reading, spare_over}
 use Rattle.card_core.specs.Kept.{AreCards}
+use Rattle.card_core.specs.Loading.{RepresentsSome}
 use Rattle.card_core.proofs.card.Card.file_digest.Goals as goal
 
 pub digest_of-requires-clause-file : goal.digest_of-requires-clause-file
@@ -22,8 +23,18 @@ digest_of-requires-clause-file g c =
 
 pub invariant_of-self : goal.invariant_of-self
 invariant_of-self g c =
-    let read = c.digest_of.ensures.read in
-    (subst AreCards (sym read.tables) c.self.invariant.0, λ up. let was = c.self.invariant.1 up in (read.live ∙ was.0, read.staged ∙ was.1))
+    let read = c.digest_of.ensures.read in (
+      subst AreCards (sym read.tables) c.self.invariant.0,
+      λ up. (let was = c.self.invariant.1 up in (
+        record {
+          live = read.live ∙ was.0.live;
+          staged = read.staged ∙ was.0.staged;
+          writes = was.0.writes;
+          spare = λ told. rw (read.tables) (spare_over g.F.Flash c.self.inside.records.flash c.digest_of.new.records.flash c.self.inside.records.tables (read.seen told) (was.0.spare told));
+        },
+        subst (λ t. RepresentsSome (record { tables = t; live = c.self.inside.live; held = c.self.inside.held }) c.self.inside.loading.session) (sym read.tables) was.1,
+      )),
+    )
 
 pub invariant_of-self-in-Err : goal.invariant_of-self-in-Err
 invariant_of-self-in-Err g c = (subst AreCards (sym c.digest_of.ensures.read.tables) c.self.invariant.0, λ up. cc)
@@ -49,6 +60,7 @@ returns-in-Ok-clause-stands g c state stood =
       page = stands.page;
       whole = stands.whole;
       on = rw read.tables stands.on;
+      loading = rw read.tables stands.loading;
       load = λ told. ap load_page (read.seen told) ∙ stands.load told;
       keeps = λ told. read.keeps told state.registry (stands.keeps told);
     }

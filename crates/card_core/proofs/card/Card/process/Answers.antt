@@ -1,18 +1,34 @@
 use Rattle.std.proofs.Common.{refl, sym, ap, subst, ◌∙◌}
-use Rattle.page_journal.specs.Journal.{stored}
 use Rattle.policy_rules.proofs.Opened.{changes_are_opened}
 use Rattle.policy_rules.specs.Changes.{Changes}
-use Rattle.rec_store.proofs.Reopening.{has_pages}
-use Rattle.rec_store.specs.Reopens.{load_page}
+use Rattle.load_session.proofs.Loading.{pages_stay_whole}
+use Rattle.load_session.specs.Loaded.{loaded}
+use Rattle.card_core.proofs.LoadsKept.{free_spare}
 use Rattle.card_core.proofs.Over.{committed, registry_told, served_keeps, served_load, served_says}
+use Rattle.card_core.specs.Card.{kept}
 use Rattle.card_core.specs.Kept.{AreCards}
+use Rattle.card_core.specs.Loading.{RepresentsAll}
 use Rattle.card_core.proofs.card.Card.process.Goals as goal
 
-pub commit-requires-clause-card : goal.commit-requires-clause-card
-commit-requires-clause-card g c = λ told. c.serve-rule.ensures.cards (load_page (g.F.Flash.pages c.serve-rule.new.records.flash)) (has_pages (stored (g.F.Flash.pages c.serve-rule.new.records.flash)))
+pub serve-rule-requires-clause-some : goal.serve-rule-requires-clause-some
+serve-rule-requires-clause-some g c = (c.self.invariant.1 (ap (λ view. view.up) c.self.view_is ∙ c.requires.up)).1
+
+pub commit-requires-clause-spare : goal.commit-requires-clause-spare
+commit-requires-clause-spare g c = λ told.
+    let idle = (c.self.invariant.1 (ap (λ view. view.up) c.self.view_is ∙ c.requires.up)).0 in
+    rw c.deref.ensures.0 (free_spare g.F.Flash c.self.inside.records.flash c.serve-rule.new.records.flash c.self.inside.records.tables c.serve-rule.new.loading.writes.items
+    c.serve-rule.ensures.same.0 (idle.spare told) c.serve-rule.ensures.writes)
 
 pub invariant_of-self : goal.invariant_of-self
-invariant_of-self g c = (subst AreCards (sym c.in-Ok.ensures.tables) c.serve-rule.ensures.cards, λ up. (c.in-Ok.ensures.ok.1, c.in-Ok.ensures.ok.0))
+invariant_of-self g c = (
+  subst AreCards (sym c.in-Ok.ensures.tables) c.serve-rule.ensures.cards,
+  λ up. (
+    record { live = c.in-Ok.ensures.ok.1; staged = c.in-Ok.ensures.ok.0; writes = c.clear-in-Ok.ensures; spare = c.in-Ok.ensures.spare },
+    (let some = (c.self.invariant.1 (ap (λ view. view.up) c.self.view_is ∙ c.requires.up)).1 in
+        let served = c.serve-rule.ensures.served some.page some.state some.whole some.shows in
+        record { page = loaded some.page c.serve-rule.new.loading.writes.items; whole = pages_stay_whole some.page c.serve-rule.new.loading.writes.items c.serve-rule.ensures.writes.whole some.whole; state = served.0; shows = rw c.in-Ok.ensures.tables served.1 }),
+  ),
+)
 
 pub invariant_of-self-in-Err : goal.invariant_of-self-in-Err
 invariant_of-self-in-Err g c = (subst AreCards (sym c.in-Err.ensures.tables) c.serve-rule.ensures.cards, λ up. cc)
@@ -23,21 +39,24 @@ returns-in-Ok-clause-step g c state stands =
     let F = g.F.Flash in
     let card = c.args.self.now in
     let rule = c.serve-rule in
-    let served = rule.ensures.served stands.page state (rw (← c.self.view_is) at stands.on) in
-    let says = served.1.shows.says.registry in
+    let writes = rule.new.loading.writes.items in
+    let shown : RepresentsAll stands.page (kept c.args.self.now) c.args.self.now.loading state = record { on = stands.on; loading = stands.loading } in
+    let served = rule.ensures.served stands.page state stands.whole (rw (← c.self.view_is) at shown) in
+    let says = served.1.on.shows.says.registry in
     let same = rule.ensures.same.0 ∙ ap (λ view. view.flash) c.self.view_is in (
       record { state = served.0; reply = rule.new.reply.items; rule = rule.result },
       served.2,
-      committed F card state stands rule.new.records.flash same c.commit.new.self.flash rule.new.records.tables served.0.registry says c.in-Ok.ensures.moments,
+      committed F card state stands rule.new.records.flash same c.commit.new.records.flash writes rule.new.records.tables served.0.registry says (rw c.deref.ensures.0 at c.in-Ok.ensures.moments),
       (
         record {
           up = ap (λ view. view.up) c.self.view_is ∙ stands.up;
-          page = stands.page;
-          whole = stands.whole;
-          on = rw c.in-Ok.ensures.tables served.1;
-          load = λ told. c.in-Ok.ensures.load told ∙ served_load F card state stands rule.new.records.flash same told;
-          keeps = λ told. c.in-Ok.ensures.keeps told state.registry served.0.registry (served_keeps F card state stands rule.new.records.flash same told)
-              (served_says F card state stands rule.new.records.flash same rule.new.records.tables served.0.registry says told);
+          page = loaded stands.page writes;
+          whole = pages_stay_whole stands.page writes rule.ensures.writes.whole stands.whole;
+          on = rw c.in-Ok.ensures.tables served.1.on;
+          loading = rw c.in-Ok.ensures.tables served.1.loading;
+          load = λ told. (rw c.deref.ensures.0 at c.in-Ok.ensures.load) told ∙ ap (λ page. loaded page writes) (served_load F card state stands rule.new.records.flash same told);
+          keeps = λ told. (rw c.deref.ensures.0 at c.in-Ok.ensures.keeps) told state.registry served.0.registry (served_keeps F card state stands rule.new.records.flash same told)
+              (served_says F card state stands rule.new.records.flash same writes rule.new.records.tables served.0.registry says told);
         },
         refl,
         refl,
@@ -48,12 +67,13 @@ pub returns-in-Err-clause-step : goal.returns-in-Err-clause-step
 returns-in-Err-clause-step g c state stands =
     let F = g.F.Flash in
     let rule = c.serve-rule in
-    let served = rule.ensures.served stands.page state (rw (← c.self.view_is) at stands.on) in
+    let shown : RepresentsAll stands.page (kept c.args.self.now) c.args.self.now.loading state = record { on = stands.on; loading = stands.loading } in
+    let served = rule.ensures.served stands.page state stands.whole (rw (← c.self.view_is) at shown) in
     let same = rule.ensures.same.0 ∙ ap (λ view. view.flash) c.self.view_is in (
       record { state = served.0; reply = rule.new.reply.items; rule = rule.result },
       served.2,
-      committed F c.args.self.now state stands rule.new.records.flash same c.commit.new.self.flash rule.new.records.tables served.0.registry
-          served.1.shows.says.registry c.in-Err.ensures.moments,
+      committed F c.args.self.now state stands rule.new.records.flash same c.commit.new.records.flash rule.new.loading.writes.items rule.new.records.tables served.0.registry
+          served.1.on.shows.says.registry (rw c.deref.ensures.0 at c.in-Err.ensures.moments),
       tt,
     )
 

@@ -1,43 +1,36 @@
-use Rattle.std.proofs.Common.{rules, ◌≡◌, ◌⊎◌, inl, inr, arith, Bor, Err, Option, ℕ, ◌<◌, List, [], ◌∷◌, None, Some, refl, sym, ap, subst, ◌∙◌}
-use Rattle.std.specs.Prelude.{Contains, IfErr, slice_index_or}
+use Rattle.std.proofs.Common.{◌≡◌, ◌⊎◌, inl, inr, arith, Bor, Option, ℕ, ◌<◌, List, [], ◌∷◌, None, Some, refl, sym, ap, subst, ◌∙◌}
+use Rattle.std.specs.Prelude.{Contains, slice_index_or}
 use Rattle.std.proofs.lemmas.List.{get_or_default}
-use Rattle.apdu_core.specs.Apdu.{Apdu, apdu_of}
+use Rattle.apdu_core.specs.Apdu.{Apdu}
 use Rattle.card_types.specs.InOrder.{IsInOrder}
-use Rattle.policy_rules.proofs.ExternalAuthenticateLaws.{begin_passes, unoffered_judged}
-use Rattle.policy_rules.proofs.Judging.{malformed_judged}
 use Rattle.policy_rules.specs.Classes.{changing, managing}
 use Rattle.std.proofs.lemmas.List.Elements.{Contains-append_left}
-use Rattle.policy_rules.specs.Requests.{ActsIn, IsMalformed, IsRequestOf, RepresentsState, form_in}
+use Rattle.policy_rules.specs.Requests.{ActsIn, IsRequestOf, IsWellFormed, RepresentsState, form_in}
 use Rattle.card_types.specs.declared.tables.Tables.{Tables}
 use Rattle.card_core.specs.Lists.{Lists}
-use Rattle.policy_rules.specs.Commands.{Judges}
-use Rattle.policy_rules.specs.declared.external_authenticate.RuleEA.TheVariants.{EA1}
 use Rattle.policy_rules.specs.declared.delete_object.DeletionRequest.{DeletionRequest}
 use Rattle.policy_rules.specs.declared.entry_status.EntryStatusRequest.{EntryStatusRequest}
 use Rattle.policy_rules.specs.declared.extradition.ExtraditionRequest.{ExtraditionRequest}
 use Rattle.policy_rules.specs.declared.install_application.InstallRequest.{InstallRequest}
 use Rattle.policy_rules.specs.declared.make_selectable.SelectableRequest.{SelectableRequest}
-use Rattle.policy_rules.specs.declared.instruction.TheConstants.{EXTERNAL_AUTHENTICATE}
-use Rattle.policy_rules.specs.declared.rule.Rule.{Rule}
-use Rattle.policy_rules.specs.declared.rule.Rule.TheVariants.{EA}
 use Rattle.policy_rules.specs.declared.live.TheConstants.{CHANNELS}
 use Rattle.policy_rules.specs.declared.request.Request.{Request}
-use Rattle.policy_rules.specs.declared.request.Request.TheVariants.{Authenticate, CardStatus, DeleteKey, DeleteObject, EntryStatus, Extradite, Initialize, Install, ListStatus, MakeSelectable, MoreChannel, PutKey, Store}
+use Rattle.policy_rules.specs.declared.request.Request.TheVariants.{CardStatus, DeleteKey, DeleteObject, EntryStatus, Extradite, Install, MakeSelectable, PutKey, Store}
 use Rattle.policy_rules.specs.declared.put_key.PutKeys.{PutKeys}
 use Rattle.card_core.proofs.Acting.{acts_for, answer_carried, held_there, listing_carried, low, managed_carried, offer_carried}
 use Rattle.card_core.proofs.Cards.{in_order}
-use Rattle.card_core.proofs.Carrying.{refusal_carried}
-use Rattle.card_core.proofs.Offered.{is_offer, no_offer}
 use Rattle.card_core.proofs.ChannelChanges.{HasFour}
-use Rattle.card_core.specs.SecureChannels.{RepresentsSecureChannel, IsInSession, IsOffered}
+use Rattle.card_core.specs.SecureChannels.{RepresentsSecureChannel, IsInSession}
 use Rattle.card_core.specs.Offers.{AnswersAs, OffersAs, secure_channel_for}
 use Rattle.card_core.specs.declared.channel_session.ChannelSession.{ChannelSession}
 use Rattle.card_core.specs.declared.channel_session.ChannelSession.TheVariants as held
-use Rattle.card_core.proofs.serve.carry_out.Goals as goal
-
--- the instruction is that of the request's form
-abbrev IsOfForm : Request → ℕ → Type 0
-IsOfForm request ins = ins ≡ (form_in request).instruction
+use Rattle.card_core.proofs.FreePages.{files_free}
+use Rattle.card_core.proofs.LoadsKept.{installs_not, kept_loading, loads_not, loads_same, other_install, over_loading}
+use Rattle.card_types.specs.Represents.{domain_aid}
+use Rattle.card_types.specs.declared.tables.Entry.{Entry}
+use Rattle.load_session.specs.Session.{load_slot}
+use Rattle.policy_rules.specs.Laws.{IsLoading}
+use Rattle.card_core.proofs.perform.perform.Goals as goal
 
 -- the requests of card content management that change the registry
 abbrev ChangesRegistry : Request → Type 0
@@ -63,52 +56,11 @@ managed request (inr (inr (inr (inl deletion)))) = changes_as request _ deletion
 managed request (inr (inr (inr (inr (inl install))))) = changes_as request _ install.1 (3, omega arith, refl)
 managed request (inr (inr (inr (inr (inr (inl selecting)))))) = changes_as request _ selecting.1 (3, omega arith, refl)
 managed request (inr (inr (inr (inr (inr (inr (inl move))))))) = changes_as request _ move.1 (3, omega arith, refl)
-managed request (inr (inr (inr (inr (inr (inr (inr (inl card)))))))) = changes_as request _ card.1 (4, omega arith, refl)
-managed request (inr (inr (inr (inr (inr (inr (inr (inr entry)))))))) = changes_as request _ entry.1 (4, omega arith, refl)
+managed request (inr (inr (inr (inr (inr (inr (inr (inl card)))))))) = changes_as request _ card.1 (5, omega arith, refl)
+managed request (inr (inr (inr (inr (inr (inr (inr (inr entry)))))))) = changes_as request _ entry.1 (5, omega arith, refl)
 
 manages : (request : Request) → ChangesRegistry request → Contains managing (form_in request).instruction
 manages request which = Contains-append_left changing (0xF2 ∷ []) (form_in request).instruction (managed request which)
-
-pub returns-in_err-judge_offer-clause-done : goal.returns-in_err-judge_offer-clause-done
-returns-in_err-judge_offer-clause-done g c = λ page judged stands passed.
-    let at = passed.on in
-    let is = passed.is in
-    let tables = c.args.records.now.tables in
-    let live = c.args.live.now in
-    let all = c.args.held.now in
-    let slot = c.args.received.now.selected in
-    let refused : IfErr c.judge_offer.result (λ rule. (rule ≡ EA EA1) × (c.args.command.now.ins ≡ EXTERNAL_AUTHENTICATE) × (IsOffered (slice_index_or all c.from-at.result c.index-held-at.result) → ⊥)) = c.judge_offer.ensures.refused in
-    let found = subst (λ r. IfErr r (λ rule. (rule ≡ EA EA1) × (c.args.command.now.ins ≡ EXTERNAL_AUTHENTICATE) × (IsOffered (slice_index_or all c.from-at.result c.index-held-at.result) → ⊥))) c.in_err-judge_offer.was refused in
-    let here = held_there page tables live all judged stands c.told-held c.args.received.now.channel slot c.requires.channel at c.requires.selected
-    c.from-at.result c.index-held-at.result c.from-at.ensures in
-    let low = low page tables live all judged stands c.told-held c.args.received.now.channel slot c.requires.channel at c.requires.selected in
-    let none = no_offer (slice_index_or all judged.channel held.Nothing) judged (stands.shows.holds judged.channel low)
-    (subst (λ (h : ChannelSession). IsOffered h → ⊥) here found.2) in
-    let judges = unoffered_judged judged (ap (λ (command : Apdu). command.ins) is ∙ found.1) none in
-    refusal_carried page (record { tables = tables; live = live; held = all }) judged c.args.reply.now.items c.from_residual.result c.in_err-judge_offer.field-0.0
-    c.from_residual.ensures.1 (record { held = c.told-held; channels = stands.sound.fits.channels }) low stands.shows
-    (subst (λ (rule : Rule). Judges judged (Some rule)) (sym found.0) judges) c.requires.empty
-
--- a command of a wrong form
-pub returns-in-Err-clause-done : goal.returns-in-Err-clause-done
-returns-in-Err-clause-done g c = λ page judged stands passed.
-    let at = passed.on in
-    let is = passed.is in
-    let tables = c.args.records.now.tables in
-    let live = c.args.live.now in
-    let all = c.args.held.now in
-    let slot = c.args.received.now.selected in
-    let here = held_there page tables live all judged stands c.told-held c.args.received.now.channel slot c.requires.channel at c.requires.selected
-    c.from-at.result c.index-held-at.result c.from-at.ensures in
-    let low = low page tables live all judged stands c.told-held c.args.received.now.channel slot c.requires.channel at c.requires.selected in
-    let offered : c.args.command.now.ins ≡ EXTERNAL_AUTHENTICATE → IsOffered (slice_index_or all c.from-at.result c.index-held-at.result) = search rules in
-    let begins = begin_passes judged (λ ins none. is_offer (slice_index_or all judged.channel held.Nothing) judged (stands.shows.holds judged.channel low)
-    (subst IsOffered here (offered (sym (ap (λ (command : Apdu). command.ins) is) ∙ ins))) none) in
-    let wrong : IsMalformed c.args.command.now.ins c.args.command.now.p1 c.args.command.now.p2 c.args.command.now.body.now c.in-Err.rule = search rules in
-    let judges = malformed_judged judged c.in-Err.rule begins
-    (subst (λ (command : Apdu). IsMalformed command.ins command.p1 command.p2 command.body c.in-Err.rule) (sym is) wrong) in
-    refusal_carried page (record { tables = tables; live = live; held = all }) judged c.args.reply.now.items (Err c.in-Err.rule) c.in-Err.rule
-    refl (record { held = c.told-held; channels = stands.sound.fits.channels }) low stands.shows judges c.requires.empty
 
 pub select-requires-clause-in_order : goal.select-requires-clause-in_order
 select-requires-clause-in_order g c = subst IsInOrder (sym c.tables.ensures.tables) (in_order c.args.records.now.tables c.requires.cards)
@@ -117,37 +69,30 @@ pub get_data-requires-clause-in_order : goal.get_data-requires-clause-in_order
 get_data-requires-clause-in_order g c = subst IsInOrder (sym c.tables-in-Get.ensures.tables) (in_order c.args.records.now.tables c.requires.cards)
 
 pub external_authenticate-requires-clause-formed : goal.external_authenticate-requires-clause-formed
-external_authenticate-requires-clause-formed g c = (apdu_of c.args.command.now, record { form = search rules; means = search rules }, c.requires.short)
+external_authenticate-requires-clause-formed g c = subst IsWellFormed c.in-Authenticate.is c.requires.formed
 
 -- card content management
 pub manage-requires-clause-secured : goal.manage-requires-clause-secured
 manage-requires-clause-secured g c =
-    let form : IsOfForm c.in-Ok.request c.args.command.now.ins = search rules in
     let here : slice_index_or c.args.held.now c.from-at.result c.index-held-at-in-PutKey.result ≡ slice_index_or c.args.held.now c.args.received.now.channel held.Nothing =
     ap (λ (n : ℕ). slice_index_or c.args.held.now n c.index-held-at-in-PutKey.result) c.from-at.ensures
     ∙ get_or_default c.args.held.now c.args.received.now.channel c.index-held-at-in-PutKey.result held.Nothing
     (subst (λ (n : ℕ). c.args.received.now.channel < n) (sym c.told-held) c.requires.channel) in
-    subst IsInSession (sym here) (c.requires.secured (subst (Contains managing) (sym form) (manages c.in-Ok.request c.in-PutKey.is)))
+    subst IsInSession (sym here) (c.requires.secured (manages c.args.request.now c.in-PutKey.is))
 
 pub manage-requires-clause-changing : goal.manage-requires-clause-changing
-manage-requires-clause-changing g c = managed c.in-Ok.request c.in-PutKey.is
-
-pub manage-requires-clause-formed : goal.manage-requires-clause-formed
-manage-requires-clause-formed g c = (apdu_of c.args.command.now, record { form = search rules; means = search rules }, c.requires.short)
+manage-requires-clause-changing g c = managed c.args.request.now c.in-PutKey.is
 
 pub returns-in-MoreChannel-clause-done : goal.returns-in-MoreChannel-clause-done
-returns-in-MoreChannel-clause-done g c = λ page judged stands passed.
-    let at = passed.on in
-    let is = passed.is in
+returns-in-MoreChannel-clause-done g c = λ page judged stands asked.
     c.open_channel.ensures.done c.args.records.now.tables (in_order c.args.records.now.tables c.requires.cards).layout page c.args.held.now judged stands c.told-held
-    (subst (λ (n : ℕ). n < CHANNELS) at c.requires.channel)
-    (subst (IsRequestOf MoreChannel) (sym is) (record { form = search rules; means = search rules }))
+    (subst (λ (n : ℕ). n < CHANNELS) asked.on c.requires.channel)
+    (subst (λ (r : Request). IsRequestOf r judged.command) c.in-MoreChannel.is asked.asks)
 
 -- INITIALIZE UPDATE
 pub returns-in-Initialize-clause-done : goal.returns-in-Initialize-clause-done
 returns-in-Initialize-clause-done g c = λ page judged stands passed.
     let at = passed.on in
-    let is = passed.is in
     let low : judged.channel < CHANNELS = subst (λ (n : ℕ). n < CHANNELS) at c.requires.channel in
     let four : HasFour (record { tables = c.args.records.now.tables; live = c.args.live.now; held = c.args.held.now }) judged.at =
     record { held = c.told-held; channels = stands.sound.fits.channels } in
@@ -155,9 +100,7 @@ returns-in-Initialize-clause-done g c = λ page judged stands passed.
     subst (λ (n : ℕ). slice_index_or c.args.live.now.selected n None ≡ Some c.args.received.now.selected) at c.requires.selected in
     let acts = acts_for page c.args.records.now.tables c.args.live.now c.args.held.now judged stands c.told-held c.args.received.now.channel c.args.received.now.selected
     c.requires.channel at c.requires.selected in
-    let request : IsRequestOf (Initialize c.in-Initialize.version c.in-Initialize.challenge) (apdu_of c.args.command.now) =
-    record { form = search rules; means = search rules } in
-    let asked = subst (IsRequestOf (Initialize c.in-Initialize.version c.in-Initialize.challenge)) (sym is) request in
+    let asked = subst (λ (r : Request). IsRequestOf r judged.command) c.in-Initialize.is passed.asks in
     let here : slice_index_or c.args.held.now c.from-at.result c.index-held-at-in-Initialize.result ≡ slice_index_or c.args.held.now judged.channel held.Nothing =
     ap (λ (n : ℕ). slice_index_or c.args.held.now n c.index-held-at-in-Initialize.result) (c.from-at.ensures ∙ at)
     ∙ get_or_default c.args.held.now judged.channel c.index-held-at-in-Initialize.result held.Nothing (subst (λ (n : ℕ). judged.channel < n) (sym c.told-held) low) in
@@ -171,15 +114,12 @@ returns-in-Initialize-clause-done g c = λ page judged stands passed.
 pub returns-in-Authenticate-clause-done : goal.returns-in-Authenticate-clause-done
 returns-in-Authenticate-clause-done g c = λ page judged stands passed.
     let at = passed.on in
-    let is = passed.is in
     let low : judged.channel < CHANNELS = subst (λ (n : ℕ). n < CHANNELS) at c.requires.channel in
     let four : HasFour (record { tables = c.args.records.now.tables; live = c.args.live.now; held = c.args.held.now }) judged.at =
     record { held = c.told-held; channels = stands.sound.fits.channels } in
     let opened : slice_index_or c.args.live.now.selected judged.channel None ≡ Some c.args.received.now.selected =
     subst (λ (n : ℕ). slice_index_or c.args.live.now.selected n None ≡ Some c.args.received.now.selected) at c.requires.selected in
-    let request : IsRequestOf (Authenticate c.in-Authenticate.level c.in-Authenticate.proof) (apdu_of c.args.command.now) =
-    record { form = search rules; means = search rules } in
-    let asked = subst (IsRequestOf (Authenticate c.in-Authenticate.level c.in-Authenticate.proof)) (sym is) request in
+    let asked = subst (λ (r : Request). IsRequestOf r judged.command) c.in-Authenticate.is passed.asks in
     let here : slice_index_or c.args.held.now c.from-at.result c.index-held-at-in-Authenticate.result ≡ slice_index_or c.args.held.now judged.channel held.Nothing =
     ap (λ (n : ℕ). slice_index_or c.args.held.now n c.index-held-at-in-Authenticate.result) (c.from-at.ensures ∙ at)
     ∙ get_or_default c.args.held.now judged.channel c.index-held-at-in-Authenticate.result held.Nothing (subst (λ (n : ℕ). judged.channel < n) (sym c.told-held) low) in
@@ -192,32 +132,28 @@ returns-in-Authenticate-clause-done g c = λ page judged stands passed.
 pub returns-in-PutKey-clause-done : goal.returns-in-PutKey-clause-done
 returns-in-PutKey-clause-done g c = λ page judged stands passed.
     let at = passed.on in
-    let is = passed.is in
     let tables = c.args.records.now.tables in
     let live = c.args.live.now in
     let all = c.args.held.now in
     let slot = c.args.received.now.selected in
-    let request : IsRequestOf c.in-Ok.request (apdu_of c.args.command.now) = record { form = search rules; means = search rules } in
     let low = low page tables live all judged stands c.told-held c.args.received.now.channel slot c.requires.channel at c.requires.selected in
     let here = held_there page tables live all judged stands c.told-held c.args.received.now.channel slot c.requires.channel at c.requires.selected
     c.from-at.result c.index-held-at-in-PutKey.result c.from-at.ensures in
     let acts = acts_for page tables live all judged stands c.told-held c.args.received.now.channel slot c.requires.channel at c.requires.selected in
-    let managed = c.manage.ensures.done page judged acts stands.shows.says stands.sound.fits.channels (subst (IsRequestOf c.in-Ok.request) (sym is) request)
+    let managed = c.manage.ensures.done page judged acts stands.shows.says stands.sound.fits.channels passed.asks
     (subst (λ (h : ChannelSession). RepresentsSecureChannel h (secure_channel_for judged)) (sym here) (stands.shows.holds judged.channel low)) in
     managed_carried page tables live all judged stands (record { held = c.told-held; channels = stands.sound.fits.channels }) low
     c.manage.new.records.tables c.manage.new.reply.items c.manage.result c.manage.ensures.selected managed
 
 pub returns-in-PutKey-clause-idle : goal.returns-in-PutKey-clause-idle
-returns-in-PutKey-clause-idle g c = λ other unmanaged.
-    let form : IsOfForm c.in-Ok.request c.args.command.now.ins = search rules in
-    absurd (unmanaged (subst (Contains changing) (sym form) (managed c.in-Ok.request c.in-PutKey.is)))
+returns-in-PutKey-clause-idle g c = λ other unmanaged. absurd (unmanaged (managed c.args.request.now c.in-PutKey.is))
 
 -- GET STATUS
 pub get_status-requires-clause-in_order : goal.get_status-requires-clause-in_order
 get_status-requires-clause-in_order g c = subst IsInOrder (sym c.tables-in-ListStatus.ensures.tables) (in_order c.args.records.now.tables c.requires.cards)
 
 pub get_status-requires-clause-formed : goal.get_status-requires-clause-formed
-get_status-requires-clause-formed g c = (apdu_of c.args.command.now, record { form = search rules; means = search rules }, c.requires.short)
+get_status-requires-clause-formed g c = subst IsWellFormed c.in-ListStatus.is c.requires.formed
 
 pub returns-in-ListStatus-clause-done : goal.returns-in-ListStatus-clause-done
 returns-in-ListStatus-clause-done g c = λ page judged stands passed.
@@ -225,12 +161,71 @@ returns-in-ListStatus-clause-done g c = λ page judged stands passed.
     let live = c.args.live.now in
     let all = c.args.held.now in
     let slot = c.args.received.now.selected in
-    let request : IsRequestOf c.in-Ok.request (apdu_of c.args.command.now) = record { form = search rules; means = search rules } in
-    let asked = subst (λ (r : Request). IsRequestOf r (apdu_of c.args.command.now)) c.in-ListStatus.is request in
+    let asked = subst (λ (r : Request). IsRequestOf r judged.command) c.in-ListStatus.is passed.asks in
     let low = low page tables live all judged stands c.told-held c.args.received.now.channel slot c.requires.channel passed.on c.requires.selected in
     let acts = acts_for page tables live all judged stands c.told-held c.args.received.now.channel slot c.requires.channel passed.on c.requires.selected in
     let here = subst (λ (t : Tables). ActsIn page t slot judged) (sym c.tables-in-ListStatus.ensures.tables) acts in
     let says = subst (λ (t : Tables). RepresentsState page t live judged.at) (sym c.tables-in-ListStatus.ensures.tables) stands.shows.says in
-    let lists = c.get_status.ensures.done page judged here says passed.on (passed.goes_on asked.form.0) (subst (IsRequestOf (ListStatus c.in-ListStatus.request)) (sym passed.is) asked) in
+    let lists = c.get_status.ensures.done page judged here says passed.on (passed.goes_on (ap (λ (r : Request). (form_in r).instruction) c.in-ListStatus.is)) asked in
     listing_carried page tables live all judged stands (record { held = c.told-held; channels = stands.sound.fits.channels }) low c.get_status.new.live c.get_status.new.reply.items c.get_status.result
     (subst (λ (t : Tables). Lists judged page t live c.get_status.new.live c.get_status.new.reply.items c.get_status.result) c.tables-in-ListStatus.ensures.tables lists)
+
+-- what is kept of the load session goes with it
+not_loading : (request : Request) → ChangesRegistry request → (command : Apdu) → IsRequestOf request command → IsLoading command → ⊥
+not_loading request (inl put) command is = loads_not command 0xD8 (subst (λ (r : Request). IsRequestOf r command) put.3 is).form.0 (λ e. absurd (omega (arith, e))) (λ e. absurd (omega (arith, e)))
+not_loading request (inr (inl store)) command is = loads_not command 0xE2 (subst (λ (r : Request). IsRequestOf r command) store.1 is).form.0 (λ e. absurd (omega (arith, e))) (λ e. absurd (omega (arith, e)))
+not_loading request (inr (inr (inl delete))) command is = loads_not command 0xE4 (subst (λ (r : Request). IsRequestOf r command) delete.2 is).form.0 (λ e. absurd (omega (arith, e))) (λ e. absurd (omega (arith, e)))
+not_loading request (inr (inr (inr (inl deletion)))) command is = loads_not command 0xE4 (subst (λ (r : Request). IsRequestOf r command) deletion.1 is).form.0 (λ e. absurd (omega (arith, e))) (λ e. absurd (omega (arith, e)))
+not_loading request (inr (inr (inr (inr (inl install))))) command is = other_install command (subst (λ (r : Request). IsRequestOf r command) install.1 is).form.0 (subst (λ (r : Request). IsRequestOf r command) install.1 is).form.1.0
+not_loading request (inr (inr (inr (inr (inr (inl selecting)))))) command is =
+    installs_not command 0x08 (subst (λ (r : Request). IsRequestOf r command) selecting.1 is).form.0 (subst (λ (r : Request). IsRequestOf r command) selecting.1 is).form.1.0 (λ e. absurd (omega (arith, e)))
+not_loading request (inr (inr (inr (inr (inr (inr (inl move))))))) command is =
+    installs_not command 0x10 (subst (λ (r : Request). IsRequestOf r command) move.1 is).form.0 (subst (λ (r : Request). IsRequestOf r command) move.1 is).form.1.0 (λ e. absurd (omega (arith, e)))
+not_loading request (inr (inr (inr (inr (inr (inr (inr (inl card)))))))) command is = loads_not command 0xF0 (subst (λ (r : Request). IsRequestOf r command) card.1 is).form.0 (λ e. absurd (omega (arith, e))) (λ e. absurd (omega (arith, e)))
+not_loading request (inr (inr (inr (inr (inr (inr (inr (inr entry)))))))) command is = loads_not command 0xF0 (subst (λ (r : Request). IsRequestOf r command) entry.1 is).form.0 (λ e. absurd (omega (arith, e))) (λ e. absurd (omega (arith, e)))
+
+pub returns-in-Select-clause-loads : goal.returns-in-Select-clause-loads
+returns-in-Select-clause-loads g c = λ page judged loading all asked.
+    let is = subst (λ (r : Request). IsRequestOf r judged.command) c.in-Select.is asked.asks in
+    loads_same page c.args.records.now.tables loading judged c.select.result (loads_not judged.command 0xA4 is.form.0 (λ e. absurd (omega (arith, e))) (λ e. absurd (omega (arith, e)))) all.loading
+
+pub returns-in-MoreChannel-clause-loads : goal.returns-in-MoreChannel-clause-loads
+returns-in-MoreChannel-clause-loads g c = λ page judged loading all asked.
+    let is = subst (λ (r : Request). IsRequestOf r judged.command) c.in-MoreChannel.is asked.asks in
+    loads_same page c.args.records.now.tables loading judged c.open_channel.result (loads_not judged.command 0x70 is.form.0 (λ e. absurd (omega (arith, e))) (λ e. absurd (omega (arith, e)))) all.loading
+
+pub returns-in-LessChannel-clause-loads : goal.returns-in-LessChannel-clause-loads
+returns-in-LessChannel-clause-loads g c = λ page judged loading all asked.
+    let is = subst (λ (r : Request). IsRequestOf r judged.command) c.in-LessChannel.is asked.asks in
+    loads_same page c.args.records.now.tables loading judged c.close_channel.result (loads_not judged.command 0x70 is.form.0 (λ e. absurd (omega (arith, e))) (λ e. absurd (omega (arith, e)))) all.loading
+
+pub returns-in-Get-clause-loads : goal.returns-in-Get-clause-loads
+returns-in-Get-clause-loads g c = λ page judged loading all asked.
+    let is = subst (λ (r : Request). IsRequestOf r judged.command) c.in-Get.is asked.asks in
+    loads_same page c.args.records.now.tables loading judged c.get_data.result (loads_not judged.command 0xCA is.form.0 (λ e. absurd (omega (arith, e))) (λ e. absurd (omega (arith, e)))) all.loading
+
+pub returns-in-Authenticate-clause-loads : goal.returns-in-Authenticate-clause-loads
+returns-in-Authenticate-clause-loads g c = λ page judged loading all asked.
+    let is = subst (λ (r : Request). IsRequestOf r judged.command) c.in-Authenticate.is asked.asks in
+    loads_same page c.args.records.now.tables loading judged c.external_authenticate.result (loads_not judged.command 0x82 is.form.0 (λ e. absurd (omega (arith, e))) (λ e. absurd (omega (arith, e)))) all.loading
+
+pub returns-in-ListStatus-clause-loads : goal.returns-in-ListStatus-clause-loads
+returns-in-ListStatus-clause-loads g c = λ page judged loading all asked.
+    let is = subst (λ (r : Request). IsRequestOf r judged.command) c.in-ListStatus.is asked.asks in
+    loads_same page c.args.records.now.tables loading judged c.get_status.result (loads_not judged.command 0xF2 is.form.0 (λ e. absurd (omega (arith, e))) (λ e. absurd (omega (arith, e)))) all.loading
+
+pub returns-in-Initialize-clause-loads : goal.returns-in-Initialize-clause-loads
+returns-in-Initialize-clause-loads g c = λ page judged loading all asked.
+    let is = subst (λ (r : Request). IsRequestOf r judged.command) c.in-Initialize.is asked.asks in
+    let before = c.args.records.now.tables in
+    let after = c.initialize_update.new.records.tables in
+    loads_same page after loading judged c.initialize_update.result (loads_not judged.command 0x50 is.form.0 (λ e. absurd (omega (arith, e))) (λ e. absurd (omega (arith, e))))
+    (over_loading page before after loading judged.at.volatile.load (files_free before after c.initialize_update.ensures.files)
+    (λ kept there. ap (λ (es : List (Option Entry)). domain_aid es (load_slot kept)) c.initialize_update.ensures.entries) all.loading)
+
+pub returns-in-PutKey-clause-loads : goal.returns-in-PutKey-clause-loads
+returns-in-PutKey-clause-loads g c = λ page judged loading all asked.
+    let before = c.args.records.now.tables in
+    let after = c.manage.new.records.tables in
+    loads_same page after loading judged c.manage.result (not_loading c.args.request.now c.in-PutKey.is judged.command asked.asks)
+    (kept_loading page before after c.args.live.now judged.at c.manage.ensures.selected c.manage.ensures.free all.on.sound all.on.shows.says loading all.loading)

@@ -1,0 +1,146 @@
+-- What is kept of the load session, while other commands come.
+use Rattle.std.proofs.Common.{◌≡◌, ◌≢◌, ◌⊎◌, ℕ, List, [], Bool, true, false, Option, None, Some, Result, Ok, Err, refl, sym, subst, ◌∙◌, inl, inr, arith}
+use Rattle.std.specs.Prelude.{All, IfSome, MatchOption, if◌then◌else◌, ◌==◌}
+use Rattle.apdu_core.specs.Apdu.{Apdu}
+use Rattle.apdu_core.specs.declared.reply.Status.{Status}
+use Rattle.card_types.proofs.Domains.{domain_aid_is, domain_named_is_used}
+use Rattle.card_types.proofs.EntryNames.{one_entry_slot}
+use Rattle.card_types.specs.Represents.{domain_aid}
+use Rattle.card_types.specs.Well.{IsDomainNamed}
+use Rattle.card_types.specs.declared.tables.Tables.{Tables}
+use Rattle.card_check.proofs.LoadPagesNamed.{all_of_members}
+use Rattle.flash_core.specs.declared.flash.Flash.{Ghosts as Flash}
+use Rattle.load_session.proofs.Stays.{session_stays}
+use Rattle.load_session.specs.Loaded.{numbers}
+use Rattle.load_session.specs.declared.load_write.LoadWrite.{LoadWrite}
+use Rattle.rec_store.specs.Reopens.{AreSpare, IsFree, IsSpare}
+use Rattle.std.proofs.lemmas.List.Elements.{All-contains}
+use Rattle.load_session.specs.Session.{load_slot}
+use Rattle.load_session.specs.declared.session.LoadSession.{LoadSession as Kept}
+use Rattle.policy_rules.proofs.LoadsLeft.{loads_left}
+use Rattle.policy_rules.specs.Admission.{Admitted, admitted_as, class_passed, message_joined, session_passed}
+use Rattle.policy_rules.specs.Classes.{channel_of}
+use Rattle.policy_rules.specs.Laws.{IsLoading, LoadStays}
+use Rattle.policy_rules.specs.Requests.{IsLoadNamed, RepresentsState}
+use Rattle.policy_rules.specs.Sound.{IsSound, IsWellLoad}
+use Rattle.policy_rules.specs.State.{State}
+use Rattle.policy_rules.specs.Step.{keeps_load, refusal_leaves}
+use Rattle.policy_rules.specs.Volatile.{LoadSession, Volatile, load_without_channel, with_offer_dropped, without_load}
+use Rattle.policy_rules.specs.declared.instruction.TheConstants.{INSTALL, LOAD}
+use Rattle.policy_rules.specs.declared.live.Live.{Live}
+use Rattle.policy_rules.specs.declared.live.LoadName.{LoadName}
+use Rattle.policy_rules.specs.declared.rule.Rule.{Rule}
+use Rattle.scp03_card.specs.Session.{Session}
+use Rattle.card_core.specs.Loading.{AreFree, RepresentsLoading}
+use Rattle.card_core.specs.Loads.{LoadsAs}
+use Rattle.policy_rules.specs.Commands.{Judges}
+use Rattle.std.specs.Result.{IsErrAnd}
+use Rattle.card_core.specs.Manages.{KeepsAid, KeepsFree, KeepsSelected}
+use Rattle.card_core.specs.Serves.{LoadsBy}
+
+module _ (page : ℕ → List ℕ) (tables : Tables) (loading : Option Kept) where
+  -- the load session of a channel has ended
+  pub ended_loading : (number : ℕ) (load : Option LoadSession) → RepresentsLoading page tables loading load → RepresentsLoading page tables loading (load_without_channel number load)
+  ended_loading number None is = tt
+  ended_loading number (Some load) is = by (load.channel == number)
+    where
+      by : (ends : Bool) → RepresentsLoading page tables loading (if ends then None else Some load)
+      by true = tt
+      by false = is
+
+  -- it has, unless the command goes on with it
+  passed_loading : (volatile : Volatile) (command : Apdu) → RepresentsLoading page tables loading volatile.load → RepresentsLoading page tables loading (session_passed volatile command).load
+  passed_loading volatile command is = by (command.ins == LOAD)
+    where
+      by : (goes_on : Bool) → RepresentsLoading page tables loading (if goes_on then volatile else without_load volatile (channel_of command.class)).load
+      by true = is
+      by false = ended_loading (channel_of command.class) volatile.load is
+
+  -- behind secure messaging
+  pub admitted_loading : (state : State) (command : Apdu) (session : Option Session) (plain : List ℕ) → RepresentsLoading page tables loading state.volatile.load
+      → RepresentsLoading page tables loading (admitted_as state command session plain).at.volatile.load
+  admitted_loading state command None plain is = passed_loading (class_passed state.volatile command) command is
+  admitted_loading state command (Some session) plain is =
+      passed_loading (message_joined (class_passed state.volatile command) (channel_of command.class) (Some session)) command is
+
+  -- behind a refusal
+  pub refusal_loading : (admitted : Admitted) (rule : Rule) → RepresentsLoading page tables loading admitted.at.volatile.load
+      → RepresentsLoading page tables loading (refusal_leaves admitted rule).load
+  refusal_loading admitted rule is = by (keeps_load rule)
+    where
+      left : Volatile
+      left = with_offer_dropped admitted.at.volatile admitted.channel
+
+      by : (keeps : Bool) → RepresentsLoading page tables loading (if keeps then left else without_load left admitted.channel).load
+      by true = is
+      by false = ended_loading admitted.channel left.load is
+
+  stays_loading : (before after : Volatile) → LoadStays before after → RepresentsLoading page tables loading before.load → RepresentsLoading page tables loading after.load
+  stays_loading before after (inl same) is = subst (RepresentsLoading page tables loading) (sym same) is
+  stays_loading before after (inr none) is = subst (RepresentsLoading page tables loading) (sym none) tt
+
+  -- a command that does not load
+  pub loads_same : (admitted : Admitted) (result : Result Status Rule) → (IsLoading admitted.command → ⊥) → RepresentsLoading page tables loading admitted.at.volatile.load
+      → LoadsBy page admitted tables loading result
+  loads_same admitted (Ok status) other is = λ done does. stays_loading admitted.at.volatile done.state.volatile (loads_left admitted done other does) is
+  loads_same admitted (Err rule) other is = is
+
+-- an instruction other than LOAD and INSTALL
+pub loads_not : (command : Apdu) (byte : ℕ) → command.ins ≡ byte → byte ≢ LOAD → byte ≢ INSTALL → IsLoading command → ⊥
+loads_not command byte is no_load no_install (inl loads) = no_load (sym is ∙ loads)
+loads_not command byte is no_load no_install (inr installs) = no_install (sym is ∙ installs.0)
+
+-- INSTALL in another form
+pub installs_not : (command : Apdu) (p1 : ℕ) → command.ins ≡ INSTALL → command.p1 ≡ p1 → (p1 ≡ 0x02 → ⊥) → IsLoading command → ⊥
+installs_not command p1 is form other (inl loads) = absurd (omega (arith, is, loads))
+installs_not command p1 is form other (inr installs) = other (sym form ∙ installs.1)
+
+pub other_install : (command : Apdu) → command.ins ≡ INSTALL → (command.p1 ≡ 0x04) ⊎ (command.p1 ≡ 0x0C) → IsLoading command → ⊥
+other_install command is (inl four) = installs_not command 0x04 is four (λ e. absurd (omega (arith, e)))
+other_install command is (inr twelve) = installs_not command 0x0C is twelve (λ e. absurd (omega (arith, e)))
+
+-- other tables, in which the security domain has the same AID
+pub over_loading : (page : ℕ → List ℕ) (tables tables' : Tables) (loading : Option Kept) (load : Option LoadSession) → KeepsFree tables tables'
+    → ((kept : Kept) → loading ≡ Some kept → domain_aid tables'.entries.items (load_slot kept) ≡ domain_aid tables.entries.items (load_slot kept))
+    → RepresentsLoading page tables loading load → RepresentsLoading page tables' loading load
+over_loading page tables tables' loading None free same is = tt
+over_loading page tables tables' None (Some load) free same is = is
+over_loading page tables tables' (Some kept) (Some load) free same is =
+    session_stays page page tables tables' kept load (λ number there was. free number was) (λ number there. refl) (same kept refl) is
+
+-- tables in which what is selected keeps its AID
+module _ (page : ℕ → List ℕ) (tables tables' : Tables) (live : Live) (state : State) (keeps : KeepsSelected live tables.entries.items tables'.entries.items)
+    (free : KeepsFree tables tables') (sound : IsSound state) (says : RepresentsState page tables live state) where
+  by_name : (name : Option LoadName) (loading : Option Kept) (load : Option LoadSession) → IfSome name (λ n. KeepsAid tables.entries.items tables'.entries.items n.domain)
+      → MatchOption load (Unit {0}) (IsWellLoad state.registry state.volatile) → IsLoadNamed tables.entries.items name load
+      → RepresentsLoading page tables loading load → RepresentsLoading page tables' loading load
+  by_name name loading None kept well named is = tt
+  by_name None loading (Some load) kept well named is = absurd named
+  by_name (Some name) None (Some load) kept well named is = is
+  by_name (Some name) (Some session) (Some load) kept well named is =
+      let slot = load_slot session in
+      let entries = tables.entries.items in
+      let here = domain_named_is_used page tables state.registry says.registry sound.well slot (subst (IsDomainNamed state.registry) (sym is.of.domain) well.domain) in
+      let there = domain_named_is_used page tables state.registry says.registry sound.well name.domain (subst (IsDomainNamed state.registry) (sym named.2) well.domain) in
+      let aid : here.0.aid ≡ there.0.aid =
+      sym (domain_aid_is entries slot here.0 here.1) ∙ is.of.domain ∙ sym named.2 ∙ domain_aid_is entries name.domain there.0 there.1 in
+      let one = one_entry_slot page tables state.registry says.registry slot name.domain here.0 there.0 here.1 there.1 aid in
+      let other = subst (KeepsAid entries tables'.entries.items) (sym one) kept here.0 here.1 in
+      let same = domain_aid_is tables'.entries.items slot other.0 other.1 ∙ other.2 ∙ sym (domain_aid_is entries slot here.0 here.1) in
+      session_stays page page tables tables' session load (λ number taken was. free number was) (λ number taken. refl) same is
+
+  pub kept_loading : (loading : Option Kept) → RepresentsLoading page tables loading state.volatile.load → RepresentsLoading page tables' loading state.volatile.load
+  kept_loading loading is = by_name live.load loading state.volatile.load keeps.load sound.fits.load says.load is
+
+-- each page that is free by the tables of a card is one that no Executable Load File on its device has
+pub free_spare : {F : Type 0} (device : Flash F) (old served : F) (tables : Tables) (writes : List LoadWrite) → served ≡ old → AreSpare device old tables
+    → AreFree tables writes → All (IsSpare device served) (numbers writes)
+free_spare device old served tables writes same spare are =
+    subst (λ flash. All (IsSpare device flash) (numbers writes)) (sym same)
+    (all_of_members (IsSpare device old) (numbers writes) (λ page there. spare page (All-contains (IsFree tables) (numbers writes) page are.free there)))
+
+-- a command that loads is refused by a rule of its own
+pub refusal_loaded : (admitted : Admitted) (page : ℕ → List ℕ) (tables : Tables) (live : Live) (loading : Option Kept) (body : List ℕ) (result : Result Status Rule) (found : Rule)
+    → IsErrAnd result (λ rule. rule ≡ found) → Judges admitted (Some found) → body ≡ [] → LoadsAs admitted page tables live loading body result
+refusal_loaded admitted page tables live loading body (Ok status) found given judges empty = absurd given
+refusal_loaded admitted page tables live loading body (Err rule) found given judges empty = (subst (λ (r : Rule). Judges admitted (Some r)) (sym given) judges, empty)

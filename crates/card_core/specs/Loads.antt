@@ -1,0 +1,80 @@
+-- What comes of a command that begins a load session, or goes on with one.
+use Rattle.std.specs.Prelude.{◌≡◌, ℕ, List, [], Option, Result, Ok, Err, None, Some}
+use Rattle.apdu_core.specs.declared.reply.Status.{Status}
+use Rattle.card_check.specs.IsCard.{HasPages}
+use Rattle.card_types.specs.declared.tables.Tables.{Tables}
+use Rattle.load_session.specs.declared.session.LoadSession.{LoadSession}
+use Rattle.policy_rules.specs.Admission.{Admitted}
+use Rattle.policy_rules.specs.Commands.{HasEffect, Judges}
+use Rattle.load_session.specs.declared.block.BlockStop.{BlockStop}
+use Rattle.load_session.specs.declared.block.BlockStop.TheVariants.{FirstBlock, NoRoom, Count, Hash}
+use Rattle.policy_rules.specs.FirstFailing.{IsFirst}
+use Rattle.policy_rules.specs.Load.{LoadFails, front_rules}
+use Rattle.policy_rules.specs.LoadBlocks.{Block}
+use Rattle.policy_rules.specs.LoadFound.{IsForLoad}
+use Rattle.policy_rules.specs.LoadRequests.{IsLoadOf}
+use Rattle.policy_rules.specs.Requests.{ActsIn, ForActingLive, RepresentsState}
+use Rattle.policy_rules.specs.declared.live.LoadName.{LoadName}
+use Rattle.policy_rules.specs.declared.load.LoadRequest.{LoadRequest}
+use Rattle.policy_rules.specs.declared.load.RuleLO.{RuleLO}
+use Rattle.policy_rules.specs.declared.load.RuleLO.TheVariants.{LO3, LO4, LO5, LO6}
+use Rattle.policy_rules.specs.Sound.{IsSound}
+use Rattle.policy_rules.specs.State.{Effect, State}
+use Rattle.policy_rules.specs.declared.live.Live.{Live}
+use Rattle.policy_rules.specs.declared.rule.Rule.{Rule}
+use Rattle.card_core.specs.Loading.{RepresentsLoading}
+
+-- no rule refused the command, it did what it does, and what is kept shows the state that it leaves
+pub record IsLoaded (admitted : Admitted) (page : ℕ → List ℕ) (tables : Tables) (live : Live) (loading : Option LoadSession) (body : List ℕ) (status : Status) : Type 0 where
+  pub judges : Judges admitted None
+  pub done : Effect
+  pub does : HasEffect admitted done
+  pub channels : done.state.volatile.channels ≡ admitted.at.volatile.channels
+  pub says : RepresentsState page tables live done.state
+  pub kept : RepresentsLoading page tables loading done.state.volatile.load
+  pub body_is : body ≡ done.body
+  pub status_is : status.0 ≡ done.status
+
+-- it was done, or a rule of its own refused it
+abbrev pub LoadsAs : Admitted → (ℕ → List ℕ) → Tables → Live → Option LoadSession → List ℕ → Result Status Rule → Type 0
+LoadsAs admitted page tables live loading body (Ok status) = IsLoaded admitted page tables live loading body status
+LoadsAs admitted page tables live loading body (Err rule) = Judges admitted (Some rule) × (body ≡ [])
+
+-- what is kept shows some state, as far as the rules and loading look
+pub record HoldsLoad (tables : Tables) (live : Live) (loading : Option LoadSession) : Type 0 where
+  pub page : ℕ → List ℕ
+  pub whole : HasPages page
+  pub state : State
+  pub sound : IsSound state
+  pub says : RepresentsState page tables live state
+  pub kept : RepresentsLoading page tables loading state.volatile.load
+
+-- so it is of each command that is judged by a sound state of which this is kept, and acts for the domain in a slot
+abbrev pub ForLoading : Tables → Live → Option LoadSession → ℕ → ((ℕ → List ℕ) → Admitted → Type 0) → Type 0
+ForLoading tables live loading domain So =
+    ForActingLive tables live domain (λ page admitted. HasPages page → IsSound admitted.at → RepresentsLoading page tables loading admitted.at.volatile.load → So page admitted)
+
+-- the rule by which a block is refused that is not taken
+abbrev pub block_rule : BlockStop → RuleLO
+block_rule FirstBlock = LO3
+block_rule NoRoom = LO4
+block_rule Count = LO5
+block_rule Hash = LO6
+
+-- the block that a request brings
+abbrev pub block_in : LoadRequest → Block
+block_in request = record { last = request.last; field = request.block.now }
+
+-- The command brings a block to the load session that is named so and of which this is kept, and its number is the next one.
+pub record IsForBlock (page : ℕ → List ℕ) (tables : Tables) (kept : LoadSession) (name : LoadName) (domain : ℕ) (request : LoadRequest) (admitted : Admitted) : Type 0 where
+  pub whole : HasPages page
+  pub acts : ActsIn page tables domain admitted
+  pub sound : IsSound admitted.at
+  pub is : IsLoadOf request admitted.command
+  pub load : IsForLoad tables (Some name) name.channel admitted
+  pub stands : RepresentsLoading page tables (Some kept) admitted.at.volatile.load
+  pub front : IsFirst (LoadFails admitted) front_rules None
+
+-- so it is of each such command
+abbrev pub ForBlock : Tables → LoadSession → LoadName → ℕ → LoadRequest → (Admitted → Type 0) → Type 0
+ForBlock tables kept name domain request So = (page : ℕ → List ℕ) (admitted : Admitted) → IsForBlock page tables kept name domain request admitted → So admitted

@@ -1,0 +1,49 @@
+//! INSTALL [for load]: a load session begins.
+
+ghost use Rattle.std.specs.Prelude.{◌≡◌, ◌≤◌, [], OnErr, length};
+ghost use Rattle.card_core.specs.Loads.{LoadsAs};
+ghost use Rattle.card_types.specs.InOrder.{IsInOrder};
+ghost use Rattle.policy_rules.specs.Requests.{ForActingLive, IsRequestOf, IsWellFormed};
+ghost use Rattle.policy_rules.specs.declared.request.Request.TheVariants.{BeginLoad};
+
+use crate::loading::Loading;
+use crate::reply::REPLY_LIMIT;
+use apdu_core::Status;
+use arrayvec::ArrayVec;
+use card_types::Tables;
+use load_session::LoadSession;
+use policy_rules::{Live, LoadInstallRequest, LoadName, Rule, judge_load_install};
+
+/// Begins the load session that a request asks for, for the domain in a slot, on the command's channel. Nothing is written yet.
+#[inline(never)]
+pub fn begin_load(
+    tables: &Tables,
+    live: &mut Live,
+    loading: &mut Loading,
+    channel: u8,
+    domain: u8,
+    request: &LoadInstallRequest<'_>,
+    reply: &mut ArrayVec<u8, REPLY_LIMIT>,
+) -> Result<Status, Rule>
+    requires in_order { IsInOrder tables.now }
+    requires formed { IsWellFormed (BeginLoad request.now) }
+    requires empty { reply.old.items ≡ [] }
+    ensures done { ForActingLive tables.now live.old domain (λ page admitted. channel ≡ admitted.channel → IsRequestOf (BeginLoad request.now) admitted.command
+        → LoadsAs admitted page tables.now live.new loading.new.session reply.new.items result) }
+    ensures writes { loading.new.writes ≡ loading.old.writes }
+    ensures refused { OnErr result ((live.new ≡ live.old) × (loading.new ≡ loading.old)) }
+    ensures room { length reply.new.items ≤ 239 }
+{
+    let into = judge_load_install(tables, live, domain, request)?;
+    let mut hash = ArrayVec::new();
+    hash.try_extend_from_slice(request.hash).unwrap();
+    live.begin_load(LoadName {
+        channel,
+        aid: request.file,
+        domain: into,
+        next: 0,
+    });
+    loading.session = Some(LoadSession::begin(request.file, into, hash));
+    reply.push(0x00);
+    Ok(Status(0x9000))
+}

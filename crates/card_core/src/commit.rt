@@ -1,0 +1,40 @@
+//! What a command changed is committed.
+
+ghost use Rattle.std.specs.Prelude.{◌≡◌, [], All, OnOk, true};
+ghost use Rattle.card_core.specs.Kept.{AreCards};
+ghost use Rattle.card_types.specs.Registry.{Registry};
+ghost use Rattle.card_types.specs.Represents.{Represents};
+ghost use Rattle.card_check.specs.IsCard.{IsLoadPage};
+ghost use Rattle.faults.specs.Faults.{HasCause};
+ghost use Rattle.load_session.specs.Loaded.{loaded, numbers};
+ghost use Rattle.page_journal.specs.Moments.{LeavesOnly};
+ghost use Rattle.rec_store.specs.Reopens.{AreSpare, IsSpare, Keeps, ReopensEither, load_page};
+
+use flash_core::{Flash, FlashFailed};
+use load_session::{LoadWrite, write_pages};
+use rec_store::Records;
+
+/// Writes the load pages that a command filled, and then commits what it changed. No Executable Load File that the device holds has such
+/// a page. With nothing written and nothing changed it makes no call on the device.
+pub fn commit<F: Flash>(records: &mut Records<F>, writes: &[LoadWrite]) -> Result<(), FlashFailed>
+    requires live { records.old.live ≡ true }
+    requires cards { AreCards records.old.tables }
+    requires range { All IsLoadPage (numbers writes.now) }
+    requires spare { F.tells → All (IsSpare F.Flash records.old.flash) (numbers writes.now) }
+    // Power lost at any moment leaves the registry from before, or the one that the tables say over the load pages with those written.
+    ensures moments { F.tells → (before after : Registry) → Keeps F.Flash records.old.flash before
+        → Represents (loaded (load_page (F.pages records.old.flash)) writes.now) records.old.tables after
+        → LeavesOnly F.Flash records.old.flash records.new.flash (ReopensEither before after) }
+    ensures keeps { F.tells → (before after : Registry) → Keeps F.Flash records.old.flash before
+        → Represents (loaded (load_page (F.pages records.old.flash)) writes.now) records.old.tables after
+        → OnOk result (Keeps F.Flash records.new.flash after) }
+    ensures load { F.tells → OnOk result (load_page (F.pages records.new.flash) ≡ loaded (load_page (F.pages records.old.flash)) writes.now) }
+    ensures spare { F.tells → OnOk result (AreSpare F.Flash records.new.flash records.new.tables) }
+    ensures tables { records.new.tables ≡ records.old.tables }
+    ensures idle { writes.now ≡ [] → records.old.staged ≡ [] → records.new ≡ records.old }
+    ensures ok { OnOk result ((records.new.staged ≡ []) × (records.new.live ≡ true)) }
+    ensures cause { HasCause (F.faults records.old.flash) (F.faults records.new.flash) result }
+{
+    write_pages(records, writes)?;
+    records.commit()
+}

@@ -1,0 +1,129 @@
+//! LOAD: a block of the Executable Load File that comes, and with the last one the file is there.
+
+ghost use Rattle.std.specs.Prelude.{◌≡◌, ◌≤◌, ℕ, List, [], IfOk, IfErr, IfSome, OnErr, OnOk, Some, None, length, true};
+ghost use Rattle.card_core.specs.Kept.{AreCards};
+ghost use Rattle.card_core.specs.Loading.{AreFree, with_due};
+ghost use Rattle.card_core.specs.Loads.{ForBlock, ForLoading, HoldsLoad, LoadsAs, block_in, block_rule};
+ghost use Rattle.card_types.specs.InOrder.{IsInOrder};
+ghost use Rattle.card_types.specs.Privileges.{delegated_management};
+ghost use Rattle.load_session.specs.Session.{IsBlockTaken};
+ghost use Rattle.policy_rules.specs.Admission.{Admitted};
+ghost use Rattle.policy_rules.specs.Delegation.{Holds};
+ghost use Rattle.policy_rules.specs.FirstFailing.{IsFirst};
+ghost use Rattle.policy_rules.specs.HoldersFound.{FindsConfirmer, MayReceipt};
+ghost use Rattle.policy_rules.specs.Load.{LoadFails, load_rules};
+ghost use Rattle.policy_rules.specs.Requests.{ActsIn, IsRequestOf, IsWellFormed};
+ghost use Rattle.policy_rules.specs.declared.request.Request.TheVariants.{Load};
+ghost use Rattle.rec_store.specs.StoredTables.{AreRoomy};
+
+use crate::loaded_file::add_loaded;
+use crate::loading::Loading;
+use crate::reply::REPLY_LIMIT;
+use apdu_core::Status;
+use arrayvec::ArrayVec;
+use card_types::Tables;
+use flash_core::Flash;
+use load_session::{BlockStop, LoadSession, Taken};
+use policy_rules::{Live, LoadName, LoadRequest, Rule, RuleLO, judge_load, judge_loaded_by};
+use rec_store::Records;
+
+/// What the judgement of a block found: what it brings, and with the last one the slot of the domain that confirms the command, or
+/// none where nobody does.
+#[derive(Clone, Copy)]
+struct Judged {
+    taken: Taken,
+    receipter: Option<u8>,
+}
+
+// The rule of a block that is not taken.
+fn rule_of(stop: BlockStop) -> RuleLO
+    ensures { result ≡ block_rule stop }
+{
+    match stop {
+        BlockStop::FirstBlock => RuleLO::LO3,
+        BlockStop::NoRoom => RuleLO::LO4,
+        BlockStop::Count => RuleLO::LO5,
+        BlockStop::Hash => RuleLO::LO6,
+    }
+}
+
+// Judges a block behind the rules on its number.
+fn judge_block(
+    tables: &Tables,
+    session: &LoadSession,
+    domain: u8,
+    name: &LoadName,
+    request: &LoadRequest<'_>,
+) -> Result<Judged, Rule>
+    requires in_order { IsInOrder tables.now }
+    requires roomy { AreRoomy tables.now }
+    ensures passed { ForBlock tables.now session.now name.now domain request.now (λ admitted. OnOk result (IsFirst (LoadFails admitted) load_rules None)) }
+    ensures refused { ForBlock tables.now session.now name.now domain request.now (λ admitted. IfErr result (λ rule. IsFirst (LoadFails admitted) load_rules (Some rule))) }
+    ensures taken { IfOk result (λ judged. IsBlockTaken tables.now session.now (block_in request.now) judged.taken) }
+    ensures receipter { (page : ℕ → List ℕ) (admitted : Admitted) → ActsIn page tables.now domain admitted → request.now.last ≡ true
+        → IfOk result (λ judged. FindsConfirmer (Holds admitted delegated_management) tables.now admitted judged.receipter) }
+    ensures able { IfOk result (λ judged. IfSome judged.receipter (MayReceipt tables.now)) }
+{
+    let taken = match session.judge_block(tables, request.last, request.block) {
+        Ok(taken) => taken,
+        Err(stop) => return Err(Rule::LO(rule_of(stop))),
+    };
+    if !request.last {
+        return Ok(Judged {
+            taken,
+            receipter: None,
+        });
+    }
+    let receipter = judge_loaded_by(tables, domain, name)?;
+    Ok(Judged { taken, receipter })
+}
+
+/// Takes the block of a request, for the domain in a slot, where no rule refuses it. It commits nothing and writes nothing: the load
+/// pages that are full then are those to be written.
+#[inline(never)]
+pub fn load<F: Flash>(
+    records: &mut Records<F>,
+    live: &mut Live,
+    loading: &mut Loading,
+    channel: u8,
+    domain: u8,
+    request: &LoadRequest<'_>,
+    reply: &mut ArrayVec<u8, REPLY_LIMIT>,
+) -> Result<Status, Rule>
+    requires up { records.old.live ≡ true }
+    requires clean { records.old.staged ≡ [] }
+    requires cards { AreCards records.old.tables }
+    requires formed { IsWellFormed (Load request.now) }
+    requires holds { HoldsLoad records.old.tables live.old loading.old.session }
+    requires unwritten { loading.old.writes.items ≡ [] }
+    requires empty { reply.old.items ≡ [] }
+    ensures done { ForLoading records.old.tables live.old loading.old.session domain (λ page admitted. channel ≡ admitted.channel
+        → IsRequestOf (Load request.now) admitted.command
+        → LoadsAs admitted (with_due page loading.new) records.new.tables live.new loading.new.session reply.new.items result) }
+    ensures writes { AreFree records.old.tables loading.new.writes.items }
+    ensures cards { AreCards records.new.tables }
+    ensures same { (records.new.flash ≡ records.old.flash) × (records.new.live ≡ true) }
+    ensures refused { OnErr result ((records.new ≡ records.old) × (live.new ≡ live.old) × (loading.new ≡ loading.old)) }
+    ensures room { length reply.new.items ≤ 239 }
+{
+    let name = judge_load(records.tables(), live, channel, domain, request)?;
+    let session = loading.session.as_ref().unwrap();
+    let judged = judge_block(records.tables(), session, domain, &name, request)?;
+    let session = loading.session.as_mut().unwrap();
+    session.take_block(
+        records.tables(),
+        request.last,
+        request.block,
+        judged.taken,
+        &mut loading.writes,
+    );
+    if !request.last {
+        live.count_block();
+        reply.push(0x00);
+        return Ok(Status(0x9000));
+    }
+    let session = loading.session.take().unwrap();
+    add_loaded(records, session.finish(), judged.receipter, reply);
+    live.end_load(channel);
+    Ok(Status(0x9000))
+}

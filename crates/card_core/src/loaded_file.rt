@@ -1,0 +1,53 @@
+//! An Executable Load File that has come is added.
+
+ghost use Rattle.std.specs.Prelude.{◌≡◌, ◌+◌, ◌≤◌, ℕ, List, [], ◌∷◌, IfSome, length, true};
+ghost use Rattle.card_check.specs.IsCard.{IsInLoadPages, pages_named};
+ghost use Rattle.card_core.specs.Domains.{is_domain_in};
+ghost use Rattle.card_core.specs.Kept.{AreCards};
+ghost use Rattle.card_core.specs.LoadedFile.{AddsLoaded};
+ghost use Rattle.card_core.specs.Manages.{KeepsAids};
+ghost use Rattle.card_types.specs.First.{NoneFree};
+ghost use Rattle.card_types.specs.Well.{pages_of};
+ghost use Rattle.card_types.specs.declared.limits.TheConstants.{LOAD_PAGES};
+ghost use Rattle.load_session.specs.Pages.{AreOwn, pages_in};
+ghost use Rattle.policy_rules.specs.HoldersFound.{MayReceipt};
+ghost use Rattle.registry.specs.Adding.{NoneHas};
+
+use crate::confirm::confirm;
+use crate::reply::REPLY_LIMIT;
+use arrayvec::ArrayVec;
+use card_types::{LoadFile, in_slot};
+use flash_core::Flash;
+use rec_store::Records;
+use registry::place_file;
+
+/// Adds an Executable Load File, whose bytes load pages of its own are to hold, and answers about it and its security domain: by a
+/// receipt of the domain in the slot `receipter`, or by 00 where nobody confirms. It commits nothing.
+pub fn add_loaded<F: Flash>(
+    records: &mut Records<F>,
+    file: LoadFile,
+    receipter: Option<u8>,
+    reply: &mut ArrayVec<u8, REPLY_LIMIT>,
+)
+    requires up { records.old.live ≡ true }
+    requires clean { records.old.staged ≡ [] }
+    requires cards { AreCards records.old.tables }
+    requires domain { is_domain_in records.old.tables.entries.items file.domain ≡ true }
+    requires pages { IsInLoadPages file }
+    requires own { AreOwn records.old.tables (pages_named file) }
+    requires some { 1 ≤ file.len }
+    requires few { pages_in records.old.tables + pages_of file.len ≤ LOAD_PAGES }
+    requires fresh { NoneHas records.old.tables file.aid }
+    requires free { NoneFree records.old.tables.files.items → ⊥ }
+    requires able { IfSome receipter (MayReceipt records.old.tables) }
+    requires empty { reply.old.items ≡ [] }
+    ensures added { AddsLoaded records.old.tables records.new.tables file receipter reply.new.items }
+    ensures aids { KeepsAids records.old.tables.entries.items records.new.tables.entries.items }
+    ensures cards { AreCards records.new.tables }
+    ensures same { (records.new.flash ≡ records.old.flash) × (records.new.live ≡ true) }
+    ensures room { length reply.new.items ≤ 239 }
+{
+    let into = in_slot(&records.tables().entries, file.domain).unwrap().aid;
+    place_file(records, file);
+    confirm(records, receipter, &file.aid, Some(&into), None, reply);
+}
