@@ -86,6 +86,11 @@ EndsWith reads writes Same Before After Leaving count count' old before now Writ
     × (reads → TakesNoMore (total old before) after now.source.left))
     ⊎ RefusesNext reads writes Same old before now WriteFault
 
+-- it goes on so for a card on a device
+abbrev pub TurnGoesOn : {F : Type 0} → Flash F → Type 0 → Type 0 → CardOver F → CardOver F → ℕ → ℕ → Reading → Reading → Outside → Outside → Type 0
+TurnGoesOn device reads writes card card' count count' old new before now =
+    GoesOn reads writes (CardRepresents device card) (CardRepresents device card') (LeavesOneOf device card.flash card'.flash) count count' old new before now
+
 -- it ends so for a card on a device; nothing was done where the card and the count are as they were
 abbrev pub TurnEnds : {F : Type 0} → Flash F → Type 0 → Type 0 → CardOver F → CardOver F → ℕ → ℕ → Reading → Outside → Outside → Ending → Type 0
 TurnEnds device reads writes card card' count count' old before now ending =

@@ -3,10 +3,9 @@
 ghost use Rattle.std.specs.Prelude.{◌≡◌, ◌≤◌, ◌+◌, ℕ, None, true, IfNone, IfSome};
 ghost use Rattle.card_core.specs.Card.{CardRepresents};
 ghost use Rattle.policy_rules.specs.State.{State};
-ghost use Rattle.gp_tool.specs.Device.{LeavesOneOf};
 ghost use Rattle.gp_tool.specs.Ends.{EndCause, Faults, Flushes, faults_of, outside};
 ghost use Rattle.gp_tool.specs.Flush.{AfterFlush};
-ghost use Rattle.gp_tool.specs.Turn.{GoesOn, Refuses, TurnEnds};
+ghost use Rattle.gp_tool.specs.Turn.{Refuses, TurnEnds, TurnGoesOn};
 ghost use Rattle.gp_tool.specs.Verbs.{RunCause, RunEnds, around};
 
 use crate::ending::Ending;
@@ -51,10 +50,7 @@ fn take_turn<S: Source, K: Sink, F: Flash>(
     requires stop { lines.old.stop ≡ None }
     requires up { card.old.up ≡ true }
     requires few { done.old ≤ lines.old.passed }
-    ensures goes_on { IfNone result (GoesOn S.tells K.tells
-        (CardRepresents F.Flash card.old) (CardRepresents F.Flash card.new)
-        (LeavesOneOf F.Flash card.old.flash card.new.flash)
-        done.old done.new lines.old lines.new
+    ensures goes_on { IfNone result (TurnGoesOn F.Flash S.tells K.tells card.old card.new done.old done.new lines.old lines.new
         (outside (S.state source.old) (K.state sink.old)) (outside (S.state source.new) (K.state sink.new))) }
     ensures ends { IfSome result (TurnEnds F.Flash S.tells K.tells card.old card.new done.old done.new lines.old
         (outside (S.state source.old) (K.state sink.old)) (outside (S.state source.new) (K.state sink.new))) }
