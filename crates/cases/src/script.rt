@@ -9,6 +9,7 @@ mod host;
 mod install;
 mod key_fields;
 mod keys;
+mod load_file;
 mod outcome;
 mod player;
 mod token_key;

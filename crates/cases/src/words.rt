@@ -45,7 +45,7 @@ pub fn long_number(word: &[u8]) -> Option<u64> {
 }
 
 /// The words that are left of a line.
-#[derive(Drop)]
+#[derive(Clone, Copy)]
 pub struct Words<'a> {
     rest: Option<&'a [u8]>,
 }

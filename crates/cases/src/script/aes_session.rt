@@ -10,6 +10,7 @@ use crate::script::keys::{Keys, Trio};
 use aes_block::{Aes128, Aes192, Aes256, BlockKey};
 use apdu_core::{Command, Status};
 use arrayvec::ArrayVec;
+use card_types::Level;
 use scp03_card::StaticKeys;
 use scp03_host::{BeginRefusal, HostSession, ReplyRefusal, TooLong, begin};
 
@@ -34,6 +35,15 @@ impl AesSession {
             AesKind::Aes256(keys) => AesKind::Aes256(begun(keys, opening, reply, channel, out)?),
         };
         Ok(AesSession { kind })
+    }
+
+    /// Its security level.
+    pub fn level(&self) -> Level {
+        match &self.kind {
+            AesKind::Aes128(session) => session.level(),
+            AesKind::Aes192(session) => session.level(),
+            AesKind::Aes256(session) => session.level(),
+        }
     }
 
     /// Protects a command, as `HostSession::wrap` does.

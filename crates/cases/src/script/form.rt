@@ -5,6 +5,7 @@ use crate::script::install::{
     Body, push_field, push_token_element, read_extradite, read_install, read_selectable,
 };
 use crate::script::keys::{Keys, NewKeys, are_three, read_keys, read_new_keys};
+use crate::script::load_file::{Block, LoadFile, read_load};
 use crate::script::token_key::TokenKey;
 use crate::words::{Words, array, byte, bytes, cut};
 use apdu_core::{Command, Status};
@@ -38,6 +39,9 @@ pub enum Form {
 
     /// A command that a token may approve, without the token.
     Approved(Plain),
+
+    /// An INSTALL for load, so, and the file that is loaded.
+    Load(Plain, LoadFile),
     Want(Status),
 }
 
@@ -67,6 +71,18 @@ impl Plain {
             p1: putting.replaced,
             p2,
             body: fields,
+        }
+    }
+
+    /// A LOAD of this block.
+    pub fn load(number: u8, is_last: bool, block: &Block) -> Plain {
+        let mut body = ArrayVec::new();
+        let _fits = body.try_extend_from_slice(block);
+        Plain {
+            ins: 0xe8,
+            p1: if is_last { 0x80 } else { 0x00 },
+            p2: number,
+            body,
         }
     }
 
@@ -178,6 +194,7 @@ fn sending(line: &[u8]) -> Option<Form> {
         b"more" => Some(Form::Send(read_listing(rest, 0x03)?)),
         b"putkey" => Some(Form::PutKey(read_putting(rest)?)),
         b"install" | b"selectable" | b"extradite" => Some(Form::Approved(read_installing(line)?)),
+        b"load" => read_loading(rest),
         b"delete" => Some(Form::Approved(read_deletion(rest)?)),
         b"life" => Some(Form::Send(read_life(rest)?)),
         _ => None,
@@ -312,4 +329,16 @@ fn read_installing(line: &[u8]) -> Option<Plain> {
         p2: 0x00,
         body,
     })
+}
+
+// An INSTALL for load without its token, and the file.
+fn read_loading(words: &[u8]) -> Option<Form> {
+    let (body, file) = read_load(&mut Words::new(words))?;
+    let install = Plain {
+        ins: 0xe6,
+        p1: 0x02,
+        p2: 0x00,
+        body,
+    };
+    Some(Form::Load(install, file))
 }

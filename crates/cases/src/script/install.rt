@@ -67,8 +67,8 @@ pub fn push_token_element(token: &[u8; 16], body: &mut Body) -> Option<()> {
     push_field(token, body)
 }
 
-// Adds the AID that the next word writes.
-fn push_aid(words: &mut Words<'_>, body: &mut Body) -> Option<()> {
+/// Adds the AID that the next word writes.
+pub fn push_aid(words: &mut Words<'_>, body: &mut Body) -> Option<()> {
     let aid: ArrayVec<u8, 16> = words.bytes()?;
     push_field(Aid::new(&aid)?.as_bytes(), body)
 }

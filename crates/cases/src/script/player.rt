@@ -5,11 +5,12 @@ use crate::script::card::CardEnd;
 use crate::script::channel::Channel;
 use crate::script::form::{Form, Line, Opening, Plain, Putting};
 use crate::script::host::Host;
+use crate::script::load_file::LoadFile;
 use crate::script::outcome::{Outcome, Text};
 use apdu_core::{Command, Reply, Status};
 use arrayvec::ArrayVec;
 use card_core::REPLY_LIMIT;
-use card_types::Aid;
+use card_types::{Aid, Level};
 use flash_core::Flash;
 use policy_rules::Rule;
 use scp03_host::BeginRefusal;
@@ -99,6 +100,7 @@ impl<F: Flash> Player<F> {
             Form::Bad(plain) => self.send(plain, true),
             Form::PutKey(putting) => self.put_key(putting),
             Form::Approved(plain) => self.approve(plain),
+            Form::Load(install, file) => self.load(install, file),
             Form::Want(status) => self.want(*status),
         }
     }
@@ -243,6 +245,30 @@ impl<F: Flash> Player<F> {
     fn approve(&mut self, plain: &Plain) -> Outcome {
         let command = plain.with_token(self.host.token_key());
         self.send(&command, false)
+    }
+
+    /// Sends an INSTALL for load and then all blocks, up to the first command that is refused.
+    fn load(&mut self, install: &Plain, file: &LoadFile) -> Outcome {
+        let mut outcome = self.approve(install);
+        let limit = self.block_limit();
+        let mut sent = 0;
+        for number in 0..=u8::MAX {
+            if outcome.status() != Some(DONE) || sent >= file.len() {
+                break;
+            }
+            let block = file.block(sent, limit);
+            sent = sent.saturating_add(block.len());
+            outcome = self.send(&Plain::load(number, sent >= file.len(), &block), false);
+        }
+        outcome
+    }
+
+    /// How many bytes a LOAD may carry, so that the data field is not too long once it is protected.
+    fn block_limit(&mut self) -> usize {
+        match self.host.session(self.channel) {
+            Some(session) if matches!(session.level(), Level::Mac | Level::MacR) => 247,
+            _ => 239,
+        }
     }
 
     fn want(&self, want: Status) -> Outcome {
