@@ -1,5 +1,5 @@
-/* The yardstick of session.sh and install.sh, and the host of list.sh: the card side of SCP03 sessions at level 33 over the AES
-   of OpenSSL, and the lines of their host.
+/* The yardstick of session.sh, install.sh and load.sh, and the host of list.sh: the card side of SCP03 sessions at level 33 over
+   the AES of OpenSSL, and the lines of their host.
 
      session keys SIZE                writes the lines of a session with the factory card that puts
                                       a key set of keys of SIZE bytes, 24 or 32, in the place of its
@@ -13,18 +13,23 @@
      session lists SIZE WHAT COUNT    writes the lines of a session that installs 31 security domains, puts
                                       two data objects, and sends COUNT times GET STATUS (`parts`), GET
                                       DATA of 12 bytes (`short`) or GET DATA of 121 bytes (`long`)
-     session answers SIZE             reads the lines of sessions and installs and answers each by one call of write; at
-                                      INITIALIZE UPDATE and at INSTALL it commits a page to the file
-                                      c.img first, as gp does
+     session loads SIZE BYTES COUNT   writes the lines of a session that loads COUNT files, 4 at most, of BYTES bytes
+                                      each, 256 to 32,768, in blocks of 239, by INSTALL with their SHA-256; where
+                                      COUNT is 0 it only begins
+     session answers SIZE             reads the lines of sessions, installs and loads and answers each by one call of
+                                      write; at INITIALIZE UPDATE, at INSTALL of a security domain and at the last
+                                      LOAD it commits a page to the file c.img first, and at LOAD it writes each
+                                      load page there that is full, as gp does
 
    Its card is the factory card, but for the length of its keys. Each session makes the key schedules and
    the CMAC subkeys of its static keys and of its session keys once, as gp does, but no schedules
-   for deciphering, but for the one of S-ENC at the first INSTALL of a session, and none of Key-DEK:
+   for deciphering, but for the one of S-ENC at the first INSTALL or LOAD of a session, and none of Key-DEK:
    these commands need neither. CMAC is written out over
    AES_encrypt. This and AES_cbc_encrypt of a few blocks work by a table of 256 bytes in OpenSSL
    3.0 for x86-64, and use no AES instructions whatever the processor has. */
 #define OPENSSL_SUPPRESS_DEPRECATED
 #include <openssl/aes.h>
+#include <openssl/sha.h>
 #include <stdint.h>
 #include "journal.h"
 
@@ -328,17 +333,126 @@ static void commit_entry(const uint8_t *file)
     slot++;
 }
 
-static size_t install(uint8_t *command, size_t size, uint8_t *reply)
+/* The file that comes: its AID behind its length, the hash that was given, and what has come. */
+static struct {
+    uint8_t name[17], hash[32];
+    size_t size, came;
+    unsigned char page[SIZE];
+    SHA256_CTX sum;
+} coming;
+
+enum { DIRECTORY = 10, LOAD = 96, LOAD_PAGES = 512, LAST = 0x80 };
+
+/* The first load page of the next file. The others are behind it. */
+static int free_page = LOAD;
+
+static void begin_load(const uint8_t *file)
+{
+    const uint8_t *domain = file + 1 + file[0], *hash = domain + 1 + domain[0];
+
+    memset(&coming, 0, sizeof coming);
+    memcpy(coming.name, file, 1 + file[0]);
+    memcpy(coming.hash, hash + 1, sizeof coming.hash);
+    SHA256_Init(&coming.sum);
+}
+
+/* Takes bytes of the file, and writes each load page that is full. */
+static void take_bytes(const uint8_t *bytes, size_t size)
+{
+    SHA256_Update(&coming.sum, bytes, size);
+    while (size > 0) {
+        size_t at = coming.came % SIZE, some = SIZE - at < size ? SIZE - at : size;
+
+        memcpy(coming.page + at, bytes, some);
+        coming.came += some;
+        bytes += some;
+        size -= some;
+        if (coming.came % SIZE == 0)
+            put(free_page + (int)(coming.came / SIZE) - 1, coming.page);
+    }
+}
+
+/* Commits the directory of the file: its AID, its size, and the numbers of its load pages. */
+static void commit_file(void)
+{
+    static int slot;
+    unsigned char page[SIZE] = { 1 };
+    int pages = (int)((coming.came + SIZE - 1) / SIZE);
+
+    memcpy(page + 1, coming.name, 1 + coming.name[0]);
+    page[19] = (unsigned char)(coming.came >> 8);
+    page[20] = (unsigned char)coming.came;
+    for (int i = 0; i < pages; i++) {
+        int number = free_page - LOAD + i;
+
+        page[64 + i] = (unsigned char)number;
+        page[192 + i / 8] |= (unsigned char)(number >> 8 << (7 - i % 8));
+    }
+    commit(DIRECTORY + slot, 1, page);
+    slot++;
+    free_page += pages;
+}
+
+/* Whether all bytes have come that were announced, and have the hash that was given. */
+static int is_whole(void)
+{
+    uint8_t sum[32];
+
+    SHA256_Final(sum, &coming.sum);
+    return coming.came == coming.size && memcmp(sum, coming.hash, sizeof sum) == 0;
+}
+
+/* The first block has the tag C4 and the length in two bytes before its bytes. */
+static int take_block(int is_last, const uint8_t *block, size_t size)
+{
+    if (coming.size == 0) {
+        if (size < 4 || block[0] != 0xc4 || block[1] != 0x82)
+            return 0;
+        coming.size = (size_t)block[2] << 8 | block[3];
+        block += 4;
+        size -= 4;
+    }
+    if (coming.came + size > coming.size || coming.size > SIZE * (size_t)(LOAD + LOAD_PAGES - free_page))
+        return 0;
+    take_bytes(block, size);
+    if (!is_last)
+        return 1;
+    if (!is_whole())
+        return 0;
+    if (coming.came % SIZE != 0)
+        put(free_page + (int)(coming.came / SIZE), coming.page);
+    commit_file();
+    return 1;
+}
+
+/* Opens the data field of a command, where its C-MAC is right. */
+static int open_field(uint8_t *command, size_t size, size_t *plain)
 {
     uint8_t *field = command + 5;
     size_t sealed = size - 13;
 
     chain_on(command, field, sealed);
     if (memcmp(field + sealed, chain, 8) != 0)
-        return put_status(reply, 0, REFUSED);
+        return 0;
     number++;
-    unseal(field, sealed);
-    commit_entry(field);
+    *plain = unseal(field, sealed);
+    return 1;
+}
+
+static size_t manage(uint8_t *command, size_t size, uint8_t *reply)
+{
+    size_t plain;
+
+    if (!open_field(command, size, &plain))
+        return put_status(reply, 0, REFUSED);
+    if (command[1] == 0xe8) {
+        if (!take_block(command[2] == LAST, command + 5, plain))
+            return put_status(reply, 0, REFUSED);
+    } else if (command[2] == 2) {
+        begin_load(command + 5);
+    } else {
+        commit_entry(command + 5);
+    }
     reply[0] = 0;
     return protect(reply, 1);
 }
@@ -351,8 +465,8 @@ static size_t answer(uint8_t *command, size_t size, uint8_t *reply)
         return external_authenticate(command, reply);
     if (size == 13 && command[0] == 0x84 && command[1] == 0xca)
         return get_data(command, reply);
-    if (size > 29 && command[0] == 0x84 && command[1] == 0xe6)
-        return install(command, size, reply);
+    if (size >= 29 && command[0] == 0x84 && (command[1] == 0xe6 || command[1] == 0xe8))
+        return manage(command, size, reply);
     return put_status(reply, 0, REFUSED);
 }
 
@@ -525,6 +639,46 @@ static void put_install(uint8_t last)
     put_sealed(line, sizeof fields);
 }
 
+/* The bytes of each file, and how many a block has: behind C4 and the length, which the first one has. */
+static uint8_t load_file[4 + 32768] = { 0xc4, 0x82 };
+
+enum { BLOCK = 239 };
+
+static void make_file(size_t size)
+{
+    uint32_t state = 1;
+
+    load_file[2] = (uint8_t)(size >> 8);
+    load_file[3] = (uint8_t)size;
+    for (size_t i = 0; i < size; i++) {
+        state = state * 1664525 + 1013904223;
+        load_file[4 + i] = (uint8_t)(state >> 24);
+    }
+}
+
+/* INSTALL [for load] of a file whose AID ends with this byte, into the Issuer Security Domain, with the SHA-256 of its bytes. */
+static void put_install_load(uint8_t last, size_t size)
+{
+    uint8_t line[MOST] = { 0x84, 0xe6, 2, 0, 0, 5, 0xd3, 0, 0, 0, last, 0, 32 };
+
+    SHA256(load_file + 4, size, line + 13);
+    put_sealed(line, 8 + 32 + 2);
+}
+
+static void put_file(uint8_t last, size_t size)
+{
+    uint8_t number = 0;
+
+    put_install_load(last, size);
+    for (size_t sent = 0; sent < 4 + size; sent += BLOCK, number++) {
+        size_t some = 4 + size - sent < BLOCK ? 4 + size - sent : BLOCK;
+        uint8_t line[MOST] = { 0x84, 0xe8, sent + some == 4 + size ? LAST : 0, number };
+
+        memcpy(line + 5, load_file + sent, some);
+        put_sealed(line, some);
+    }
+}
+
 /* STORE DATA of a data object with this tag, whose value has so many bytes. */
 static void put_store_data(uint8_t tag, uint8_t size)
 {
@@ -548,6 +702,16 @@ static int installs(unsigned long count)
     put_external_authenticate();
     for (unsigned long i = 1; i <= count; i++)
         put_install((uint8_t)i);
+    return fflush(stdout) == 0 ? 0 : 6;
+}
+
+static int loads(size_t size, unsigned long count)
+{
+    make_file(size);
+    put_initialize_update();
+    put_external_authenticate();
+    for (unsigned long i = 1; i <= count; i++)
+        put_file((uint8_t)i, size);
     return fflush(stdout) == 0 ? 0 : 6;
 }
 
@@ -590,6 +754,11 @@ int main(int argc, char **argv)
         return installs(strtoul(argv[3], NULL, 10));
     if (argc == 5 && strcmp(argv[1], "lists") == 0)
         return lists(argv[3], strtoul(argv[4], NULL, 10));
+    if (argc == 5 && strcmp(argv[1], "loads") == 0) {
+        size_t bytes = strtoul(argv[3], NULL, 10);
+
+        return bytes < 256 || bytes > 32768 ? 2 : loads(bytes, strtoul(argv[4], NULL, 10));
+    }
     if (argc == 3 && strcmp(argv[1], "answers") == 0) {
         open_device("c.img");
         return answers();
