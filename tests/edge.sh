@@ -43,7 +43,7 @@ put() { printf '%b' "$(sed 's/../\\x&/g' <<<"$2")" | dd of=card.img bs=1 seek=$(
 # The factory card with one Executable Load File more, in the first 128 load pages.
 make_card() {
     truncate -s 155648 card.img
-    put 0000 475043440201
+    put 0000 475043440301
     put 0100 0108a000000151
     put 0114 08a000000151535041
     put 0125 0f9efe80
