@@ -1,0 +1,269 @@
+#!/usr/bin/env bash
+# Checks that docs/STATUS.md says what the code says: each rule with its status word and its place in the order, each status
+# word, life cycle state, privilege, security level, key and exit status. It reads them from the code and from the definitions
+# (crates/*/src and crates/*/specs), which have to agree too, and looks in docs/POLICY.md and README.md for the same.
+#
+# What is to be found is a row of a table. That the sentence in it is right is for the reader.
+#
+# It prints what stands in one and not in the other, and then 'N passed, M failed', and ends with 1 where something differs.
+set -euo pipefail
+
+cd "$(dirname "$(dirname "$(readlink -f "${BASH_SOURCE[0]}")")")"
+exec python3 - <<'END'
+import re
+import sys
+from pathlib import Path
+
+STATUS = "docs/STATUS.md"
+RULES = Path("crates/policy_rules")
+TYPES = Path("crates/card_types")
+passed = failed = 0
+
+
+def judge(good, text):
+    global passed, failed
+    passed += good
+    failed += not good
+    if not good:
+        print(f"status: {text}")
+
+
+def compare(what, one, ones, other, others):
+    """Two dicts: each key has to stand in both, with the same value."""
+    judge(bool(others), f"{what}: {other} has none")
+    for key in list(dict.fromkeys([*ones, *others])):
+        if key not in ones:
+            judge(False, f"{what} {key}: stands in {other}, and not in {one}")
+        elif key not in others:
+            judge(False, f"{what} {key}: stands in {one}, and not in {other}")
+        else:
+            judge(ones[key] == others[key], f"{what} {key}: in {one} {ones[key]!r}, in {other} {others[key]!r}")
+
+
+def tables(path, *head):
+    """The rows of the tables of a page whose head begins so, each as the list of its cells."""
+    rows = []
+    inside = False
+    for line in Path(path).read_text().splitlines():
+        cells = [cell.strip() for cell in line.split("|")[1:-1]]
+        if not line.startswith("|"):
+            inside = False
+        elif inside:
+            rows.append(cells)
+        else:
+            inside = cells[: len(head)] == list(head)
+    return [row for row in rows if not re.fullmatch("-+", row[0])]
+
+
+def rows_by(path, key, value, *head):
+    """The same by the cell in one place, which no two rows have, each with what is taken of its cells."""
+    found = {}
+    for row in tables(path, *head):
+        judge(row[key] not in found, f"{path}: {row[key]} stands twice")
+        found[row[key]] = value(row)
+    return found
+
+
+def text_of(folder, pattern):
+    return "\n".join(path.read_text() for path in sorted(Path(folder).glob(pattern)))
+
+
+def pairs(pattern, text):
+    return dict(re.findall(pattern, text, re.M))
+
+
+def coded(pattern, text):
+    """Names with a number each, by what the number is in two digits."""
+    return {f"{int(number, 16):02X}": name for name, number in re.findall(pattern, text, re.M)}
+
+
+def listed(cell):
+    return [word.strip() for word in cell.split(",") if word.strip()]
+
+
+# The rules: what the code calls them and answers, and what the definitions say.
+code = text_of(RULES / "src", "*.rt")
+specs = text_of(RULES / "specs", "*.antt")
+enums = "".join(re.findall(r"^pub enum Rule[A-Z]+ \{(.*?)^\}", code, re.M | re.S))
+variants = re.findall(r"^    (\w+),$", enums, re.M)
+names = pairs(r'::(\w+)\)? => "(\w+)",$', code)
+statuses = pairs(r"::(\w+)\)? => Status\(0x(\w{4})\),$", code)
+refusals = pairs(r'refusal \(codes "(\w+)"\) 0x(\w{4})$', specs)
+compare("the name of rule", "the code", {name: name for name in variants}, "fn name", names)
+compare("rule", "fn status", statuses, "the definitions", refusals)
+
+RULE_HEAD = ("rule", "status word", "what it means", "section")
+compare("rule", STATUS, rows_by(STATUS, 0, lambda row: row[1], *RULE_HEAD), "the code", statuses)
+for row in tables(STATUS, *RULE_HEAD):
+    judge(row[2].endswith(".") and bool(row[3]), f"{STATUS}: {row[0]} has no sentence or no section")
+general = rows_by("docs/POLICY.md", 1, lambda row: row[3], "stage", "rule", "fails where")
+own = rows_by("docs/POLICY.md", 0, lambda row: row[2], "rule", "fails where", "reply")
+both = {rule: status for rule, status in (general | own).items() if rule in statuses or status.strip()}
+compare("rule", "docs/POLICY.md", both, "the code", statuses)
+
+# How many there are, in words.
+units = "one two three four five six seven eight nine".split()
+tens = "twenty thirty forty fifty sixty seventy eighty ninety".split()
+number = tens[len(statuses) // 10 - 2] + ("-" + units[len(statuses) % 10 - 1] if len(statuses) % 10 else "")
+judge(f"{number} rules" in Path("README.md").read_text(), f"README.md: there are {number} rules")
+
+# The order of the rules of each command.
+lists = {}
+for name, body in re.findall(r"^abbrev pub (\w+) : (?:ℕ → )?List Rule[A-Z]*\n((?:.+\n)+)", specs, re.M):
+    lists[name] = body.split("=", 1)[1] if "if " not in body else re.search(r"then (.*) else", body).group(1)
+
+
+def expand(body):
+    rules = []
+    for word in re.findall(r"\w+", body):
+        if word in lists:
+            rules += expand(lists[word])
+        elif word in statuses:
+            rules.append(word)
+    return rules
+
+
+first = re.search(r"^rules_before_form ins = if ins == 0x(\w\w)", specs, re.M).group(1)
+orders = {}
+form = r"^-- (.*)\nabbrev pub \w+ : CommandForm\n\w+ = record \{\n  instruction = 0x(\w\w);\n(?:.*\n)*?  rules = (\w+);"
+for title, ins, rules in re.findall(form, specs, re.M):
+    before = expand(lists["rules_before_form"]) if ins == first else []
+    orders[title.split(",")[0]] = [ins, before + expand(lists["form_rules"].split("++")[1]) + expand(lists[rules])]
+compare("the order of", STATUS, rows_by(STATUS, 0, lambda row: [row[1], listed(row[2])], "command", "INS"), "the definitions", orders)
+judge(expand(lists["general_rules"]) == [f"G{n}" for n in range(1, 9)], "the definitions: G1 to G8 are not in order")
+
+# The status words, those of accepted commands and of a failed device among them.
+words = {status: [] for status in re.findall(r"\bStatus\(0x(\w{4})\)", text_of("crates/card_core/src", "*.rt"))}
+for rule, status in statuses.items():
+    words.setdefault(status, []).append(rule)
+compare(
+    "status word",
+    STATUS,
+    rows_by(STATUS, 0, lambda row: (sorted(listed(row[3])), row[2] == "refused"), "status word", "in words"),
+    "the code",
+    {status: (sorted(rules), bool(rules)) for status, rules in words.items()},
+)
+
+
+# Life cycle states and security levels: OpReady stands as OP_READY, and Locked of the card as CARD_LOCKED.
+def snake(name):
+    return re.sub(r"(?<=[a-z])(?=[A-Z])", "_", name).upper()
+
+
+def variants_of(file, enum):
+    body = re.search(rf"^pub enum {enum} \{{(.*?)^\}}", (TYPES / "src" / file).read_text(), re.M | re.S).group(1)
+    return coded(r"^    (\w+) = 0x(\w+),$", body)
+
+
+def defined(file, function):
+    return coded(rf"^{function} (\w+) = 0x(\w+)$", (TYPES / "specs" / file).read_text())
+
+
+def constant(path, name):
+    found = re.search(rf"^(?:pub(?:\(crate\))? )?const {name}: \w+ = 0x(\w+);", Path(path).read_text(), re.M)
+    return int(found.group(1), 16)
+
+
+card = variants_of("card_life.rt", "CardLife")
+compare("state of the card", "the code", card, "the definitions", defined("CardLife.antt", "card_life_code"))
+compare(
+    "state of the card",
+    STATUS,
+    rows_by(STATUS, 0, lambda row: row[1].removeprefix("CARD_"), "code", "state of the card"),
+    "the code",
+    {code: snake(name) for code, name in card.items()},
+)
+life = variants_of("life.rt", "Life")
+compare("state of an entry", "the code", life, "the definitions", defined("LifeMark.antt", "life_code"))
+lock = constant(TYPES / "src" / "life.rt", "LOCK")
+compare(
+    "state of an entry",
+    STATUS,
+    rows_by(STATUS, 0, lambda row: row[1:3], "code", "locked", "state of an entry"),
+    "the code",
+    {code: [f"{int(code, 16) + lock:02X}", snake(name)] for code, name in life.items()},
+)
+loaded = constant("crates/card_core/src/status_template.rt", "LOADED")
+compare(
+    "state of an Executable Load File",
+    STATUS,
+    rows_by(STATUS, 0, lambda row: row[1], "code", "state of an Executable Load File"),
+    "the code",
+    {f"{loaded:02X}": "LOADED"},
+)
+levels = variants_of("level.rt", "Level")
+compare("security level", "the code", levels, "the definitions", defined("Level.antt", "code_of"))
+parts = [(0x01, "C-MAC"), (0x02, "C-DECRYPTION"), (0x10, "R-MAC"), (0x20, "R-ENCRYPTION")]
+compare(
+    "security level",
+    STATUS,
+    rows_by(STATUS, 0, lambda row: [listed(row[1]), listed(row[2])], "level", "commands have"),
+    "the code",
+    {code: [[name for bit, name in parts[at : at + 2] if int(code, 16) & bit] for at in (0, 2)] for code in levels},
+)
+
+# The privileges: their bits, and who grants them.
+source = (TYPES / "src" / "privileges.rt").read_text()
+bits = {name: int(number, 16) for name, number in re.findall(r"^        const (\w+) = 0x(\w+);$", source, re.M)}
+table = (TYPES / "specs" / "Privileges.antt").read_text()
+table = {name: int(number, 16) for name, number in re.findall(r'\(codes "(\w+)", 0x(\w+)\)', table)}
+compare("privilege", "the code", bits, "the definitions", table)
+install = RULES / "src" / "install_application.rt"
+refused = constant(install, "REFUSED")
+guarded = re.search(r"^const GUARDED: .*?\];$", install.read_text(), re.M | re.S).group(0)
+
+
+def place_of(number):
+    """The byte, the bit in it, and the three bytes in digits."""
+    at = 23 - number.bit_length() + 1
+    return [str(at // 8 + 1), f"b{8 - at % 8}", f"{number:06X}"]
+
+
+def granted_by(name, number):
+    if number & refused:
+        return "nobody"
+    return "who holds it" if re.search(rf"\bPrivileges::{name}\b", guarded) else "any domain that manages"
+
+
+def spelled(name):
+    return name.replace("_", " ").title().replace("Dap", "DAP").replace("Cvm", "CVM")
+
+
+compare(
+    "privilege",
+    STATUS,
+    rows_by(STATUS, 0, lambda row: row[1:5], "privilege", "byte", "bit"),
+    "the code",
+    {spelled(name): [*place_of(number), granted_by(name, number)] for name, number in bits.items()},
+)
+number = constant(TYPES / "src" / "factory.rt", "FACTORY_PRIVILEGES")
+judge(f"factory card has {number:06X}" in Path(STATUS).read_text(), f"{STATUS}: the factory card has {number:06X}")
+
+# The keys: key version numbers and key identifiers, as the definition of a key's name has them.
+named = re.search(r"^IsKeyName version identifier =\n((?:    .*\n)+)", (TYPES / "specs" / "Well.antt").read_text(), re.M).group(1)
+low, high, least, most, *alone, only = [int(number, 16) for number in re.findall(r"0x(\w\w)", named)]
+keys = {(f"{low:02X} to {high:02X}", f"{identifier:02X}") for identifier in range(least, most + 1)}
+keys |= {(f"{version:02X}", f"{only:02X}") for version in alone}
+rows = tables(STATUS, "key version number", "key identifier")
+compare("key", STATUS, {tuple(row[:2]): True for row in rows}, "the definitions", dict.fromkeys(sorted(keys), True))
+delegation = RULES / "src" / "delegation.rt"
+by_key = {row[2]: row[0] for row in rows}
+for name in ("token key", "receipt key"):
+    version = f"{constant(delegation, name.upper().replace(' ', '_')):02X}"
+    judge(by_key.get(name) == version, f"{STATUS}: the {name} has key version number {version}")
+version = f"{constant(TYPES / 'src' / 'factory.rt', 'FACTORY_VERSION'):02X}"
+judge(f"a key set of key version number {version}" in Path(STATUS).read_text(), f"{STATUS}: the factory card has version {version}")
+
+# How the program ends: endings, cards that are not powered on, words, and the script that builds it.
+tool = Path("crates/gp_tool/src")
+tool_text = "".join((tool / name).read_text() for name in ("ending.rt", "run_verb.rt", "top.rt"))
+ends = set(re.findall(r"=> (\d+),$", tool_text, re.M))
+ends |= set(re.findall(r"ExitCode::from\((\d+)\)", Path("crates/gp/src/main.rt").read_text()))
+ends = dict.fromkeys(sorted(ends, key=int), True)
+script = re.search(r"^readonly no_binary=(\d+)$", Path("gp").read_text(), re.M).group(1)
+compare("exit status", STATUS, rows_by(STATUS, 0, lambda row: True, "exit status", "what it means"), "the code", ends | {script: True})
+compare("exit status", "README.md", rows_by("README.md", 0, lambda row: True, "status", "when"), "the code", ends)
+
+print(f"{passed} passed, {failed} failed")
+sys.exit(failed != 0)
+END
