@@ -132,6 +132,35 @@ for title, ins, rules in re.findall(form, specs, re.M):
 compare("the order of", STATUS, rows_by(STATUS, 0, lambda row: [row[1], listed(row[2])], "command", "INS"), "the definitions", orders)
 judge(expand(lists["general_rules"]) == [f"G{n}" for n in range(1, 9)], "the definitions: G1 to G8 are not in order")
 
+
+# docs/POLICY.md has the same order, with ranges, where P never refuses GET DATA, and the instructions of each class.
+def ranged(cell):
+    rules = []
+    for word in listed(cell):
+        name, low, high = re.fullmatch(r"([A-Z]+)(\d*)(?: to [A-Z]+(\d+))?", word).groups()
+        rules += [f"{name}{n}" for n in range(int(low), int(high or low) + 1)] if low else [name]
+    return rules
+
+
+told = {row[0].removesuffix(" of a key set"): row[1] for row in tables("docs/POLICY.md", "instruction", "its rules in order")}
+told = {title: ranged(cell) for title, cell in told.items() if cell != "the same"}
+ordered = {title: rules[title == "GET DATA" :] for title, (_, rules) in orders.items()}
+compare("the order of", "docs/POLICY.md", told, "the definitions", ordered)
+
+ins_bytes = pairs(r"^pub const (\w+): u8 = 0x(\w\w);$", (RULES / "src" / "instruction.rt").read_text())
+source = (RULES / "src" / "class.rt").read_text()
+of_class = {name: re.findall(r"\w+", body) for name, body in re.findall(r"^const (\w+): \[u8; \d\] = \[([^]]*)\];$", source, re.M)}
+managing = of_class.pop("MANAGING")
+classes = [of_class["INTERINDUSTRY"], of_class["PLAIN"] + managing, of_class["SECURE"] + managing]
+rows = tables("docs/POLICY.md", "class byte", "its instructions")
+compare(
+    "class",
+    "docs/POLICY.md",
+    {row[0][:8]: sorted(re.findall(r"\((\w\w)\)", row[1])) for row in rows},
+    "the code",
+    {name: sorted(ins_bytes[ins] for ins in found) for name, found in zip(("00 to 03", "80 to 83", "84 to 87"), classes)},
+)
+
 # The status words, those of accepted commands and of a failed device among them.
 words = {status: [] for status in re.findall(r"\bStatus\(0x(\w{4})\)", text_of("crates/card_core/src", "*.rt"))}
 for rule, status in statuses.items():
