@@ -27,6 +27,9 @@ pub enum Sweep {
     /// So, and again while the card is powered on next.
     CutTwice,
 
+    /// So, but at writes and syncs alone, the first time and the second.
+    CutWrites,
+
     /// So, and again and again, at a later call each time that the card is powered on.
     CutOn,
 
@@ -212,6 +215,7 @@ fn device_line<'a>(verb: &'a [u8], rest: &'a [u8]) -> Option<Line<'a>> {
         b"cut" => match rest {
             b"each" => Some(Line::Sweep(Sweep::Cut)),
             b"twice" => Some(Line::Sweep(Sweep::CutTwice)),
+            b"writes" => Some(Line::Sweep(Sweep::CutWrites)),
             b"on" => Some(Line::Sweep(Sweep::CutOn)),
             _ => Some(Line::Cut(long_number(rest)?)),
         },

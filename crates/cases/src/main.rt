@@ -19,6 +19,7 @@ mod sweep;
 mod things;
 mod tool;
 mod words;
+mod write_fuse;
 
 use bench::Bench;
 use case_error::CaseError;

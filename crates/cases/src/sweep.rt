@@ -1,12 +1,13 @@
 //! Power that is lost, and calls that fail, at each call on a device in turn.
 
-use crate::act::Act;
+use crate::act::{Act, Played};
 use crate::case_error::CaseError;
 use crate::counted::Calls;
 use crate::device::{Faults, failing};
 use crate::image::Image;
 use crate::line::Sweep;
 use crate::tool::{Streams, call};
+use crate::write_fuse::WriteFuse;
 use flash_core::{FuseFlash, MemFlash, OnceFlash};
 use std::alloc::{AllocError, Global};
 use std::cell::Cell;
@@ -41,7 +42,9 @@ pub fn sweep(
 ) -> Result<Outcomes, CaseError> {
     let mut outcomes = Outcomes::of(alloc, image, act)?;
     match kind {
-        Sweep::Cut | Sweep::CutTwice | Sweep::CutOn => outcomes.cut_each(image, act, kind)?,
+        Sweep::Cut | Sweep::CutTwice | Sweep::CutWrites | Sweep::CutOn => {
+            outcomes.cut_each(image, act, kind)?
+        }
         Sweep::Fail => outcomes.fail_each(image, act)?,
     }
     Ok(outcomes)
@@ -68,13 +71,14 @@ impl Outcomes {
         for calls in 0..MOST_CALLS {
             let mut is_whole = false;
             for seed in 0..SEEDS {
-                let flash = FuseFlash::new(image.device(self.alloc)?, calls);
-                let played = act.play(self.alloc, flash)?;
+                let played = play_up_to(self.alloc, kind, image, act, calls)?;
                 is_whole = played.is_whole;
-                let mut flash = played.flash.into_inner();
+                let mut flash = played.flash;
                 flash.power_cut(seed);
                 match kind {
-                    Sweep::CutTwice => self.cut_recovery(played.done, flash)?,
+                    Sweep::CutTwice | Sweep::CutWrites => {
+                        self.cut_recovery(played.done, flash, kind)?
+                    }
                     Sweep::CutOn => self.cut_recoveries(played.done, flash)?,
                     _ => self.tally(played.done, flash)?,
                 }
@@ -86,16 +90,15 @@ impl Outcomes {
         Ok(())
     }
 
-    // Cuts power at each call of powering on a card.
-    fn cut_recovery(&mut self, done: usize, flash: MemFlash) -> Result<(), CaseError> {
+    // Cuts power at each call of powering on a card, or at each write and sync.
+    fn cut_recovery(&mut self, done: usize, flash: MemFlash, kind: Sweep) -> Result<(), CaseError> {
         let image = Image::of(self.alloc, &flash)?;
         for calls in 0..MOST_CALLS {
             let mut is_on = false;
             for seed in 0..SEEDS {
-                let flash = FuseFlash::new(image.device(self.alloc)?, calls);
-                let played = Act::Script(&[]).play(self.alloc, flash)?;
+                let played = play_up_to(self.alloc, kind, &image, &Act::Script(&[]), calls)?;
                 is_on = played.is_whole;
-                let mut flash = played.flash.into_inner();
+                let mut flash = played.flash;
                 flash.power_cut(seed);
                 self.tally(done, flash)?;
             }
@@ -168,6 +171,28 @@ impl Outcomes {
         text.push_str(&format!(in self.alloc; "{} otherwise", self.others)?)?;
         Ok(text)
     }
+}
+
+// Plays this on a device that takes so many calls, or where `kind` says so, so many writes and syncs and any reads: power that
+// is lost at a read leaves what it leaves at the next write or sync.
+fn play_up_to(
+    alloc: Global,
+    kind: Sweep,
+    image: &Image,
+    act: &Act<'_>,
+    count: u64,
+) -> Result<Played<MemFlash>, CaseError> {
+    let (changes, calls) = match kind {
+        Sweep::CutWrites => (count, u64::MAX),
+        _ => (u64::MAX, count),
+    };
+    let flash = FuseFlash::new(image.device(alloc)?, calls);
+    let played = act.play(alloc, WriteFuse::new(flash, changes))?;
+    Ok(Played {
+        done: played.done,
+        is_whole: played.is_whole,
+        flash: played.flash.into_inner().into_inner(),
+    })
 }
 
 // The registry of a device as `gp show` writes it, with the status.
