@@ -1,6 +1,6 @@
 //! SET STATUS of the card (GlobalPlatform Card Specification 2.3.1, 5.1 and 11.10).
 
-ghost use Rattle.std.specs.Prelude.{◌≡◌, ◌↔◌, ℕ, List, None, Some, IfErr, IfNone, IfOk, IfSome, IsTrue, OnOk};
+ghost use Rattle.std.specs.Prelude.{◌≡◌, ◌↔◌, ℕ, List, None, Some, IfErr, IfNone, IfOk, IfSome, IsTrue, OnOk, ◌≤◌, length};
 ghost use Rattle.card_types.specs.CardLife.{card_life_code};
 ghost use Rattle.policy_rules.specs.Admission.{Admitted};
 ghost use Rattle.policy_rules.specs.CardStatus.{CardStatusFails, CardStatusParameters, IsCardStep, card_status, card_status_refusal, card_status_rules};
@@ -37,7 +37,8 @@ impl RuleSC {
 
     /// The rule's name.
     pub fn name(&self) -> &'static str
-        ensures { result.now ≡ (card_status_refusal self.now).name }
+        ensures name { result.now ≡ (card_status_refusal self.now).name }
+        ensures short { length result.now ≤ 3 }
     {
         match self {
             RuleSC::SC1 => "SC1",

@@ -65,7 +65,8 @@ impl RuleTK {
 
     /// The rule's name.
     pub fn name(&self) -> &'static str
-        ensures { result.now ≡ (token_refusal self.now).name }
+        ensures name { result.now ≡ (token_refusal self.now).name }
+        ensures short { length result.now ≤ 3 }
     {
         match self {
             RuleTK::TK1 => "TK1",
@@ -87,7 +88,8 @@ impl RuleRC {
 
     /// The rule's name.
     pub fn name(&self) -> &'static str
-        ensures { result.now ≡ (receipt_refusal self.now).name }
+        ensures name { result.now ≡ (receipt_refusal self.now).name }
+        ensures short { length result.now ≤ 3 }
     {
         match self {
             RuleRC::RC1 => "RC1",

@@ -1,6 +1,6 @@
 //! DELETE of a key (GlobalPlatform Card Specification 2.3.1, 11.2).
 
-ghost use Rattle.std.specs.Prelude.{◌≡◌, ◌↔◌, ℕ, List, None, Some, IfErr, IfNone, IfOk, IfSome, IsTrue, OnOk};
+ghost use Rattle.std.specs.Prelude.{◌≡◌, ◌↔◌, ℕ, List, None, Some, IfErr, IfNone, IfOk, IfSome, IsTrue, OnOk, ◌≤◌, length};
 ghost use Rattle.std.specs.List.{list_any};
 ghost use Rattle.card_types.specs.InOrder.{IsInOrder};
 ghost use Rattle.card_types.specs.Represents.{domain_slot};
@@ -41,7 +41,8 @@ impl RuleDK {
 
     /// The rule's name.
     pub fn name(&self) -> &'static str
-        ensures { result.now ≡ (delete_key_refusal self.now).name }
+        ensures name { result.now ≡ (delete_key_refusal self.now).name }
+        ensures short { length result.now ≤ 3 }
     {
         match self {
             RuleDK::DK1 => "DK1",

@@ -55,7 +55,8 @@ impl RuleDO {
 
     /// The rule's name.
     pub fn name(&self) -> &'static str
-        ensures { result.now ≡ (delete_object_refusal self.now).name }
+        ensures name { result.now ≡ (delete_object_refusal self.now).name }
+        ensures short { length result.now ≤ 3 }
     {
         match self {
             RuleDO::DO1 => "DO1",

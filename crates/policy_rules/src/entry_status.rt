@@ -1,6 +1,6 @@
 //! SET STATUS of an application or a security domain (GlobalPlatform Card Specification 2.3.1, 5.3 and 11.10).
 
-ghost use Rattle.std.specs.Prelude.{◌≡◌, ◌↔◌, ◌⊎◌, ℕ, List, None, Some, false, IfErr, IfNone, IfOk, IfSome, IsTrue, OnOk};
+ghost use Rattle.std.specs.Prelude.{◌≡◌, ◌↔◌, ◌⊎◌, ℕ, List, None, Some, false, IfErr, IfNone, IfOk, IfSome, IsTrue, OnOk, ◌≤◌, length};
 ghost use Rattle.card_types.specs.Found.{aid_of};
 ghost use Rattle.card_types.specs.InOrder.{IsInOrder};
 ghost use Rattle.card_types.specs.Privileges.{has, security_domain};
@@ -54,7 +54,8 @@ impl RuleSS {
 
     /// The rule's name.
     pub fn name(&self) -> &'static str
-        ensures { result.now ≡ (entry_status_refusal self.now).name }
+        ensures name { result.now ≡ (entry_status_refusal self.now).name }
+        ensures short { length result.now ≤ 3 }
     {
         match self {
             RuleSS::SS1 => "SS1",

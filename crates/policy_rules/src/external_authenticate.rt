@@ -1,6 +1,6 @@
 //! EXTERNAL AUTHENTICATE (GlobalPlatform Amendment D, 7.1.2).
 
-ghost use Rattle.std.specs.Prelude.{◌≡◌};
+ghost use Rattle.std.specs.Prelude.{◌≡◌, ◌≤◌, length};
 ghost use Rattle.policy_rules.specs.ExternalAuthenticate.{external_authenticate_refusal};
 ghost use Rattle.policy_rules.specs.Requests.{Parses};
 ghost use Rattle.policy_rules.specs.declared.instruction.TheConstants.{EXTERNAL_AUTHENTICATE};
@@ -35,7 +35,8 @@ impl RuleEA {
 
     /// The rule's name.
     pub fn name(&self) -> &'static str
-        ensures { result.now ≡ (external_authenticate_refusal self.now).name }
+        ensures name { result.now ≡ (external_authenticate_refusal self.now).name }
+        ensures short { length result.now ≤ 3 }
     {
         match self {
             RuleEA::EA1 => "EA1",

@@ -67,7 +67,8 @@ impl RuleEX {
 
     /// The rule's name.
     pub fn name(&self) -> &'static str
-        ensures { result.now ≡ (extradition_refusal self.now).name }
+        ensures name { result.now ≡ (extradition_refusal self.now).name }
+        ensures short { length result.now ≤ 3 }
     {
         match self {
             RuleEX::EX1 => "EX1",

@@ -1,6 +1,6 @@
 //! GET DATA (GlobalPlatform Card Specification 2.3.1, 11.3).
 
-ghost use Rattle.std.specs.Prelude.{◌≡◌, ℕ, ◌&&◌, ◌==◌, List, Some, IfSome, IfNone, IfOk, IfErr};
+ghost use Rattle.std.specs.Prelude.{◌≡◌, ℕ, ◌&&◌, ◌==◌, List, Some, IfSome, IfNone, IfOk, IfErr, ◌≤◌, length};
 ghost use Rattle.std.specs.Ordering.{nat_cmp};
 ghost use Rattle.std.proofs.lemmas.Cmp.{nat_cmp_total, on_total};
 ghost use Rattle.bertlv.specs.Tag.{IsTag};
@@ -41,7 +41,8 @@ impl RuleGD {
 
     /// The rule's name.
     pub fn name(&self) -> &'static str
-        ensures { result.now ≡ (get_data_refusal self.now).name }
+        ensures name { result.now ≡ (get_data_refusal self.now).name }
+        ensures short { length result.now ≤ 3 }
     {
         match self {
             RuleGD::GD1 => "GD1",

@@ -1,6 +1,6 @@
 //! GET STATUS (GlobalPlatform Card Specification 2.3.1, 11.4).
 
-ghost use Rattle.std.specs.Prelude.{◌≡◌, ◌↔◌, ℕ, List, None, Some, IfErr, IfNone, IfOk, IfSome, IsSome, IsTrue, OnOk, option_copied};
+ghost use Rattle.std.specs.Prelude.{◌≡◌, ◌↔◌, ℕ, List, None, Some, IfErr, IfNone, IfOk, IfSome, IsSome, IsTrue, OnOk, option_copied, ◌≤◌, length};
 ghost use Rattle.card_types.specs.Found.{IsAbove, aid_of};
 ghost use Rattle.card_types.specs.InOrder.{IsInOrder};
 ghost use Rattle.policy_rules.specs.Admission.{Admitted};
@@ -46,7 +46,8 @@ impl RuleGS {
 
     /// The rule's name.
     pub fn name(&self) -> &'static str
-        ensures { result.now ≡ (get_status_refusal self.now).name }
+        ensures name { result.now ≡ (get_status_refusal self.now).name }
+        ensures short { length result.now ≤ 3 }
     {
         match self {
             RuleGS::GS1 => "GS1",

@@ -1,6 +1,6 @@
 //! INITIALIZE UPDATE (GlobalPlatform Amendment D, 7.1.1).
 
-ghost use Rattle.std.specs.Prelude.{◌≡◌, ◌≤◌, ◌&&◌, not, ℕ, List, None, Some, IfOk, IfErr, OnOk};
+ghost use Rattle.std.specs.Prelude.{◌≡◌, ◌≤◌, ◌&&◌, not, ℕ, List, None, Some, IfOk, IfErr, OnOk, length};
 ghost use Rattle.card_types.specs.AidOrder.{same_aid};
 ghost use Rattle.card_types.specs.Counters.{HasNextCounter};
 ghost use Rattle.card_types.specs.InOrder.{IsInOrder};
@@ -52,7 +52,8 @@ impl RuleIU {
 
     /// The rule's name.
     pub fn name(&self) -> &'static str
-        ensures { result.now ≡ (initialize_update_refusal self.now).name }
+        ensures name { result.now ≡ (initialize_update_refusal self.now).name }
+        ensures short { length result.now ≤ 3 }
     {
         match self {
             RuleIU::IU1 => "IU1",

@@ -78,7 +78,8 @@ impl RuleII {
 
     /// The rule's name.
     pub fn name(&self) -> &'static str
-        ensures { result.now ≡ (install_refusal self.now).name }
+        ensures name { result.now ≡ (install_refusal self.now).name }
+        ensures short { length result.now ≤ 3 }
     {
         match self {
             RuleII::II1 => "II1",

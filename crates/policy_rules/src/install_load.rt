@@ -67,7 +67,8 @@ impl RuleIL {
 
     /// The rule's name.
     pub fn name(&self) -> &'static str
-        ensures { result.now ≡ (install_load_refusal self.now).name }
+        ensures name { result.now ≡ (install_load_refusal self.now).name }
+        ensures short { length result.now ≤ 3 }
     {
         match self {
             RuleIL::IL1 => "IL1",

@@ -1,6 +1,6 @@
 //! LOAD (GlobalPlatform Card Specification 2.3.1, 9.3.5 and 11.6). Whether its block is taken is judged where the bytes are kept.
 
-ghost use Rattle.std.specs.Prelude.{◌≡◌, ◌↔◌, ◌≢◌, ◌<◌, ℕ, List, [], None, Some, IfErr, IfOk, IfSome, IsSome, IsTrue, OnOk, slice_index_or};
+ghost use Rattle.std.specs.Prelude.{◌≡◌, ◌↔◌, ◌≢◌, ◌<◌, ℕ, List, [], None, Some, IfErr, IfOk, IfSome, IsSome, IsTrue, OnOk, slice_index_or, ◌≤◌, length};
 ghost use Rattle.card_types.specs.InOrder.{IsInOrder};
 ghost use Rattle.card_types.specs.Privileges.{delegated_management};
 ghost use Rattle.card_types.specs.declared.tables.Tables.{Tables as TheTables};
@@ -66,7 +66,8 @@ impl RuleLO {
 
     /// The rule's name.
     pub fn name(&self) -> &'static str
-        ensures { result.now ≡ (load_refusal self.now).name }
+        ensures name { result.now ≡ (load_refusal self.now).name }
+        ensures short { length result.now ≤ 3 }
     {
         match self {
             RuleLO::LO1 => "LO1",

@@ -55,7 +55,8 @@ impl RuleMS {
 
     /// The rule's name.
     pub fn name(&self) -> &'static str
-        ensures { result.now ≡ (selectable_refusal self.now).name }
+        ensures name { result.now ≡ (selectable_refusal self.now).name }
+        ensures short { length result.now ≤ 3 }
     {
         match self {
             RuleMS::MS1 => "MS1",

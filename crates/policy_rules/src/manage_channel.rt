@@ -1,6 +1,6 @@
 //! MANAGE CHANNEL (ISO/IEC 7816-4:2013, 11.1.2; GlobalPlatform Card Specification 2.3.1, 11.7).
 
-ghost use Rattle.std.specs.Prelude.{◌≡◌, ◌<◌, ℕ, List, None, Some, IfOk, IfErr, length};
+ghost use Rattle.std.specs.Prelude.{◌≡◌, ◌<◌, ℕ, List, None, Some, IfOk, IfErr, length, ◌≤◌};
 ghost use Rattle.card_types.specs.declared.tables.Tables.{Tables};
 ghost use Rattle.policy_rules.specs.ManageChannel.{lowest_closed, manage_channel_refusal};
 ghost use Rattle.policy_rules.specs.Requests.{Parses, RepresentsState};
@@ -31,7 +31,8 @@ impl RuleMC {
 
     /// The rule's name.
     pub fn name(&self) -> &'static str
-        ensures { result.now ≡ (manage_channel_refusal self.now).name }
+        ensures name { result.now ≡ (manage_channel_refusal self.now).name }
+        ensures short { length result.now ≤ 3 }
     {
         match self {
             RuleMC::MC1 => "MC1",

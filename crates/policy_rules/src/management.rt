@@ -1,6 +1,6 @@
 //! The rules that the commands of card content management and INITIALIZE UPDATE have in common.
 
-ghost use Rattle.std.specs.Prelude.{◌≡◌, ◌↔◌, ◌⊎◌, ℕ, List, Some, IfErr, IsTrue, OnOk};
+ghost use Rattle.std.specs.Prelude.{◌≡◌, ◌↔◌, ◌⊎◌, ℕ, List, Some, IfErr, IsTrue, OnOk, ◌≤◌, length};
 ghost use Rattle.card_types.specs.Slots.{held};
 ghost use Rattle.card_types.specs.declared.factory.TheConstants.{ISSUER};
 ghost use Rattle.card_types.specs.declared.tables.Entry.{Entry};
@@ -41,7 +41,8 @@ impl RuleM {
 
     /// The rule's name.
     pub fn name(&self) -> &'static str
-        ensures { result.now ≡ (management_refusal self.now).name }
+        ensures name { result.now ≡ (management_refusal self.now).name }
+        ensures short { length result.now ≤ 3 }
     {
         match self {
             RuleM::M1 => "M1",

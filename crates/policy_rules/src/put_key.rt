@@ -50,7 +50,8 @@ impl RulePK {
 
     /// The rule's name.
     pub fn name(&self) -> &'static str
-        ensures { result.now ≡ (put_key_refusal self.now).name }
+        ensures name { result.now ≡ (put_key_refusal self.now).name }
+        ensures short { length result.now ≤ 3 }
     {
         match self {
             RulePK::PK1 => "PK1",

@@ -1,6 +1,6 @@
 //! The rules that refuse a command.
 
-ghost use Rattle.std.specs.Prelude.{◌≡◌};
+ghost use Rattle.std.specs.Prelude.{◌≡◌, ◌≤◌, length};
 ghost use Rattle.policy_rules.specs.Rules.{name_of, status_of};
 ghost use Rattle.policy_rules.specs.Step.{keeps_load as keeps_load_by};
 
@@ -128,9 +128,10 @@ impl Rule {
         matches!(self, Rule::PS(RulePS::P) | Rule::LO(RuleLO::LO2))
     }
 
-    /// The rule's name.
+    /// The rule's name, of at most three letters and digits.
     pub fn name(&self) -> &'static str
-        ensures { result.now ≡ name_of self.now }
+        ensures name { result.now ≡ name_of self.now }
+        ensures short { length result.now ≤ 3 }
     {
         match self {
             Rule::G(RuleG::G1) => "G1",

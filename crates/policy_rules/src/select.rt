@@ -1,6 +1,6 @@
 //! SELECT by partial AID (ISO/IEC 7816-4:2013, 11.1.1; GlobalPlatform Card Specification 2.3.1, 11.9).
 
-ghost use Rattle.std.specs.Prelude.{◌≡◌, ℕ, List, None, Some, IfOk, IfErr};
+ghost use Rattle.std.specs.Prelude.{◌≡◌, ℕ, List, None, Some, IfOk, IfErr, ◌≤◌, length};
 ghost use Rattle.std.proofs.lemmas.Cmp.{nat_list_cmp_total, on_total};
 ghost use Rattle.card_types.specs.AidOrder.{aid_order, same_aid};
 ghost use Rattle.card_types.specs.InOrder.{IsInOrder};
@@ -36,7 +36,8 @@ impl RuleSE {
 
     /// The rule's name.
     pub fn name(&self) -> &'static str
-        ensures { result.now ≡ (select_refusal self.now).name }
+        ensures name { result.now ≡ (select_refusal self.now).name }
+        ensures short { length result.now ≤ 3 }
     {
         match self {
             RuleSE::SE1 => "SE1",

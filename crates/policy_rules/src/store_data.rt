@@ -40,7 +40,8 @@ impl RuleSD {
 
     /// The rule's name.
     pub fn name(&self) -> &'static str
-        ensures { result.now ≡ (store_data_refusal self.now).name }
+        ensures name { result.now ≡ (store_data_refusal self.now).name }
+        ensures short { length result.now ≤ 3 }
     {
         match self {
             RuleSD::SD1 => "SD1",
