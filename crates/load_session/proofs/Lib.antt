@@ -1,5 +1,6 @@
 pub mod Digests
 pub mod PagesInUse
+pub mod PageMarks
 pub mod Writes
 pub mod PagesKept
 pub mod Loading

@@ -43,10 +43,10 @@ module _ (slots : List (Option LoadFile)) (i : ℕ) (within : i < length slots) 
   pages_pass at = ap pages_used (used_pass slots i within at)
 
 -- the pages that files name, one file after the other
-abbrev named_by : List LoadFile → List ℕ
+abbrev pub named_by : List LoadFile → List ℕ
 named_by files = concat (map pages_named files)
 
-named_among : (files : List LoadFile) (file : LoadFile) (page : ℕ) → Contains files file → Contains (pages_named file) page → Contains (named_by files) page
+pub named_among : (files : List LoadFile) (file : LoadFile) (page : ℕ) → Contains files file → Contains (pages_named file) page → Contains (named_by files) page
 named_among [] file page (k, within, is) named = absurd (omega arith)
 named_among (first ∷ rest) file page there named = elim (contains_cases first rest file there) [
   | inl same ↦ Contains-append_left (pages_named first) (named_by rest) page (subst (λ (f : LoadFile). Contains (pages_named f) page) (sym same) named)

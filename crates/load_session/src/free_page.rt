@@ -1,12 +1,12 @@
 //! The lowest load page that is free.
 
-ghost use Rattle.std.specs.Prelude.{◌≡◌, ◌↔◌, ◌+◌, ◌<◌, ◌≤◌, ℕ, All, IsTrue, Contains, false, length, true};
+ghost use Rattle.std.specs.Prelude.{◌≡◌, ◌+◌, ◌<◌, ◌≤◌, ◌++◌, ◌∷◌, ℕ, List, [], All, Contains, length};
 ghost use Rattle.card_check.specs.IsCard.{pages_named};
-ghost use Rattle.card_check.specs.LoadPages.{HasPageNumbers};
+ghost use Rattle.card_check.specs.LoadPages.{HasMarks, HasPageNumbers, all_pages};
 ghost use Rattle.card_types.specs.Represents.{used};
 ghost use Rattle.card_types.specs.Well.{pages_of};
 ghost use Rattle.card_types.specs.declared.limits.TheConstants.{FILE_LIMIT, LOAD_PAGES};
-ghost use Rattle.load_session.specs.Pages.{IsPageInUse, IsPageNamed, pages_in};
+ghost use Rattle.load_session.specs.Pages.{IsPageInUse, pages_in};
 ghost use Rattle.rec_store.specs.Reopens.{IsFree};
 ghost use Rattle.rec_store.specs.StoredTables.{AreRoomy};
 
@@ -24,36 +24,50 @@ pub(crate) fn free_page(tables: &Tables, taken: &[u16]) -> u16
     ensures apart { Contains taken.now result → ⊥ }
     ensures lowest { (page : ℕ) → 96 ≤ page → page < result → IsPageInUse tables.now taken.now page }
 {
+    let mut marks = [false; LOAD_PAGES];
+    mark_files(&mut marks, tables);
+    mark(&mut marks, taken);
     for page in FIRST..FIRST + LOAD_PAGES as u16 {
-        if !is_named(tables, page) && !taken.contains(&page) {
+        if !marks[usize::from(page - FIRST)] {
             return page;
         }
     }
     unreachable!()
 }
 
-// Whether an Executable Load File of the tables names the page.
-fn is_named(tables: &Tables, page: u16) -> bool
-    requires { AreRoomy tables.now }
-    ensures no { result ≡ false → IsFree tables.now page }
-    ensures yes { result ≡ true → IsPageNamed tables.now page }
+// Marks the pages that the Executable Load Files of the tables name.
+fn mark_files(marks: &mut [bool; LOAD_PAGES], tables: &Tables)
+    requires none { HasMarks marks.old [] }
+    requires roomy { AreRoomy tables.now }
+    ensures { HasMarks marks.new (all_pages tables.now.files.items) }
 {
     for slot in &tables.files {
         if let Some(file) = slot {
-            if names(file, page) {
-                return true;
-            }
+            mark(marks, named(file));
         }
     }
-    false
 }
 
-// Whether the Executable Load File names the page.
-fn names(file: &LoadFile, page: u16) -> bool
-    requires { file.now.len ≤ FILE_LIMIT }
-    ensures { IsTrue result ↔ Contains (pages_named file.now) page }
+// Marks these pages, as far as they are load pages.
+fn mark(marks: &mut [bool; LOAD_PAGES], pages: &[u16])
+    ensures { (before : List ℕ) → HasMarks marks.old before → HasMarks marks.new (before ++ pages.now) }
 {
-    named(file).contains(&page)
+    for page in pages {
+        mark_page(marks, *page);
+    }
+}
+
+// Marks the page, where it is a load page.
+fn mark_page(marks: &mut [bool; LOAD_PAGES], page: u16)
+    ensures { (before : List ℕ) → HasMarks marks.old before → HasMarks marks.new (before ++ page ∷ []) }
+{
+    if page < FIRST {
+        return;
+    }
+    let place = usize::from(page - FIRST);
+    if place < LOAD_PAGES {
+        marks[place] = true;
+    }
 }
 
 /// How many load pages the Executable Load Files of the tables take.
