@@ -29,7 +29,7 @@ module _ {F : Type 0} (device : Flash F) (live : Live) (all : List ChannelSessio
   pub mounted_stands : (old new : F) (tables : Tables) → AreCards tables
       → (device.tells → (registry : Registry) × Reopens (device.pages old) registry × Represents (load_page (device.pages new)) tables registry × Keeps device new registry)
       → (registry : Registry) × (device.tells → Reopens (device.pages old) registry)
-      × CardRepresents device (record { flash = new; tables = tables; live = live; held = all; loading = loading; up = true }) (powered_on registry)
+      × CardRepresents device (record { flash = new; tables = tables; volatile = live; held = all; loading = loading; live = true }) (powered_on registry)
   mounted_stands old new tables cards read =
       let page : ℕ → List ℕ = load_page (device.pages new) in
       let is = cards page (has_pages (stored (device.pages new))) in
@@ -37,7 +37,7 @@ module _ {F : Type 0} (device : Flash F) (live : Live) (all : List ChannelSessio
         is.said,
         (λ told. subst (Reopens (device.pages old)) (same told) (read told).1),
         record {
-          up = refl;
+          live = refl;
           page = page;
           whole = has_pages (stored (device.pages new));
           on = powered_on_stands page tables live all is.said is.of.layout is.of.says is.of.well first nothing;
@@ -62,9 +62,9 @@ module _ {F : Type 0} (device : Flash F) (live : Live) (all : List ChannelSessio
 
   -- and one that was reset
   pub reset_stands : (card : CardOver F) (state : State) → AreCards card.tables → CardRepresents device card state
-      → CardRepresents device (record { flash = card.flash; tables = card.tables; live = live; held = all; loading = loading; up = card.up }) (powered_on state.registry)
+      → CardRepresents device (record { flash = card.flash; tables = card.tables; volatile = live; held = all; loading = loading; live = card.live }) (powered_on state.registry)
   reset_stands card state cards stands = record {
-    up = stands.up;
+    live = stands.live;
     page = stands.page;
     whole = stands.whole;
     on = powered_on_stands stands.page card.tables live all state.registry (in_order card.tables cards).layout stands.on.shows.says.registry stands.on.sound.well first nothing;

@@ -20,18 +20,18 @@ use Rattle.card_core.specs.declared.channel_session.ChannelSession.{ChannelSessi
 pub record CardOver (F : Type 0) : Type 0 where
   pub flash : F
   pub tables : Tables
-  pub live : Live
+  pub volatile : Live
   pub held : List ChannelSession
   pub loading : Option LoadSession
-  pub up : Bool
+  pub live : Bool
 
 abbrev pub kept : {F : Type 0} → CardOver F → Kept
-kept card = record { tables = card.tables; live = card.live; held = card.held }
+kept card = record { tables = card.tables; live = card.volatile; held = card.held }
 
 -- The card stands for this state: it goes on, what it keeps shows the state, and power lost leaves its registry. Where the
 -- device tells its pages, the load pages are its own.
 pub record CardRepresents {F : Type 0} (device : Flash F) (card : CardOver F) (state : State) : Type 0 where
-  pub up : card.up ≡ true
+  pub live : card.live ≡ true
   pub page : ℕ → List ℕ
   pub whole : HasPages page
   pub on : RepresentsSoundly page (kept card) state

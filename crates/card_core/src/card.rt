@@ -35,10 +35,10 @@ use std::marker::Model;
 #[derive(Drop)]
 pub struct Card<F: Flash> {
     pub(crate) records: Records<F>,
-    pub(crate) live: Live,
+    pub(crate) volatile: Live,
     pub(crate) held: [ChannelSession; CHANNELS],
     pub(crate) loading: Loading,
-    pub(crate) up: bool,
+    pub(crate) live: bool,
 }
 
 // Contracts see the device, the tables, the channels and what they hold, what is kept of the load session, and whether no call on the
@@ -51,10 +51,10 @@ impl<F: Flash> Model for Card<F> {
 
     ghost Value = { CardOver F };
 
-    ghost view = { λ card. record { flash = card.records.flash; tables = card.records.tables; live = card.live; held = card.held; loading = card.loading.session; up = card.up } };
+    ghost view = { λ card. record { flash = card.records.flash; tables = card.records.tables; volatile = card.volatile; held = card.held; loading = card.loading.session; live = card.live } };
 
-    ghost invariant = { λ card. AreCards card.records.tables × (card.up ≡ true → IsIdle F.Flash card.records card.loading.writes.items
-        × RepresentsSome (kept_of card.records.tables card.live card.held) card.loading.session) };
+    ghost invariant = { λ card. AreCards card.records.tables × (card.live ≡ true → IsIdle F.Flash card.records card.loading.writes.items
+        × RepresentsSome (kept_of card.records.tables card.volatile card.held) card.loading.session) };
 }
 
 // What the channels hold after power on.
@@ -90,10 +90,10 @@ impl<F: Flash> Card<F> {
         match Records::mount(alloc, flash) {
             Ok(records) => Ok(Card {
                 records,
-                live: Live::powered_on(),
+                volatile: Live::powered_on(),
                 held: nothing_held(),
                 loading: Loading::new(),
-                up: true,
+                live: true,
             }),
             Err(refused) => Err(PowerError {
                 cause: PowerCause::of(refused.cause),
@@ -109,7 +109,7 @@ impl<F: Flash> Card<F> {
         command: &[u8],
         reply: &mut ArrayVec<u8, REPLY_LIMIT>,
     ) -> Result<Option<Rule>, FlashFailed>
-        requires up { self.old.up ≡ true }
+        requires live { self.old.live ≡ true }
         // What comes of the command is one outcome of the policy machine, also where the device fails. Power lost at any
         // moment leaves the registry from before or that of the outcome, and after an answer the latter.
         ensures step { (state : State) → CardRepresents F.Flash self.old state → (outcome : Outcome) × Step state command.now outcome
@@ -123,14 +123,14 @@ impl<F: Flash> Card<F> {
         // content management makes one.
         ensures refused { IfOk result (λ rule. IsSome rule → self.new.flash ≡ self.old.flash) }
         ensures idle { (MayCommit command.now → ⊥) → self.new.flash ≡ self.old.flash }
-        ensures ok { OnOk result (self.new.up ≡ true) }
-        ensures failed { OnErr result ((reply.new.items ≡ status_bytes 0x6581) × (self.new.up ≡ false)) }
+        ensures ok { OnOk result (self.new.live ≡ true) }
+        ensures failed { OnErr result ((reply.new.items ≡ status_bytes 0x6581) × (self.new.live ≡ false)) }
         ensures cause { HasCause (F.faults self.old.flash) (F.faults self.new.flash) result }
     {
         reply.clear();
         let rule = serve(
             &mut self.records,
-            &mut self.live,
+            &mut self.volatile,
             &mut self.held,
             &mut self.loading,
             command,
@@ -142,7 +142,7 @@ impl<F: Flash> Card<F> {
                 Ok(rule)
             }
             Err(failed) => {
-                self.up = false;
+                self.live = false;
                 write_failure(reply);
                 Err(failed)
             }
@@ -151,19 +151,19 @@ impl<F: Flash> Card<F> {
 
     /// Takes the power away and gives it back: channel 0 alone is open then, with the Issuer Security Domain selected.
     pub fn reset(&mut self)
-        requires up { self.old.up ≡ true }
+        requires live { self.old.live ≡ true }
         ensures stands { (state : State) → CardRepresents F.Flash self.old state → CardRepresents F.Flash self.new (powered_on state.registry) }
-        ensures same { (self.new.flash ≡ self.old.flash) × (self.new.tables ≡ self.old.tables) × (self.new.up ≡ true) }
+        ensures same { (self.new.flash ≡ self.old.flash) × (self.new.tables ≡ self.old.tables) × (self.new.live ≡ true) }
     {
-        self.live = Live::powered_on();
+        self.volatile = Live::powered_on();
         self.held = nothing_held();
     }
 
     /// Whether no call on the device has failed.
     pub fn live(&self) -> bool
-        ensures { result ≡ self.now.up }
+        ensures { result ≡ self.now.live }
     {
-        self.up
+        self.live
     }
 
     /// The registry.

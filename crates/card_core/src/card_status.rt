@@ -21,7 +21,7 @@ pub fn set_card_status<F: Flash>(
     domain: u8,
     code: u8,
 ) -> Result<Status, Rule>
-    requires up { records.old.live ≡ true }
+    requires live { records.old.live ≡ true }
     requires clean { records.old.staged ≡ [] }
     requires cards { AreCards records.old.tables }
     requires domain { is_domain_in records.old.tables.entries.items domain ≡ true }

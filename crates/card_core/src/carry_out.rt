@@ -36,7 +36,7 @@ pub fn carry_out<F: Flash>(
     place: Option<&Place>,
     reply: &mut ArrayVec<u8, REPLY_LIMIT>,
 ) -> Result<Status, Rule>
-    requires up { records.old.live ≡ true }
+    requires live { records.old.live ≡ true }
     requires clean { records.old.staged ≡ [] }
     requires cards { AreCards records.old.tables }
     requires built { IsBuilt command.now.ins }

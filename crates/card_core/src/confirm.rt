@@ -36,7 +36,7 @@ pub fn confirm<F: Flash>(
     third: Option<&Aid>,
     reply: &mut ArrayVec<u8, REPLY_LIMIT>,
 )
-    requires up { records.old.live ≡ true }
+    requires live { records.old.live ≡ true }
     requires frames { HasRoomFor entry_pages records.old.staged }
     requires cards { AreCards records.old.tables }
     requires able { IfSome receipter (MayReceipt records.old.tables) }

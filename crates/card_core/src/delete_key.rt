@@ -24,7 +24,7 @@ pub fn delete_key<F: Flash>(
     identifier: Option<u8>,
     reply: &mut ArrayVec<u8, REPLY_LIMIT>,
 ) -> Result<Status, Rule>
-    requires up { records.old.live ≡ true }
+    requires live { records.old.live ≡ true }
     requires clean { records.old.staged ≡ [] }
     requires cards { AreCards records.old.tables }
     requires empty { reply.old.items ≡ [] }

@@ -27,7 +27,7 @@ fn feed_page<F: Flash>(
     count: usize,
     hasher: &mut Sha256,
 ) -> Result<(), FlashFailed>
-    requires up { records.old.live ≡ true }
+    requires live { records.old.live ≡ true }
     requires range { (96 ≤ page) × (page < 608) }
     requires count { count ≤ 256 }
     ensures fed { F.tells → (message : List ℕ) → Holds256 hasher.old message
@@ -43,7 +43,7 @@ fn feed_page<F: Flash>(
 
 // The digest of a file, read page by page.
 fn digest_of<F: Flash>(records: &mut Records<F>, file: LoadFile) -> Result<[u8; 32], FlashFailed>
-    requires up { records.old.live ≡ true }
+    requires live { records.old.live ≡ true }
     requires file { IsInLoadPages file }
     ensures digest { F.tells → IfOk result (λ digest.
         digest ≡ sha256 (take file.len (concat (map (load_page (F.pages records.old.flash)) (take ((file.len + 255) / 256) file.pages))))) }
@@ -62,25 +62,25 @@ fn digest_of<F: Flash>(records: &mut Records<F>, file: LoadFile) -> Result<[u8; 
 impl<F: Flash> Card<F> {
     /// SHA-256 (FIPS 180-4) over the bytes of the Executable Load File in a slot.
     pub fn file_digest(&mut self, slot: u8) -> Result<[u8; 32], FlashFailed>
-        requires up { self.old.up ≡ true }
+        requires live { self.old.live ≡ true }
         requires used { IsSome (held self.old.tables.files.items slot) }
         ensures digest { F.tells → IfOk result (λ digest. IfSome (held self.old.tables.files.items slot)
             (λ file. digest ≡ sha256 (file_of (load_page (F.pages self.old.flash)) self.old.tables.entries.items file).bytes)) }
-        ensures same { (self.new.tables ≡ self.old.tables) × (self.new.live ≡ self.old.live) × (self.new.held ≡ self.old.held) }
+        ensures same { (self.new.tables ≡ self.old.tables) × (self.new.volatile ≡ self.old.volatile) × (self.new.held ≡ self.old.held) }
         ensures pages { F.tells → F.pages self.new.flash ≡ F.pages self.old.flash }
         // Power lost at any moment leaves the registry.
         ensures moments { F.tells → (state : State) → CardRepresents F.Flash self.old state
             → LeavesOnly F.Flash self.old.flash self.new.flash (λ outcome. Reopens outcome state.registry) }
         ensures stands { (state : State) → CardRepresents F.Flash self.old state → OnOk result (CardRepresents F.Flash self.new state) }
-        ensures ok { OnOk result (self.new.up ≡ true) }
-        ensures failed { OnErr result (self.new.up ≡ false) }
+        ensures ok { OnOk result (self.new.live ≡ true) }
+        ensures failed { OnErr result (self.new.live ≡ false) }
         ensures cause { HasCause (F.faults self.old.flash) (F.faults self.new.flash) result }
     {
         let file = *in_slot(&self.records.tables().files, slot).unwrap();
         match digest_of(&mut self.records, file) {
             Ok(digest) => Ok(digest),
             Err(failed) => {
-                self.up = false;
+                self.live = false;
                 Err(failed)
             }
         }

@@ -25,7 +25,7 @@ use registry::{lock_tree, set_life};
 
 // Makes a change that was judged.
 fn make_change<F: Flash>(records: &mut Records<F>, change: StatusChange)
-    requires up { records.old.live ≡ true }
+    requires live { records.old.live ≡ true }
     requires slot { IsSome (held records.old.tables.entries.items (slot_of change)) }
     requires other { IsOther records.old.tables.entries.items change }
     requires no_loops { IsFreeOfLoops records.old.tables.entries.items }
@@ -50,7 +50,7 @@ pub fn set_entry_status<F: Flash>(
     domain: u8,
     request: &EntryStatusRequest,
 ) -> Result<Status, Rule>
-    requires up { records.old.live ≡ true }
+    requires live { records.old.live ≡ true }
     requires clean { records.old.staged ≡ [] }
     requires cards { AreCards records.old.tables }
     requires domain { is_domain_in records.old.tables.entries.items domain ≡ true }

@@ -2,14 +2,15 @@
 
 ghost use Rattle.std.specs.Prelude.{◌≡◌, ◌+◌, ◌<◌, ◌≤◌, ◌++◌, ℕ, List, [], IfNone, IfSome, IsSome, OnErr, length, option_copied};
 ghost use Rattle.card_core.specs.Lists.{Lists};
+ghost use Rattle.card_core.specs.Serves.{IsAsked};
 ghost use Rattle.card_core.specs.ShownParts.{IsPart};
 ghost use Rattle.card_types.specs.Found.{aid_of};
 ghost use Rattle.card_types.specs.InOrder.{IsInOrder};
 ghost use Rattle.card_types.specs.Registry.{Registry};
 ghost use Rattle.policy_rules.specs.Admission.{Admitted};
 ghost use Rattle.policy_rules.specs.GetStatus.{IsTemplate, Thing};
-ghost use Rattle.policy_rules.specs.Requests.{ActsIn, ForActing, IsRequestOf, IsWellFormed, RepresentsState};
-ghost use Rattle.policy_rules.specs.StatusRequests.{IsFirstShown, IsListOf, IsPlaceBefore, IsThingAt};
+ghost use Rattle.policy_rules.specs.Requests.{ActsIn, ForActing, IsWellFormed, RepresentsState};
+ghost use Rattle.policy_rules.specs.StatusRequests.{IsFirstShown, IsListOf, IsThingAt};
 ghost use Rattle.policy_rules.specs.declared.request.Request.TheVariants.{ListStatus};
 
 use crate::reply::REPLY_LIMIT;
@@ -92,9 +93,9 @@ pub fn get_status(
     requires channel { channel < CHANNELS }
     requires formed { IsWellFormed (ListStatus request.now) }
     requires empty { reply.old.items ≡ [] }
-    ensures done { ForActing tables.now domain (λ page asked. RepresentsState page tables.now live.old asked.at → channel ≡ asked.channel
-        → IsPlaceBefore (option_copied place.entry) asked → IsRequestOf (ListStatus request.now) asked.command
-        → Lists asked page tables.now live.old live.new reply.new.items result) }
+    ensures done { ForActing tables.now domain (λ page told. RepresentsState page tables.now live.old told.at
+        → IsAsked channel (ListStatus request.now) (option_copied place.entry) told
+        → Lists told page tables.now live.old live.new reply.new.items result) }
     ensures refused { OnErr result (live.new ≡ live.old) }
     ensures room { length reply.new.items ≤ 239 }
 {

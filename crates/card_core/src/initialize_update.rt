@@ -93,7 +93,7 @@ pub fn initialize_update<F: Flash>(
     challenge: &[u8],
     reply: &mut ArrayVec<u8, REPLY_LIMIT>,
 ) -> Result<Status, Rule>
-    requires up { records.old.live ≡ true }
+    requires live { records.old.live ≡ true }
     requires clean { records.old.staged ≡ [] }
     requires cards { AreCards records.old.tables }
     requires challenge { length challenge.now ≡ 8 }

@@ -90,7 +90,7 @@ pub fn load<F: Flash>(
     request: &LoadRequest<'_>,
     reply: &mut ArrayVec<u8, REPLY_LIMIT>,
 ) -> Result<Status, Rule>
-    requires up { records.old.live ≡ true }
+    requires live { records.old.live ≡ true }
     requires clean { records.old.staged ≡ [] }
     requires cards { AreCards records.old.tables }
     requires formed { IsWellFormed (Load request.now) }

@@ -29,7 +29,7 @@ pub fn add_loaded<F: Flash>(
     receipter: Option<u8>,
     reply: &mut ArrayVec<u8, REPLY_LIMIT>,
 )
-    requires up { records.old.live ≡ true }
+    requires live { records.old.live ≡ true }
     requires clean { records.old.staged ≡ [] }
     requires cards { AreCards records.old.tables }
     requires domain { is_domain_in records.old.tables.entries.items file.domain ≡ true }

@@ -39,7 +39,7 @@ pub fn perform<F: Flash>(
     place: Option<&Place>,
     reply: &mut ArrayVec<u8, REPLY_LIMIT>,
 ) -> Result<Status, Rule>
-    requires up { records.old.live ≡ true }
+    requires live { records.old.live ≡ true }
     requires clean { records.old.staged ≡ [] }
     requires cards { AreCards records.old.tables }
     requires channel { received.now.channel < CHANNELS }

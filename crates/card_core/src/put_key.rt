@@ -47,7 +47,7 @@ pub fn put_key<F: Flash>(
     keys: &PutKeys<'_>,
     reply: &mut ArrayVec<u8, REPLY_LIMIT>,
 ) -> Result<Status, Rule>
-    requires up { records.old.live ≡ true }
+    requires live { records.old.live ≡ true }
     requires clean { records.old.staged ≡ [] }
     requires cards { AreCards records.old.tables }
     requires domain { is_domain_in records.old.tables.entries.items domain ≡ true }

@@ -98,7 +98,7 @@ fn act<F: Flash>(
     place: Option<&Place>,
     reply: &mut ArrayVec<u8, REPLY_LIMIT>,
 ) -> Result<Status, Rule>
-    requires up { records.old.live ≡ true }
+    requires live { records.old.live ≡ true }
     requires clean { records.old.staged ≡ [] }
     requires cards { AreCards records.old.tables }
     requires built { IsBuilt command.now.ins }
@@ -181,7 +181,7 @@ pub fn serve<F: Flash>(
     bytes: &[u8],
     reply: &mut ArrayVec<u8, REPLY_LIMIT>,
 ) -> Option<Rule>
-    requires up { records.old.live ≡ true }
+    requires live { records.old.live ≡ true }
     requires clean { records.old.staged ≡ [] }
     requires cards { AreCards records.old.tables }
     requires some { RepresentsSome (kept_of records.old.tables live.old held.old) loading.old.session }

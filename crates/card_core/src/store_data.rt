@@ -64,7 +64,7 @@ fn object_of(owner: u8, element: &Tlv<'_>) -> Object
 
 // Puts a data object of the domain in a slot, in the place of the one with its tag.
 fn put_object<F: Flash>(records: &mut Records<F>, owner: u8, element: &Tlv<'_>)
-    requires up { records.old.live ≡ true }
+    requires live { records.old.live ≡ true }
     requires frames { HasRoomFor object_pages records.old.staged }
     requires size { length element.now.value.now ≤ 120 }
     requires room { has_object_in records.old.tables.objects.items owner element.now.tag ≡ false → length (used records.old.tables.objects.items) < OBJECTS }
@@ -83,7 +83,7 @@ pub fn store_data<F: Flash>(
     domain: u8,
     objects: &[u8],
 ) -> Result<Status, Rule>
-    requires up { records.old.live ≡ true }
+    requires live { records.old.live ≡ true }
     requires clean { records.old.staged ≡ [] }
     requires cards { AreCards records.old.tables }
     requires domain { is_domain_in records.old.tables.entries.items domain ≡ true }

@@ -48,13 +48,13 @@ fn take_turn<S: Source, K: Sink, F: Flash>(
     sink: &mut K,
 ) -> Option<Ending>
     requires stop { lines.old.stop ≡ None }
-    requires up { card.old.up ≡ true }
+    requires live { card.old.live ≡ true }
     requires few { done.old ≤ lines.old.passed }
     ensures goes_on { IfNone result (TurnGoesOn F.Flash S.tells K.tells card.old card.new done.old done.new lines.old lines.new
         (outside (S.state source.old) (K.state sink.old)) (outside (S.state source.new) (K.state sink.new))) }
     ensures ends { IfSome result (TurnEnds F.Flash S.tells K.tells card.old card.new done.old done.new lines.old
         (outside (S.state source.old) (K.state sink.old)) (outside (S.state source.new) (K.state sink.new))) }
-    ensures up { IfNone result (card.new.up ≡ true) }
+    ensures live { IfNone result (card.new.live ≡ true) }
     ensures few { done.new ≤ done.old + 1 }
     ensures flushes { (K.state sink.new).flushes ≡ (K.state sink.old).flushes }
     ensures quiet { IfNone result (((S.state source.new).faults ≡ (S.state source.old).faults) × ((K.state sink.new).faults ≡ (K.state sink.old).faults)) }
@@ -82,7 +82,7 @@ fn take_lines<S: Source, K: Sink, F: Flash>(
     source: &mut S,
     sink: &mut K,
 ) -> RunEnd
-    requires up { card.old.up ≡ true }
+    requires live { card.old.live ≡ true }
     ensures flushes { (K.state sink.new).flushes ≡ (K.state sink.old).flushes }
     ensures ends { (first : State) → CardRepresents F.Flash card.old first
         → RunEnds S.Source K.Sink F.Flash first result.ending result.done (around source.old sink.old card.old.flash) (around source.new sink.new card.new.flash) }
@@ -125,7 +125,7 @@ pub fn flush_at_end<K: Sink>(ending: Ending, sink: &mut K) -> Ending
 
 /// Gives the lines of a source to a card, and writes each reply before the next line is taken.
 pub fn run<S: Source, K: Sink, F: Flash>(card: &mut Card<F>, source: &mut S, sink: &mut K) -> RunEnd
-    requires up { card.old.up ≡ true }
+    requires live { card.old.live ≡ true }
     ensures flushes { Flushes K.tells result.ending (K.state sink.old) (K.state sink.new) }
     ensures ends { (first : State) → CardRepresents F.Flash card.old first
         → RunEnds S.Source K.Sink F.Flash first result.ending result.done (around source.old sink.old card.old.flash) (around source.new sink.new card.new.flash) }

@@ -43,13 +43,13 @@ pub fn serve_line<K: Sink, F: Flash>(
     sink: &mut K,
 ) -> Served
     requires line { length line.now ≤ LINE_LIMIT }
-    requires up { card.old.up ≡ true }
+    requires live { card.old.live ≡ true }
     requires few { done.old < INPUT_LIMIT }
     ensures served { ServesLine K.tells line.now ((card.new ≡ card.old) × (done.new ≡ done.old))
         (CardRepresents F.Flash card.old) (CardRepresents F.Flash card.new)
         (LeavesOneOf F.Flash card.old.flash card.new.flash)
         done.old done.new (K.state sink.old).written (K.state sink.new).written result }
-    ensures up { IfServed result (card.new.up ≡ true) }
+    ensures live { IfServed result (card.new.live ≡ true) }
     ensures few { done.new ≤ done.old + 1 }
     ensures flushes { (K.state sink.new).flushes ≡ (K.state sink.old).flushes }
     ensures later { F.faults card.old.flash ≤ F.faults card.new.flash }

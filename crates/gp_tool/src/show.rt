@@ -92,7 +92,7 @@ fn show_data<K: Sink>(tables: &Tables, sink: &mut K) -> Result<(), WriteFailed>
 
 /// Writes the registry of a card as text, a line at a time. Only the digests of Executable Load Files make calls on the device.
 pub fn show<F: Flash, K: Sink>(card: &mut Card<F>, sink: &mut K) -> Result<(), ShowFault>
-    requires up { card.old.up ≡ true }
+    requires live { card.old.live ≡ true }
     ensures written { (state : State) → CardRepresents F.Flash card.old state → F.tells → K.tells
         → OnOk result ((K.state sink.new).written ≡ (K.state sink.old).written ++ shown state.registry) }
     ensures part { (state : State) → CardRepresents F.Flash card.old state → F.tells → K.tells

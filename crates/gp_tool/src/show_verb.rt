@@ -23,7 +23,7 @@ use std::alloc::Global;
 
 // Writes the registry of a card, and hands it on.
 fn show_card<K: Sink, F: Flash>(card: &mut Card<F>, sink: &mut K) -> Ending
-    requires up { card.old.up ≡ true }
+    requires live { card.old.live ≡ true }
     ensures cause { EndCause result (faults_of unread (K.state sink.old) (F.faults card.old.flash)) (faults_of unread (K.state sink.new) (F.faults card.new.flash)) }
     ensures flushes { Flushes K.tells result (K.state sink.old) (K.state sink.new) }
     ensures ends { (state : State) → CardRepresents F.Flash card.old state

@@ -93,7 +93,7 @@ fn write_file<F: Flash, K: Sink>(
     file: &LoadFile,
     sink: &mut K,
 ) -> Result<(), ShowFault>
-    requires up { card.old.up ≡ true }
+    requires live { card.old.live ≡ true }
     requires used { held card.old.tables.files.items slot ≡ Some file.now }
     ensures written { F.tells → (state : State) → CardRepresents F.Flash card.old state
         → Writes K.tells (K.state sink.old).written (K.state sink.new).written (file_line (file_of (load_page (F.pages card.old.flash)) card.old.tables.entries.items file.now)) result }
@@ -103,7 +103,7 @@ fn write_file<F: Flash, K: Sink>(
     ensures refused { (state : State) → CardRepresents F.Flash card.old state
         → IfErr result (λ fault. fault ≡ Write → CardRepresents F.Flash card.new state) }
     ensures same { card.new.tables ≡ card.old.tables }
-    ensures up { OnOk result (card.new.up ≡ true) }
+    ensures live { OnOk result (card.new.live ≡ true) }
     ensures pages { F.tells → F.pages card.new.flash ≡ F.pages card.old.flash }
     ensures flushes { (K.state sink.new).flushes ≡ (K.state sink.old).flushes }
     ensures later { F.faults card.old.flash ≤ F.faults card.new.flash }
@@ -122,7 +122,7 @@ fn write_file<F: Flash, K: Sink>(
 
 /// Writes the lines of the Executable Load Files.
 pub fn show_files<F: Flash, K: Sink>(card: &mut Card<F>, sink: &mut K) -> Result<(), ShowFault>
-    requires up { card.old.up ≡ true }
+    requires live { card.old.live ≡ true }
     ensures written { F.tells → (state : State) → CardRepresents F.Flash card.old state
         → Writes K.tells (K.state sink.old).written (K.state sink.new).written (flat_map file_line state.registry.files) result }
     ensures moments { F.tells → (state : State) → CardRepresents F.Flash card.old state

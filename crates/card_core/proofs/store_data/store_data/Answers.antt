@@ -76,7 +76,7 @@ returns-in_err-judge_store_data-clause-done g c page admitted acts request =
 pub loop-element-init : goal.loop-element-init
 loop-element-init g c = record {
   flash = refl;
-  live = c.requires.up;
+  live = c.requires.live;
   frames = rw c.requires.clean (search rules);
   same = all_same c.args.records.now.tables;
   put = λ elements are forms. (

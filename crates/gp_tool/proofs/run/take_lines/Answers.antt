@@ -10,7 +10,7 @@ loop-ending-init g c =
     rw c.new-lines.ensures (record {
       stop = refl;
       within = omega arith;
-      up = c.requires.up;
+      live = c.requires.live;
       few = omega arith;
       reads = refl;
       writes = refl;
@@ -46,7 +46,7 @@ loop-ending-preserved g c =
     record {
       stop = on.stop;
       within = on.within;
-      up = c.in_default.ensures.up;
+      live = c.in_default.ensures.live;
       few = omega (arith, kept.few, on.further, c.in_default.ensures.few);
       reads = quiet.0 ∙ kept.reads;
       writes = quiet.1 ∙ kept.writes;

@@ -11,7 +11,7 @@ abbrev pub invariant-loop-ending : goal.invariant-loop-ending
 invariant-loop-ending g l = record {
   stop : l.lines.stop ≡ None;
   within : IsWithin l.lines;
-  up : l.card.up ≡ true;
+  live : l.card.live ≡ true;
   few : l.done ≤ l.lines.passed;
   reads : (g.S.Source.state l.source).faults ≡ (g.S.Source.state l.fn.source).faults;
   writes : (g.K.Sink.state l.sink).faults ≡ (g.K.Sink.state l.fn.sink).faults;

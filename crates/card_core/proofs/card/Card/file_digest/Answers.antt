@@ -25,19 +25,19 @@ pub invariant_of-self : goal.invariant_of-self
 invariant_of-self g c =
     let read = c.digest_of.ensures.read in (
       subst AreCards (sym read.tables) c.self.invariant.0,
-      λ up. (let was = c.self.invariant.1 up in (
+      λ live. (let was = c.self.invariant.1 live in (
         record {
           live = read.live ∙ was.0.live;
           staged = read.staged ∙ was.0.staged;
           writes = was.0.writes;
           spare = λ told. rw (read.tables) (spare_over g.F.Flash c.self.inside.records.flash c.digest_of.new.records.flash c.self.inside.records.tables (read.seen told) (was.0.spare told));
         },
-        subst (λ t. RepresentsSome (record { tables = t; live = c.self.inside.live; held = c.self.inside.held }) c.self.inside.loading.session) (sym read.tables) was.1,
+        subst (λ t. RepresentsSome (record { tables = t; live = c.self.inside.volatile; held = c.self.inside.held }) c.self.inside.loading.session) (sym read.tables) was.1,
       )),
     )
 
 pub invariant_of-self-in-Err : goal.invariant_of-self-in-Err
-invariant_of-self-in-Err g c = (subst AreCards (sym c.digest_of.ensures.read.tables) c.self.invariant.0, λ up. cc)
+invariant_of-self-in-Err g c = (subst AreCards (sym c.digest_of.ensures.read.tables) c.self.invariant.0, λ live. cc)
 
 pub returns-in-Ok-clause-moments : goal.returns-in-Ok-clause-moments
 returns-in-Ok-clause-moments g c told state stands =
@@ -56,7 +56,7 @@ returns-in-Ok-clause-stands g c state stood =
     let stands = rw (← c.self.view_is) at stood in
     let read = c.digest_of.ensures.read in
     record {
-      up = stands.up;
+      live = stands.live;
       page = stands.page;
       whole = stands.whole;
       on = rw read.tables stands.on;

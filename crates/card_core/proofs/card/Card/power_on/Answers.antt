@@ -9,7 +9,7 @@ returns-in-Ok-clause-stands g c =
 pub invariant_of-result : goal.invariant_of-result
 invariant_of-result g c = (
   c.in-Ok.ensures.card,
-  λ up. (
+  λ live. (
     record { live = c.in-Ok.ensures.ready.1; staged = c.in-Ok.ensures.ready.0; writes = c.new.ensures.writes; spare = c.in-Ok.ensures.spare },
     powered_some g.F.Flash c.powered_on.result c.nothing_held.result c.new.result.session c.powered_on.ensures c.nothing_held.ensures c.in-Ok.records.tables c.in-Ok.ensures.card,
   ),

@@ -11,27 +11,27 @@ use Rattle.card_core.specs.Loading.{RepresentsAll}
 use Rattle.card_core.proofs.card.Card.process.Goals as goal
 
 pub serve-rule-requires-clause-some : goal.serve-rule-requires-clause-some
-serve-rule-requires-clause-some g c = (c.self.invariant.1 (ap (λ view. view.up) c.self.view_is ∙ c.requires.up)).1
+serve-rule-requires-clause-some g c = (c.self.invariant.1 (ap (λ view. view.live) c.self.view_is ∙ c.requires.live)).1
 
 pub commit-requires-clause-spare : goal.commit-requires-clause-spare
 commit-requires-clause-spare g c = λ told.
-    let idle = (c.self.invariant.1 (ap (λ view. view.up) c.self.view_is ∙ c.requires.up)).0 in
+    let idle = (c.self.invariant.1 (ap (λ view. view.live) c.self.view_is ∙ c.requires.live)).0 in
     rw c.deref.ensures.0 (free_spare g.F.Flash c.self.inside.records.flash c.serve-rule.new.records.flash c.self.inside.records.tables c.serve-rule.new.loading.writes.items
     c.serve-rule.ensures.same.0 (idle.spare told) c.serve-rule.ensures.writes)
 
 pub invariant_of-self : goal.invariant_of-self
 invariant_of-self g c = (
   subst AreCards (sym c.in-Ok.ensures.tables) c.serve-rule.ensures.cards,
-  λ up. (
+  λ live. (
     record { live = c.in-Ok.ensures.ok.1; staged = c.in-Ok.ensures.ok.0; writes = c.clear-in-Ok.ensures; spare = c.in-Ok.ensures.spare },
-    (let some = (c.self.invariant.1 (ap (λ view. view.up) c.self.view_is ∙ c.requires.up)).1 in
+    (let some = (c.self.invariant.1 (ap (λ view. view.live) c.self.view_is ∙ c.requires.live)).1 in
         let served = c.serve-rule.ensures.served some.page some.state some.whole some.shows in
         record { page = loaded some.page c.serve-rule.new.loading.writes.items; whole = pages_stay_whole some.page c.serve-rule.new.loading.writes.items c.serve-rule.ensures.writes.whole some.whole; state = served.0; shows = rw c.in-Ok.ensures.tables served.1 }),
   ),
 )
 
 pub invariant_of-self-in-Err : goal.invariant_of-self-in-Err
-invariant_of-self-in-Err g c = (subst AreCards (sym c.in-Err.ensures.tables) c.serve-rule.ensures.cards, λ up. cc)
+invariant_of-self-in-Err g c = (subst AreCards (sym c.in-Err.ensures.tables) c.serve-rule.ensures.cards, λ live. cc)
 
 -- power lost at any moment leaves the registry from before, or the one after the command
 pub returns-in-Ok-clause-step : goal.returns-in-Ok-clause-step
@@ -49,7 +49,7 @@ returns-in-Ok-clause-step g c state stands =
       committed F card state stands rule.new.records.flash same c.commit.new.records.flash writes rule.new.records.tables served.0.registry says (rw c.deref.ensures.0 at c.in-Ok.ensures.moments),
       (
         record {
-          up = ap (λ view. view.up) c.self.view_is ∙ stands.up;
+          live = ap (λ view. view.live) c.self.view_is ∙ stands.live;
           page = loaded stands.page writes;
           whole = pages_stay_whole stands.page writes rule.ensures.writes.whole stands.whole;
           on = rw c.in-Ok.ensures.tables served.1.on;

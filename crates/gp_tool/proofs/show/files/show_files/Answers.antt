@@ -24,7 +24,7 @@ loop-init g c =
     let F = g.F.Flash in
     let card = c.args.card.now in
     record {
-      up = c.requires.up;
+      live = c.requires.live;
       tables = refl;
       stands = λ state stands. stands;
       moments = λ told state stands. still_leaves F card state stands g.met.F.Flash.only_now told;
@@ -44,7 +44,7 @@ loop-preserved g c =
     let was = c.loop.invariant in
     let next = c.in_ok-write_file-in-Some.ensures in
     record {
-      up = next.up;
+      live = next.live;
       tables = c.write_file.ensures.same ∙ was.tables;
       stands = λ state stands. next.stands state (was.stands state stands);
       moments = λ told state stands.

@@ -14,7 +14,7 @@ abbrev pub invariant-loop : goal.invariant-loop
 invariant-loop g l =
     let F = g.F.Flash in
     let first = l.initial.card in record {
-      up : l.card.up ≡ true;
+      live : l.card.live ≡ true;
       tables : l.card.tables ≡ first.tables;
       stands : (state : State) → CardRepresents F first state → CardRepresents F l.card state;
       moments : F.tells → (state : State) → CardRepresents F first state
