@@ -1,0 +1,4 @@
+pub mod Digits
+pub mod Split
+pub mod Verbs
+pub mod ShortCommand

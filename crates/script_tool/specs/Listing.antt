@@ -1,0 +1,15 @@
+-- `list P1 [AID]` and `more P1 [AID]` are GET STATUS, for the first and for the next objects.
+use Rattle.std.specs.Prelude.{◌≡◌, ℕ, List, [], ◌∷◌}
+use Rattle.script_tool.specs.Values.{SpellsByte, SpellsUpTo}
+use Rattle.script_tool.specs.declared.listing.Listing.{Listing}
+
+-- the first bytes of an AID, 1 to 16, or none where the words end
+abbrev pub MayBegin : List (List ℕ) → List ℕ → Type 0
+MayBegin [] bytes = bytes ≡ []
+MayBegin (word ∷ []) bytes = SpellsUpTo 16 word bytes
+MayBegin _ bytes = ⊥
+
+-- P1, and what the AIDs begin with
+abbrev pub SaysListing : List ℕ → List (List ℕ) → Listing → Type 0
+SaysListing wanted (verb ∷ p1 ∷ aid) l = (verb ≡ wanted) × SpellsByte p1 l.p1 × MayBegin aid l.prefix.items
+SaysListing wanted _ l = ⊥

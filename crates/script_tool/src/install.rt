@@ -1,0 +1,78 @@
+//! Applications to install.
+
+ghost use Rattle.script_tool.specs.Install.{SaysInstall, SpellsParameters, SpellsPrivileges, install_p1};
+ghost use Rattle.script_tool.specs.Reads.{Reads};
+ghost use Rattle.script_tool.specs.Values.{SpellsByte};
+ghost use Rattle.script_tool.specs.Words.{left};
+
+use crate::values::{aid, byte, bytes};
+use crate::words::Words;
+use arrayvec::ArrayVec;
+use card_types::Aid;
+
+/// An application to install: whether it is made selectable too, its Executable Load File and Module,
+/// its AID, its privileges in one byte or three, and its parameters.
+#[derive(Drop)]
+pub struct Installation {
+    pub selectable: bool,
+    pub file: Aid,
+    pub module: Aid,
+    pub aid: Aid,
+    pub privileges: ArrayVec<u8, 3>,
+    pub parameters: ArrayVec<u8, 127>,
+}
+
+// Whether P1 makes the application selectable.
+#[tactic(auto, unfolding(crate::specs::Values::SpellsByte))]
+fn selectable(word: &[u8]) -> Option<bool>
+    ensures { Reads (λ selectable. SpellsByte word.now (install_p1 selectable)) result }
+{
+    match byte(word)? {
+        0x04 => Some(false),
+        0x0c => Some(true),
+        _ => None,
+    }
+}
+
+#[tactic(auto, unfolding(crate::specs::Install::SpellsPrivileges, crate::specs::Values::SpellsUpTo))]
+fn privileges(word: &[u8]) -> Option<ArrayVec<u8, 3>>
+    ensures { Reads (λ privileges. SpellsPrivileges word.now privileges.items) result }
+{
+    let privileges: ArrayVec<u8, 3> = bytes(word)?;
+    if privileges.len() == 2 {
+        return None;
+    }
+    Some(privileges)
+}
+
+#[tactic(auto, unfolding(crate::specs::Install::SpellsParameters))]
+fn parameters(word: &[u8]) -> Option<ArrayVec<u8, 127>>
+    ensures { Reads (λ parameters. SpellsParameters word.now parameters.items) result }
+{
+    if word == b"-".as_slice() {
+        return Some(ArrayVec::new());
+    }
+    bytes(word)
+}
+
+/// Reads `install P1 FILE MODULE AID PRIV PARAMS`.
+pub fn read(words: Words<'_>) -> Option<Installation>
+    ensures { Reads (SaysInstall (left words.entry)) result }
+{
+    let mut words = words;
+    words.fixed(b"install")?;
+    let selectable = selectable(words.take()?)?;
+    let file = aid(words.take()?)?;
+    let module = aid(words.take()?)?;
+    let aid = aid(words.take()?)?;
+    let privileges = privileges(words.take()?)?;
+    let parameters = parameters(words.last()?)?;
+    Some(Installation {
+        selectable,
+        file,
+        module,
+        aid,
+        privileges,
+        parameters,
+    })
+}

@@ -1,0 +1,44 @@
+//! Changes of a life cycle state.
+
+ghost use Rattle.script_tool.specs.Life.{MayName, SaysLife};
+ghost use Rattle.script_tool.specs.Reads.{Reads};
+ghost use Rattle.script_tool.specs.Words.{left};
+
+use crate::values::{aid, byte};
+use crate::words::Words;
+use card_types::Aid;
+
+/// A SET STATUS: P1, P2, and the object if one is named.
+#[derive(Clone, Copy)]
+pub struct LifeChange {
+    pub p1: u8,
+    pub p2: u8,
+    pub aid: Option<Aid>,
+}
+
+// The AID, or none where the words end.
+fn may_name(words: Words<'_>) -> Option<Option<Aid>>
+    ensures { Reads (MayName (left words.entry)) result }
+{
+    let mut words = words;
+    match words.take() {
+        None => Some(None),
+        Some(word) => {
+            let aid = aid(word)?;
+            words.end()?;
+            Some(Some(aid))
+        }
+    }
+}
+
+/// Reads `life P1 P2 [AID]`.
+pub fn read(words: Words<'_>) -> Option<LifeChange>
+    ensures { Reads (SaysLife (left words.entry)) result }
+{
+    let mut words = words;
+    words.fixed(b"life")?;
+    let p1 = byte(words.take()?)?;
+    let p2 = byte(words.take()?)?;
+    let aid = may_name(words)?;
+    Some(LifeChange { p1, p2, aid })
+}

@@ -1,0 +1,71 @@
+//! What a line says.
+
+ghost use Rattle.std.specs.Prelude.{◌↔◌, IsTrue, IfNone, IfSome};
+ghost use Rattle.script_tool.specs.Line.{HasNoForm, IsBlank, IsComment, SaysLine, SaysQuietly};
+ghost use Rattle.script_tool.specs.Reads.{Reads};
+ghost use Rattle.script_tool.specs.Words.{left};
+
+use crate::control::{self, Control};
+use crate::exchange::{self, Exchange};
+use crate::words::Words;
+
+/// What a line says.
+#[derive(Drop)]
+pub enum ScriptLine {
+    /// Nothing: it is blank or a comment.
+    Nothing,
+
+    /// Something that sends nothing to the card.
+    Control(Control),
+
+    /// Something to send to the card.
+    Exchange(Exchange),
+
+    /// Something to send, of whose reply the status alone is printed.
+    Quiet(Exchange),
+}
+
+// Whether a line is empty or has spaces alone.
+fn is_blank(text: &[u8]) -> bool
+    ensures { IsTrue result ↔ IsBlank text.now }
+{
+    text.iter().all(|byte| *byte == b' ')
+}
+
+fn is_comment(text: &[u8]) -> bool
+    ensures { IsTrue result ↔ IsComment text.now }
+{
+    matches!(text, [b'#', ..])
+}
+
+// `- ` and something to send.
+fn quiet(words: Words<'_>) -> Option<Exchange>
+    ensures { Reads (SaysQuietly (left words.entry)) result }
+{
+    let mut words = words;
+    words.fixed(b"-")?;
+    exchange::read(words)
+}
+
+impl ScriptLine {
+    /// What a text says, or nothing where it has no form.
+    pub fn read(text: &[u8]) -> Option<ScriptLine>
+        ensures said { IfSome result (λ line. SaysLine text.now line) }
+        ensures none { IfNone result (HasNoForm text.now) }
+    {
+        if is_blank(text) || is_comment(text) {
+            return Some(ScriptLine::Nothing);
+        }
+        let words = Words::new(text);
+        if let Some(control) = control::read(words) {
+            return Some(ScriptLine::Control(control));
+        }
+        if let Some(exchange) = exchange::read(words) {
+            return Some(ScriptLine::Exchange(exchange));
+        }
+        if let Some(exchange) = quiet(words) {
+            return Some(ScriptLine::Quiet(exchange));
+        }
+        None
+    }
+}

@@ -1,0 +1,42 @@
+//! Lists of objects.
+
+ghost use Rattle.script_tool.specs.Listing.{MayBegin, SaysListing};
+ghost use Rattle.script_tool.specs.Reads.{Reads};
+ghost use Rattle.script_tool.specs.Words.{left};
+
+use crate::values::{byte, bytes};
+use crate::words::Words;
+use arrayvec::ArrayVec;
+
+/// A GET STATUS: P1, and the bytes that each AID begins with.
+#[derive(Drop)]
+pub struct Listing {
+    pub p1: u8,
+    pub prefix: ArrayVec<u8, 16>,
+}
+
+// The bytes that each AID begins with, or none where the words end.
+fn may_begin(words: Words<'_>) -> Option<ArrayVec<u8, 16>>
+    ensures { Reads (λ prefix. MayBegin (left words.entry) prefix.items) result }
+{
+    let mut words = words;
+    match words.take() {
+        None => Some(ArrayVec::new()),
+        Some(word) => {
+            let prefix = bytes(word)?;
+            words.end()?;
+            Some(prefix)
+        }
+    }
+}
+
+/// Reads `list P1 [AID]` or `more P1 [AID]`.
+pub fn read(verb: &[u8], words: Words<'_>) -> Option<Listing>
+    ensures { Reads (SaysListing verb.now (left words.entry)) result }
+{
+    let mut words = words;
+    words.fixed(verb)?;
+    let p1 = byte(words.take()?)?;
+    let prefix = may_begin(words)?;
+    Some(Listing { p1, prefix })
+}

@@ -1,0 +1,30 @@
+//! Bytes to send, and the data of STORE DATA.
+
+ghost use Rattle.script_tool.specs.Raw.{SaysRaw};
+ghost use Rattle.script_tool.specs.Reads.{Reads};
+ghost use Rattle.script_tool.specs.Store.{SaysStore};
+ghost use Rattle.script_tool.specs.Words.{left};
+
+use crate::values::bytes;
+use crate::words::Words;
+use arrayvec::ArrayVec;
+
+/// Reads `raw HEX`.
+pub fn read_raw(words: Words<'_>) -> Option<ArrayVec<u8, 258>>
+    ensures { Reads (SaysRaw (left words.entry)) result }
+{
+    let mut words = words;
+    words.fixed(b"raw")?;
+    let bytes = bytes(words.last()?)?;
+    Some(bytes)
+}
+
+/// Reads `store HEX`.
+pub fn read_store(words: Words<'_>) -> Option<ArrayVec<u8, 258>>
+    ensures { Reads (SaysStore (left words.entry)) result }
+{
+    let mut words = words;
+    words.fixed(b"store")?;
+    let field = bytes(words.last()?)?;
+    Some(field)
+}

@@ -1,0 +1,25 @@
+//! The AID to select.
+
+ghost use Rattle.script_tool.specs.Reads.{Reads};
+ghost use Rattle.script_tool.specs.Select.{SaysSelect};
+ghost use Rattle.script_tool.specs.Words.{left};
+
+use crate::values::aid;
+use crate::words::Words;
+use card_types::Aid;
+
+/// Reads `select [AID]`.
+pub fn read(words: Words<'_>) -> Option<Option<Aid>>
+    ensures { Reads (SaysSelect (left words.entry)) result }
+{
+    let mut words = words;
+    words.fixed(b"select")?;
+    match words.take() {
+        None => Some(None),
+        Some(word) => {
+            let aid = aid(word)?;
+            words.end()?;
+            Some(Some(aid))
+        }
+    }
+}
