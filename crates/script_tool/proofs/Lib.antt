@@ -1,4 +1,10 @@
 pub mod Digits
+pub mod OneControl
+pub mod OneKey
+pub mod OneLine
+pub mod OneOrder
+pub mod OneValue
+pub mod OneVerb
+pub mod ShortCommand
 pub mod Split
 pub mod Verbs
-pub mod ShortCommand
