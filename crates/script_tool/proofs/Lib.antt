@@ -8,3 +8,4 @@ pub mod OneVerb
 pub mod ShortCommand
 pub mod Split
 pub mod Verbs
+pub mod Workload

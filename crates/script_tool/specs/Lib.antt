@@ -9,10 +9,12 @@ pub mod Life
 pub mod Line
 pub mod Listing
 pub mod Load
+pub mod Mill
 pub mod Open
 pub mod PutKey
 pub mod Raw
 pub mod Reads
+pub mod Round
 pub mod Select
 pub mod Selectable
 pub mod Send
