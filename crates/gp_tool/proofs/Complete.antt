@@ -12,6 +12,7 @@ use Rattle.gp_tool.specs.Ends.{Outside, Reached, Ends, EndCause, Faults, IsBad, 
 use Rattle.gp_tool.specs.Servable.{AreServable, IsServable}
 use Rattle.gp_tool.specs.declared.ending.Ending.{Ending}
 use Rattle.gp_tool.specs.declared.ending.Ending.TheVariants.{Finished, BadLine, FlashFault, ReadFault, WriteFault, InputTooLong}
+use Rattle.gp_tool.specs.declared.verb.Verb.{Verb}
 
 good_after : (given : List (List ℕ)) (line : List ℕ) (more : List (List ℕ)) → AreServable (given ++ line ∷ more) → IsServable line
 good_after [] line more good = good.0
@@ -49,8 +50,8 @@ never_bad input given ahead reached good short (line, inr long) =
       | inr cut ↦ never_cut input given ahead line reached short cut
     ]
 
-module _ (reads writes : Type 0) (Rests : List Outcome → State → Type 0) (Fails : List Outcome → State → Outcome → Type 0) (first : State) (before later : Outside) (old new : Faults) where
-  pub finishes : (ending : Ending) → EndCause ending old new → Ends reads writes Rests Fails first ending before later → reads
+module _ (verb : Verb) (reads writes : Type 0) (Rests : List Outcome → State → Type 0) (Fails : List Outcome → State → Outcome → Type 0) (first : State) (before later : Outside) (old new : Faults) where
+  pub finishes : (ending : Ending) → EndCause ending old new → Ends verb reads writes Rests Fails first ending before later → reads
       → AreServable (lines before.source.left) → length before.source.left < INPUT_LIMIT
       → (Rose old.source new.source → ⊥) → (Rose old.sink new.sink → ⊥) → (Rose old.device new.device → ⊥) → ending ≡ Finished
   finishes Finished cause ends told good short no_read no_write no_flash = refl

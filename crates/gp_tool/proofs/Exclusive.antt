@@ -16,6 +16,7 @@ use Rattle.gp_tool.specs.Laws.{EndsTold, IsFaultless}
 use Rattle.gp_tool.specs.RunsLines.{RunsLines, bad_line, text_of}
 use Rattle.gp_tool.specs.declared.ending.Ending.{Ending}
 use Rattle.gp_tool.specs.declared.ending.Ending.TheVariants.{Finished, BadLine, FlashFault, ReadFault, WriteFault, InputTooLong}
+use Rattle.gp_tool.specs.declared.verb.Verb.{Verb}
 
 good_spelled : (given : List (List ℕ)) (inputs : List Input) → AreSpelled given inputs → AreShort given → AreServable given
 good_spelled [] inputs spelled short = tt
@@ -88,11 +89,11 @@ halts_once room input (line ∷ given) (other ∷ others) ahead another halts ag
     (subst (λ (bytes : List ℕ). HaltsBehind (room_left room input bytes) bytes others another) (sym same.1) further) in
     (ap (λ l. l ∷ given) same.0 ∙ ap (λ ls. other ∷ ls) more.0, more.1)
 
-halts_bad : (first : State) (old new : Outside) (ends : EndsTold first BadLine old new) → HaltsBehind INPUT_LIMIT old.source.left ends.given ends.ahead
-halts_bad first old new ends = (ends.reached tt, are_good first ends.given ends.outcomes ends.state ends.course, inl (ends.bad tt))
+halts_bad : (verb : Verb) (first : State) (old new : Outside) (ends : EndsTold verb first BadLine old new) → HaltsBehind INPUT_LIMIT old.source.left ends.given ends.ahead
+halts_bad verb first old new ends = (ends.reached tt, are_good first ends.given ends.outcomes ends.state ends.course, inl (ends.bad tt))
 
-halts_cut : (first : State) (old new : Outside) (ends : EndsTold first InputTooLong old new) → HaltsBehind INPUT_LIMIT old.source.left ends.given ends.ahead
-halts_cut first old new ends = (ends.reached tt, are_good first ends.given ends.outcomes ends.state ends.course, inr (ends.cut tt))
+halts_cut : (verb : Verb) (first : State) (old new : Outside) (ends : EndsTold verb first InputTooLong old new) → HaltsBehind INPUT_LIMIT old.source.left ends.given ends.ahead
+halts_cut verb first old new ends = (ends.reached tt, are_good first ends.given ends.outcomes ends.state ends.course, inr (ends.cut tt))
 
 -- the same lines, the same outcomes
 outcomes_once : (first : State) (given others : List (List ℕ)) (some more : List Outcome) (last another : State)
@@ -101,48 +102,48 @@ outcomes_once first given others some more last another course other same =
     let played = plays_once first others some more last another (subst (λ (ls : List (List ℕ)). RunsLines first ls some last) same course.plays) other.plays in
     played.0
 
-no_bad_end : (first : State) (old new other : Outside) → EndsTold first Finished old new → EndsTold first BadLine old other → ⊥
-no_bad_end first old new other done bad =
+no_bad_end : (verb : Verb) (first : State) (old new other : Outside) → EndsTold verb first Finished old new → EndsTold verb first BadLine old other → ⊥
+no_bad_end verb first old new other done bad =
     never_bad old.source.left bad.given bad.ahead (bad.reached tt) (rw (done.all tt) (are_good first done.given done.outcomes done.state done.course)) (done.short tt) (bad.bad tt)
 
-no_cut_end : (first : State) (old new other : Outside) → EndsTold first Finished old new → EndsTold first InputTooLong old other → ⊥
-no_cut_end first old new other done cut =
+no_cut_end : (verb : Verb) (first : State) (old new other : Outside) → EndsTold verb first Finished old new → EndsTold verb first InputTooLong old other → ⊥
+no_cut_end verb first old new other done cut =
     let is_cut = cut.cut tt in
     never_cut old.source.left cut.given cut.ahead is_cut.0 (cut.reached tt) (done.short tt) is_cut.1
 
-no_bad_cut : (first : State) (old new other : Outside) → EndsTold first BadLine old new → EndsTold first InputTooLong old other → ⊥
-no_bad_cut first old new other bad cut =
-    let same = halts_once INPUT_LIMIT old.source.left bad.given cut.given bad.ahead cut.ahead (halts_bad first old new bad) (halts_cut first old other cut) in
+no_bad_cut : (verb : Verb) (first : State) (old new other : Outside) → EndsTold verb first BadLine old new → EndsTold verb first InputTooLong old other → ⊥
+no_bad_cut verb first old new other bad cut =
+    let same = halts_once INPUT_LIMIT old.source.left bad.given cut.given bad.ahead cut.ahead (halts_bad verb first old new bad) (halts_cut verb first old other cut) in
     bad_not_cut (room_left INPUT_LIMIT old.source.left cut.ahead) cut.ahead
     (subst (λ (ahead : List ℕ). IsBad (room_left INPUT_LIMIT old.source.left ahead) ahead) same.1 (bad.bad tt)) (cut.cut tt)
 
 -- they end alike, and have written the same
-pub ends_once : (first : State) (ending another : Ending) (old new other : Outside) → IsFaultless ending → IsFaultless another
-    → EndsTold first ending old new → EndsTold first another old other → (ending ≡ another) × (new.sink.written ≡ other.sink.written)
-ends_once first Finished Finished old new other clean clear done again =
+pub ends_once : (verb : Verb) (first : State) (ending another : Ending) (old new other : Outside) → IsFaultless ending → IsFaultless another
+    → EndsTold verb first ending old new → EndsTold verb first another old other → (ending ≡ another) × (new.sink.written ≡ other.sink.written)
+ends_once verb first Finished Finished old new other clean clear done again =
     let given = sym (done.all tt) ∙ again.all tt in
     let outcomes = outcomes_once first done.given again.given done.outcomes again.outcomes done.state again.state done.course again.course given in
-    (refl, done.written tt ∙ ap (λ o. old.sink.written ++ text_of o) outcomes ∙ sym (again.written tt))
-ends_once first Finished BadLine old new other clean clear done bad = absurd (no_bad_end first old new other done bad)
-ends_once first Finished InputTooLong old new other clean clear done cut = absurd (no_cut_end first old new other done cut)
-ends_once first BadLine Finished old new other clean clear bad done = absurd (no_bad_end first old other new done bad)
-ends_once first BadLine BadLine old new other clean clear bad again =
-    let same = halts_once INPUT_LIMIT old.source.left bad.given again.given bad.ahead again.ahead (halts_bad first old new bad) (halts_bad first old other again) in
+    (refl, done.written tt ∙ ap (λ o. old.sink.written ++ text_of verb o) outcomes ∙ sym (again.written tt))
+ends_once verb first Finished BadLine old new other clean clear done bad = absurd (no_bad_end verb first old new other done bad)
+ends_once verb first Finished InputTooLong old new other clean clear done cut = absurd (no_cut_end verb first old new other done cut)
+ends_once verb first BadLine Finished old new other clean clear bad done = absurd (no_bad_end verb first old other new done bad)
+ends_once verb first BadLine BadLine old new other clean clear bad again =
+    let same = halts_once INPUT_LIMIT old.source.left bad.given again.given bad.ahead again.ahead (halts_bad verb first old new bad) (halts_bad verb first old other again) in
     let outcomes = outcomes_once first bad.given again.given bad.outcomes again.outcomes bad.state again.state bad.course again.course same.0 in (
       refl,
-      bad.written tt ∙ ap (λ o. old.sink.written ++ (text_of o ++ bad_line (length bad.given + 1))) outcomes
-          ∙ ap (λ g. old.sink.written ++ (text_of again.outcomes ++ bad_line (length g + 1))) same.0 ∙ sym (again.written tt),
+      bad.written tt ∙ ap (λ o. old.sink.written ++ (text_of verb o ++ bad_line (length bad.given + 1))) outcomes
+          ∙ ap (λ g. old.sink.written ++ (text_of verb again.outcomes ++ bad_line (length g + 1))) same.0 ∙ sym (again.written tt),
     )
-ends_once first BadLine InputTooLong old new other clean clear bad cut = absurd (no_bad_cut first old new other bad cut)
-ends_once first InputTooLong Finished old new other clean clear cut done = absurd (no_cut_end first old other new done cut)
-ends_once first InputTooLong BadLine old new other clean clear cut bad = absurd (no_bad_cut first old other new bad cut)
-ends_once first InputTooLong InputTooLong old new other clean clear cut again =
-    let same = halts_once INPUT_LIMIT old.source.left cut.given again.given cut.ahead again.ahead (halts_cut first old new cut) (halts_cut first old other again) in
+ends_once verb first BadLine InputTooLong old new other clean clear bad cut = absurd (no_bad_cut verb first old new other bad cut)
+ends_once verb first InputTooLong Finished old new other clean clear cut done = absurd (no_cut_end verb first old other new done cut)
+ends_once verb first InputTooLong BadLine old new other clean clear cut bad = absurd (no_bad_cut verb first old other new bad cut)
+ends_once verb first InputTooLong InputTooLong old new other clean clear cut again =
+    let same = halts_once INPUT_LIMIT old.source.left cut.given again.given cut.ahead again.ahead (halts_cut verb first old new cut) (halts_cut verb first old other again) in
     let outcomes = outcomes_once first cut.given again.given cut.outcomes again.outcomes cut.state again.state cut.course again.course same.0 in
-    (refl, cut.written tt ∙ ap (λ o. old.sink.written ++ text_of o) outcomes ∙ sym (again.written tt))
-ends_once first FlashFault another old new other clean clear ends again = absurd clean
-ends_once first ReadFault another old new other clean clear ends again = absurd clean
-ends_once first WriteFault another old new other clean clear ends again = absurd clean
-ends_once first ending FlashFault old new other clean clear ends again = absurd clear
-ends_once first ending ReadFault old new other clean clear ends again = absurd clear
-ends_once first ending WriteFault old new other clean clear ends again = absurd clear
+    (refl, cut.written tt ∙ ap (λ o. old.sink.written ++ text_of verb o) outcomes ∙ sym (again.written tt))
+ends_once verb first FlashFault another old new other clean clear ends again = absurd clean
+ends_once verb first ReadFault another old new other clean clear ends again = absurd clean
+ends_once verb first WriteFault another old new other clean clear ends again = absurd clean
+ends_once verb first ending FlashFault old new other clean clear ends again = absurd clear
+ends_once verb first ending ReadFault old new other clean clear ends again = absurd clear
+ends_once verb first ending WriteFault old new other clean clear ends again = absurd clear

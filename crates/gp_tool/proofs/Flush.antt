@@ -13,6 +13,7 @@ use Rattle.gp_tool.specs.Flush.{AfterFlush, IsFlushed}
 use Rattle.gp_tool.specs.RunsLines.{bad_line, reply_line, text_of}
 use Rattle.gp_tool.specs.declared.ending.Ending.{Ending}
 use Rattle.gp_tool.specs.declared.ending.Ending.TheVariants.{Finished, BadLine, FlashFault, ReadFault, WriteFault, InputTooLong}
+use Rattle.gp_tool.specs.declared.verb.Verb.{Verb}
 
 -- what is left and written stays over a flush
 pub record IsLeft (writes : Type 0) (now later : Outside) : Type 0 where
@@ -44,42 +45,42 @@ after_from writes ReadFault old mid new result same after = (after.0, after.1 �
 after_from writes WriteFault old mid new result same after = (after.0, after.1 ∙ same)
 
 -- a text before its last line, and that line
-record Split (outcomes : List Outcome) : Type 0 where
+record Split (verb : Verb) (outcomes : List Outcome) : Type 0 where
   pub before : List ℕ
   pub line : List ℕ
-  pub is_text : IsText outcomes before line
-  pub whole : text_of outcomes ≡ before ++ line
+  pub is_text : IsText verb outcomes before line
+  pub whole : text_of verb outcomes ≡ before ++ line
 
 -- the same, of one outcome more
-split_more : (first : Outcome) (outcomes : List Outcome) → Split outcomes → Split (first ∷ outcomes)
-split_more first outcomes split = elim split.is_text [
+split_more : (verb : Verb) (first : Outcome) (outcomes : List Outcome) → Split verb outcomes → Split verb (first ∷ outcomes)
+split_more verb first outcomes split = elim split.is_text [
   | inl none ↦
       record {
         before = [];
-        line = reply_line first;
+        line = reply_line verb first;
         is_text = inr ([], first, ap (λ more. first ∷ more) none.0, refl, refl);
-        whole = ap (λ more. reply_line first ++ text_of more) none.0 ∙ append-nil (reply_line first);
+        whole = ap (λ more. reply_line verb first ++ text_of verb more) none.0 ∙ append-nil (reply_line verb first);
       }
   | inr some ↦
       record {
-        before = text_of (first ∷ some.0);
-        line = reply_line some.1;
+        before = text_of verb (first ∷ some.0);
+        line = reply_line verb some.1;
         is_text = inr (first ∷ some.0, some.1, ap (λ more. first ∷ more) some.2, refl, refl);
-        whole = ap (λ more. text_of (first ∷ more)) some.2 ∙ text_more (first ∷ some.0) (some.1 ∷ []) ∙ ap (λ line. text_of (first ∷ some.0) ++ line) (append-nil (reply_line some.1));
+        whole = ap (λ more. text_of verb (first ∷ more)) some.2 ∙ text_more verb (first ∷ some.0) (some.1 ∷ []) ∙ ap (λ line. text_of verb (first ∷ some.0) ++ line) (append-nil (reply_line verb some.1));
       }
 ]
 
-split : (outcomes : List Outcome) → Split outcomes
-split [] = record { before = []; line = []; is_text = inl (refl, refl, refl); whole = refl }
-split (first ∷ outcomes) = split_more first outcomes (split outcomes)
+split : (verb : Verb) (outcomes : List Outcome) → Split verb outcomes
+split verb [] = record { before = []; line = []; is_text = inl (refl, refl, refl); whole = refl }
+split verb (first ∷ outcomes) = split_more verb first outcomes (split verb outcomes)
 
 -- all of a line is a front of it
 front : (old before line now : List ℕ) → now ≡ old ++ (before ++ line) → (count : ℕ) × (now ≡ old ++ (before ++ take count line))
 front old before line now written = (length line, written ∙ ap (λ t. old ++ (before ++ t)) (sym (take-length line)))
 
-module _ (reads writes : Type 0) (Rests : List Outcome → State → Type 0) (Fails : List Outcome → State → Outcome → Type 0) (first : State) (before now later : Outside) (left : IsLeft writes now later) where
+module _ (verb : Verb) (reads writes : Type 0) (Rests : List Outcome → State → Type 0) (Fails : List Outcome → State → Outcome → Type 0) (first : State) (before now later : Outside) (left : IsLeft writes now later) where
   pub after_flush : (ending result : Ending) → AfterFlush writes ending before.sink later.sink result
-      → now.sink.flushes ≡ before.sink.flushes → Ends reads writes Rests Fails first ending before now → Ends reads writes Rests Fails first result before later
+      → now.sink.flushes ≡ before.sink.flushes → Ends verb reads writes Rests Fails first ending before now → Ends verb reads writes Rests Fails first result before later
   after_flush Finished result (inl done) none ends =
       rw done.0 (record {
         given = ends.given;
@@ -94,7 +95,7 @@ module _ (reads writes : Type 0) (Rests : List Outcome → State → Type 0) (Fa
         device = ends.device;
       })
   after_flush Finished result (inr fault) none ends =
-      let text = split ends.outcomes in
+      let text = split verb ends.outcomes in
       let written : writes → later.sink.written ≡ before.sink.written ++ (text.before ++ text.line)
       = λ told. left.written told ∙ ends.written told ∙ ap (λ t. before.sink.written ++ t) text.whole in
       rw fault.0 (record {
@@ -127,19 +128,19 @@ module _ (reads writes : Type 0) (Rests : List Outcome → State → Type 0) (Fa
       })
   after_flush BadLine result (inr fault) none ends =
       let line : List ℕ = bad_line (length ends.given + 1) in
-      let written : writes → later.sink.written ≡ before.sink.written ++ (text_of ends.outcomes ++ line) = λ told. left.written told ∙ ends.written told in
+      let written : writes → later.sink.written ≡ before.sink.written ++ (text_of verb ends.outcomes ++ line) = λ told. left.written told ∙ ends.written told in
       rw fault.0 (record {
         given = ends.given;
         outcomes = ends.outcomes;
         state = ends.state;
         ahead = ends.ahead;
-        before = text_of ends.outcomes;
+        before = text_of verb ends.outcomes;
         line = line;
         course = ends.course;
         reached = ends.reached;
         taken = λ told. taken_still (length before.source.left) ends.ahead now.source.left later.source.left left.left (ends.taken told);
         is_text = inr (ends.bad, refl, refl);
-        written = λ told. front before.sink.written (text_of ends.outcomes) line later.sink.written (written told);
+        written = λ told. front before.sink.written (text_of verb ends.outcomes) line later.sink.written (written told);
         flushes = inr (fault.1, written);
         device = ends.device;
       })
@@ -157,7 +158,7 @@ module _ (reads writes : Type 0) (Rests : List Outcome → State → Type 0) (Fa
         device = ends.device;
       })
   after_flush InputTooLong result (inr fault) none ends =
-      let text = split ends.outcomes in
+      let text = split verb ends.outcomes in
       let written : writes → later.sink.written ≡ before.sink.written ++ (text.before ++ text.line)
       = λ told. left.written told ∙ ends.written told ∙ ap (λ t. before.sink.written ++ t) text.whole in
       rw fault.0 (record {

@@ -17,6 +17,7 @@ pub mod Powered
 pub mod SaidElse
 pub mod ShownCard
 pub mod ShownText
+pub mod ReplyLine
 pub mod RepresentsSoundly
 pub mod Turns
 pub mod Written

@@ -6,6 +6,7 @@ use Rattle.policy_rules.specs.State.{State, powered_on}
 use Rattle.policy_rules.specs.Step.{Outcome, Step}
 use Rattle.gp_tool.specs.Form.{SpellsInputs}
 use Rattle.gp_tool.specs.RunsLines.{RunsLines, reply_line, text_of}
+use Rattle.gp_tool.specs.declared.verb.Verb.{Verb}
 
 pub plays_nothing : (state : State) (line : List ℕ) → SpellsInputs line [] → RunsLines state (line ∷ []) [] state
 plays_nothing state line spells = record { inputs = []; spelled = ([], [], spells, refl, refl); run = (refl, refl) }
@@ -22,5 +23,5 @@ plays_command state line bytes outcome spells step = record {
 }
 
 -- the text of one command is its reply's line
-pub line_written : (old new : List ℕ) (outcome : Outcome) → new ≡ old ++ reply_line outcome → new ≡ old ++ text_of (outcome ∷ [])
-line_written old new outcome written = written ∙ ap (λ text. old ++ text) (sym (append-nil (reply_line outcome)))
+pub line_written : (verb : Verb) (old new : List ℕ) (outcome : Outcome) → new ≡ old ++ reply_line verb outcome → new ≡ old ++ text_of verb (outcome ∷ [])
+line_written verb old new outcome written = written ∙ ap (λ text. old ++ text) (sym (append-nil (reply_line verb outcome)))

@@ -17,11 +17,12 @@ use Rattle.gp_tool.specs.RunsLines.{RunsLines, bad_line, reply_line, text_of}
 use Rattle.gp_tool.specs.Turn.{GoesOn, EndsWith, total}
 use Rattle.gp_tool.specs.declared.ending.Ending.{Ending}
 use Rattle.gp_tool.specs.declared.ending.Ending.TheVariants.{Finished, BadLine, FlashFault, ReadFault, WriteFault, InputTooLong}
+use Rattle.gp_tool.specs.declared.verb.Verb.{Verb}
 
 -- nothing was read yet
-pub going_first : (reads writes : Type 0) (first : State) (Now : State → Type 0) (Since : List Registry → Type 0) (before : Outside)
-    → Now first → Since (first.registry ∷ []) → Going reads writes first Now Since 0 before before (record { number = 0; passed = 0; held = []; stop = None })
-going_first reads writes first Now Since before stands leaves = record {
+pub going_first : (verb : Verb) (reads writes : Type 0) (first : State) (Now : State → Type 0) (Since : List Registry → Type 0) (before : Outside)
+    → Now first → Since (first.registry ∷ []) → Going verb reads writes first Now Since 0 before before (record { number = 0; passed = 0; held = []; stop = None })
+going_first verb reads writes first Now Since before stands leaves = record {
   given = [];
   outcomes = [];
   state = first;
@@ -51,7 +52,7 @@ course_more first given line outcomes more state last course fits plays = record
 all_written : (old text more written now : List ℕ) → written ≡ old ++ text → now ≡ written ++ more → now ≡ old ++ (text ++ more)
 all_written old text more written now before after = after ∙ ap (λ w. w ++ more) before ∙ append_assoc old text more
 
-module _ (reads writes : Type 0) (first : State) (Now : State → Type 0) (Since : List Registry → Type 0) (count : ℕ) (before now : Outside) (old : Reading) (going : Going reads writes first Now Since count before now old) where
+module _ (verb : Verb) (reads writes : Type 0) (first : State) (Now : State → Type 0) (Since : List Registry → Type 0) (count : ℕ) (before now : Outside) (old : Reading) (going : Going verb reads writes first Now Since count before now old) where
   -- the room is that behind the bytes that were passed
   room_is : reads → room old ≡ room_ahead before.source.left (ahead old now.source.left)
   room_is told =
@@ -84,7 +85,7 @@ module _ (reads writes : Type 0) (first : State) (Now : State → Type 0) (Since
   done_more count' more done = done ∙ ap (λ n. n + length more) going.done ∙ sym (length-append going.outcomes more)
 
   pub going_further : (Now' : State → Type 0) (Between Since' : List Registry → Type 0) (count' : ℕ) (later : Outside) (new : Reading) → Joins Since Between Since'
-      → GoesOn reads writes Now Now' Between count count' old new now later → Going reads writes first Now' Since' count' before later new
+      → GoesOn verb reads writes Now Now' Between count count' old new now later → Going verb reads writes first Now' Since' count' before later new
   going_further Now' Between Since' count' later new join on =
       let line = on.line going.state going.stands in
       let takes = line.0 in
@@ -101,8 +102,8 @@ module _ (reads writes : Type 0) (first : State) (Now : State → Type 0) (Since
         leaves = leaves_more Between Since' join played.outcomes played.leaves;
         done = done_more count' played.outcomes played.done;
         written = λ told.
-            all_written before.sink.written (text_of going.outcomes) (text_of played.outcomes) now.sink.written later.sink.written (going.written told) (line.1 told)
-            ∙ ap (λ t. before.sink.written ++ t) (sym (text_more going.outcomes played.outcomes));
+            all_written before.sink.written (text_of verb going.outcomes) (text_of verb played.outcomes) now.sink.written later.sink.written (going.written told) (line.1 told)
+            ∙ ap (λ t. before.sink.written ++ t) (sym (text_more verb going.outcomes played.outcomes));
       }
 
   module _ (Same : Type 0) (Now' : State → Type 0) (Between Since' : List Registry → Type 0) (count' : ℕ) (later : Outside) (join : Joins Since Between Since')
@@ -117,8 +118,8 @@ module _ (reads writes : Type 0) (first : State) (Now : State → Type 0) (Since
         let kept = stays same in
         rest going.outcomes going.state (kept.0 ∙ going.done) (kept.1 going.state going.stands) (kept.2 (registries first going.outcomes) going.leaves)
 
-    pub going_ends : (ending : Ending) → EndsWith reads writes Same Now Now' Between count count' old now later ending → later.sink.flushes ≡ before.sink.flushes
-        → Ends reads writes Rests Fails first ending before later
+    pub going_ends : (ending : Ending) → EndsWith verb reads writes Same Now Now' Between count count' old now later ending → later.sink.flushes ≡ before.sink.flushes
+        → Ends verb reads writes Rests Fails first ending before later
     going_ends Finished ends flushes = record {
       given = going.given;
       outcomes = going.outcomes;
@@ -147,7 +148,7 @@ module _ (reads writes : Type 0) (first : State) (Now : State → Type 0) (Since
       taken = taken_there (ahead old now.source.left) later.source.left ends.3;
       bad = bad_there ends.1;
       written = λ told.
-          all_written before.sink.written (text_of going.outcomes) (bad_line (length going.given + 1)) now.sink.written later.sink.written (going.written told)
+          all_written before.sink.written (text_of verb going.outcomes) (bad_line (length going.given + 1)) now.sink.written later.sink.written (going.written told)
           (ends.2 told ∙ ap (λ n. now.sink.written ++ bad_line (n + 1)) going.number);
       device = rested ends.0;
     }
@@ -211,15 +212,15 @@ module _ (reads writes : Type 0) (first : State) (Now : State → Type 0) (Since
           outcomes = going.outcomes ++ played.outcomes;
           state = played.last;
           ahead = line.0;
-          before = text_of going.outcomes;
-          line = reply_line line.2;
+          before = text_of verb going.outcomes;
+          line = reply_line verb line.2;
           course = course_more first going.given takes.line going.outcomes played.outcomes going.state played.last going.course takes.fits played.plays;
           reached = reached_more takes.line line.0 takes.next;
           taken = taken_there line.0 later.source.left line.5;
           is_text = inl (inr (going.outcomes, line.2, ap (λ more. going.outcomes ++ more) line.3, refl, refl));
           written = λ told.
               (let part = line.4 told in
-              (part.0, all_written before.sink.written (text_of going.outcomes) (take part.0 (reply_line line.2)) now.sink.written later.sink.written (going.written told) part.1));
+              (part.0, all_written before.sink.written (text_of verb going.outcomes) (take part.0 (reply_line verb line.2)) now.sink.written later.sink.written (going.written told) part.1));
           flushes = inl flushes;
           device = rest (going.outcomes ++ played.outcomes) played.last (done_more count' played.outcomes played.done) played.stands
               (leaves_more Between Since' join played.outcomes played.leaves);
@@ -229,7 +230,7 @@ module _ (reads writes : Type 0) (first : State) (Now : State → Type 0) (Since
       outcomes = going.outcomes;
       state = going.state;
       ahead = ahead old now.source.left;
-      before = text_of going.outcomes;
+      before = text_of verb going.outcomes;
       line = bad_line (length going.given + 1);
       course = going.course;
       reached = going.reached;
@@ -238,7 +239,7 @@ module _ (reads writes : Type 0) (first : State) (Now : State → Type 0) (Since
       written = λ told.
           (let part = refused.2 told in (
             part.0,
-            all_written before.sink.written (text_of going.outcomes) (take part.0 (bad_line (length going.given + 1))) now.sink.written later.sink.written (going.written told)
+            all_written before.sink.written (text_of verb going.outcomes) (take part.0 (bad_line (length going.given + 1))) now.sink.written later.sink.written (going.written told)
                 (part.1 ∙ ap (λ n. now.sink.written ++ take part.0 (bad_line (n + 1))) going.number),
           ));
       flushes = inl flushes;

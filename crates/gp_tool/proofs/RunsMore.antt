@@ -6,6 +6,7 @@ use Rattle.policy_rules.specs.State.{State, powered_on}
 use Rattle.policy_rules.specs.Step.{Outcome}
 use Rattle.gp_tool.specs.Form.{AreSpelled}
 use Rattle.gp_tool.specs.RunsLines.{RunsLines, text_of, reply_line}
+use Rattle.gp_tool.specs.declared.verb.Verb.{Verb}
 
 spelled_more : (xs ys : List (List ℕ)) (a b : List Input) → AreSpelled xs a → AreSpelled ys b → AreSpelled (xs ++ ys) (a ++ b)
 spelled_more [] ys a b none more = rw none more
@@ -35,5 +36,5 @@ plays_more xs ys some more state mid last first second = record {
 pub plays_none : (state : State) → RunsLines state [] [] state
 plays_none state = record { inputs = []; spelled = refl; run = (refl, refl) }
 
-pub text_more : (some more : List Outcome) → text_of (some ++ more) ≡ text_of some ++ text_of more
-text_more some more = flat_map-append reply_line some more
+pub text_more : (verb : Verb) (some more : List Outcome) → text_of verb (some ++ more) ≡ text_of verb some ++ text_of verb more
+text_more verb some more = flat_map-append (reply_line verb) some more

@@ -5,12 +5,13 @@ use Rattle.policy_rules.specs.Step.{Outcome}
 use Rattle.gp_tool.specs.Ends.{Ends, Outside}
 use Rattle.gp_tool.specs.declared.ending.Ending.{Ending}
 use Rattle.gp_tool.specs.declared.ending.Ending.TheVariants.{Finished, BadLine, FlashFault, ReadFault, WriteFault, InputTooLong}
+use Rattle.gp_tool.specs.declared.verb.Verb.{Verb}
 
-module _ (reads writes : Type 0) (Rests Rests' : List Outcome → State → Type 0) (Fails Fails' : List Outcome → State → Outcome → Type 0)
+module _ (verb : Verb) (reads writes : Type 0) (Rests Rests' : List Outcome → State → Type 0) (Fails Fails' : List Outcome → State → Outcome → Type 0)
     (rests : (outcomes : List Outcome) (last : State) → Rests outcomes last → Rests' outcomes last)
     (fails : (outcomes : List Outcome) (last : State) (next : Outcome) → Fails outcomes last next → Fails' outcomes last next)
     (first : State) (old new : Outside) where
-  pub said_else : (ending : Ending) → Ends reads writes Rests Fails first ending old new → Ends reads writes Rests' Fails' first ending old new
+  pub said_else : (ending : Ending) → Ends verb reads writes Rests Fails first ending old new → Ends verb reads writes Rests' Fails' first ending old new
   said_else Finished ends = record {
     given = ends.given;
     outcomes = ends.outcomes;

@@ -14,17 +14,18 @@ use Rattle.gp_tool.specs.Serve.{FailsLine, RunsLine}
 use Rattle.gp_tool.specs.Turn.{EndsWith, FailsNext, Refuses, TakesLine, TakesNext}
 use Rattle.gp_tool.specs.declared.ending.Ending.{Ending}
 use Rattle.gp_tool.specs.declared.ending.Ending.TheVariants.{Finished, BadLine, FlashFault, ReadFault, WriteFault, InputTooLong}
+use Rattle.gp_tool.specs.declared.verb.Verb.{Verb}
 
 -- a run ends with a bad line as its number was written
-pub refusal_ends : (reads writes Same : Type 0) (Before After : State → Type 0) (Leaving : List Registry → Type 0) (count count' : ℕ) (old : Reading) (before now : Outside) (ending : Ending)
+pub refusal_ends : (verb : Verb) (reads writes Same : Type 0) (Before After : State → Type 0) (Leaving : List Registry → Type 0) (count count' : ℕ) (old : Reading) (before now : Outside) (ending : Ending)
     → Same → (reads → IsBad (room old) (ahead old before.source.left)) → Refuses writes (old.number + 1) before.sink.written now.sink.written ending
-    → TakesNext reads old before now → EndsWith reads writes Same Before After Leaving count count' old before now ending
-refusal_ends reads writes Same Before After Leaving count count' old before now BadLine same bad refuses taken = (same, bad, refuses, taken)
-refusal_ends reads writes Same Before After Leaving count count' old before now WriteFault same bad refuses taken = inr (same, bad, refuses, taken)
-refusal_ends reads writes Same Before After Leaving count count' old before now Finished same bad refuses taken = absurd refuses
-refusal_ends reads writes Same Before After Leaving count count' old before now FlashFault same bad refuses taken = absurd refuses
-refusal_ends reads writes Same Before After Leaving count count' old before now ReadFault same bad refuses taken = absurd refuses
-refusal_ends reads writes Same Before After Leaving count count' old before now InputTooLong same bad refuses taken = absurd refuses
+    → TakesNext reads old before now → EndsWith verb reads writes Same Before After Leaving count count' old before now ending
+refusal_ends verb reads writes Same Before After Leaving count count' old before now BadLine same bad refuses taken = (same, bad, refuses, taken)
+refusal_ends verb reads writes Same Before After Leaving count count' old before now WriteFault same bad refuses taken = inr (same, bad, refuses, taken)
+refusal_ends verb reads writes Same Before After Leaving count count' old before now Finished same bad refuses taken = absurd refuses
+refusal_ends verb reads writes Same Before After Leaving count count' old before now FlashFault same bad refuses taken = absurd refuses
+refusal_ends verb reads writes Same Before After Leaving count count' old before now ReadFault same bad refuses taken = absurd refuses
+refusal_ends verb reads writes Same Before After Leaving count count' old before now InputTooLong same bad refuses taken = absurd refuses
 
 -- what was written before stays
 pub refuses_from : (writes : Type 0) (number : ℕ) (before mid now : List ℕ) (ending : Ending) → (writes → mid ≡ before)

@@ -14,6 +14,7 @@ use Rattle.gp_tool.specs.Form.{HasNoForm, SpellsInputs}
 use Rattle.gp_tool.specs.RunsLines.{RunsLines, bad_line, reply_line, text_of}
 use Rattle.gp_tool.specs.declared.ending.Ending.{Ending}
 use Rattle.gp_tool.specs.declared.ending.Ending.TheVariants.{Finished, BadLine, FlashFault, ReadFault, WriteFault, InputTooLong}
+use Rattle.gp_tool.specs.declared.verb.Verb.{Verb}
 
 -- A source and a sink.
 pub record Outside : Type 0 where
@@ -60,17 +61,17 @@ pub record TakesNoMore (total : ℕ) (ahead left : List ℕ) : Type 0 where
   pub within : total ≤ length left + INPUT_LIMIT
 
 -- the text of the replies to some commands is what stands before its last line, and that line; they are empty where it is
-abbrev pub IsText : List Outcome → List ℕ → List ℕ → Type 0
-IsText outcomes before line =
+abbrev pub IsText : Verb → List Outcome → List ℕ → List ℕ → Type 0
+IsText verb outcomes before line =
     ((outcomes ≡ []) × (before ≡ []) × (line ≡ []))
-    ⊎ ((some : List Outcome) × (last : Outcome) × (outcomes ≡ some ++ last ∷ []) × (before ≡ text_of some) × (line ≡ reply_line last))
+    ⊎ ((some : List Outcome) × (last : Outcome) × (outcomes ≡ some ++ last ∷ []) × (before ≡ text_of verb some) × (line ≡ reply_line verb last))
 
 -- In what follows `reads` and `writes` are facts where the source and the sink tell their bytes, and `⊥` where they don't.
 -- `Rests` is what holds of the device after some commands and at the state behind them, and `Fails` what holds where it
 -- failed in the next one.
 
 -- The input was read to its end, each line has a form and is not too long, and the text of all lines was written.
-pub record IsFinished (reads writes : Type 0) (Rests : List Outcome → State → Type 0) (first : State) (old new : Outside) : Type 0 where
+pub record IsFinished (verb : Verb) (reads writes : Type 0) (Rests : List Outcome → State → Type 0) (first : State) (old new : Outside) : Type 0 where
   pub given : List (List ℕ)
   pub outcomes : List Outcome
   pub state : State
@@ -79,11 +80,11 @@ pub record IsFinished (reads writes : Type 0) (Rests : List Outcome → State �
   pub all : reads → lines old.source.left ≡ given
   pub short : reads → length old.source.left < INPUT_LIMIT
   pub read : reads → new.source.left ≡ []
-  pub written : writes → new.sink.written ≡ old.sink.written ++ text_of outcomes
+  pub written : writes → new.sink.written ≡ old.sink.written ++ text_of verb outcomes
   pub device : Rests outcomes state
 
 -- The next line is bad: the text of the lines before it was written, and then the line's number.
-pub record IsAtBadLine (reads writes : Type 0) (Rests : List Outcome → State → Type 0) (first : State) (old new : Outside) : Type 0 where
+pub record IsAtBadLine (verb : Verb) (reads writes : Type 0) (Rests : List Outcome → State → Type 0) (first : State) (old new : Outside) : Type 0 where
   pub given : List (List ℕ)
   pub outcomes : List Outcome
   pub state : State
@@ -92,12 +93,12 @@ pub record IsAtBadLine (reads writes : Type 0) (Rests : List Outcome → State �
   pub reached : reads → Reached old.source.left given ahead
   pub taken : reads → TakesNoMore (length old.source.left) ahead new.source.left
   pub bad : reads → IsBad (room_ahead old.source.left ahead) ahead
-  pub written : writes → new.sink.written ≡ old.sink.written ++ (text_of outcomes ++ bad_line (length given + 1))
+  pub written : writes → new.sink.written ≡ old.sink.written ++ (text_of verb outcomes ++ bad_line (length given + 1))
   pub device : Rests outcomes state
 
 -- A read was refused: the text of the whole lines of the bytes taken was written. The bytes behind them are no line that is
 -- too long already.
-pub record IsAtReadFault (reads writes : Type 0) (Rests : List Outcome → State → Type 0) (first : State) (old new : Outside) : Type 0 where
+pub record IsAtReadFault (verb : Verb) (reads writes : Type 0) (Rests : List Outcome → State → Type 0) (first : State) (old new : Outside) : Type 0 where
   pub given : List (List ℕ)
   pub outcomes : List Outcome
   pub state : State
@@ -108,11 +109,11 @@ pub record IsAtReadFault (reads writes : Type 0) (Rests : List Outcome → State
   pub short : reads → length (strip_carriage_return held) ≤ LINE_LIMIT
   pub few : reads → length held ≤ HELD_LIMIT
   pub within : reads → length held ≤ room_ahead old.source.left (held ++ new.source.left)
-  pub written : writes → new.sink.written ≡ old.sink.written ++ text_of outcomes
+  pub written : writes → new.sink.written ≡ old.sink.written ++ text_of verb outcomes
   pub device : Rests outcomes state
 
 -- The limit of the input comes before the next line's end.
-pub record IsAtLimit (reads writes : Type 0) (Rests : List Outcome → State → Type 0) (first : State) (old new : Outside) : Type 0 where
+pub record IsAtLimit (verb : Verb) (reads writes : Type 0) (Rests : List Outcome → State → Type 0) (first : State) (old new : Outside) : Type 0 where
   pub given : List (List ℕ)
   pub outcomes : List Outcome
   pub state : State
@@ -121,11 +122,11 @@ pub record IsAtLimit (reads writes : Type 0) (Rests : List Outcome → State →
   pub reached : reads → Reached old.source.left given ahead
   pub taken : reads → TakesNoMore (length old.source.left) ahead new.source.left
   pub cut : reads → (text : List ℕ) × IsCut (room_ahead old.source.left ahead) ahead text × (length text ≤ LINE_LIMIT)
-  pub written : writes → new.sink.written ≡ old.sink.written ++ text_of outcomes
+  pub written : writes → new.sink.written ≡ old.sink.written ++ text_of verb outcomes
   pub device : Rests outcomes state
 
 -- The device failed in the command of the next line: the text of the lines before it was written, and nothing of its reply.
-pub record IsAtFlashFault (reads writes : Type 0) (Fails : List Outcome → State → Outcome → Type 0) (first : State) (old new : Outside) : Type 0 where
+pub record IsAtFlashFault (verb : Verb) (reads writes : Type 0) (Fails : List Outcome → State → Outcome → Type 0) (first : State) (old new : Outside) : Type 0 where
   pub given : List (List ℕ)
   pub outcomes : List Outcome
   pub state : State
@@ -140,12 +141,12 @@ pub record IsAtFlashFault (reads writes : Type 0) (Fails : List Outcome → Stat
   pub fits : length line ≤ LINE_LIMIT
   pub spelled : SpellsInputs line (Command bytes ∷ [])
   pub step : Step state bytes next
-  pub written : writes → new.sink.written ≡ old.sink.written ++ text_of outcomes
+  pub written : writes → new.sink.written ≡ old.sink.written ++ text_of verb outcomes
   pub device : Fails outcomes state next
 
 -- A write or the flush was refused: of the text no more than its last line is missing or cut. That is the reply to the last
 -- command, or the number of a bad line behind them all.
-pub record IsAtWriteFault (reads writes : Type 0) (Rests : List Outcome → State → Type 0) (first : State) (old new : Outside) : Type 0 where
+pub record IsAtWriteFault (verb : Verb) (reads writes : Type 0) (Rests : List Outcome → State → Type 0) (first : State) (old new : Outside) : Type 0 where
   pub given : List (List ℕ)
   pub outcomes : List Outcome
   pub state : State
@@ -155,20 +156,20 @@ pub record IsAtWriteFault (reads writes : Type 0) (Rests : List Outcome → Stat
   pub course : RunSoFar first given outcomes state
   pub reached : reads → Reached old.source.left given ahead
   pub taken : reads → TakesNoMore (length old.source.left) ahead new.source.left
-  pub is_text : IsText outcomes before line
-      ⊎ ((reads → IsBad (room_ahead old.source.left ahead) ahead) × (before ≡ text_of outcomes) × (line ≡ bad_line (length given + 1)))
+  pub is_text : IsText verb outcomes before line
+      ⊎ ((reads → IsBad (room_ahead old.source.left ahead) ahead) × (before ≡ text_of verb outcomes) × (line ≡ bad_line (length given + 1)))
   pub written : writes → (count : ℕ) × (new.sink.written ≡ old.sink.written ++ (before ++ take count line))
   pub flushes : FlushesLast writes old.sink (before ++ line) new.sink
   pub device : Rests outcomes state
 
 -- what holds at each ending of a run from a first state
-abbrev pub Ends : Type 0 → Type 0 → (List Outcome → State → Type 0) → (List Outcome → State → Outcome → Type 0) → State → Ending → Outside → Outside → Type 0
-Ends reads writes Rests Fails first Finished old new = IsFinished reads writes Rests first old new
-Ends reads writes Rests Fails first BadLine old new = IsAtBadLine reads writes Rests first old new
-Ends reads writes Rests Fails first FlashFault old new = IsAtFlashFault reads writes Fails first old new
-Ends reads writes Rests Fails first ReadFault old new = IsAtReadFault reads writes Rests first old new
-Ends reads writes Rests Fails first WriteFault old new = IsAtWriteFault reads writes Rests first old new
-Ends reads writes Rests Fails first InputTooLong old new = IsAtLimit reads writes Rests first old new
+abbrev pub Ends : Verb → Type 0 → Type 0 → (List Outcome → State → Type 0) → (List Outcome → State → Outcome → Type 0) → State → Ending → Outside → Outside → Type 0
+Ends verb reads writes Rests Fails first Finished old new = IsFinished verb reads writes Rests first old new
+Ends verb reads writes Rests Fails first BadLine old new = IsAtBadLine verb reads writes Rests first old new
+Ends verb reads writes Rests Fails first FlashFault old new = IsAtFlashFault verb reads writes Fails first old new
+Ends verb reads writes Rests Fails first ReadFault old new = IsAtReadFault verb reads writes Rests first old new
+Ends verb reads writes Rests Fails first WriteFault old new = IsAtWriteFault verb reads writes Rests first old new
+Ends verb reads writes Rests Fails first InputTooLong old new = IsAtLimit verb reads writes Rests first old new
 
 -- What was done with the text at each ending. At a refused write `Ends` says it.
 abbrev pub Flushes : Type 0 → Ending → SinkState → SinkState → Type 0

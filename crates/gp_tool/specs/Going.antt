@@ -7,10 +7,11 @@ use Rattle.policy_rules.specs.Step.{Outcome}
 use Rattle.gp_tool.specs.Device.{registries}
 use Rattle.gp_tool.specs.Ends.{RunSoFar, Outside, Reached}
 use Rattle.gp_tool.specs.RunsLines.{text_of}
+use Rattle.gp_tool.specs.declared.verb.Verb.{Verb}
 
 -- The lines that were given have their text written, and the reading and the card stand behind them. `Now` says which states the
 -- card stands for, and `Leaving` which registries power lost since the first line may leave.
-pub record Going (reads writes : Type 0) (first : State) (Now : State → Type 0) (Leaving : List Registry → Type 0) (count : ℕ) (before now : Outside) (reading : Reading) : Type 0 where
+pub record Going (verb : Verb) (reads writes : Type 0) (first : State) (Now : State → Type 0) (Leaving : List Registry → Type 0) (count : ℕ) (before now : Outside) (reading : Reading) : Type 0 where
   pub given : List (List ℕ)
   pub outcomes : List Outcome
   pub state : State
@@ -21,4 +22,4 @@ pub record Going (reads writes : Type 0) (first : State) (Now : State → Type 0
   pub stands : Now state
   pub leaves : Leaving (registries first outcomes)
   pub done : count ≡ length outcomes
-  pub written : writes → now.sink.written ≡ before.sink.written ++ text_of outcomes
+  pub written : writes → now.sink.written ≡ before.sink.written ++ text_of verb outcomes

@@ -10,6 +10,7 @@ use Rattle.gp_tool.specs.Form.{HasNoForm, SpellsInputs}
 use Rattle.gp_tool.specs.RunsLines.{RunsLines, reply_line, text_of}
 use Rattle.gp_tool.specs.declared.serve.Served.{Served}
 use Rattle.gp_tool.specs.declared.serve.Served.TheVariants.{Done, NoForm, WriteFault, FlashFault}
+use Rattle.gp_tool.specs.declared.verb.Verb.{Verb}
 
 -- In what follows `Before` and `After` say which states a card stands for, `Leaving` which registries power lost in between
 -- may leave on its device, and `count` and `count'` are how many commands were processed.
@@ -33,16 +34,16 @@ pub record FailsLine (line : List ℕ) (Leaving : List Registry → Type 0) (sta
 
 -- How the card stands after a line, and what has been written where the sink tells it. `Same` says that the card and the count are
 -- as they were.
-abbrev pub ServesLine : Type 0 → List ℕ → Type 0 → (State → Type 0) → (State → Type 0) → (List Registry → Type 0) → ℕ → ℕ → List ℕ → List ℕ → Served → Type 0
-ServesLine writes line Same Before After Leaving count count' old new Done =
+abbrev pub ServesLine : Verb → Type 0 → List ℕ → Type 0 → (State → Type 0) → (State → Type 0) → (List Registry → Type 0) → ℕ → ℕ → List ℕ → List ℕ → Served → Type 0
+ServesLine verb writes line Same Before After Leaving count count' old new Done =
     (state : State) → Before state
-    → (played : RunsLine line After Leaving count count' state) × (writes → new ≡ old ++ text_of played.outcomes)
-ServesLine writes line Same Before After Leaving count count' old new NoForm = HasNoForm line × Same × (writes → new ≡ old)
-ServesLine writes line Same Before After Leaving count count' old new WriteFault =
+    → (played : RunsLine line After Leaving count count' state) × (writes → new ≡ old ++ text_of verb played.outcomes)
+ServesLine verb writes line Same Before After Leaving count count' old new NoForm = HasNoForm line × Same × (writes → new ≡ old)
+ServesLine verb writes line Same Before After Leaving count count' old new WriteFault =
     (state : State) → Before state
     → (played : RunsLine line After Leaving count count' state) × (outcome : Outcome) × (played.outcomes ≡ outcome ∷ [])
-    × (writes → (n : ℕ) × (new ≡ old ++ take n (reply_line outcome)))
-ServesLine writes line Same Before After Leaving count count' old new FlashFault =
+    × (writes → (n : ℕ) × (new ≡ old ++ take n (reply_line verb outcome)))
+ServesLine verb writes line Same Before After Leaving count count' old new FlashFault =
     (count' ≡ count) × (writes → new ≡ old) × ((state : State) → Before state → FailsLine line Leaving state)
 
 -- whose count of faults has risen: the sink's, from one number to another, or the device's

@@ -16,6 +16,7 @@ use Rattle.gp_tool.specs.Formatted.{FormatEnds}
 use Rattle.gp_tool.specs.Servable.{AreServable}
 use Rattle.gp_tool.specs.Shown.{HasShown, ShowEnds}
 use Rattle.gp_tool.specs.declared.ending.Ending.{Ending}
+use Rattle.gp_tool.specs.declared.verb.Verb.{Verb}
 
 -- what a run is given
 pub record Around (S K F : Type 0) : Type 0 where
@@ -27,9 +28,9 @@ abbrev pub around : {S K F : Type 0} → S → K → F → Around S K F
 around source sink flash = record { source = source; sink = sink; flash = flash }
 
 -- how a run from a first state ends that has processed so many commands
-abbrev pub RunEnds : {S K F : Type 0} → Source S → Sink K → Flash F → State → Ending → ℕ → Around S K F → Around S K F → Type 0
-RunEnds source sink device first ending count old new =
-    Ends source.tells sink.tells (HasRun device old.flash new.flash first count) (HasFailed device old.flash new.flash first count) first ending
+abbrev pub RunEnds : {S K F : Type 0} → Verb → Source S → Sink K → Flash F → State → Ending → ℕ → Around S K F → Around S K F → Type 0
+RunEnds verb source sink device first ending count old new =
+    Ends verb source.tells sink.tells (HasRun device old.flash new.flash first count) (HasFailed device old.flash new.flash first count) first ending
     (outside (source.state old.source) (sink.state old.sink)) (outside (source.state new.source) (sink.state new.sink))
 
 -- whose faults a run ends with
@@ -39,20 +40,20 @@ RunCause source sink device ending old new =
     (faults_of (source.state new.source) (sink.state new.sink) (device.faults new.flash))
 
 -- The card was powered on with a registry, and the status is that of the run's ending.
-pub record RunsCard {S K F : Type 0} (source : Source S) (sink : Sink K) (device : Flash F) (status count : ℕ) (old new : Around S K F) : Type 0 where
+pub record RunsCard {S K F : Type 0} (verb : Verb) (source : Source S) (sink : Sink K) (device : Flash F) (status count : ℕ) (old new : Around S K F) : Type 0 where
   pub registry : Registry
   pub reopens : device.tells → Reopens (device.pages old.flash) registry
   pub ending : Ending
   pub status_is : status ≡ exit_status ending
   pub cause : RunCause source sink device ending old new
   pub flushes : Flushes sink.tells ending (sink.state old.sink) (sink.state new.sink)
-  pub ends : RunEnds source sink device (powered_on registry) ending count old new
+  pub ends : RunEnds verb source sink device (powered_on registry) ending count old new
 
 -- It was, or it was not powered on, and nothing is read or written.
-abbrev pub EndsRun : {S K F : Type 0} → Source S → Sink K → Flash F → ℕ → ℕ → Around S K F → Around S K F → Type 0
-EndsRun source sink device status count old new =
+abbrev pub EndsRun : {S K F : Type 0} → Verb → Source S → Sink K → Flash F → ℕ → ℕ → Around S K F → Around S K F → Type 0
+EndsRun verb source sink device status count old new =
     (IsNotPowered device status count old.flash new.flash × (new.source ≡ old.source) × (new.sink ≡ old.sink))
-    ⊎ RunsCard source sink device status count old new
+    ⊎ RunsCard verb source sink device status count old new
 
 -- nothing has failed
 pub record NoFault {S K F : Type 0} (source : Source S) (sink : Sink K) (device : Flash F) (old new : Around S K F) : Type 0 where

@@ -4,35 +4,38 @@ use Rattle.std.specs.declared.alloc.Global.{Global}
 use Rattle.faults.specs.Faults.{Rose}
 use Rattle.io_edge.specs.Streams.{SinkState}
 use Rattle.gp_tool.specs.Flush.{FlushesLast, IsHandedOn}
+use Rattle.gp_tool.specs.declared.task.Task.{Task}
+use Rattle.gp_tool.specs.declared.task.Task.TheVariants.{Format, Serve, Show}
 use Rattle.gp_tool.specs.declared.verb.Verb.{Verb}
-use Rattle.gp_tool.specs.declared.verb.Verb.TheVariants.{Format, Run, Show}
+use Rattle.gp_tool.specs.declared.verb.Verb.TheVariants.{Run, Why}
 
--- a verb's word
-abbrev pub word_of_verb : Verb → List ℕ
-word_of_verb Format = codes "format"
-word_of_verb Run = codes "run"
-word_of_verb Show = codes "show"
+-- the word of a task
+abbrev pub word_of : Task → List ℕ
+word_of Format = codes "format"
+word_of (Serve Run) = codes "run"
+word_of (Serve Why) = codes "why"
+word_of Show = codes "show"
 
--- the words are the verb's alone
-abbrev pub Name : Verb → List (String Global) → Type 0
-Name verb words = map string_bytes words ≡ word_of_verb verb ∷ []
+-- the words are the task's alone
+abbrev pub Name : Task → List (String Global) → Type 0
+Name task words = map string_bytes words ≡ word_of task ∷ []
 
 abbrev pub AreFormat : List (String Global) → Type 0
 AreFormat words = Name Format words
 
-abbrev pub AreRun : List (String Global) → Type 0
-AreRun words = Name Run words
+abbrev pub AreVerb : Verb → List (String Global) → Type 0
+AreVerb verb words = Name (Serve verb) words
 
 abbrev pub AreShow : List (String Global) → Type 0
 AreShow words = Name Show words
 
 -- the words have a form
 abbrev pub HaveForm : List (String Global) → Type 0
-HaveForm words = (verb : Verb) × Name verb words
+HaveForm words = (task : Task) × Name task words
 
 -- what is written where the words have no form
 abbrev pub usage_line : List ℕ
-usage_line = codes "usage: gp format | run | show" ++ 10 ∷ []
+usage_line = codes "usage: gp format | run | why | show" ++ 10 ∷ []
 
 -- it was written and handed on, and nothing failed
 pub record HasUsage (writes : Type 0) (old new : SinkState) : Type 0 where

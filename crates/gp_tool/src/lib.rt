@@ -3,7 +3,8 @@
 //! The word `run` powers on the card that a device holds, and gives it the lines of the source, one by one. A
 //! command in hexadecimal digits writes its reply as a line: of the lines `00700000`, `00700000`, `# x`, `reset`,
 //! `00700000` come the lines `019000`, `029000` and `019000`. A blank line and a comment that begins with `#` do
-//! nothing. `reset` takes the card's power away and gives it back, and writes nothing.
+//! nothing. `reset` takes the card's power away and gives it back, and writes nothing. The word `why` does the same, and
+//! writes behind each reply the name of the rule that refused the command, or `-`: `80F28002024F00` gives `6982 G6`.
 //!
 //! Other words are refused by the usage line. Where there is no memory for the card, the device fails or it holds no
 //! card, nothing is read. A line of no other form, or of more than 522 bytes, ends the run by its number, as in `line 3`.
@@ -23,6 +24,7 @@ mod run_verb;
 mod serve;
 mod show;
 mod show_verb;
+mod task;
 mod top;
 mod verb;
 
@@ -31,3 +33,4 @@ pub use ending::Ending;
 pub use laws::{one_ending, one_text};
 pub use literals::constants;
 pub use top::gp;
+pub use verb::Verb;

@@ -3,41 +3,80 @@
 ghost use Rattle.std.specs.Prelude.{◌≡◌, ◌≤◌, ◌<◌, ◌*◌, ◌+◌, ◌++◌, [], ◌∷◌, ℕ, length, take, OnOk, OnErr};
 ghost use Rattle.faults.specs.Faults.{HasCause};
 ghost use Rattle.hex.specs.Hex.{encode_lower};
-ghost use Rattle.gp_tool.specs.RunsLines.{bad_line};
+ghost use Rattle.gp_tool.specs.RunsLines.{bad_line, behind_reply, reason};
 
+use crate::verb::Verb;
 use arrayvec::ArrayVec;
 use card_core::REPLY_LIMIT;
 use io_edge::{Sink, WriteFailed};
 use itoa::Buffer;
+use policy_rules::Rule;
+
+/// How many bytes stand behind the digits of a reply, at most: a space, the name of a rule, and a newline.
+const BEHIND_LIMIT: usize = 5;
 
 /// How many bytes a reply's line has, at most.
-pub const REPLY_LINE_LIMIT: usize = 2 * REPLY_LIMIT + 1;
+pub const REPLY_LINE_LIMIT: usize = 2 * REPLY_LIMIT + BEHIND_LIMIT;
 
-// The line of a reply, in the front of `text`: how many bytes it has.
-fn spell_reply(reply: &[u8], text: &mut [u8; REPLY_LINE_LIMIT]) -> usize
-    requires { length reply.now ≤ REPLY_LIMIT }
-    ensures within { result ≤ REPLY_LINE_LIMIT }
-    ensures spelled { take result text.new ≡ encode_lower reply.now ++ 10 ∷ [] }
+// Why a command was refused, or a sign that it was not.
+fn reason_of(rule: Option<Rule>) -> &'static str
+    ensures name { result.now ≡ reason rule }
+    ensures short { length result.now ≤ 3 }
 {
-    let digits = 2 * reply.len();
-    let _ = hex::encode_to_slice(reply, &mut text[..digits]);
-    text[digits] = b'\n';
-    digits + 1
+    match rule {
+        Some(rule) => rule.name(),
+        None => "-",
+    }
 }
 
-/// Writes a reply as one line, by one write.
-pub fn write_reply<K: Sink>(
+// What stands behind the digits of a reply.
+fn behind(verb: Verb, rule: Option<Rule>) -> ArrayVec<u8, BEHIND_LIMIT>
+    ensures { result.items ≡ behind_reply verb rule }
+{
+    let mut text = ArrayVec::new();
+    if let Verb::Why = verb {
+        text.push(b' ');
+        text.try_extend_from_slice(reason_of(rule).as_bytes())
+            .unwrap();
+    }
+    text.push(b'\n');
+    text
+}
+
+// The line of a reply, in the front of `text`: how many bytes it has.
+fn spell_reply(
+    verb: Verb,
     reply: &[u8],
+    rule: Option<Rule>,
+    text: &mut [u8; REPLY_LINE_LIMIT],
+) -> usize
+    requires { length reply.now ≤ REPLY_LIMIT }
+    ensures within { result ≤ REPLY_LINE_LIMIT }
+    ensures spelled { take result text.new ≡ encode_lower reply.now ++ behind_reply verb rule }
+{
+    let digits = 2 * reply.len();
+    let behind = behind(verb, rule);
+    let count = digits + behind.len();
+    let _ = hex::encode_to_slice(reply, &mut text[..digits]);
+    text[digits..count].copy_from_slice(&behind);
+    count
+}
+
+/// Writes a reply as one line, with the reason of a refusal where the verb asks for it, by one write.
+pub fn write_reply<K: Sink>(
+    verb: Verb,
+    reply: &[u8],
+    rule: Option<Rule>,
     text: &mut [u8; REPLY_LINE_LIMIT],
     sink: &mut K,
 ) -> Result<(), WriteFailed>
     requires { length reply.now ≤ REPLY_LIMIT }
-    ensures ok { K.tells → OnOk result ((K.state sink.new).written ≡ (K.state sink.old).written ++ (encode_lower reply.now ++ 10 ∷ [])) }
-    ensures err { K.tells → OnErr result ((n : ℕ) × ((K.state sink.new).written ≡ (K.state sink.old).written ++ take n (encode_lower reply.now ++ 10 ∷ []))) }
+    ensures ok { K.tells → OnOk result ((K.state sink.new).written ≡ (K.state sink.old).written ++ (encode_lower reply.now ++ behind_reply verb rule)) }
+    ensures err { K.tells → OnErr result ((n : ℕ) × ((K.state sink.new).written ≡ (K.state sink.old).written ++ take n (encode_lower reply.now ++ behind_reply verb rule))) }
     ensures flushes { (K.state sink.new).flushes ≡ (K.state sink.old).flushes }
     ensures cause { HasCause (K.state sink.old).faults (K.state sink.new).faults result }
 {
-    let count = spell_reply(reply, text);
+    let count = spell_reply(verb, reply, rule, text);
     sink.write_all(&text[..count])
 }
 

@@ -12,6 +12,7 @@ use crate::ending::Ending;
 use crate::form::COMMAND_LIMIT;
 use crate::reply::{REPLY_LINE_LIMIT, write_bad_line};
 use crate::serve::{Served, Workspace, serve_line};
+use crate::verb::Verb;
 use arrayvec::ArrayVec;
 use card_core::Card;
 use flash_core::Flash;
@@ -40,6 +41,7 @@ fn refuse_line<K: Sink>(number: u32, sink: &mut K) -> Ending
 
 // Takes the next line and gives it to the card. It answers how the run ends, if it does.
 fn take_turn<S: Source, K: Sink, F: Flash>(
+    verb: Verb,
     lines: &mut Lines,
     source: &mut S,
     card: &mut Card<F>,
@@ -50,9 +52,9 @@ fn take_turn<S: Source, K: Sink, F: Flash>(
     requires stop { lines.old.stop ≡ None }
     requires live { card.old.live ≡ true }
     requires few { done.old ≤ lines.old.passed }
-    ensures goes_on { IfNone result (TurnGoesOn F.Flash S.tells K.tells card.old card.new done.old done.new lines.old lines.new
+    ensures goes_on { IfNone result (TurnGoesOn verb F.Flash S.tells K.tells card.old card.new done.old done.new lines.old lines.new
         (outside (S.state source.old) (K.state sink.old)) (outside (S.state source.new) (K.state sink.new))) }
-    ensures ends { IfSome result (TurnEnds F.Flash S.tells K.tells card.old card.new done.old done.new lines.old
+    ensures ends { IfSome result (TurnEnds verb F.Flash S.tells K.tells card.old card.new done.old done.new lines.old
         (outside (S.state source.old) (K.state sink.old)) (outside (S.state source.new) (K.state sink.new))) }
     ensures live { IfNone result (card.new.live ≡ true) }
     ensures few { done.new ≤ done.old + 1 }
@@ -63,7 +65,7 @@ fn take_turn<S: Source, K: Sink, F: Flash>(
         (faults_of (S.state source.old) (K.state sink.old) (F.faults card.old.flash)) (faults_of (S.state source.new) (K.state sink.new) (F.faults card.new.flash))) }
 {
     match lines.next_line(source) {
-        Ok(line) => match serve_line(line.text, card, done, space, sink) {
+        Ok(line) => match serve_line(verb, line.text, card, done, space, sink) {
             Served::Done => None,
             Served::NoForm => Some(refuse_line(line.number, sink)),
             Served::WriteFault => Some(Ending::WriteFault),
@@ -78,6 +80,7 @@ fn take_turn<S: Source, K: Sink, F: Flash>(
 
 // Takes lines until the run ends.
 fn take_lines<S: Source, K: Sink, F: Flash>(
+    verb: Verb,
     card: &mut Card<F>,
     source: &mut S,
     sink: &mut K,
@@ -85,7 +88,7 @@ fn take_lines<S: Source, K: Sink, F: Flash>(
     requires live { card.old.live ≡ true }
     ensures flushes { (K.state sink.new).flushes ≡ (K.state sink.old).flushes }
     ensures ends { (first : State) → CardRepresents F.Flash card.old first
-        → RunEnds S.Source K.Sink F.Flash first result.ending result.done (around source.old sink.old card.old.flash) (around source.new sink.new card.new.flash) }
+        → RunEnds verb S.Source K.Sink F.Flash first result.ending result.done (around source.old sink.old card.old.flash) (around source.new sink.new card.new.flash) }
     ensures later { F.faults card.old.flash ≤ F.faults card.new.flash }
     ensures cause { RunCause S.Source K.Sink F.Flash result.ending (around source.old sink.old card.old.flash) (around source.new sink.new card.new.flash) }
 {
@@ -97,7 +100,9 @@ fn take_lines<S: Source, K: Sink, F: Flash>(
         text: [0; REPLY_LINE_LIMIT],
     };
     loop {
-        if let Some(ending) = take_turn(&mut lines, source, card, &mut done, &mut space, sink) {
+        if let Some(ending) = take_turn(
+            verb, &mut lines, source, card, &mut done, &mut space, sink,
+        ) {
             return RunEnd { ending, done };
         }
     }
@@ -124,15 +129,20 @@ pub fn flush_at_end<K: Sink>(ending: Ending, sink: &mut K) -> Ending
 }
 
 /// Gives the lines of a source to a card, and writes each reply before the next line is taken.
-pub fn run<S: Source, K: Sink, F: Flash>(card: &mut Card<F>, source: &mut S, sink: &mut K) -> RunEnd
+pub fn run<S: Source, K: Sink, F: Flash>(
+    verb: Verb,
+    card: &mut Card<F>,
+    source: &mut S,
+    sink: &mut K,
+) -> RunEnd
     requires live { card.old.live ≡ true }
     ensures flushes { Flushes K.tells result.ending (K.state sink.old) (K.state sink.new) }
     ensures ends { (first : State) → CardRepresents F.Flash card.old first
-        → RunEnds S.Source K.Sink F.Flash first result.ending result.done (around source.old sink.old card.old.flash) (around source.new sink.new card.new.flash) }
+        → RunEnds verb S.Source K.Sink F.Flash first result.ending result.done (around source.old sink.old card.old.flash) (around source.new sink.new card.new.flash) }
     ensures later { F.faults card.old.flash ≤ F.faults card.new.flash }
     ensures cause { RunCause S.Source K.Sink F.Flash result.ending (around source.old sink.old card.old.flash) (around source.new sink.new card.new.flash) }
 {
-    let end = take_lines(card, source, sink);
+    let end = take_lines(verb, card, source, sink);
     RunEnd {
         ending: flush_at_end(end.ending, sink),
         done: end.done,

@@ -1,4 +1,4 @@
-//! The verb `run`.
+//! The verbs over lines.
 
 ghost use Rattle.std.specs.Prelude.{◌≡◌, ◌≢◌, ◌⊎◌, ◌≤◌};
 ghost use Rattle.gp_tool.specs.Device.{HoldsCard, refusal_status};
@@ -6,6 +6,7 @@ ghost use Rattle.gp_tool.specs.Verbs.{EndsRun, IsGoodInput, NoFault, around};
 
 use crate::ended::Ended;
 use crate::run::run;
+use crate::verb::Verb;
 use card_core::{Card, PowerCause, PowerError};
 use flash_core::Flash;
 use io_edge::{Sink, Source};
@@ -25,12 +26,13 @@ pub fn refusal(cause: &PowerCause) -> u8
 /// Powers the card on, and gives it the lines of the source.
 pub fn run_verb<S: Source, K: Sink, F: Flash>(
     alloc: Global,
+    verb: Verb,
     source: &mut S,
     sink: &mut K,
     flash: F,
 ) -> Ended<F>
     ensures memory { result.status ≡ 7 → (source.new ≡ source.old) × (sink.new ≡ sink.old) × (result.flash ≡ flash) × (result.done ≡ 0) }
-    ensures run { result.status ≢ 7 → EndsRun S.Source K.Sink F.Flash result.status result.done
+    ensures run { result.status ≢ 7 → EndsRun verb S.Source K.Sink F.Flash result.status result.done
         (around source.old sink.old flash) (around source.new sink.new result.flash) }
     ensures no_card { F.tells → (HoldsCard F.Flash flash → ⊥) → (result.status ≡ 3) ⊎ (result.status ≡ 4) ⊎ (result.status ≡ 7) }
     ensures complete { S.tells → F.tells → HoldsCard F.Flash flash → IsGoodInput (S.state source.old).left
@@ -39,7 +41,7 @@ pub fn run_verb<S: Source, K: Sink, F: Flash>(
 {
     match Card::power_on(alloc, flash) {
         Ok(mut card) => {
-            let end = run(&mut card, source, sink);
+            let end = run(verb, &mut card, source, sink);
             Ended {
                 status: end.ending.status(),
                 done: end.done,

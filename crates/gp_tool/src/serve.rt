@@ -8,6 +8,7 @@ ghost use Rattle.gp_tool.specs.Serve.{IfServed, ServesLine, ServeCause};
 
 use crate::form::{COMMAND_LIMIT, Form, read_form};
 use crate::reply::{REPLY_LINE_LIMIT, write_reply};
+use crate::verb::Verb;
 use arrayvec::ArrayVec;
 use card_core::{Card, REPLY_LIMIT};
 use flash_core::{Flash, FlashFailed};
@@ -34,8 +35,9 @@ pub enum Served {
     FlashFault,
 }
 
-/// Gives a line to the card, and writes the reply. `done` counts the commands that the card has answered.
+/// Gives a line to the card, and writes the reply as the verb has it. `done` counts the commands that the card has answered.
 pub fn serve_line<K: Sink, F: Flash>(
+    verb: Verb,
     line: &[u8],
     card: &mut Card<F>,
     done: &mut u32,
@@ -45,7 +47,7 @@ pub fn serve_line<K: Sink, F: Flash>(
     requires line { length line.now ≤ LINE_LIMIT }
     requires live { card.old.live ≡ true }
     requires few { done.old < INPUT_LIMIT }
-    ensures served { ServesLine K.tells line.now ((card.new ≡ card.old) × (done.new ≡ done.old))
+    ensures served { ServesLine verb K.tells line.now ((card.new ≡ card.old) × (done.new ≡ done.old))
         (CardRepresents F.Flash card.old) (CardRepresents F.Flash card.new)
         (LeavesOneOf F.Flash card.old.flash card.new.flash)
         done.old done.new (K.state sink.old).written (K.state sink.new).written result }
@@ -63,11 +65,12 @@ pub fn serve_line<K: Sink, F: Flash>(
             Served::Done
         }
         Some(Form::Command(count)) => {
-            match card.process(&space.command[..count], &mut space.reply) {
-                Ok(_) => *done += 1,
+            let rule = match card.process(&space.command[..count], &mut space.reply) {
+                Ok(rule) => rule,
                 Err(FlashFailed) => return Served::FlashFault,
-            }
-            match write_reply(&space.reply, &mut space.text, sink) {
+            };
+            *done += 1;
+            match write_reply(verb, &space.reply, rule, &mut space.text, sink) {
                 Ok(()) => Served::Done,
                 Err(_) => Served::WriteFault,
             }

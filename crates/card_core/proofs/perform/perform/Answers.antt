@@ -166,9 +166,9 @@ returns-in-ListStatus-clause-done g c = λ page judged stands passed.
     let here = subst (λ (t : Tables). ActsIn page t slot judged) (sym c.tables-in-ListStatus.ensures.tables) acts in
     let says = subst (λ (t : Tables). RepresentsState page t live judged.at) (sym c.tables-in-ListStatus.ensures.tables) stands.shows.says in
     let lists = c.get_status.ensures.done page judged here says (record {
-        on = passed.on;
-        asks = subst (λ (r : Request). IsRequestOf r judged.command) c.in-ListStatus.is passed.asks;
-        goes_on = λ lists. passed.goes_on (ap (λ (r : Request). (form_in r).instruction) c.in-ListStatus.is);
+      on = passed.on;
+      asks = subst (λ (r : Request). IsRequestOf r judged.command) c.in-ListStatus.is passed.asks;
+      goes_on = λ lists. passed.goes_on (ap (λ (r : Request). (form_in r).instruction) c.in-ListStatus.is);
     }) in
     listing_carried page tables live all judged stands (record { held = c.told-held; channels = stands.sound.fits.channels }) low c.get_status.new.live c.get_status.new.reply.items c.get_status.result
     (subst (λ (t : Tables). Lists judged page t live c.get_status.new.live c.get_status.new.reply.items c.get_status.result) c.tables-in-ListStatus.ensures.tables lists)

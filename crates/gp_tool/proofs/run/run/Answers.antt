@@ -13,7 +13,7 @@ returns-clause-ends g c first stands =
     let F = g.F.Flash in
     let from = c.args.card.now.flash in
     let new = c.take_lines-end.new.card.flash in
-    after_flush g.S.Source.tells g.K.Sink.tells
+    after_flush c.args.verb g.S.Source.tells g.K.Sink.tells
     (HasRun F from new first c.take_lines-end.result.done)
     (HasFailed F from new first c.take_lines-end.result.done)
     first _ _ _

@@ -17,7 +17,7 @@ loop-ending-init g c =
       later = omega arith;
       flushes = refl;
       going = λ first stands.
-          going_first g.S.Source.tells g.K.Sink.tells first _ _ _ stands
+          going_first c.args.verb g.S.Source.tells g.K.Sink.tells first _ _ _ stands
           (nothing_done F g.met.F.Flash.only_now c.args.card.now first stands);
     })
 
@@ -27,7 +27,7 @@ returns-in-Some-clause-ends g c first stands =
     let from = c.args.card.now.flash in
     let old = c.loop-ending.card in
     let new = c.take_turn.new.card in
-    going_ends g.S.Source.tells g.K.Sink.tells first _ _ _ _ _ c.loop-ending.lines (c.loop-ending.invariant.going first stands)
+    going_ends c.args.verb g.S.Source.tells g.K.Sink.tells first _ _ _ _ _ c.loop-ending.lines (c.loop-ending.invariant.going first stands)
     _ _ _ _ _ _
     (joins F from old.flash new.flash)
     (stays F from old new c.loop-ending.done c.take_turn.new.done)
@@ -53,6 +53,6 @@ loop-ending-preserved g c =
       later = omega (arith, kept.later, c.in_default.ensures.later);
       flushes = c.in_default.ensures.flushes ∙ kept.flushes;
       going = λ first stands.
-          going_further g.S.Source.tells g.K.Sink.tells first _ _ _ _ _ c.loop-ending.lines (kept.going first stands) _ _ _ _ _ _
+          going_further c.args.verb g.S.Source.tells g.K.Sink.tells first _ _ _ _ _ c.loop-ending.lines (kept.going first stands) _ _ _ _ _ _
           (joins F c.args.card.now.flash c.loop-ending.card.flash c.take_turn.new.card.flash) on;
     }

@@ -18,7 +18,7 @@ invariant-loop-ending g l = record {
   later : g.F.Flash.faults l.fn.card.flash ≤ g.F.Flash.faults l.card.flash;
   flushes : (g.K.Sink.state l.sink).flushes ≡ (g.K.Sink.state l.fn.sink).flushes;
   going : (first : State) → CardRepresents g.F.Flash l.fn.card first
-      → Going g.S.Source.tells g.K.Sink.tells first
+      → Going l.verb g.S.Source.tells g.K.Sink.tells first
       (CardRepresents g.F.Flash l.card)
       (LeavesOneOf g.F.Flash l.fn.card.flash l.card.flash)
       l.done

@@ -22,7 +22,7 @@ pub returns-in-NoForm-clause-ends : goal.returns-in-NoForm-clause-ends
 returns-in-NoForm-clause-ends g c =
     let gives = rw c.in-Ok.is at c.next_line.follows.holds-at-none in
     let served = c.in-NoForm.ensures.served in
-    refusal_ends g.S.Source.tells g.K.Sink.tells _ _ _ _ _ _ c.args.lines.now
+    refusal_ends c.args.verb g.S.Source.tells g.K.Sink.tells _ _ _ _ _ _ c.args.lines.now
     (outside (g.S.Source.state c.args.source.now) (g.K.Sink.state c.args.sink.now))
     (outside (g.S.Source.state c.next_line.new.source) (g.K.Sink.state c.refuse_line.new.sink))
     c.refuse_line.result
@@ -47,12 +47,12 @@ returns-in-FlashFault-clause-ends g c =
 
 pub returns-in-Err-TooLong-clause-ends : goal.returns-in-Err-TooLong-clause-ends
 returns-in-Err-TooLong-clause-ends g c =
-    refusal_ends g.S.Source.tells g.K.Sink.tells _ _ _ _ _ _ c.args.lines.now
+    refusal_ends c.args.verb g.S.Source.tells g.K.Sink.tells _ _ _ _ _ _ c.args.lines.now
     (outside (g.S.Source.state c.args.source.now) (g.K.Sink.state c.args.sink.now))
     (outside (g.S.Source.state c.next_line.new.source) (g.K.Sink.state c.refuse_line-in-Err-TooLong.new.sink))
     c.refuse_line-in-Err-TooLong.result
     (refl, refl)
     (λ told. (let stop = rw c.in-Err-TooLong.field-0-is at (c.in-Err-TooLong.ensures.stop told c.requires.stop) in (stop.1.0, inr (stop.1.1, stop.1.2))))
     (let number = rw c.in-Err-TooLong.field-0-is at (c.in-Err-TooLong.ensures.numbered c.requires.stop) in
-    rw (← number) c.refuse_line-in-Err-TooLong.ensures.refused)
+    rw (← number) (rw c.in-Err-TooLong.field-0-is at c.refuse_line-in-Err-TooLong.ensures.refused))
     (stop_takes g.S.Source.tells _ _ _ _ _ (rw c.in-Err-TooLong.is at c.next_line.follows.holds-at-none))

@@ -22,7 +22,7 @@ returns-in-Ok-clause-run g c fits =
       status_is = c.status.ensures;
       cause = cause_since end.ending _ _ _ _ _ powered.later c.run-end.ensures.cause;
       flushes = c.run-end.ensures.flushes;
-      ends = said_else g.S.Source.tells g.K.Sink.tells
+      ends = said_else c.args.verb g.S.Source.tells g.K.Sink.tells
           (HasRun F c.in-Ok.card.flash new first end.done)
           (HasRun F c.args.flash new first end.done)
           (HasFailed F c.in-Ok.card.flash new first end.done)
@@ -40,7 +40,7 @@ returns-in-Ok-clause-complete g c told tells card good none =
     let stands = c.in-Ok.ensures.stands in
     let end = c.run-end.result in
     let cause = cause_since end.ending _ _ _ _ _ c.in-Ok.ensures.later c.run-end.ensures.cause in
-    inl (c.status.ensures ∙ ap exit_status (finishes g.S.Source.tells g.K.Sink.tells _ _ (powered_on stands.0) _ _ _ _ end.ending cause
+    inl (c.status.ensures ∙ ap exit_status (finishes c.args.verb g.S.Source.tells g.K.Sink.tells _ _ (powered_on stands.0) _ _ _ _ end.ending cause
     (c.run-end.ensures.ends (powered_on stands.0) stands.2) told good.0 good.1 none.reads none.writes (rw c.into_flash.ensures at none.flash)))
 
 pub returns-in-Err-clause-complete : goal.returns-in-Err-clause-complete

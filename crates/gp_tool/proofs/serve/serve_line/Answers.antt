@@ -69,7 +69,7 @@ returns-in-Ok-write_reply-clause-served g c state stands =
         leaves = one_of_two F c.args.card.now.flash c.process.new.self.flash state.registry outcome.state.registry step.2;
         done = omega arith;
       },
-      λ told. line_written _ _ outcome (rw (← step.3.1, ← c.deref.ensures.0) (c.in-Ok-write_reply.ensures.ok told)),
+      λ told. line_written c.args.verb _ _ outcome (rw (← step.3.1, ← step.3.2, ← c.deref.ensures.0) (c.in-Ok-write_reply.ensures.ok told)),
     )
 
 pub returns-in-Err-write_reply-clause-served : goal.returns-in-Err-write_reply-clause-served
@@ -88,5 +88,5 @@ returns-in-Err-write_reply-clause-served g c state stands =
       },
       outcome,
       refl,
-      λ told. (let part = c.in-Err-write_reply.ensures.err told in (part.0, rw (← step.3.1, ← c.deref.ensures.0) part.1)),
+      λ told. (let part = c.in-Err-write_reply.ensures.err told in (part.0, rw (← step.3.1, ← step.3.2, ← c.deref.ensures.0) part.1)),
     )

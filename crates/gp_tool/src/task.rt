@@ -1,0 +1,38 @@
+//! The words of the command line.
+
+ghost use Rattle.std.specs.Prelude.{◌≡◌, ◌↔◌, IsTrue, MatchOption, string_bytes};
+ghost use Rattle.gp_tool.specs.Words.{HaveForm, Name};
+
+use crate::verb::Verb;
+
+/// What the program is to do.
+#[derive(Clone, Copy)]
+pub enum Task {
+    /// `format`
+    Format,
+
+    /// `run` or `why`: the lines of the source are given to the card.
+    Serve(Verb),
+
+    /// `show`
+    Show,
+}
+
+fn is_word(word: &String, wanted: &[u8]) -> bool
+    ensures { IsTrue result ↔ (string_bytes word.now ≡ wanted.now) }
+{
+    word.as_bytes() == wanted
+}
+
+/// The task whose word they are, alone.
+pub fn read_task(words: &[String]) -> Option<Task>
+    ensures { MatchOption result (HaveForm words.now → ⊥) (λ task. Name task words.now) }
+{
+    match words {
+        [word] if is_word(word, b"format") => Some(Task::Format),
+        [word] if is_word(word, b"run") => Some(Task::Serve(Verb::Run)),
+        [word] if is_word(word, b"why") => Some(Task::Serve(Verb::Why)),
+        [word] if is_word(word, b"show") => Some(Task::Show),
+        _ => None,
+    }
+}
