@@ -51,5 +51,5 @@ pub use mill::Mill;
 pub use opening::Opening;
 pub use plain::Plain;
 pub use put_key::{NewKeys, Putting};
-pub use round::{MillLine, Round};
+pub use round::Round;
 pub use tokens::Tokens;

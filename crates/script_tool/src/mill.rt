@@ -1,12 +1,16 @@
 //! The workload: rounds of lines that ChaCha20 chooses.
 
-ghost use Rattle.std.specs.Prelude.{◌≡◌, ◌∷◌, [], MatchOption};
+ghost use Rattle.std.specs.Prelude.{◌≡◌, ◌∷◌, ◌↔◌, [], IsTrue, MatchOption, false};
 ghost use Rattle.script_tool.specs.Mill.{after, after_round, generator, round_of, to_come, word, workload};
 
 use crate::round::{MillLine, Round};
+use arrayvec::ArrayVec;
 use rand_chacha::ChaCha20Rng;
 use rand_core::SeedableRng;
 use rand_core::utils::NextWord;
+
+/// How many bytes a line has room for.
+const LINE_ROOM: usize = 522;
 
 /// The codes of the five security levels.
 const LEVELS: [u8; 5] = [0x01, 0x03, 0x11, 0x13, 0x33];
@@ -67,8 +71,21 @@ impl Mill {
         }
     }
 
-    /// The next line, or nothing where all were given.
-    pub fn next_line(&mut self) -> Option<MillLine>
+    /// Makes `out` the next line, or answers false where all were given.
+    pub fn next_line(&mut self, out: &mut ArrayVec<u8, LINE_ROOM>) -> bool
+        ensures line { IsTrue result → to_come self.old ≡ out.new.items ∷ to_come self.new }
+        ensures all { result ≡ false ↔ (to_come self.old ≡ []) }
+    {
+        let Some(line) = self.take_line() else {
+            return false;
+        };
+        out.clear();
+        out.try_extend_from_slice(&line).unwrap();
+        true
+    }
+
+    // The next line, or nothing where all were given.
+    fn take_line(&mut self) -> Option<MillLine>
         ensures { MatchOption result (to_come self.old ≡ []) (λ line. to_come self.old ≡ line.items ∷ to_come self.new) }
     {
         if let Some(line) = self.round.line(self.at) {

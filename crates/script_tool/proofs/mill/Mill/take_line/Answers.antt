@@ -1,7 +1,7 @@
 use Rattle.std.proofs.Common.{arith}
 use Rattle.std.specs.Prelude.{codes}
 use Rattle.script_tool.proofs.Workload.{given, next_round, no_more, one_more}
-use Rattle.script_tool.proofs.mill.Mill.next_line.Goals as goal
+use Rattle.script_tool.proofs.mill.Mill.take_line.Goals as goal
 
 pub returns-in-Some : goal.returns-in-Some
 returns-in-Some c = one_more c.args.self.now c.in-Some.line.items c.in-Some.ensures
