@@ -42,11 +42,13 @@ fits() {
 declare -A calls=([0]=0 [3]=0 [5]=0 [6]=0 [7]=0)
 failed=0
 usual=0
+unharmed=
 for ((number = first; number <= last && usual < 3; number++)); do
     refuse "$number"
     if fits; then
         calls[$status]=$((calls[$status] + 1))
         usual=$((status == 0 ? usual + 1 : 0))
+        if ((status == 0)); then unharmed+=" $number"; fi
     else
         failed=$((failed + 1))
         echo "FAIL allocation $number: status '$status', text '$text'"
@@ -54,5 +56,5 @@ for ((number = first; number <= last && usual < 3; number++)); do
     fi
 done
 
-echo "$((number - first)) allocations tried: ${calls[7]} ended with 7, ${calls[3]} with 3, ${calls[5]} with 5, ${calls[6]} with 6, ${calls[0]} as usual, $failed failed"
+echo "$((number - first)) allocations tried: ${calls[7]} ended with 7, ${calls[3]} with 3, ${calls[5]} with 5, ${calls[6]} with 6, ${calls[0]} as usual${unharmed:+ (those of$unharmed)}, $failed failed"
 ((failed == 0))
