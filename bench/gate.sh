@@ -18,7 +18,8 @@ mkdir tmp
 chmod 1777 . tmp
 # A kit that keeps proofs between runs has the flag; any other proves from nothing always.
 anew=()
-if rt help 2>&1 | grep -q -- '--anew'; then anew=(--anew); fi
+help=$(rt help 2>&1 || true)
+if [[ $help == *--anew* ]]; then anew=(--anew); fi
 TMPDIR=$copy/tmp rt ci "${anew[@]}" >tmp/log 2>&1 </dev/null &
 gate=$!
 
