@@ -19,5 +19,6 @@ pub mod ShownCard
 pub mod ShownText
 pub mod ReplyLine
 pub mod RepresentsSoundly
+pub mod Statuses
 pub mod Turns
 pub mod Written

@@ -95,8 +95,9 @@ module _ {F : Type 0} (device : Flash F) where
 
   pub has_run : (old : F) (card : CardOver F) (first : State) (count : ℕ) (outcomes : List Outcome) (last : State) → count ≡ length outcomes
       → CardRepresents device card last → LeavesOneOf device old card.flash (registries first outcomes)
-      → HasRun device old card.flash first count outcomes last
-  has_run old card first count outcomes last done stands leaves = record { done = done; keeps = stands.keeps; moments = λ told before. leaves told }
+      → HasRun device old card.flash first count outcomes last × CardRepresents device card last
+  has_run old card first count outcomes last done stands leaves =
+      (record { done = done; keeps = stands.keeps; moments = λ told before. leaves told }, stands)
 
   pub has_failed : ((f : F) (t : ℕ) (c : List Page) → device.tells → t ≤ device.moment f → device.may_leave f c → device.left_since f t c)
       → (old mid new : F) (first : State) (count : ℕ) (outcomes : List Outcome) (last : State) (next : Outcome) → count ≡ length outcomes

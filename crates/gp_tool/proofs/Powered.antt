@@ -1,5 +1,5 @@
 -- A run on a card that was powered on, from the device before.
-use Rattle.std.proofs.Common.{◌≡◌, ◌⊎◌, ◌≤◌, ℕ, List, [], ◌∷◌, ◌++◌, inr, arith}
+use Rattle.std.proofs.Common.{◌≡◌, ◌≢◌, ◌⊎◌, ◌≤◌, ℕ, List, [], ◌∷◌, ◌++◌, refl, inl, inr, arith}
 use Rattle.card_core.specs.Card.{CardOver, CardRepresents}
 use Rattle.card_core.specs.PowerOn.{PowerFails}
 use Rattle.card_core.specs.declared.power.PowerCause.{PowerCause}
@@ -13,8 +13,13 @@ use Rattle.policy_rules.specs.State.{State}
 use Rattle.policy_rules.specs.Step.{Outcome}
 use Rattle.rec_store.specs.Reopens.{Reopens, ReopensAsOne}
 use Rattle.rec_store.proofs.Leaving.{joined}
-use Rattle.gp_tool.specs.Device.{HasFailed, HasRun, refusal_status, registries}
+use Rattle.gp_tool.specs.Device.{HasFailed, HasRun, IsNotPowered, refusal_status, registries}
+use Rattle.io_edge.specs.declared.sink.Sink.{Ghosts as Sink}
+use Rattle.io_edge.specs.declared.source.Source.{Ghosts as Source}
+use Rattle.gp_tool.proofs.SaidElse.{said_else}
 use Rattle.gp_tool.specs.Ends.{EndCause, Faults}
+use Rattle.gp_tool.specs.Verbs.{Serves, around}
+use Rattle.gp_tool.specs.declared.verb.Verb.{Verb}
 use Rattle.gp_tool.specs.declared.ending.Ending.{Ending}
 use Rattle.gp_tool.specs.declared.ending.Ending.TheVariants.{Finished, BadLine, FlashFault, ReadFault, WriteFault, InputTooLong}
 
@@ -47,6 +52,31 @@ module _ {F : Type 0} (device : Flash F) (old : F) (card : CardOver F) (first : 
       → HasFailed device card.flash new first count outcomes last next → HasFailed device old new first count outcomes last next
   failed_since new count outcomes last next failed = record { done = failed.done; left = failed.left; moments = since new (outcomes ++ next ∷ []) failed.moments }
 
+-- a count that rose has risen since a moment before
+pub rose_since : (before old new : ℕ) → before ≤ old → Rose old new → Rose before new
+rose_since before old new less rose = omega (arith, less, rose)
+
+module _ {S K F : Type 0} (verb : Verb) (source : Source S) (sink : Sink K) (device : Flash F) (old : F) (card : CardOver F) (first : State) (stands : CardRepresents device card first)
+    (powered : device.tells → (all : List Registry) → Always (device.may_leave old) (ReopensAsOne all) → LeavesOnly device old card.flash (ReopensAsOne all))
+    (later : device.faults old ≤ device.faults card.flash) where
+  pub serves_since : (Stands : State → Type 0) (status count : ℕ) (s s' : S) (k k' : K) (new : F)
+      → Serves verb source sink device Stands first status count (around s k card.flash) (around s' k' new)
+      → Serves verb source sink device (λ last. Unit {0}) first status count (around s k old) (around s' k' new)
+  serves_since Stands status count s s' k k' new serves = record {
+    ending = serves.ending;
+    status_is = serves.status_is;
+    cause = cause_since serves.ending _ _ _ _ _ later serves.cause;
+    flushes = serves.flushes;
+    ends = said_else verb source.tells sink.tells
+        (λ outcomes last. HasRun device card.flash new first count outcomes last × Stands last)
+        (λ outcomes last. HasRun device old new first count outcomes last × Unit {0})
+        (HasFailed device card.flash new first count)
+        (HasFailed device old new first count)
+        (λ outcomes last run. (run_since device old card first stands powered new count outcomes last run.0, tt))
+        (failed_since device old card first stands powered new count)
+        first _ _ serves.ending serves.ends;
+  }
+
 -- where the device holds a card and doesn't fail, want of memory alone is left
 pub no_other_cause : {F : Type 0} (device : Flash F) (old new : F) (cause : PowerCause) (status : ℕ)
     → PowerFails device old cause new → status ≡ refusal_status cause → device.tells → (registry : Registry) → Reopens (device.pages old) registry
@@ -54,3 +84,11 @@ pub no_other_cause : {F : Type 0} (device : Flash F) (old new : F) (cause : Powe
 no_other_cause device old new (Memory refused) status fails is told registry reopens no_flash = inr is
 no_other_cause device old new FlashFailed status fails is told registry reopens no_flash = absurd (no_flash fails)
 no_other_cause device old new NotACard status fails is told registry reopens no_flash = absurd ((fails told).none registry reopens)
+
+-- the card was not powered on, but for want of memory
+pub not_powered : {F : Type 0} (device : Flash F) (old new : F) (cause : PowerCause) (status : ℕ) → PowerFails device old cause new
+    → (device.tells → (all : List Registry) → Always (device.may_leave old) (ReopensAsOne all) → LeavesOnly device old new (ReopensAsOne all))
+    → status ≡ refusal_status cause → status ≢ 7 → IsNotPowered device status 0 old new
+not_powered device old new (Memory refused) status fails moments is other = absurd (other is)
+not_powered device old new FlashFailed status fails moments is other = record { none = refl; why = inl (is, fails); moments = moments }
+not_powered device old new NotACard status fails moments is other = record { none = refl; why = inr (is, fails); moments = moments }

@@ -8,8 +8,8 @@ use Rattle.policy_rules.specs.Step.{Outcome, Step}
 use Rattle.gp_tool.specs.Device.{registries}
 use Rattle.gp_tool.specs.Form.{HasNoForm, SpellsInputs}
 use Rattle.gp_tool.specs.RunsLines.{RunsLines, reply_line, text_of}
-use Rattle.gp_tool.specs.declared.serve.Served.{Served}
-use Rattle.gp_tool.specs.declared.serve.Served.TheVariants.{Done, NoForm, WriteFault, FlashFault}
+use Rattle.gp_tool.specs.declared.line.LineEnd.{LineEnd}
+use Rattle.gp_tool.specs.declared.line.LineEnd.TheVariants.{Done, NoForm, WriteFault, FlashFault}
 use Rattle.gp_tool.specs.declared.verb.Verb.{Verb}
 
 -- In what follows `Before` and `After` say which states a card stands for, `Leaving` which registries power lost in between
@@ -34,7 +34,7 @@ pub record FailsLine (line : List ℕ) (Leaving : List Registry → Type 0) (sta
 
 -- How the card stands after a line, and what has been written where the sink tells it. `Same` says that the card and the count are
 -- as they were.
-abbrev pub ServesLine : Verb → Type 0 → List ℕ → Type 0 → (State → Type 0) → (State → Type 0) → (List Registry → Type 0) → ℕ → ℕ → List ℕ → List ℕ → Served → Type 0
+abbrev pub ServesLine : Verb → Type 0 → List ℕ → Type 0 → (State → Type 0) → (State → Type 0) → (List Registry → Type 0) → ℕ → ℕ → List ℕ → List ℕ → LineEnd → Type 0
 ServesLine verb writes line Same Before After Leaving count count' old new Done =
     (state : State) → Before state
     → (played : RunsLine line After Leaving count count' state) × (writes → new ≡ old ++ text_of verb played.outcomes)
@@ -47,15 +47,8 @@ ServesLine verb writes line Same Before After Leaving count count' old new Flash
     (count' ≡ count) × (writes → new ≡ old) × ((state : State) → Before state → FailsLine line Leaving state)
 
 -- whose count of faults has risen: the sink's, from one number to another, or the device's
-abbrev pub ServeCause : ℕ → ℕ → ℕ → ℕ → Served → Type 0
+abbrev pub ServeCause : ℕ → ℕ → ℕ → ℕ → LineEnd → Type 0
 ServeCause sink sink' device device' Done = sink' ≡ sink
 ServeCause sink sink' device device' NoForm = sink' ≡ sink
 ServeCause sink sink' device device' WriteFault = Rose sink sink'
 ServeCause sink sink' device device' FlashFault = (sink' ≡ sink) × Rose device device'
-
--- the run goes on with the next line only where this holds
-abbrev pub IfServed : Served → Type 0 → Type 0
-IfServed Done holds = holds
-IfServed NoForm holds = Unit {0}
-IfServed WriteFault holds = Unit {0}
-IfServed FlashFault holds = Unit {0}

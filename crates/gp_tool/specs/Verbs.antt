@@ -27,10 +27,12 @@ pub record Around (S K F : Type 0) : Type 0 where
 abbrev pub around : {S K F : Type 0} → S → K → F → Around S K F
 around source sink flash = record { source = source; sink = sink; flash = flash }
 
--- how a run from a first state ends that has processed so many commands
-abbrev pub RunEnds : {S K F : Type 0} → Verb → Source S → Sink K → Flash F → State → Ending → ℕ → Around S K F → Around S K F → Type 0
-RunEnds verb source sink device first ending count old new =
-    Ends verb source.tells sink.tells (HasRun device old.flash new.flash first count) (HasFailed device old.flash new.flash first count) first ending
+-- How a run from a first state ends that has processed so many commands. `Stands` holds of the state behind it, unless the
+-- device failed.
+abbrev pub RunEnds : {S K F : Type 0} → Verb → Source S → Sink K → Flash F → (State → Type 0) → State → Ending → ℕ → Around S K F → Around S K F → Type 0
+RunEnds verb source sink device Stands first ending count old new =
+    Ends verb source.tells sink.tells (λ outcomes last. HasRun device old.flash new.flash first count outcomes last × Stands last)
+    (HasFailed device old.flash new.flash first count) first ending
     (outside (source.state old.source) (sink.state old.sink)) (outside (source.state new.source) (sink.state new.sink))
 
 -- whose faults a run ends with
@@ -39,15 +41,19 @@ RunCause source sink device ending old new =
     EndCause ending (faults_of (source.state old.source) (sink.state old.sink) (device.faults old.flash))
     (faults_of (source.state new.source) (sink.state new.sink) (device.faults new.flash))
 
--- The card was powered on with a registry, and the status is that of the run's ending.
-pub record RunsCard {S K F : Type 0} (verb : Verb) (source : Source S) (sink : Sink K) (device : Flash F) (status count : ℕ) (old new : Around S K F) : Type 0 where
-  pub registry : Registry
-  pub reopens : device.tells → Reopens (device.pages old.flash) registry
+-- A card was served from a first state, and the status is that of the run's ending.
+pub record Serves {S K F : Type 0} (verb : Verb) (source : Source S) (sink : Sink K) (device : Flash F) (Stands : State → Type 0) (first : State) (status count : ℕ) (old new : Around S K F) : Type 0 where
   pub ending : Ending
   pub status_is : status ≡ exit_status ending
   pub cause : RunCause source sink device ending old new
   pub flushes : Flushes sink.tells ending (sink.state old.sink) (sink.state new.sink)
-  pub ends : RunEnds verb source sink device (powered_on registry) ending count old new
+  pub ends : RunEnds verb source sink device Stands first ending count old new
+
+-- The card was powered on with a registry, and served.
+pub record RunsCard {S K F : Type 0} (verb : Verb) (source : Source S) (sink : Sink K) (device : Flash F) (status count : ℕ) (old new : Around S K F) : Type 0 where
+  pub registry : Registry
+  pub reopens : device.tells → Reopens (device.pages old.flash) registry
+  pub serves : Serves verb source sink device (λ last. Unit {0}) (powered_on registry) status count old new
 
 -- It was, or it was not powered on, and nothing is read or written.
 abbrev pub EndsRun : {S K F : Type 0} → Verb → Source S → Sink K → Flash F → ℕ → ℕ → Around S K F → Around S K F → Type 0

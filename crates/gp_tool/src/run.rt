@@ -1,17 +1,18 @@
 //! A run over the lines of a source.
 
-ghost use Rattle.std.specs.Prelude.{◌≡◌, ◌≤◌, ◌+◌, ℕ, None, true, IfNone, IfSome};
+ghost use Rattle.std.specs.Prelude.{◌≡◌, ◌≢◌, ◌≤◌, ◌+◌, ℕ, None, true, IfNone, IfSome};
 ghost use Rattle.card_core.specs.Card.{CardRepresents};
 ghost use Rattle.policy_rules.specs.State.{State};
 ghost use Rattle.gp_tool.specs.Ends.{EndCause, Faults, Flushes, faults_of, outside};
 ghost use Rattle.gp_tool.specs.Flush.{AfterFlush};
+ghost use Rattle.gp_tool.specs.declared.ending.Ending.TheVariants.{FlashFault};
 ghost use Rattle.gp_tool.specs.Turn.{Refuses, TurnEnds, TurnGoesOn};
 ghost use Rattle.gp_tool.specs.Verbs.{RunCause, RunEnds, around};
 
 use crate::ending::Ending;
 use crate::form::COMMAND_LIMIT;
+use crate::line::{LineEnd, Workspace, serve_line};
 use crate::reply::{REPLY_LINE_LIMIT, write_bad_line};
-use crate::serve::{Served, Workspace, serve_line};
 use crate::verb::Verb;
 use arrayvec::ArrayVec;
 use card_core::Card;
@@ -57,6 +58,7 @@ fn take_turn<S: Source, K: Sink, F: Flash>(
     ensures ends { IfSome result (TurnEnds verb F.Flash S.tells K.tells card.old card.new done.old done.new lines.old
         (outside (S.state source.old) (K.state sink.old)) (outside (S.state source.new) (K.state sink.new))) }
     ensures live { IfNone result (card.new.live ≡ true) }
+    ensures ends_live { IfSome result (λ ending. ending ≢ FlashFault → card.new.live ≡ true) }
     ensures few { done.new ≤ done.old + 1 }
     ensures flushes { (K.state sink.new).flushes ≡ (K.state sink.old).flushes }
     ensures quiet { IfNone result (((S.state source.new).faults ≡ (S.state source.old).faults) × ((K.state sink.new).faults ≡ (K.state sink.old).faults)) }
@@ -66,10 +68,10 @@ fn take_turn<S: Source, K: Sink, F: Flash>(
 {
     match lines.next_line(source) {
         Ok(line) => match serve_line(verb, line.text, card, done, space, sink) {
-            Served::Done => None,
-            Served::NoForm => Some(refuse_line(line.number, sink)),
-            Served::WriteFault => Some(Ending::WriteFault),
-            Served::FlashFault => Some(Ending::FlashFault),
+            LineEnd::Done => None,
+            LineEnd::NoForm => Some(refuse_line(line.number, sink)),
+            LineEnd::WriteFault => Some(Ending::WriteFault),
+            LineEnd::FlashFault => Some(Ending::FlashFault),
         },
         Err(LineStop::End) => Some(Ending::Finished),
         Err(LineStop::ReadFailed) => Some(Ending::ReadFault),
@@ -88,7 +90,9 @@ fn take_lines<S: Source, K: Sink, F: Flash>(
     requires live { card.old.live ≡ true }
     ensures flushes { (K.state sink.new).flushes ≡ (K.state sink.old).flushes }
     ensures ends { (first : State) → CardRepresents F.Flash card.old first
-        → RunEnds verb S.Source K.Sink F.Flash first result.ending result.done (around source.old sink.old card.old.flash) (around source.new sink.new card.new.flash) }
+        → RunEnds verb S.Source K.Sink F.Flash (CardRepresents F.Flash card.new) first result.ending result.done
+        (around source.old sink.old card.old.flash) (around source.new sink.new card.new.flash) }
+    ensures live { result.ending ≢ FlashFault → card.new.live ≡ true }
     ensures later { F.faults card.old.flash ≤ F.faults card.new.flash }
     ensures cause { RunCause S.Source K.Sink F.Flash result.ending (around source.old sink.old card.old.flash) (around source.new sink.new card.new.flash) }
 {
@@ -138,7 +142,9 @@ pub fn run<S: Source, K: Sink, F: Flash>(
     requires live { card.old.live ≡ true }
     ensures flushes { Flushes K.tells result.ending (K.state sink.old) (K.state sink.new) }
     ensures ends { (first : State) → CardRepresents F.Flash card.old first
-        → RunEnds verb S.Source K.Sink F.Flash first result.ending result.done (around source.old sink.old card.old.flash) (around source.new sink.new card.new.flash) }
+        → RunEnds verb S.Source K.Sink F.Flash (CardRepresents F.Flash card.new) first result.ending result.done
+        (around source.old sink.old card.old.flash) (around source.new sink.new card.new.flash) }
+    ensures live { result.ending ≢ FlashFault → card.new.live ≡ true }
     ensures later { F.faults card.old.flash ≤ F.faults card.new.flash }
     ensures cause { RunCause S.Source K.Sink F.Flash result.ending (around source.old sink.old card.old.flash) (around source.new sink.new card.new.flash) }
 {

@@ -5,7 +5,7 @@ ghost use Rattle.gp_tool.specs.Device.{HoldsCard, refusal_status};
 ghost use Rattle.gp_tool.specs.Verbs.{EndsRun, IsGoodInput, NoFault, around};
 
 use crate::ended::Ended;
-use crate::run::run;
+use crate::serving::serve;
 use crate::verb::Verb;
 use card_core::{Card, PowerCause, PowerError};
 use flash_core::Flash;
@@ -40,12 +40,12 @@ pub fn run_verb<S: Source, K: Sink, F: Flash>(
     ensures later { F.faults flash ≤ F.faults result.flash }
 {
     match Card::power_on(alloc, flash) {
-        Ok(mut card) => {
-            let end = run(verb, &mut card, source, sink);
+        Ok(card) => {
+            let served = serve(verb, card, source, sink);
             Ended {
-                status: end.ending.status(),
-                done: end.done,
-                flash: card.into_flash(),
+                status: served.status,
+                done: served.done,
+                flash: served.card.into_flash(),
             }
         }
         Err(refused) => Ended {

@@ -1,4 +1,5 @@
 use Rattle.std.proofs.Common.{refl}
+use Rattle.card_core.specs.Card.{CardRepresents}
 use Rattle.gp_tool.proofs.Flush.{after_flush, after_from, flushed}
 use Rattle.gp_tool.specs.Device.{HasFailed, HasRun}
 use Rattle.gp_tool.proofs.run.run.Goals as goal
@@ -14,7 +15,7 @@ returns-clause-ends g c first stands =
     let from = c.args.card.now.flash in
     let new = c.take_lines-end.new.card.flash in
     after_flush c.args.verb g.S.Source.tells g.K.Sink.tells
-    (HasRun F from new first c.take_lines-end.result.done)
+    (λ outcomes last. HasRun F from new first c.take_lines-end.result.done outcomes last × CardRepresents F c.take_lines-end.new.card last)
     (HasFailed F from new first c.take_lines-end.result.done)
     first _ _ _
     (record { left = refl; written = c.flush_at_end.ensures.same })

@@ -1,4 +1,5 @@
 use Rattle.std.proofs.Common.{refl, arith, ◌∙◌}
+use Rattle.card_core.specs.Card.{CardRepresents}
 use Rattle.gp_tool.proofs.RunSoFar.{going_first, going_further, going_ends}
 use Rattle.gp_tool.proofs.Moments.{has_failed, has_run, joins, nothing_done, stays}
 use Rattle.gp_tool.specs.Device.{HasFailed, HasRun}
@@ -31,7 +32,7 @@ returns-in-Some-clause-ends g c first stands =
     _ _ _ _ _ _
     (joins F from old.flash new.flash)
     (stays F from old new c.loop-ending.done c.take_turn.new.done)
-    (HasRun F from new.flash first c.take_turn.new.done)
+    (λ outcomes last. HasRun F from new.flash first c.take_turn.new.done outcomes last × CardRepresents F new last)
     (HasFailed F from new.flash first c.take_turn.new.done)
     (has_run F from new first c.take_turn.new.done)
     (has_failed F g.met.F.Flash.counts_now from old.flash new.flash first c.take_turn.new.done)

@@ -1,10 +1,11 @@
 //! What is done with one line.
 
-ghost use Rattle.std.specs.Prelude.{◌≡◌, ◌≤◌, ◌<◌, ◌+◌, true, length};
+ghost use Rattle.std.specs.Prelude.{◌≡◌, ◌≢◌, ◌≤◌, ◌<◌, ◌+◌, true, length};
 ghost use Rattle.card_core.specs.Card.{CardRepresents};
 ghost use Rattle.io_edge.specs.declared.line.TheConstants.{INPUT_LIMIT};
 ghost use Rattle.gp_tool.specs.Device.{LeavesOneOf};
-ghost use Rattle.gp_tool.specs.Serve.{IfServed, ServesLine, ServeCause};
+ghost use Rattle.gp_tool.specs.declared.line.LineEnd.TheVariants.{FlashFault};
+ghost use Rattle.gp_tool.specs.Serve.{ServesLine, ServeCause};
 
 use crate::form::{COMMAND_LIMIT, Form, read_form};
 use crate::reply::{REPLY_LINE_LIMIT, write_reply};
@@ -22,9 +23,9 @@ pub struct Workspace {
     pub text: [u8; REPLY_LINE_LIMIT],
 }
 
-/// What came of a line.
+/// How a line has ended.
 #[derive(Clone, Copy)]
-pub enum Served {
+pub enum LineEnd {
     /// Its reply was written, if it has one.
     Done,
     /// It has no form, and nothing was written.
@@ -43,7 +44,7 @@ pub fn serve_line<K: Sink, F: Flash>(
     done: &mut u32,
     space: &mut Workspace,
     sink: &mut K,
-) -> Served
+) -> LineEnd
     requires line { length line.now ≤ LINE_LIMIT }
     requires live { card.old.live ≡ true }
     requires few { done.old < INPUT_LIMIT }
@@ -51,28 +52,28 @@ pub fn serve_line<K: Sink, F: Flash>(
         (CardRepresents F.Flash card.old) (CardRepresents F.Flash card.new)
         (LeavesOneOf F.Flash card.old.flash card.new.flash)
         done.old done.new (K.state sink.old).written (K.state sink.new).written result }
-    ensures live { IfServed result (card.new.live ≡ true) }
+    ensures live { result ≢ FlashFault → card.new.live ≡ true }
     ensures few { done.new ≤ done.old + 1 }
     ensures flushes { (K.state sink.new).flushes ≡ (K.state sink.old).flushes }
     ensures later { F.faults card.old.flash ≤ F.faults card.new.flash }
     ensures cause { ServeCause (K.state sink.old).faults (K.state sink.new).faults (F.faults card.old.flash) (F.faults card.new.flash) result }
 {
     match read_form(line, &mut space.command) {
-        None => Served::NoForm,
-        Some(Form::Nothing) => Served::Done,
+        None => LineEnd::NoForm,
+        Some(Form::Nothing) => LineEnd::Done,
         Some(Form::Reset) => {
             card.reset();
-            Served::Done
+            LineEnd::Done
         }
         Some(Form::Command(count)) => {
             let rule = match card.process(&space.command[..count], &mut space.reply) {
                 Ok(rule) => rule,
-                Err(FlashFailed) => return Served::FlashFault,
+                Err(FlashFailed) => return LineEnd::FlashFault,
             };
             *done += 1;
             match write_reply(verb, &space.reply, rule, &mut space.text, sink) {
-                Ok(()) => Served::Done,
-                Err(_) => Served::WriteFault,
+                Ok(()) => LineEnd::Done,
+                Err(_) => LineEnd::WriteFault,
             }
         }
     }

@@ -5,7 +5,7 @@ use Rattle.policy_rules.specs.Step.{Outcome}
 use Rattle.gp_tool.proofs.Moments.{nothing_done, one_of_two}
 use Rattle.gp_tool.proofs.One.{line_written, plays_nothing, plays_reset, plays_command}
 use Rattle.gp_tool.specs.Device.{LeavesOneOf}
-use Rattle.gp_tool.proofs.serve.serve_line.Goals as goal
+use Rattle.gp_tool.proofs.line.serve_line.Goals as goal
 
 pub returns-in-Some-Nothing-clause-served : goal.returns-in-Some-Nothing-clause-served
 returns-in-Some-Nothing-clause-served g c state stands =

@@ -1,0 +1,32 @@
+use Rattle.std.proofs.Common.{ap, ◌∙◌}
+use Rattle.policy_rules.specs.State.{powered_on}
+use Rattle.card_core.specs.Card.{CardRepresents}
+use Rattle.gp_tool.proofs.Complete.{finishes}
+use Rattle.gp_tool.proofs.Statuses.{never_others}
+use Rattle.gp_tool.specs.Ends.{exit_status}
+use Rattle.gp_tool.proofs.serving.serve.Goals as goal
+
+pub returns-clause-run : goal.returns-clause-run
+returns-clause-run g c state stands =
+    let again = c.reset.ensures.stands state stands in
+    rw (← c.reset.ensures.same.0) (record {
+      ending = c.run-end.result.ending;
+      status_is = c.status.ensures;
+      cause = c.run-end.ensures.cause;
+      flushes = c.run-end.ensures.flushes;
+      ends = c.run-end.ensures.ends (powered_on state.registry) again;
+    })
+
+pub returns-clause-never : goal.returns-clause-never
+returns-clause-never g c = rw c.status.ensures (never_others c.run-end.result.ending)
+
+pub returns-clause-complete : goal.returns-clause-complete
+returns-clause-complete g c state stands told good none =
+    let again = c.reset.ensures.stands state stands in
+    let end = c.run-end.result in
+    let F = g.F.Flash in
+    c.status.ensures ∙ ap exit_status (finishes c.args.verb g.S.Source.tells g.K.Sink.tells _ _ (powered_on state.registry) _ _ _ _ end.ending c.run-end.ensures.cause
+    (c.run-end.ensures.ends (powered_on state.registry) again) told good.0 good.1 none.reads none.writes (rw (← c.reset.ensures.same.0) at none.flash))
+
+pub returns-clause-live : goal.returns-clause-live
+returns-clause-live g c other = c.run-end.ensures.live (λ is. other (c.status.ensures ∙ ap exit_status is))
