@@ -1,149 +1,261 @@
 -- Of the endings without a fault one alone may come, with one text.
-use Rattle.std.proofs.Common.{◌≡◌, ◌⊎◌, ℕ, ◌+◌, ◌≤◌, List, [], ◌∷◌, ◌++◌, length, refl, sym, ap, subst, ◌∙◌, inl, inr, arith}
+use Rattle.std.proofs.Common.{◌≡◌, ◌⊎◌, ℕ, ◌+◌, ◌<◌, ◌≤◌, Bool, true, false, List, [], ◌∷◌, ◌++◌, length, refl, sym, ap, subst, ◌∙◌, inl, inr, arith, length-append}
+use Rattle.std.specs.List.{concat}
 use Rattle.io_edge.proofs.NextLine.{line_not_cut, one_cut, one_line}
 use Rattle.io_edge.specs.Lines.{IsCut, IsNextLine}
 use Rattle.io_edge.specs.declared.line.TheConstants.{INPUT_LIMIT, LINE_LIMIT}
-use Rattle.policy_rules.specs.Run.{Input}
 use Rattle.policy_rules.specs.State.{State}
-use Rattle.policy_rules.specs.Step.{Outcome}
 use Rattle.gp_tool.proofs.ComeFirst.{room_further, room_left, room_whole}
-use Rattle.gp_tool.proofs.Complete.{never_bad, never_cut}
-use Rattle.gp_tool.proofs.OneText.{plays_once}
-use Rattle.gp_tool.specs.Ends.{AreShort, ComeFirst, RunSoFar, IsBad, Outside}
-use Rattle.gp_tool.specs.Form.{AreSpelled, SpellsInputs}
-use Rattle.gp_tool.specs.Servable.{AreServable, IsServable}
+use Rattle.gp_tool.proofs.One.{line_once, plays_form}
+use Rattle.gp_tool.proofs.RunsMore.{runs_once}
+use Rattle.gp_tool.specs.Effects.{Effect, Place}
+use Rattle.gp_tool.specs.Ends.{AreShort, ComeFirst, Course, IsBad, IsRead, IsShortCut, Outside, with_bad_line}
 use Rattle.gp_tool.specs.Laws.{EndsTold, IsFaultless}
-use Rattle.gp_tool.specs.RunsLines.{RunsLines, bad_line, text_of}
+use Rattle.gp_tool.specs.RunsLines.{HasForm, Memory, PlaysLine, RunsLines, start}
 use Rattle.gp_tool.specs.declared.ending.Ending.{Ending}
-use Rattle.gp_tool.specs.declared.ending.Ending.TheVariants.{Finished, BadLine, FlashFault, ReadFault, WriteFault, InputTooLong}
+use Rattle.gp_tool.specs.declared.ending.Ending.TheVariants.{Finished, Differs, BadLine, FlashFault, ReadFault, WriteFault, InputTooLong}
 use Rattle.gp_tool.specs.declared.verb.Verb.{Verb}
 
-good_spelled : (given : List (List ℕ)) (inputs : List Input) → AreSpelled given inputs → AreShort given → AreServable given
-good_spelled [] inputs spelled short = tt
-good_spelled (line ∷ given) inputs spelled short = (((spelled.0, spelled.2), short.0), good_spelled given spelled.1 spelled.3 short.1)
-
--- lines that were given are good
-are_good : (first : State) (given : List (List ℕ)) (outcomes : List Outcome) (state : State) → RunSoFar first given outcomes state → AreServable given
-are_good first given outcomes state course = good_spelled given course.plays.inputs course.plays.spelled course.fits
-
--- the limit comes within a line that is not too long
-abbrev IsShortCut : ℕ → List ℕ → Type 0
-IsShortCut room ahead = (text : List ℕ) × IsCut room ahead text × (length text ≤ LINE_LIMIT)
+-- nothing stands ahead, and there is room
+abbrev IsOver : ℕ → List ℕ → Type 0
+IsOver room ahead = (ahead ≡ []) × (0 < room)
 
 -- no line can be given
-abbrev Halts : ℕ → List ℕ → Type 0
-Halts room ahead = IsBad room ahead ⊎ IsShortCut room ahead
+abbrev Halts : (verb : Verb) → Memory verb → ℕ → List ℕ → Type 0
+Halts verb memory room ahead = IsBad verb memory room ahead ⊎ IsShortCut room ahead ⊎ IsOver room ahead
 
-not_good : (room : ℕ) (ahead line after : List ℕ) → Halts room ahead → IsNextLine room ahead line after → IsServable line → ⊥
-not_good room ahead line after (inl (text, inl none)) next good =
-    let same = one_line room ahead line text after none.0 next none.1 in
-    none.2 good.0.0 (subst (λ (l : List ℕ). SpellsInputs l good.0.0) same.0 good.0.1)
-not_good room ahead line after (inl (text, inr (inl whole, long))) next good =
-    let same = one_line room ahead line text after whole.0 next whole.1 in
-    let few = good.1 in
-    let len = ap length same.0 in
-    omega (arith, long, few, len)
-not_good room ahead line after (inl (text, inr (inr cut, long))) next good = line_not_cut room ahead line after text next cut
-not_good room ahead line after (inr (text, cut, short)) next good = line_not_cut room ahead line after text next cut
+-- nothing is no line
+no_line_of_nothing : (room : ℕ) (line after : List ℕ) → IsNextLine room [] line after → ⊥
+no_line_of_nothing room line after (inl whole) =
+    let none = ap length whole.is ∙ length-append whole.piece (10 ∷ after) in
+    omega (arith, none)
+no_line_of_nothing room line after (inr last) = (let some = last.some in omega (arith, some))
 
-bad_not_cut : (room : ℕ) (ahead : List ℕ) → IsBad room ahead → IsShortCut room ahead → ⊥
-bad_not_cut room ahead (text, inl none) (cut, is_cut, short) = line_not_cut room ahead text none.0 cut none.1 is_cut
-bad_not_cut room ahead (text, inr (inl whole, long)) (cut, is_cut, short) = line_not_cut room ahead text whole.0 cut whole.1 is_cut
-bad_not_cut room ahead (text, inr (inr other, long)) (cut, is_cut, short) =
-    let len = ap length (one_cut room ahead text cut other is_cut) in
-    omega (arith, long, short, len)
+module _ (verb : Verb) where
+  not_good : (memory : Memory verb) (room : ℕ) (ahead line after : List ℕ) → Halts verb memory room ahead → IsNextLine room ahead line after
+      → HasForm verb line memory → length line ≤ LINE_LIMIT → ⊥
+  not_good memory room ahead line after (inl (text, inl none)) next form fits =
+      let same = one_line room ahead line text after none.0 next none.1 in
+      none.2 (subst (λ (l : List ℕ). HasForm verb l memory) same.0 form)
+  not_good memory room ahead line after (inl (text, inr (inl whole, long))) next form fits =
+      let same = one_line room ahead line text after whole.0 next whole.1 in
+      let len = ap length same.0 in
+      omega (arith, long, fits, len)
+  not_good memory room ahead line after (inl (text, inr (inr cut, long))) next form fits = line_not_cut room ahead line after text next cut
+  not_good memory room ahead line after (inr (inl (text, cut, short))) next form fits = line_not_cut room ahead line after text next cut
+  not_good memory room ahead line after (inr (inr over)) next form fits =
+      no_line_of_nothing room line after (subst (λ (bytes : List ℕ). IsNextLine room bytes line after) over.0 next)
 
--- where no line can be given
-abbrev HaltsBehind : ℕ → List ℕ → List (List ℕ) → List ℕ → Type 0
-HaltsBehind room input given ahead = ComeFirst room input given ahead × AreServable given × Halts (room_left room input ahead) ahead
+  bad_not_cut : (memory : Memory verb) (room : ℕ) (ahead : List ℕ) → IsBad verb memory room ahead → IsShortCut room ahead → ⊥
+  bad_not_cut memory room ahead (text, inl none) (cut, is_cut, short) = line_not_cut room ahead text none.0 cut none.1 is_cut
+  bad_not_cut memory room ahead (text, inr (inl whole, long)) (cut, is_cut, short) = line_not_cut room ahead text whole.0 cut whole.1 is_cut
+  bad_not_cut memory room ahead (text, inr (inr other, long)) (cut, is_cut, short) =
+      let len = ap length (one_cut room ahead text cut other is_cut) in
+      omega (arith, long, short, len)
 
-halts_here : (room : ℕ) (input ahead : List ℕ) → HaltsBehind room input [] ahead → Halts room input
-halts_here room input ahead halts =
-    let here : Halts room ahead = subst (λ (n : ℕ). Halts n ahead) (room_whole room input ahead halts.0) halts.2 in
-    subst (λ (bytes : List ℕ). Halts room bytes) halts.0 here
+  cut_not_over : (room : ℕ) (ahead text : List ℕ) → IsCut room ahead text → IsOver room ahead → ⊥
+  cut_not_over room ahead text cut over =
+      let none = sym (ap length over.0) ∙ ap length cut.is ∙ length-append cut.piece cut.rest in
+      let full = cut.full in
+      let some = over.1 in
+      omega (arith, none, full, some)
 
--- there is one such place
-halts_once : (room : ℕ) (input : List ℕ) (given others : List (List ℕ)) (ahead another : List ℕ)
-    → HaltsBehind room input given ahead → HaltsBehind room input others another → (given ≡ others) × (ahead ≡ another)
-halts_once room input [] [] ahead another halts again = (refl, halts.0 ∙ sym again.0)
-halts_once room input [] (line ∷ others) ahead another halts again =
-    absurd (not_good room input line again.0.0 (halts_here room input ahead halts) again.0.1 again.1.0)
-halts_once room input (line ∷ given) [] ahead another halts again =
-    absurd (not_good room input line halts.0.0 (halts_here room input another again) halts.0.1 halts.1.0)
-halts_once room input (line ∷ given) (other ∷ others) ahead another halts again =
-    let after : List ℕ = halts.0.0 in
-    let same = one_line room input line other halts.0.0 again.0.0 halts.0.1 again.0.1 in
-    let rest : HaltsBehind (room_left room input halts.0.0) halts.0.0 given ahead
-    = (
-      halts.0.2,
-      halts.1.1,
-      subst (λ (n : ℕ). Halts n ahead) (room_further room input line halts.0.0 ahead given halts.0.1 halts.0.2) halts.2,
-    ) in
-    let further : HaltsBehind (room_left room input again.0.0) again.0.0 others another
-    = (
-      again.0.2,
-      again.1.1,
-      subst (λ (n : ℕ). Halts n another) (room_further room input other again.0.0 another others again.0.1 again.0.2) again.2,
-    ) in
-    let more = halts_once (room_left room input halts.0.0) halts.0.0 given others ahead another rest
-    (subst (λ (bytes : List ℕ). HaltsBehind (room_left room input bytes) bytes others another) (sym same.1) further) in
-    (ap (λ l. l ∷ given) same.0 ∙ ap (λ ls. other ∷ ls) more.0, more.1)
+  bad_not_over : (memory : Memory verb) (room : ℕ) (ahead : List ℕ) → IsBad verb memory room ahead → IsOver room ahead → ⊥
+  bad_not_over memory room ahead (text, inl none) over =
+      no_line_of_nothing room text none.0 (subst (λ (bytes : List ℕ). IsNextLine room bytes text none.0) over.0 none.1)
+  bad_not_over memory room ahead (text, inr (inl whole, long)) over =
+      no_line_of_nothing room text whole.0 (subst (λ (bytes : List ℕ). IsNextLine room bytes text whole.0) over.0 whole.1)
+  bad_not_over memory room ahead (text, inr (inr cut, long)) over = cut_not_over room ahead text cut over
 
-halts_bad : (verb : Verb) (first : State) (old new : Outside) (ends : EndsTold verb first BadLine old new) → HaltsBehind INPUT_LIMIT old.source.left ends.given ends.ahead
-halts_bad verb first old new ends = (ends.reached tt, are_good first ends.given ends.outcomes ends.state ends.course, inl (ends.bad tt))
+  -- where no line can be given
+  record HaltsBehind (number room : ℕ) (input : List ℕ) (at : Place (Memory verb)) (given : List (List ℕ)) (effect : Effect) (last : Place (Memory verb)) (ahead : List ℕ) : Type 0 where
+    pub come : ComeFirst room input given ahead
+    pub fits : AreShort given
+    pub runs : RunsLines verb number given at effect last
+    pub halts : Halts verb last.memory (room_left room input ahead) ahead
 
-halts_cut : (verb : Verb) (first : State) (old new : Outside) (ends : EndsTold verb first InputTooLong old new) → HaltsBehind INPUT_LIMIT old.source.left ends.given ends.ahead
-halts_cut verb first old new ends = (ends.reached tt, are_good first ends.given ends.outcomes ends.state ends.course, inr (ends.cut tt))
+  halts_here : (number room : ℕ) (input : List ℕ) (at : Place (Memory verb)) (effect : Effect) (last : Place (Memory verb)) (ahead : List ℕ)
+      → HaltsBehind number room input at [] effect last ahead → Halts verb at.memory room input
+  halts_here number room input at effect last ahead behind =
+      let runs = behind.runs in
+      let come : ahead ≡ input = behind.come in
+      let here : Halts verb last.memory room ahead = subst (λ (n : ℕ). Halts verb last.memory n ahead) (room_whole room input ahead come) behind.halts in
+      let there : Halts verb last.memory room input = subst (λ (bytes : List ℕ). Halts verb last.memory room bytes) come here in
+      subst (λ (place : Place (Memory verb)). Halts verb place.memory room input) runs.1 there
 
--- the same lines, the same outcomes
-outcomes_once : (first : State) (given others : List (List ℕ)) (some more : List Outcome) (last another : State)
-    → RunSoFar first given some last → RunSoFar first others more another → given ≡ others → some ≡ more
-outcomes_once first given others some more last another course other same =
-    let played = plays_once first others some more last another (subst (λ (ls : List (List ℕ)). RunsLines first ls some last) same course.plays) other.plays in
-    played.0
+  -- it is behind the first line too
+  halts_after : (number room : ℕ) (input : List ℕ) (at : Place (Memory verb)) (line : List ℕ) (given : List (List ℕ)) (effect : Effect) (last : Place (Memory verb)) (ahead : List ℕ)
+      → (behind : HaltsBehind number room input at (line ∷ given) effect last ahead)
+      → HaltsBehind (number + 1) (room_left room input behind.come.0) behind.come.0 behind.runs.1 given behind.runs.2 last ahead
+  halts_after number room input at line given effect last ahead behind =
+      let come = behind.come in
+      let fits = behind.fits in
+      let runs = behind.runs in
+      record {
+        come = come.2;
+        fits = fits.1;
+        runs = runs.4;
+        halts = subst (λ (n : ℕ). Halts verb last.memory n ahead) (room_further room input line come.0 ahead given come.1 come.2) behind.halts;
+      }
 
-no_bad_end : (verb : Verb) (first : State) (old new other : Outside) → EndsTold verb first Finished old new → EndsTold verb first BadLine old other → ⊥
-no_bad_end verb first old new other done bad =
-    never_bad old.source.left bad.given bad.ahead (bad.reached tt) (rw (done.all tt) (are_good first done.given done.outcomes done.state done.course)) (done.short tt) (bad.bad tt)
+  not_here : (number room : ℕ) (input : List ℕ) (at : Place (Memory verb)) (line : List ℕ) (given : List (List ℕ)) (effect : Effect) (last : Place (Memory verb)) (ahead : List ℕ)
+      → HaltsBehind number room input at (line ∷ given) effect last ahead → Halts verb at.memory room input → ⊥
+  not_here number room input at line given effect last ahead behind halts =
+      let come = behind.come in
+      let fits = behind.fits in
+      let runs = behind.runs in
+      not_good at.memory room input line come.0 halts come.1 (plays_form verb number line at runs.1 runs.0 runs.3) fits.0
 
-no_cut_end : (verb : Verb) (first : State) (old new other : Outside) → EndsTold verb first Finished old new → EndsTold verb first InputTooLong old other → ⊥
-no_cut_end verb first old new other done cut =
-    let is_cut = cut.cut tt in
-    never_cut old.source.left cut.given cut.ahead is_cut.0 (cut.reached tt) (done.short tt) is_cut.1
+  -- there is one such place
+  halts_once : (number room : ℕ) (input : List ℕ) (at : Place (Memory verb)) (given others : List (List ℕ)) (effect other : Effect) (last another : Place (Memory verb)) (ahead beyond : List ℕ)
+      → HaltsBehind number room input at given effect last ahead → HaltsBehind number room input at others other another beyond → (given ≡ others) × (ahead ≡ beyond)
+  halts_once number room input at [] [] effect other last another ahead beyond halts again = (refl, halts.come ∙ sym again.come)
+  halts_once number room input at [] (line ∷ others) effect other last another ahead beyond halts again =
+      absurd (not_here number room input at line others other another beyond again (halts_here number room input at effect last ahead halts))
+  halts_once number room input at (line ∷ given) [] effect other last another ahead beyond halts again =
+      absurd (not_here number room input at line given effect last ahead halts (halts_here number room input at other another beyond again))
+  halts_once number room input at (line ∷ given) (l ∷ others) effect other last another ahead beyond halts again =
+      let come = halts.come in
+      let come' = again.come in
+      let runs = halts.runs in
+      let runs' = again.runs in
+      let same = one_line room input line l come.0 come'.0 come.1 come'.1 in
+      let played = line_once verb number l at runs.1 runs'.1 runs.0 runs'.0 (subst (λ (t : List ℕ). PlaysLine verb number t at runs.0 runs.1) same.0 runs.3) runs'.3 in
+      let further = halts_after number room input at l others other another beyond again in
+      let there : HaltsBehind (number + 1) (room_left room input come.0) come.0 runs.1 others runs'.2 another beyond
+      = subst (λ (bytes : List ℕ). HaltsBehind (number + 1) (room_left room input bytes) bytes runs.1 others runs'.2 another beyond) (sym same.1)
+      (subst (λ (place : Place (Memory verb)). HaltsBehind (number + 1) (room_left room input come'.0) come'.0 place others runs'.2 another beyond) (sym played.1) further) in
+      let more = halts_once (number + 1) (room_left room input come.0) come.0 runs.1 given others runs.2 runs'.2 last another ahead beyond
+      (halts_after number room input at line given effect last ahead halts) there in
+      (ap (λ t. t ∷ given) same.0 ∙ ap (λ ls. l ∷ ls) more.0, more.1)
 
-no_bad_cut : (verb : Verb) (first : State) (old new other : Outside) → EndsTold verb first BadLine old new → EndsTold verb first InputTooLong old other → ⊥
-no_bad_cut verb first old new other bad cut =
-    let same = halts_once INPUT_LIMIT old.source.left bad.given cut.given bad.ahead cut.ahead (halts_bad verb first old new bad) (halts_cut verb first old other cut) in
-    bad_not_cut (room_left INPUT_LIMIT old.source.left cut.ahead) cut.ahead
-    (subst (λ (ahead : List ℕ). IsBad (room_left INPUT_LIMIT old.source.left ahead) ahead) same.1 (bad.bad tt)) (cut.cut tt)
+  -- what an ending without a fault says of the place where no line can be given, and of the replies before it
+  abbrev Own : Ending → Memory verb → ℕ → List ℕ → Bool → Type 0
+  Own Finished memory room ahead differs = (differs ≡ false) × IsOver room ahead
+  Own Differs memory room ahead differs = (differs ≡ true) × IsOver room ahead
+  Own BadLine memory room ahead differs = IsBad verb memory room ahead
+  Own InputTooLong memory room ahead differs = IsShortCut room ahead
+  Own FlashFault memory room ahead differs = ⊥
+  Own ReadFault memory room ahead differs = ⊥
+  Own WriteFault memory room ahead differs = ⊥
+
+  own_halts : (ending : Ending) (memory : Memory verb) (room : ℕ) (ahead : List ℕ) (differs : Bool) → Own ending memory room ahead differs → Halts verb memory room ahead
+  own_halts Finished memory room ahead differs own = inr (inr own.1)
+  own_halts Differs memory room ahead differs own = inr (inr own.1)
+  own_halts BadLine memory room ahead differs own = inl own
+  own_halts InputTooLong memory room ahead differs own = inr (inl own)
+  own_halts FlashFault memory room ahead differs own = absurd own
+  own_halts ReadFault memory room ahead differs own = absurd own
+  own_halts WriteFault memory room ahead differs own = absurd own
+
+  -- of two such endings at one place there is one
+  own_once : (ending another : Ending) (memory : Memory verb) (room : ℕ) (ahead : List ℕ) (differs : Bool)
+      → Own ending memory room ahead differs → Own another memory room ahead differs → ending ≡ another
+  own_once Finished Finished memory room ahead differs own again = refl
+  own_once Finished Differs memory room ahead differs own again = cc (own.0, again.0)
+  own_once Finished BadLine memory room ahead differs own again = absurd (bad_not_over memory room ahead again own.1)
+  own_once Finished InputTooLong memory room ahead differs own again = absurd (cut_not_over room ahead again.0 again.1 own.1)
+  own_once Differs Finished memory room ahead differs own again = cc (own.0, again.0)
+  own_once Differs Differs memory room ahead differs own again = refl
+  own_once Differs BadLine memory room ahead differs own again = absurd (bad_not_over memory room ahead again own.1)
+  own_once Differs InputTooLong memory room ahead differs own again = absurd (cut_not_over room ahead again.0 again.1 own.1)
+  own_once BadLine Finished memory room ahead differs own again = absurd (bad_not_over memory room ahead own again.1)
+  own_once BadLine Differs memory room ahead differs own again = absurd (bad_not_over memory room ahead own again.1)
+  own_once BadLine BadLine memory room ahead differs own again = refl
+  own_once BadLine InputTooLong memory room ahead differs own again = absurd (bad_not_cut memory room ahead own again)
+  own_once InputTooLong Finished memory room ahead differs own again = absurd (cut_not_over room ahead own.0 own.1 again.1)
+  own_once InputTooLong Differs memory room ahead differs own again = absurd (cut_not_over room ahead own.0 own.1 again.1)
+  own_once InputTooLong BadLine memory room ahead differs own again = absurd (bad_not_cut memory room ahead again own)
+  own_once InputTooLong InputTooLong memory room ahead differs own again = refl
+  own_once FlashFault another memory room ahead differs own again = absurd own
+  own_once ReadFault another memory room ahead differs own again = absurd own
+  own_once WriteFault another memory room ahead differs own again = absurd own
+  own_once ending FlashFault memory room ahead differs own again = absurd again
+  own_once ending ReadFault memory room ahead differs own again = absurd again
+  own_once ending WriteFault memory room ahead differs own again = absurd again
+
+  -- the texts that are written
+  abbrev texts_at : Ending → List (List ℕ) → Effect → List (List ℕ)
+  texts_at BadLine given effect = with_bad_line given effect
+  texts_at Finished given effect = effect.texts
+  texts_at Differs given effect = effect.texts
+  texts_at InputTooLong given effect = effect.texts
+  texts_at FlashFault given effect = effect.texts
+  texts_at ReadFault given effect = effect.texts
+  texts_at WriteFault given effect = effect.texts
+
+  is_over : (input : List ℕ) (given : List (List ℕ)) (ahead : List ℕ) → IsRead input given ahead → IsOver (room_left INPUT_LIMIT input ahead) ahead
+  is_over input given ahead read = (let short = read.short in (read.none, omega (arith, short)))
+
+  module _ (first : State) (old : Outside) where
+    -- the course of a run, and what its ending says
+    record Ended (ending : Ending) (new : Outside) : Type 0 where
+      pub given : List (List ℕ)
+      pub effect : Effect
+      pub last : Place (Memory verb)
+      pub ahead : List ℕ
+      pub come : ComeFirst INPUT_LIMIT old.source.left given ahead
+      pub fits : AreShort given
+      pub runs : RunsLines verb 1 given (start verb first) effect last
+      pub own : Own ending last.memory (room_left INPUT_LIMIT old.source.left ahead) ahead effect.differs
+      pub written : new.sink.written ≡ old.sink.written ++ concat (texts_at ending given effect)
+
+    ended_by : (ending : Ending) (new : Outside) (course : Course verb (Unit {0}) first old.source.left new.source.left)
+        → Own ending course.last.memory (room_left INPUT_LIMIT old.source.left course.ahead) course.ahead course.effect.differs
+        → new.sink.written ≡ old.sink.written ++ concat (texts_at ending course.given course.effect) → Ended ending new
+    ended_by ending new course own written = record {
+      given = course.given;
+      effect = course.effect;
+      last = course.last;
+      ahead = course.ahead;
+      come = course.reached tt;
+      fits = course.fits;
+      runs = course.plays;
+      own = own;
+      written = written;
+    }
+
+    ended : (ending : Ending) (new : Outside) → IsFaultless ending → EndsTold verb first ending old new → Ended ending new
+    ended Finished new clean ends =
+        let course = ends.course in
+        let at = ends.ends in
+        ended_by Finished new course (at.0, is_over old.source.left course.given course.ahead (at.1 tt)) (at.2 tt)
+    ended Differs new clean ends =
+        let course = ends.course in
+        let at = ends.ends in
+        ended_by Differs new course (at.0, is_over old.source.left course.given course.ahead (at.1 tt)) (at.2 tt)
+    ended BadLine new clean ends = (let at = ends.ends in ended_by BadLine new ends.course (at.0 tt) (at.1 tt))
+    ended InputTooLong new clean ends = (let at = ends.ends in ended_by InputTooLong new ends.course (at.0 tt) (at.1 tt))
+    ended FlashFault new clean ends = absurd clean
+    ended ReadFault new clean ends = absurd clean
+    ended WriteFault new clean ends = absurd clean
+
+    behind : (ending : Ending) (new : Outside) → (ends : Ended ending new)
+        → HaltsBehind 1 INPUT_LIMIT old.source.left (start verb first) ends.given ends.effect ends.last ends.ahead
+    behind ending new ends = record {
+      come = ends.come;
+      fits = ends.fits;
+      runs = ends.runs;
+      halts = own_halts ending ends.last.memory (room_left INPUT_LIMIT old.source.left ends.ahead) ends.ahead ends.effect.differs ends.own;
+    }
+
+    one_end : (ending another : Ending) (new other : Outside) → Ended ending new → Ended another other → (ending ≡ another) × (new.sink.written ≡ other.sink.written)
+    one_end ending another new other ends again =
+        let there = halts_once 1 INPUT_LIMIT old.source.left (start verb first) ends.given again.given ends.effect again.effect ends.last again.last ends.ahead again.ahead
+        (behind ending new ends) (behind another other again) in
+        let played = runs_once verb 1 again.given (start verb first) ends.last again.last ends.effect again.effect
+        (subst (λ (ls : List (List ℕ)). RunsLines verb 1 ls (start verb first) ends.effect ends.last) there.0 ends.runs) again.runs in
+        let own : Own ending again.last.memory (room_left INPUT_LIMIT old.source.left again.ahead) again.ahead again.effect.differs
+        = subst (λ (bytes : List ℕ). Own ending again.last.memory (room_left INPUT_LIMIT old.source.left bytes) bytes again.effect.differs) there.1
+        (subst (λ (e : Effect). Own ending again.last.memory (room_left INPUT_LIMIT old.source.left ends.ahead) ends.ahead e.differs) played.0
+        (subst (λ (place : Place (Memory verb)). Own ending place.memory (room_left INPUT_LIMIT old.source.left ends.ahead) ends.ahead ends.effect.differs) played.1 ends.own)) in
+        let same = own_once ending another again.last.memory (room_left INPUT_LIMIT old.source.left again.ahead) again.ahead again.effect.differs own again.own in (
+          same,
+          ends.written ∙ (λ i. old.sink.written ++ concat (texts_at (same i) (there.0 i) (played.0 i))) ∙ sym again.written,
+        )
 
 -- they end alike, and have written the same
 pub ends_once : (verb : Verb) (first : State) (ending another : Ending) (old new other : Outside) → IsFaultless ending → IsFaultless another
     → EndsTold verb first ending old new → EndsTold verb first another old other → (ending ≡ another) × (new.sink.written ≡ other.sink.written)
-ends_once verb first Finished Finished old new other clean clear done again =
-    let given = sym (done.all tt) ∙ again.all tt in
-    let outcomes = outcomes_once first done.given again.given done.outcomes again.outcomes done.state again.state done.course again.course given in
-    (refl, done.written tt ∙ ap (λ o. old.sink.written ++ text_of verb o) outcomes ∙ sym (again.written tt))
-ends_once verb first Finished BadLine old new other clean clear done bad = absurd (no_bad_end verb first old new other done bad)
-ends_once verb first Finished InputTooLong old new other clean clear done cut = absurd (no_cut_end verb first old new other done cut)
-ends_once verb first BadLine Finished old new other clean clear bad done = absurd (no_bad_end verb first old other new done bad)
-ends_once verb first BadLine BadLine old new other clean clear bad again =
-    let same = halts_once INPUT_LIMIT old.source.left bad.given again.given bad.ahead again.ahead (halts_bad verb first old new bad) (halts_bad verb first old other again) in
-    let outcomes = outcomes_once first bad.given again.given bad.outcomes again.outcomes bad.state again.state bad.course again.course same.0 in (
-      refl,
-      bad.written tt ∙ ap (λ o. old.sink.written ++ (text_of verb o ++ bad_line (length bad.given + 1))) outcomes
-          ∙ ap (λ g. old.sink.written ++ (text_of verb again.outcomes ++ bad_line (length g + 1))) same.0 ∙ sym (again.written tt),
-    )
-ends_once verb first BadLine InputTooLong old new other clean clear bad cut = absurd (no_bad_cut verb first old new other bad cut)
-ends_once verb first InputTooLong Finished old new other clean clear cut done = absurd (no_cut_end verb first old other new done cut)
-ends_once verb first InputTooLong BadLine old new other clean clear cut bad = absurd (no_bad_cut verb first old other new bad cut)
-ends_once verb first InputTooLong InputTooLong old new other clean clear cut again =
-    let same = halts_once INPUT_LIMIT old.source.left cut.given again.given cut.ahead again.ahead (halts_cut verb first old new cut) (halts_cut verb first old other again) in
-    let outcomes = outcomes_once first cut.given again.given cut.outcomes again.outcomes cut.state again.state cut.course again.course same.0 in
-    (refl, cut.written tt ∙ ap (λ o. old.sink.written ++ text_of verb o) outcomes ∙ sym (again.written tt))
-ends_once verb first FlashFault another old new other clean clear ends again = absurd clean
-ends_once verb first ReadFault another old new other clean clear ends again = absurd clean
-ends_once verb first WriteFault another old new other clean clear ends again = absurd clean
-ends_once verb first ending FlashFault old new other clean clear ends again = absurd clear
-ends_once verb first ending ReadFault old new other clean clear ends again = absurd clear
-ends_once verb first ending WriteFault old new other clean clear ends again = absurd clear
+ends_once verb first ending another old new other clean clear ends again =
+    one_end verb first old ending another new other (ended verb first old ending new clean ends) (ended verb first old another other clear again)

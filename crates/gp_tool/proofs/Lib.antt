@@ -6,10 +6,13 @@ pub mod FileLine
 pub mod FilesInOrder
 pub mod Flush
 pub mod FormatEnding
+pub mod Given
+pub mod Kept
 pub mod Listed
 pub mod ListedSlots
 pub mod One
-pub mod OneText
+pub mod Spaces
+pub mod Spelled
 pub mod Moments
 pub mod Parts
 pub mod RunsMore
@@ -17,6 +20,7 @@ pub mod Powered
 pub mod SaidElse
 pub mod ShownCard
 pub mod ShownText
+pub mod Replayed
 pub mod ReplyLine
 pub mod RepresentsSoundly
 pub mod Statuses

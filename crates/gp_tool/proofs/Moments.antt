@@ -14,8 +14,7 @@ use Rattle.policy_rules.specs.State.{State, powered_on}
 use Rattle.policy_rules.specs.Step.{Outcome}
 use Rattle.rec_store.proofs.Leaving.{joined, unmoved, weaker}
 use Rattle.rec_store.specs.Reopens.{Reopens, ReopensAsOne}
-use Rattle.gp_tool.specs.Device.{HasFailed, HasRun, LeavesOneOf, registries}
-use Rattle.gp_tool.specs.RunsLines.{RunsLines}
+use Rattle.gp_tool.specs.Device.{HasFailed, HasRun, LeavesOneOf, LeftOneOf, registries}
 
 -- each of some registries is one of all
 abbrev pub Among : List Registry → List Registry → Type 0
@@ -25,17 +24,14 @@ Among some all = (registry : Registry) → Contains some registry → Contains a
 abbrev pub Joins : (List Registry → Type 0) → (List Registry → Type 0) → (List Registry → Type 0) → Type 0
 Joins Before Between Since = (some more all : List Registry) → Among some all → Among more all → Before some → Between more → Since all
 
--- the last registry is one of the run's
-run_ends : (state : State) (inputs : List Input) (outcomes : List Outcome) (last : State) → Run state inputs outcomes last → Contains (registries state outcomes) last.registry
+-- the last registry is one of those behind the commands
+pub run_ends : (state : State) (inputs : List Input) (outcomes : List Outcome) (last : State) → Run state inputs outcomes last → Contains (registries state outcomes) last.registry
 run_ends state [] outcomes last run =
     subst (λ (r : Registry). Contains (registries state outcomes) r) (ap (λ (s : State). s.registry) (sym run.1)) (contains_first state.registry (map (λ outcome. outcome.state.registry) outcomes))
 run_ends state (Command bytes ∷ inputs) [] last run = absurd run
 run_ends state (Command bytes ∷ inputs) (outcome ∷ outcomes) last run =
     contains_later state.registry (registries outcome.state outcomes) last.registry (run_ends outcome.state inputs outcomes last run.1)
 run_ends state (Reset ∷ inputs) outcomes last run = run_ends (powered_on state.registry) inputs outcomes last run
-
-pub plays_ends : (first : State) (given : List (List ℕ)) (outcomes : List Outcome) (last : State) → RunsLines first given outcomes last → Contains (registries first outcomes) last.registry
-plays_ends first given outcomes last plays = run_ends first plays.inputs outcomes last plays.run
 
 module _ (first : State) (some more : List Outcome) where
   -- those of the first commands
@@ -83,31 +79,21 @@ module _ {F : Type 0} (device : Flash F) where
       (λ c reopens. ⊎_elim (λ was. (before, contains_first before (after ∷ []), was))
       (λ is. (after, contains_later before (after ∷ []) after (contains_first after []), is)) reopens)
 
-  -- a card that was not touched stands as before
-  pub stays : (first : F) (card card' : CardOver F) (count count' : ℕ) → (card' ≡ card) × (count' ≡ count)
-      → (count' ≡ count) × ((state : State) → CardRepresents device card state → CardRepresents device card' state)
-      × ((all : List Registry) → LeavesOneOf device first card.flash all → LeavesOneOf device first card'.flash all)
-  stays first card card' count count' same = (
-    same.1,
-    λ state stands. subst (λ (c : CardOver F). CardRepresents device c state) (sym same.0) stands,
-    λ all leaves. subst (λ (c : CardOver F). LeavesOneOf device first c.flash all) (sym same.0) leaves,
-  )
-
   pub has_run : (old : F) (card : CardOver F) (first : State) (count : ℕ) (outcomes : List Outcome) (last : State) → count ≡ length outcomes
       → CardRepresents device card last → LeavesOneOf device old card.flash (registries first outcomes)
       → HasRun device old card.flash first count outcomes last × CardRepresents device card last
   has_run old card first count outcomes last done stands leaves =
       (record { done = done; keeps = stands.keeps; moments = λ told before. leaves told }, stands)
 
-  pub has_failed : ((f : F) (t : ℕ) (c : List Page) → device.tells → t ≤ device.moment f → device.may_leave f c → device.left_since f t c)
-      → (old mid new : F) (first : State) (count : ℕ) (outcomes : List Outcome) (last : State) (next : Outcome) → count ≡ length outcomes
-      → LeavesOneOf device mid new (last.registry ∷ next.state.registry ∷ [])
+  -- power lost now leaves what power lost since a moment before leaves
+  pub left_now : ((f : F) (t : ℕ) (c : List Page) → device.tells → t ≤ device.moment f → device.may_leave f c → device.left_since f t c)
+      → (old new : F) (all : List Registry) → LeavesOneOf device old new all → LeftOneOf device new all
+  left_now counts old new all leaves told c possible =
+      let since = leaves told in
+      since.each c (counts new (device.moment old) c told since.later possible)
+
+  pub has_failed : (old new : F) (first : State) (count : ℕ) (outcomes : List Outcome) (last : State) (next : Outcome) → count ≡ length outcomes
+      → LeftOneOf device new (last.registry ∷ next.state.registry ∷ [])
       → LeavesOneOf device old new (registries first (outcomes ++ next ∷ []))
       → HasFailed device old new first count outcomes last next
-  has_failed counts old mid new first count outcomes last next done between since = record {
-    done = done;
-    left = λ told c possible.
-        (let leaves = between told in
-        leaves.each c (counts new (device.moment mid) c told leaves.later possible));
-    moments = λ told before. since told;
-  }
+  has_failed old new first count outcomes last next done left since = record { done = done; left = left; moments = λ told before. since told }

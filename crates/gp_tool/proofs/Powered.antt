@@ -1,5 +1,5 @@
 -- A run on a card that was powered on, from the device before.
-use Rattle.std.proofs.Common.{◌≡◌, ◌≢◌, ◌⊎◌, ◌≤◌, ℕ, List, [], ◌∷◌, ◌++◌, refl, inl, inr, arith}
+use Rattle.std.proofs.Common.{◌≡◌, ◌≢◌, ◌≤◌, ℕ, List, [], ◌∷◌, ◌++◌, refl, inl, inr, arith}
 use Rattle.card_core.specs.Card.{CardOver, CardRepresents}
 use Rattle.card_core.specs.PowerOn.{PowerFails}
 use Rattle.card_core.specs.declared.power.PowerCause.{PowerCause}
@@ -21,12 +21,13 @@ use Rattle.gp_tool.specs.Ends.{EndCause, Faults}
 use Rattle.gp_tool.specs.Verbs.{Serves, around}
 use Rattle.gp_tool.specs.declared.verb.Verb.{Verb}
 use Rattle.gp_tool.specs.declared.ending.Ending.{Ending}
-use Rattle.gp_tool.specs.declared.ending.Ending.TheVariants.{Finished, BadLine, FlashFault, ReadFault, WriteFault, InputTooLong}
+use Rattle.gp_tool.specs.declared.ending.Ending.TheVariants.{Finished, Differs, BadLine, FlashFault, ReadFault, WriteFault, InputTooLong}
 
 -- the device's count was no greater before
 pub cause_since : (ending : Ending) (source sink before device : ℕ) (new : Faults) → before ≤ device
     → EndCause ending (record { source = source; sink = sink; device = device }) new → EndCause ending (record { source = source; sink = sink; device = before }) new
 cause_since Finished source sink before device new less cause = cause
+cause_since Differs source sink before device new less cause = cause
 cause_since BadLine source sink before device new less cause = cause
 cause_since FlashFault source sink before device new less cause = (cause.0, cause.1, (let rose = cause.2 in omega (arith, rose, less)))
 cause_since ReadFault source sink before device new less cause = cause
@@ -80,8 +81,8 @@ module _ {S K F : Type 0} (verb : Verb) (source : Source S) (sink : Sink K) (dev
 -- where the device holds a card and doesn't fail, want of memory alone is left
 pub no_other_cause : {F : Type 0} (device : Flash F) (old new : F) (cause : PowerCause) (status : ℕ)
     → PowerFails device old cause new → status ≡ refusal_status cause → device.tells → (registry : Registry) → Reopens (device.pages old) registry
-    → (Rose (device.faults old) (device.faults new) → ⊥) → (status ≡ 0) ⊎ (status ≡ 7)
-no_other_cause device old new (Memory refused) status fails is told registry reopens no_flash = inr is
+    → (Rose (device.faults old) (device.faults new) → ⊥) → status ≡ 7
+no_other_cause device old new (Memory refused) status fails is told registry reopens no_flash = is
 no_other_cause device old new FlashFailed status fails is told registry reopens no_flash = absurd (no_flash fails)
 no_other_cause device old new NotACard status fails is told registry reopens no_flash = absurd ((fails told).none registry reopens)
 

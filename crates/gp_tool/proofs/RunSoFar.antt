@@ -1,247 +1,300 @@
 -- The course of a run, from line to line and to its end.
-use Rattle.std.proofs.Common.{◌≡◌, ℕ, ◌+◌, ◌-◌, ◌≤◌, List, [], ◌∷◌, ◌++◌, length, take, None, refl, sym, ap, subst, ◌∙◌, inl, inr, append_assoc, arith, length-append}
+use Rattle.std.proofs.Common.{◌≡◌, ℕ, ◌+◌, ◌-◌, ◌<◌, ◌≤◌, false, ◌||◌, List, [], ◌∷◌, ◌++◌, length, take, None, refl, sym, ap, subst, ◌∙◌, inl, inr, append_assoc, arith, length-append}
 use Rattle.std.proofs.lemmas.List.{append-nil}
+use Rattle.std.proofs.lemmas.List.Folds.{concat-append}
+use Rattle.std.specs.List.{concat}
 use Rattle.std.specs.Str.Lines.{lines}
-use Rattle.card_types.specs.Registry.{Registry}
-use Rattle.io_edge.specs.Lines.{Reading, ahead, room, IsCut, IsNextLine}
+use Rattle.card_core.specs.Card.{CardOver, CardRepresents}
+use Rattle.flash_core.specs.declared.flash.Flash.{Ghosts as Flash}
+use Rattle.io_edge.specs.Lines.{Reading, ahead, room, IsNextLine}
 use Rattle.io_edge.specs.declared.line.TheConstants.{INPUT_LIMIT, LINE_LIMIT}
 use Rattle.policy_rules.specs.State.{State}
 use Rattle.policy_rules.specs.Step.{Outcome}
 use Rattle.gp_tool.proofs.ComeFirst.{come_more, lines_come}
-use Rattle.gp_tool.proofs.Moments.{Joins, among_first, among_more, plays_ends}
-use Rattle.gp_tool.proofs.RunsMore.{plays_more, plays_none, text_more}
-use Rattle.gp_tool.specs.Device.{registries}
-use Rattle.gp_tool.specs.Ends.{AreShort, RunSoFar, Ends, IsBad, Outside, Reached, TakesNoMore, room_ahead}
+use Rattle.gp_tool.proofs.Moments.{among_first, among_more, joins, has_run, has_failed}
+use Rattle.gp_tool.proofs.RunsMore.{runs_end, runs_more}
+use Rattle.gp_tool.specs.Device.{HasFailed, HasRun, LeavesOneOf, registries}
+use Rattle.gp_tool.specs.Effects.{Effect, Place, joined, nothing}
+use Rattle.gp_tool.specs.Ends.{AreShort, Course, Ends, IsBad, IsRead, IsShortCut, Outside, Reached, TakesNoMore, room_ahead}
 use Rattle.gp_tool.specs.Going.{Going}
-use Rattle.gp_tool.specs.RunsLines.{RunsLines, bad_line, reply_line, text_of}
-use Rattle.gp_tool.specs.Turn.{GoesOn, EndsWith, total}
+use Rattle.gp_tool.specs.RunsLines.{Memory, PlaysLine, RunsLines, bad_line, no_memory, start}
+use Rattle.gp_tool.specs.Serve.{Standing}
+use Rattle.gp_tool.specs.Turn.{EndsWith, GoesOn, TakesLine, total}
 use Rattle.gp_tool.specs.declared.ending.Ending.{Ending}
-use Rattle.gp_tool.specs.declared.ending.Ending.TheVariants.{Finished, BadLine, FlashFault, ReadFault, WriteFault, InputTooLong}
+use Rattle.gp_tool.specs.declared.ending.Ending.TheVariants.{Finished, Differs, BadLine, FlashFault, ReadFault, WriteFault, InputTooLong}
 use Rattle.gp_tool.specs.declared.verb.Verb.{Verb}
-
--- nothing was read yet
-pub going_first : (verb : Verb) (reads writes : Type 0) (first : State) (Now : State → Type 0) (Since : List Registry → Type 0) (before : Outside)
-    → Now first → Since (first.registry ∷ []) → Going verb reads writes first Now Since 0 before before (record { number = 0; passed = 0; held = []; stop = None })
-going_first verb reads writes first Now Since before stands leaves = record {
-  given = [];
-  outcomes = [];
-  state = first;
-  number = refl;
-  passed = λ _. omega arith;
-  course = record { fits = tt; plays = plays_none first };
-  reached = λ _. refl;
-  stands = stands;
-  leaves = leaves;
-  done = refl;
-  written = λ _. sym (append-nil before.sink.written);
-}
 
 -- one more line that is not too long
 short_more : (given : List (List ℕ)) (line : List ℕ) → AreShort given → length line ≤ LINE_LIMIT → AreShort (given ++ line ∷ [])
 short_more [] line none fits = (fits, tt)
 short_more (first ∷ given) line short fits = (short.0, short_more given line short.1 fits)
 
--- one line further
-course_more : (first : State) (given : List (List ℕ)) (line : List ℕ) (outcomes more : List Outcome) (state last : State)
-    → RunSoFar first given outcomes state → length line ≤ LINE_LIMIT → RunsLines state (line ∷ []) more last → RunSoFar first (given ++ line ∷ []) (outcomes ++ more) last
-course_more first given line outcomes more state last course fits plays = record {
-  fits = short_more given line course.fits fits;
-  plays = plays_more given (line ∷ []) outcomes more first state last course.plays plays;
-}
-
 all_written : (old text more written now : List ℕ) → written ≡ old ++ text → now ≡ written ++ more → now ≡ old ++ (text ++ more)
 all_written old text more written now before after = after ∙ ap (λ w. w ++ more) before ∙ append_assoc old text more
 
-module _ (verb : Verb) (reads writes : Type 0) (first : State) (Now : State → Type 0) (Since : List Registry → Type 0) (count : ℕ) (before now : Outside) (old : Reading) (going : Going verb reads writes first Now Since count before now old) where
-  -- the room is that behind the bytes that were passed
-  room_is : reads → room old ≡ room_ahead before.source.left (ahead old now.source.left)
-  room_is told =
-      let passed = going.passed told in
-      let behind : old.passed ≡ length before.source.left - length (ahead old now.source.left) = omega arith in
-      ap (λ n. INPUT_LIMIT - n) behind
+-- at the end of the input nothing is held
+taken_all : (total : ℕ) (left : List ℕ) → left ≡ [] → total < INPUT_LIMIT → TakesNoMore total [] left
+taken_all total left none short = record { held = []; rest = sym none; few = omega arith; within = omega (arith, short) }
 
-  reached_more : (line after : List ℕ) → (reads → IsNextLine (room old) (ahead old now.source.left) line after) → reads → Reached before.source.left (going.given ++ line ∷ []) after
-  reached_more line after next told =
-      come_more INPUT_LIMIT before.source.left going.given (ahead old now.source.left) line after (going.reached told) (rw (← room_is told) (next told))
+-- one text more
+concat_more : (texts : List (List ℕ)) (text : List ℕ) → concat (texts ++ text ∷ []) ≡ concat texts ++ text
+concat_more texts text = concat-append texts (text ∷ []) ∙ ap (λ t. concat texts ++ t) (append-nil text)
 
-  -- the next line is bad, by the room behind the bytes that were passed
-  bad_there : (reads → IsBad (room old) (ahead old now.source.left)) → reads → IsBad (room_ahead before.source.left (ahead old now.source.left)) (ahead old now.source.left)
-  bad_there bad told = subst (λ (n : ℕ). IsBad n (ahead old now.source.left)) (room_is told) (bad told)
+module _ {F : Type 0} (verb : Verb) (device : Flash F) (reads writes : Type 0) (first : State) (from : F) (before : Outside) where
+  -- nothing was read yet
+  pub going_first : (card : CardOver F) → CardRepresents device card first → LeavesOneOf device from card.flash (first.registry ∷ [])
+      → Going verb device reads writes first from (record { card = card; memory = no_memory verb; done = 0; differs = false }) before before
+      (record { number = 0; passed = 0; held = []; stop = None })
+  going_first card stands leaves = record {
+    given = [];
+    effect = nothing;
+    place = start verb first;
+    number = refl;
+    passed = λ _. omega arith;
+    fits = tt;
+    plays = (refl, refl);
+    reached = λ _. refl;
+    stands = (stands, refl);
+    leaves = leaves;
+    done = refl;
+    differs = refl;
+    written = λ _. sym (append-nil before.sink.written);
+  }
 
-  -- what was taken of the whole input
-  taken_there : (ahead left : List ℕ) → (reads → TakesNoMore (total old now) ahead left) → reads → TakesNoMore (length before.source.left) ahead left
-  taken_there ahead left taken told = subst (λ (n : ℕ). TakesNoMore n ahead left) (going.passed told) (taken told)
+  module _ (at at' : Standing F (Memory verb)) (now later : Outside) (old : Reading) (going : Going verb device reads writes first from at before now old) where
+    -- the room is that behind the bytes that were passed
+    room_is : reads → room old ≡ room_ahead before.source.left (ahead old now.source.left)
+    room_is told =
+        let passed = going.passed told in
+        let behind : old.passed ≡ length before.source.left - length (ahead old now.source.left) = omega arith in
+        ap (λ n. INPUT_LIMIT - n) behind
 
-  -- what power lost may leave behind the commands of one line more
-  leaves_more : (Between Since' : List Registry → Type 0) → Joins Since Between Since' → (more : List Outcome)
-      → Between (registries going.state more) → Since' (registries first (going.outcomes ++ more))
-  leaves_more Between Since' join more leaves =
-      join (registries first going.outcomes) (registries going.state more) (registries first (going.outcomes ++ more))
-      (among_first first going.outcomes more)
-      (among_more first going.outcomes more going.state (plays_ends first going.given going.outcomes going.state going.course.plays))
-      going.leaves leaves
+    reached_more : (line after : List ℕ) → (reads → IsNextLine (room old) (ahead old now.source.left) line after) → reads → Reached before.source.left (going.given ++ line ∷ []) after
+    reached_more line after next told =
+        come_more INPUT_LIMIT before.source.left going.given (ahead old now.source.left) line after (going.reached told) (rw (← room_is told) (next told))
 
-  done_more : (count' : ℕ) (more : List Outcome) → count' ≡ count + length more → count' ≡ length (going.outcomes ++ more)
-  done_more count' more done = done ∙ ap (λ n. n + length more) going.done ∙ sym (length-append going.outcomes more)
+    -- the next line is bad, by the room behind the bytes that were passed
+    bad_there : (reads → IsBad verb at.memory (room old) (ahead old now.source.left)) → reads
+        → IsBad verb going.place.memory (room_ahead before.source.left (ahead old now.source.left)) (ahead old now.source.left)
+    bad_there bad told =
+        let stands = going.stands in
+        subst (λ (n : ℕ). IsBad verb going.place.memory n (ahead old now.source.left)) (room_is told)
+        (subst (λ (m : Memory verb). IsBad verb m (room old) (ahead old now.source.left)) stands.1 (bad told))
 
-  pub going_further : (Now' : State → Type 0) (Between Since' : List Registry → Type 0) (count' : ℕ) (later : Outside) (new : Reading) → Joins Since Between Since'
-      → GoesOn verb reads writes Now Now' Between count count' old new now later → Going verb reads writes first Now' Since' count' before later new
-  going_further Now' Between Since' count' later new join on =
-      let line = on.line going.state going.stands in
-      let takes = line.0 in
-      let played = takes.played in
-      record {
-        given = going.given ++ takes.line ∷ [];
-        outcomes = going.outcomes ++ played.outcomes;
-        state = played.last;
-        number = on.number ∙ ap (λ n. n + 1) going.number ∙ sym (length-append going.given (takes.line ∷ []));
-        passed = λ told. on.passed told ∙ going.passed told;
-        course = course_more first going.given takes.line going.outcomes played.outcomes going.state played.last going.course takes.fits played.plays;
-        reached = reached_more takes.line (ahead new later.source.left) takes.next;
-        stands = played.stands;
-        leaves = leaves_more Between Since' join played.outcomes played.leaves;
-        done = done_more count' played.outcomes played.done;
-        written = λ told.
-            all_written before.sink.written (text_of verb going.outcomes) (text_of verb played.outcomes) now.sink.written later.sink.written (going.written told) (line.1 told)
-            ∙ ap (λ t. before.sink.written ++ t) (sym (text_more verb going.outcomes played.outcomes));
-      }
+    -- what was taken of the whole input
+    taken_there : (ahead left : List ℕ) → (reads → TakesNoMore (total old now) ahead left) → reads → TakesNoMore (length before.source.left) ahead left
+    taken_there ahead left taken told = subst (λ (n : ℕ). TakesNoMore n ahead left) (going.passed told) (taken told)
 
-  module _ (Same : Type 0) (Now' : State → Type 0) (Between Since' : List Registry → Type 0) (count' : ℕ) (later : Outside) (join : Joins Since Between Since')
-      (stays : Same → (count' ≡ count) × ((state : State) → Now state → Now' state) × ((all : List Registry) → Since all → Since' all))
-      (Rests : List Outcome → State → Type 0) (Fails : List Outcome → State → Outcome → Type 0)
-      (rest : (outcomes : List Outcome) (last : State) → count' ≡ length outcomes → Now' last → Since' (registries first outcomes) → Rests outcomes last)
-      (fail : (outcomes : List Outcome) (last : State) (next : Outcome) → count' ≡ length outcomes → Between (last.registry ∷ next.state.registry ∷ [])
-      → Since' (registries first (outcomes ++ next ∷ [])) → Fails outcomes last next) where
-    -- nothing was done on the card
-    rested : Same → Rests going.outcomes going.state
-    rested same =
-        let kept = stays same in
-        rest going.outcomes going.state (kept.0 ∙ going.done) (kept.1 going.state going.stands) (kept.2 (registries first going.outcomes) going.leaves)
+    -- what power lost may leave behind the commands of one line more
+    leaves_more : (mid new : F) (more : List Outcome) → LeavesOneOf device from mid (registries first going.effect.outcomes)
+        → LeavesOneOf device mid new (registries going.place.state more) → LeavesOneOf device from new (registries first (going.effect.outcomes ++ more))
+    leaves_more mid new more since leaves =
+        joins device from mid new (registries first going.effect.outcomes) (registries going.place.state more) (registries first (going.effect.outcomes ++ more))
+        (among_first first going.effect.outcomes more)
+        (among_more first going.effect.outcomes more going.place.state (runs_end verb 1 going.given (start verb first) going.place going.effect going.plays))
+        since leaves
 
-    pub going_ends : (ending : Ending) → EndsWith verb reads writes Same Now Now' Between count count' old now later ending → later.sink.flushes ≡ before.sink.flushes
-        → Ends verb reads writes Rests Fails first ending before later
-    going_ends Finished ends flushes = record {
-      given = going.given;
-      outcomes = going.outcomes;
-      state = going.state;
-      course = going.course;
-      reached = λ told. subst (λ (rest : List ℕ). Reached before.source.left going.given rest) (ends.1 told) (going.reached told);
-      all = λ told.
-          lines_come INPUT_LIMIT before.source.left going.given (ahead old now.source.left) (going.reached told)
-          ∙ ap (λ rest. going.given ++ lines rest) (ends.1 told) ∙ append-nil going.given;
-      short = λ told.
-          (let passed = going.passed told in
-          let none : length (ahead old now.source.left) ≡ 0 = ap length (ends.1 told) in
-          let some = ends.2 told in
-          omega arith);
-      read = ends.3;
-      written = λ told. ends.4 told ∙ going.written told;
-      device = rested ends.0;
-    }
-    going_ends BadLine ends flushes = record {
-      given = going.given;
-      outcomes = going.outcomes;
-      state = going.state;
-      ahead = ahead old now.source.left;
-      course = going.course;
-      reached = going.reached;
-      taken = taken_there (ahead old now.source.left) later.source.left ends.3;
-      bad = bad_there ends.1;
-      written = λ told.
-          all_written before.sink.written (text_of verb going.outcomes) (bad_line (length going.given + 1)) now.sink.written later.sink.written (going.written told)
-          (ends.2 told ∙ ap (λ n. now.sink.written ++ bad_line (n + 1)) going.number);
-      device = rested ends.0;
-    }
-    going_ends FlashFault ends flushes =
-        let next = ends.2 going.state going.stands in
-        let fails = next.fails in
-        record {
-          given = going.given;
-          outcomes = going.outcomes;
-          state = going.state;
-          ahead = ahead old now.source.left;
-          line = next.line;
-          bytes = fails.bytes;
-          next = fails.next;
-          course = going.course;
-          reached = going.reached;
-          taken = taken_there (ahead old now.source.left) later.source.left ends.3;
-          comes = λ told.
-              (let comes = next.next told in
-              (comes.0, subst (λ (n : ℕ). IsNextLine n (ahead old now.source.left) next.line comes.0) (room_is told) comes.1));
-          fits = next.fits;
-          spelled = fails.spelled;
-          step = fails.step;
-          written = λ told. ends.1 told ∙ going.written told;
-          device = fail going.outcomes going.state fails.next (ends.0 ∙ going.done) fails.leaves (leaves_more Between Since' join (fails.next ∷ []) fails.leaves);
-        }
-    going_ends ReadFault ends flushes = record {
-      given = going.given;
-      outcomes = going.outcomes;
-      state = going.state;
-      held = ends.1;
-      course = going.course;
-      reached = λ told. subst (λ (rest : List ℕ). Reached before.source.left going.given rest) (ends.6 told) (going.reached told);
-      no_line = λ _. ends.2;
-      short = λ _. ends.3;
-      few = λ _. ends.4;
-      within = λ told. rw (← ends.6 told, ← room_is told) ends.5;
-      written = λ told. ends.7 told ∙ going.written told;
-      device = rested ends.0;
-    }
-    going_ends InputTooLong ends flushes = record {
-      given = going.given;
-      outcomes = going.outcomes;
-      state = going.state;
-      ahead = ahead old now.source.left;
-      course = going.course;
-      reached = going.reached;
-      taken = taken_there (ahead old now.source.left) later.source.left ends.3;
-      cut = λ told.
-          (let cut = ends.1 told in
-          (cut.0, subst (λ (n : ℕ). IsCut n (ahead old now.source.left) cut.0) (room_is told) cut.1, cut.2));
-      written = λ told. ends.2 told ∙ going.written told;
-      device = rested ends.0;
-    }
-    going_ends WriteFault (inl fault) flushes =
-        let line = fault going.state going.stands in
-        let takes = line.1 in
+    done_more : (more : List Outcome) (count : ℕ) → count ≡ at.done + length more → count ≡ length (going.effect.outcomes ++ more)
+    done_more more count done = done ∙ ap (λ n. n + length more) going.done ∙ sym (length-append going.effect.outcomes more)
+
+    plays_more : (line : List ℕ) (next : Place (Memory verb)) (one : Effect) → PlaysLine verb (old.number + 1) line going.place one next
+        → RunsLines verb 1 (going.given ++ line ∷ []) (start verb first) (joined going.effect one) next
+    plays_more line next one plays =
+        let number = going.number in
+        runs_more verb 1 (old.number + 1) going.given line (start verb first) going.place next going.effect one (omega (arith, number)) going.plays plays
+
+    -- the course of one line more
+    course_more : (after left : List ℕ) → TakesLine verb device reads (old.number + 1) at at' going.place (room old) (ahead old now.source.left) after
+        → (reads → TakesNoMore (length before.source.left) after left) → Course verb reads first before.source.left left
+    course_more after left takes taken =
         let played = takes.played in
         record {
           given = going.given ++ takes.line ∷ [];
-          outcomes = going.outcomes ++ played.outcomes;
-          state = played.last;
-          ahead = line.0;
-          before = text_of verb going.outcomes;
-          line = reply_line verb line.2;
-          course = course_more first going.given takes.line going.outcomes played.outcomes going.state played.last going.course takes.fits played.plays;
-          reached = reached_more takes.line line.0 takes.next;
-          taken = taken_there line.0 later.source.left line.5;
-          is_text = inl (inr (going.outcomes, line.2, ap (λ more. going.outcomes ++ more) line.3, refl, refl));
-          written = λ told.
-              (let part = line.4 told in
-              (part.0, all_written before.sink.written (text_of verb going.outcomes) (take part.0 (reply_line verb line.2)) now.sink.written later.sink.written (going.written told) part.1));
-          flushes = inl flushes;
-          device = rest (going.outcomes ++ played.outcomes) played.last (done_more count' played.outcomes played.done) played.stands
-              (leaves_more Between Since' join played.outcomes played.leaves);
+          effect = joined going.effect played.effect;
+          last = played.next;
+          ahead = after;
+          fits = short_more going.given takes.line going.fits takes.fits;
+          plays = plays_more takes.line played.next played.effect played.plays;
+          reached = reached_more takes.line after takes.next;
+          taken = taken;
         }
-    going_ends WriteFault (inr refused) flushes = record {
+
+    -- the course up to here
+    course_here : (rest left : List ℕ) → (reads → Reached before.source.left going.given rest) → (reads → TakesNoMore (length before.source.left) rest left)
+        → Course verb reads first before.source.left left
+    course_here rest left reached taken = record {
       given = going.given;
-      outcomes = going.outcomes;
-      state = going.state;
-      ahead = ahead old now.source.left;
-      before = text_of verb going.outcomes;
-      line = bad_line (length going.given + 1);
-      course = going.course;
-      reached = going.reached;
-      taken = taken_there (ahead old now.source.left) later.source.left refused.3;
-      is_text = inr (bad_there refused.1, refl, refl);
-      written = λ told.
-          (let part = refused.2 told in (
-            part.0,
-            all_written before.sink.written (text_of verb going.outcomes) (take part.0 (bad_line (length going.given + 1))) now.sink.written later.sink.written (going.written told)
-                (part.1 ∙ ap (λ n. now.sink.written ++ take part.0 (bad_line (n + 1))) going.number),
-          ));
-      flushes = inl flushes;
-      device = rested refused.0;
+      effect = going.effect;
+      last = going.place;
+      ahead = rest;
+      fits = going.fits;
+      plays = going.plays;
+      reached = reached;
+      taken = taken;
+    }
+
+    pub going_further : (new : Reading) → GoesOn verb device reads writes at at' old new now later → Going verb device reads writes first from at' before later new
+    going_further new on =
+        let line = on.line going.place going.stands in
+        let takes = line.0 in
+        let played = takes.played in
+        record {
+          given = going.given ++ takes.line ∷ [];
+          effect = joined going.effect played.effect;
+          place = played.next;
+          number = on.number ∙ ap (λ n. n + 1) going.number ∙ sym (length-append going.given (takes.line ∷ []));
+          passed = λ told. on.passed told ∙ going.passed told;
+          fits = short_more going.given takes.line going.fits takes.fits;
+          plays = plays_more takes.line played.next played.effect played.plays;
+          reached = reached_more takes.line (ahead new later.source.left) takes.next;
+          stands = played.stands;
+          leaves = leaves_more at.card.flash at'.card.flash played.effect.outcomes going.leaves played.leaves;
+          done = done_more played.effect.outcomes at'.done played.done;
+          differs = played.differs ∙ ap (λ d. d || played.effect.differs) going.differs;
+          written = λ told.
+              all_written before.sink.written (concat going.effect.texts) (concat played.effect.texts) now.sink.written later.sink.written (going.written told) (line.1 told)
+              ∙ ap (λ t. before.sink.written ++ t) (sym (concat-append going.effect.texts played.effect.texts));
+        }
+
+    -- what holds of the device and the card behind some commands
+    abbrev pub Rests : List Outcome → State → Type 0
+    Rests outcomes last = HasRun device from at'.card.flash first at'.done outcomes last × CardRepresents device at'.card last
+
+    abbrev pub Fails : List Outcome → State → Outcome → Type 0
+    Fails outcomes last next = HasFailed device from at'.card.flash first at'.done outcomes last next
+
+    -- nothing was done on the card
+    rested : at' ≡ at → Rests going.effect.outcomes going.place.state
+    rested same =
+        let stands = going.stands in
+        subst (λ (a : Standing F (Memory verb)). HasRun device from a.card.flash first a.done going.effect.outcomes going.place.state × CardRepresents device a.card going.place.state) (sym same)
+        (has_run device from at.card first at.done going.effect.outcomes going.place.state going.done stands.0 going.leaves)
+
+    -- the texts so far, and nothing more
+    so_far : (writes → later.sink.written ≡ now.sink.written) → writes → later.sink.written ≡ before.sink.written ++ concat going.effect.texts
+    so_far silent told = silent told ∙ going.written told
+
+    -- the same with the number of a bad line, or a part of it
+    with_bad : (text : ℕ → List ℕ) → (writes → later.sink.written ≡ now.sink.written ++ text (old.number + 1))
+        → writes → later.sink.written ≡ before.sink.written ++ (concat going.effect.texts ++ text (length going.given + 1))
+    with_bad text wrote told =
+        all_written before.sink.written (concat going.effect.texts) (text (length going.given + 1)) now.sink.written later.sink.written (going.written told)
+        (wrote told ∙ ap (λ n. now.sink.written ++ text (n + 1)) going.number)
+
+    -- the input is at its end
+    course_read : (reads → ahead old now.source.left ≡ []) → (reads → 0 < room old) → (reads → later.source.left ≡ [])
+        → (course : Course verb reads first before.source.left later.source.left)
+        × (course.effect ≡ going.effect) × (course.last ≡ going.place) × (reads → IsRead before.source.left course.given course.ahead)
+    unfolding course_here
+    course_read over some none =
+        let short : reads → length before.source.left < INPUT_LIMIT
+        = λ told.
+        (let passed = going.passed told in
+        let nothing_ahead : length (ahead old now.source.left) ≡ 0 = ap length (over told) in
+        let room_left = some told in
+        omega arith) in (
+          course_here [] later.source.left (λ told. subst (λ (rest : List ℕ). Reached before.source.left going.given rest) (over told) (going.reached told))
+              (λ told. taken_all (length before.source.left) later.source.left (none told) (short told)),
+          refl,
+          refl,
+          λ told. record {
+            all = lines_come INPUT_LIMIT before.source.left going.given (ahead old now.source.left) (going.reached told)
+                ∙ ap (λ rest. going.given ++ lines rest) (over told) ∙ append-nil going.given;
+            none = refl;
+            short = short told;
+          },
+        )
+
+    pub going_ends : (ending : Ending) → EndsWith verb device reads writes at at' old now later ending → later.sink.flushes ≡ before.sink.flushes
+        → Ends verb reads writes Rests Fails first ending before later
+    unfolding course_here course_more
+    going_ends Finished (same, equal, (over, some, none, silent)) flushes =
+        let read = course_read over some none in
+        record {
+          course = read.0;
+          ends = (ap (λ (e : Effect). e.differs) read.1 ∙ sym going.differs ∙ equal, read.3, λ told. so_far silent told ∙ ap (λ (e : Effect). before.sink.written ++ concat e.texts) (sym read.1));
+          rests = λ other. rw (read.1, read.2) (rested same);
+        }
+    going_ends Differs (same, equal, (over, some, none, silent)) flushes =
+        let read = course_read over some none in
+        record {
+          course = read.0;
+          ends = (ap (λ (e : Effect). e.differs) read.1 ∙ sym going.differs ∙ equal, read.3, λ told. so_far silent told ∙ ap (λ (e : Effect). before.sink.written ++ concat e.texts) (sym read.1));
+          rests = λ other. rw (read.1, read.2) (rested same);
+        }
+    going_ends BadLine (same, (bad, refuses, taken)) flushes = record {
+      course = course_here (ahead old now.source.left) later.source.left going.reached (taken_there (ahead old now.source.left) later.source.left taken);
+      ends = (
+        bad_there bad,
+        λ told. with_bad bad_line refuses told ∙ ap (λ t. before.sink.written ++ t) (sym (concat_more going.effect.texts (bad_line (length going.given + 1)))),
+      );
+      rests = λ other. rested same;
+    }
+    going_ends FlashFault (silent, taken, breaks) flushes =
+        let next = breaks going.place going.stands in
+        let b = next.breaks in
+        record {
+          course = course_here (ahead old now.source.left) later.source.left going.reached (taken_there (ahead old now.source.left) later.source.left taken);
+          ends = (
+            record {
+              line = next.line;
+              begun = b.begun;
+              mid = b.mid;
+              next = b.next;
+              comes = λ told.
+                  (let comes = next.next told in
+                  (comes.0, subst (λ (n : ℕ). IsNextLine n (ahead old now.source.left) next.line comes.0) (room_is told) comes.1));
+              fits = next.fits;
+              fails = b.fails;
+              device = has_failed device from at'.card.flash first at'.done (going.effect.outcomes ++ b.begun) b.mid b.next (done_more b.begun at'.done b.done) b.left
+                  (subst (λ (os : List Outcome). LeavesOneOf device from at'.card.flash (registries first os)) (sym (append_assoc going.effect.outcomes b.begun (b.next ∷ [])))
+                  (leaves_more at.card.flash at'.card.flash (b.begun ++ b.next ∷ []) going.leaves b.leaves));
+            },
+            so_far silent,
+          );
+          rests = λ other. absurd (other refl);
+        }
+    going_ends ReadFault (same, holds, silent, taken) flushes = record {
+      course = course_here (ahead old now.source.left) later.source.left going.reached (taken_there (ahead old now.source.left) later.source.left taken);
+      ends = (holds, so_far silent);
+      rests = λ other. rested same;
+    }
+    going_ends InputTooLong (same, cut, silent, taken) flushes = record {
+      course = course_here (ahead old now.source.left) later.source.left going.reached (taken_there (ahead old now.source.left) later.source.left taken);
+      ends = (λ told. subst (λ (n : ℕ). IsShortCut n (ahead old now.source.left)) (room_is told) (cut told), so_far silent);
+      rests = λ other. rested same;
+    }
+    going_ends WriteFault (inl fault) flushes =
+        let line = fault going.place going.stands in
+        let takes = line.1 in
+        let played = takes.played in
+        let stands = played.stands in
+        record {
+          course = course_more line.0 later.source.left takes (taken_there line.0 later.source.left line.5);
+          ends = inl (record {
+            before = going.effect.texts;
+            last = line.2;
+            texts_are = inl (ap (λ t. going.effect.texts ++ t) line.3);
+            written = λ told.
+                (let part = line.4 told in
+                (part.0, all_written before.sink.written (concat going.effect.texts) (take part.0 line.2) now.sink.written later.sink.written (going.written told) part.1));
+            flushes = inl flushes;
+          });
+          rests = λ other.
+              has_run device from at'.card first at'.done (going.effect.outcomes ++ played.effect.outcomes) played.next.state (done_more played.effect.outcomes at'.done played.done) stands.0
+              (leaves_more at.card.flash at'.card.flash played.effect.outcomes going.leaves played.leaves);
+        }
+    going_ends WriteFault (inr (same, (bad, refuses, taken))) flushes = record {
+      course = course_here (ahead old now.source.left) later.source.left going.reached (taken_there (ahead old now.source.left) later.source.left taken);
+      ends = inr (
+        bad_there bad,
+        record {
+          before = going.effect.texts;
+          last = bad_line (length going.given + 1);
+          texts_are = inl refl;
+          written = λ told. (let part = refuses told in (part.0, with_bad (λ n. take part.0 (bad_line n)) (λ again. part.1) told));
+          flushes = inl flushes;
+        },
+      );
+      rests = λ other. rested same;
     }

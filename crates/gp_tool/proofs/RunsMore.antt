@@ -1,40 +1,63 @@
 -- Lines after lines.
-use Rattle.std.proofs.Common.{◌≡◌, ℕ, List, [], ◌∷◌, ◌++◌, refl, ap, ◌∙◌, append_assoc}
-use Rattle.std.proofs.lemmas.Grind.{flat_map-append}
-use Rattle.policy_rules.specs.Run.{Input, Run, Command, Reset}
-use Rattle.policy_rules.specs.State.{State, powered_on}
-use Rattle.policy_rules.specs.Step.{Outcome}
-use Rattle.gp_tool.specs.Form.{AreSpelled}
-use Rattle.gp_tool.specs.RunsLines.{RunsLines, text_of, reply_line}
+use Rattle.std.proofs.Common.{◌≡◌, ℕ, ◌+◌, List, [], ◌∷◌, ◌++◌, length, refl, sym, ap, subst, ◌∙◌, arith, append_assoc}
+use Rattle.std.specs.Prelude.{Contains}
+use Rattle.std.proofs.Math.Bool.{or-false, or_assoc}
+use Rattle.std.proofs.lemmas.List.{append-nil}
+use Rattle.card_types.proofs.Members.{contains_first}
+use Rattle.gp_tool.proofs.Moments.{among_more}
+use Rattle.gp_tool.proofs.One.{Same, line_ends, line_once}
+use Rattle.gp_tool.specs.Device.{registries}
+use Rattle.gp_tool.specs.Effects.{Effect, Place, joined, nothing}
+use Rattle.gp_tool.specs.RunsLines.{Memory, PlaysLine, RunsLines}
 use Rattle.gp_tool.specs.declared.verb.Verb.{Verb}
 
-spelled_more : (xs ys : List (List ℕ)) (a b : List Input) → AreSpelled xs a → AreSpelled ys b → AreSpelled (xs ++ ys) (a ++ b)
-spelled_more [] ys a b none more = rw none more
-spelled_more (x ∷ xs) ys a b some more = (
-  some.0,
-  some.1 ++ b,
-  some.2,
-  spelled_more xs ys some.1 b some.3 more,
-  ap (λ inputs. inputs ++ b) some.4 ∙ append_assoc some.0 some.1 b,
-)
+joined_nothing : (one : Effect) → joined one nothing ≡ one
+joined_nothing one i = record { outcomes = append-nil one.outcomes i; texts = append-nil one.texts i; differs = or-false one.differs i }
 
-run_more : (a b : List Input) (state mid last : State) (xs ys : List Outcome)
-    → Run state a xs mid → Run mid b ys last → Run state (a ++ b) (xs ++ ys) last
-run_more [] b state mid last xs ys done more = rw (done.0, ← done.1) more
-run_more (Command bytes ∷ a) b state mid last [] ys done more = absurd done
-run_more (Command bytes ∷ a) b state mid last (x ∷ xs) ys done more = (done.0, run_more a b x.state mid last xs ys done.1 more)
-run_more (Reset ∷ a) b state mid last xs ys done more = run_more a b (powered_on state.registry) mid last xs ys done more
-
-pub plays_more : (xs ys : List (List ℕ)) (some more : List Outcome) (state mid last : State)
-    → RunsLines state xs some mid → RunsLines mid ys more last → RunsLines state (xs ++ ys) (some ++ more) last
-plays_more xs ys some more state mid last first second = record {
-  inputs = first.inputs ++ second.inputs;
-  spelled = spelled_more xs ys first.inputs second.inputs first.spelled second.spelled;
-  run = run_more first.inputs second.inputs state mid last some more first.run second.run;
+joined_joined : (one two more : Effect) → joined (joined one two) more ≡ joined one (joined two more)
+joined_joined one two more i = record {
+  outcomes = append_assoc one.outcomes two.outcomes more.outcomes i;
+  texts = append_assoc one.texts two.texts more.texts i;
+  differs = or_assoc one.differs two.differs more.differs i;
 }
 
-pub plays_none : (state : State) → RunsLines state [] [] state
-plays_none state = record { inputs = []; spelled = refl; run = (refl, refl) }
+module _ (verb : Verb) where
+  -- one line further
+  pub runs_more : (number m : ℕ) (given : List (List ℕ)) (line : List ℕ) (at mid last : Place (Memory verb)) (effect one : Effect) → m ≡ number + length given
+      → RunsLines verb number given at effect mid → PlaysLine verb m line mid one last → RunsLines verb number (given ++ line ∷ []) at (joined effect one) last
+  runs_more number m [] line at mid last effect one is runs plays =
+      let same : m ≡ number = omega (arith, is) in
+      let here : PlaysLine verb number line at one last
+      = subst (λ (place : Place (Memory verb)). PlaysLine verb number line place one last) runs.1 (subst (λ (n : ℕ). PlaysLine verb n line mid one last) same plays) in
+      (one, last, nothing, here, (refl, refl), ap (λ e. joined e one) runs.0 ∙ sym (joined_nothing one))
+  runs_more number m (first ∷ given) line at mid last effect one is runs plays =
+      let further : m ≡ (number + 1) + length given = omega (arith, is) in (
+        runs.0,
+        runs.1,
+        joined runs.2 one,
+        runs.3,
+        runs_more (number + 1) m given line runs.1 mid last runs.2 one further runs.4 plays,
+        ap (λ e. joined e one) runs.5 ∙ joined_joined runs.0 runs.2 one,
+      )
 
-pub text_more : (verb : Verb) (some more : List Outcome) → text_of verb (some ++ more) ≡ text_of verb some ++ text_of verb more
-text_more verb some more = flat_map-append (reply_line verb) some more
+  -- lines are played in one way
+  pub runs_once : (number : ℕ) (lines : List (List ℕ)) (at last another : Place (Memory verb)) (effect other : Effect)
+      → RunsLines verb number lines at effect last → RunsLines verb number lines at other another → Same effect other last another
+  runs_once number [] at last another effect other none again = (none.0 ∙ sym again.0, none.1 ∙ sym again.1)
+  runs_once number (line ∷ lines) at last another effect other some again =
+      let first = line_once verb number line at some.1 again.1 some.0 again.0 some.3 again.3 in
+      let rest = runs_once (number + 1) lines some.1 last another some.2 again.2 some.4
+      (subst (λ (place : Place (Memory verb)). RunsLines verb (number + 1) lines place again.2 another) (sym first.1) again.4) in
+      (some.5 ∙ ap (λ e. joined e some.2) first.0 ∙ ap (λ e. joined again.0 e) rest.0 ∙ sym again.5, rest.1)
+
+  -- the last registry is one of the run's
+  pub runs_end : (number : ℕ) (lines : List (List ℕ)) (at last : Place (Memory verb)) (effect : Effect)
+      → RunsLines verb number lines at effect last → Contains (registries at.state effect.outcomes) last.state.registry
+  runs_end number [] at last effect none =
+      subst (λ (place : Place (Memory verb)). Contains (registries at.state effect.outcomes) place.state.registry) (sym none.1)
+      (contains_first at.state.registry _)
+  runs_end number (line ∷ lines) at last effect some =
+      let there = line_ends verb number line at some.1 some.0 some.3 in
+      let more = runs_end (number + 1) lines some.1 last some.2 some.4 in
+      subst (λ (e : Effect). Contains (registries at.state e.outcomes) last.state.registry) (sym some.5)
+      (among_more at.state some.0.outcomes some.2.outcomes some.1.state there last.state.registry more)

@@ -17,7 +17,7 @@ use Rattle.gp_tool.specs.Flush.{AfterFlush}
 use Rattle.gp_tool.specs.Show.{shown}
 use Rattle.gp_tool.specs.Shown.{HasShown, ShowEnds}
 use Rattle.gp_tool.specs.declared.ending.Ending.{Ending}
-use Rattle.gp_tool.specs.declared.ending.Ending.TheVariants.{Finished, BadLine, FlashFault, ReadFault, WriteFault, InputTooLong}
+use Rattle.gp_tool.specs.declared.ending.Ending.TheVariants.{Finished, Differs, BadLine, FlashFault, ReadFault, WriteFault, InputTooLong}
 
 module _ (told writes : Type 0) (tells : told → writes) (registry : Registry) (old mid new : SinkState) (same : writes → new.written ≡ mid.written) (none : mid.flushes ≡ old.flushes) where
   abbrev Behind : Ending → Ending → Type 0
@@ -77,6 +77,7 @@ has_shown device counts old new card state stands powered shows same =
 pub shows_all : (told : Type 0) (registry : Registry) (old new : SinkState) (before after : Faults) (ending : Ending) → ShowEnds told registry ending old new → EndCause ending before after
     → (Rose before.sink after.sink → ⊥) → (Rose before.device after.device → ⊥) → exit_status ending ≡ 0
 shows_all told registry old new before after Finished ends cause no_sink no_device = refl
+shows_all told registry old new before after Differs ends cause no_sink no_device = absurd ends
 shows_all told registry old new before after BadLine ends cause no_sink no_device = absurd ends
 shows_all told registry old new before after FlashFault ends cause no_sink no_device = absurd (no_device cause.2)
 shows_all told registry old new before after ReadFault ends cause no_sink no_device = absurd ends

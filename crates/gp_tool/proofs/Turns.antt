@@ -1,31 +1,37 @@
 -- How a turn ends.
-use Rattle.std.proofs.Common.{◌≡◌, ◌+◌, ◌++◌, ◌≤◌, List, ℕ, length, take, refl, sym, ap, ◌∙◌, inl, inr, append_assoc, arith, length-append}
-use Rattle.card_types.specs.Registry.{Registry}
+use Rattle.std.proofs.Common.{◌≡◌, ◌+◌, ◌++◌, ◌≤◌, Bool, true, false, List, ℕ, length, take, refl, sym, ap, ◌∙◌, inl, inr, append_assoc, arith, length-append}
+use Rattle.flash_core.specs.declared.flash.Flash.{Ghosts as Flash}
 use Rattle.io_edge.proofs.Cuts.{line_suffix}
 use Rattle.io_edge.specs.Lines.{Reading, GivesLine, GivesStop, ahead, room}
 use Rattle.io_edge.specs.declared.line.LineStop.{LineStop}
 use Rattle.io_edge.specs.declared.line.Line.{Line}
 use Rattle.io_edge.specs.declared.line.TheConstants.{LINE_LIMIT}
-use Rattle.policy_rules.specs.State.{State}
-use Rattle.gp_tool.specs.Form.{HasNoForm}
+use Rattle.gp_tool.specs.Effects.{Place}
 use Rattle.gp_tool.specs.Ends.{Outside, IsBad, TakesNoMore}
-use Rattle.gp_tool.specs.RunsLines.{bad_line}
-use Rattle.gp_tool.specs.Serve.{FailsLine, RunsLine}
-use Rattle.gp_tool.specs.Turn.{EndsWith, FailsNext, Refuses, TakesLine, TakesNext}
+use Rattle.gp_tool.specs.RunsLines.{FailsLine, HasForm, Memory, PlaysLine, bad_line}
+use Rattle.gp_tool.specs.Serve.{BreaksLine, RunsLine, Standing}
+use Rattle.gp_tool.specs.Turn.{BreaksNext, EndsWith, IsAtEnd, Refuses, TakesLine, TakesNext, ending_of}
 use Rattle.gp_tool.specs.declared.ending.Ending.{Ending}
-use Rattle.gp_tool.specs.declared.ending.Ending.TheVariants.{Finished, BadLine, FlashFault, ReadFault, WriteFault, InputTooLong}
+use Rattle.gp_tool.specs.declared.ending.Ending.TheVariants.{Finished, Differs, BadLine, FlashFault, ReadFault, WriteFault, InputTooLong}
 use Rattle.gp_tool.specs.declared.verb.Verb.{Verb}
 
 -- a run ends with a bad line as its number was written
-pub refusal_ends : (verb : Verb) (reads writes Same : Type 0) (Before After : State → Type 0) (Leaving : List Registry → Type 0) (count count' : ℕ) (old : Reading) (before now : Outside) (ending : Ending)
-    → Same → (reads → IsBad (room old) (ahead old before.source.left)) → Refuses writes (old.number + 1) before.sink.written now.sink.written ending
-    → TakesNext reads old before now → EndsWith verb reads writes Same Before After Leaving count count' old before now ending
-refusal_ends verb reads writes Same Before After Leaving count count' old before now BadLine same bad refuses taken = (same, bad, refuses, taken)
-refusal_ends verb reads writes Same Before After Leaving count count' old before now WriteFault same bad refuses taken = inr (same, bad, refuses, taken)
-refusal_ends verb reads writes Same Before After Leaving count count' old before now Finished same bad refuses taken = absurd refuses
-refusal_ends verb reads writes Same Before After Leaving count count' old before now FlashFault same bad refuses taken = absurd refuses
-refusal_ends verb reads writes Same Before After Leaving count count' old before now ReadFault same bad refuses taken = absurd refuses
-refusal_ends verb reads writes Same Before After Leaving count count' old before now InputTooLong same bad refuses taken = absurd refuses
+pub refusal_ends : {F : Type 0} (verb : Verb) (device : Flash F) (reads writes : Type 0) (at at' : Standing F (Memory verb)) (old : Reading) (before now : Outside) (ending : Ending)
+    → at' ≡ at → (reads → IsBad verb at.memory (room old) (ahead old before.source.left)) → Refuses writes (old.number + 1) before.sink.written now.sink.written ending
+    → TakesNext reads old before now → EndsWith verb device reads writes at at' old before now ending
+refusal_ends verb device reads writes at at' old before now BadLine same bad refuses taken = (same, (bad, refuses, taken))
+refusal_ends verb device reads writes at at' old before now WriteFault same bad refuses taken = inr (same, (bad, refuses, taken))
+refusal_ends verb device reads writes at at' old before now Finished same bad refuses taken = absurd refuses
+refusal_ends verb device reads writes at at' old before now Differs same bad refuses taken = absurd refuses
+refusal_ends verb device reads writes at at' old before now FlashFault same bad refuses taken = absurd refuses
+refusal_ends verb device reads writes at at' old before now ReadFault same bad refuses taken = absurd refuses
+refusal_ends verb device reads writes at at' old before now InputTooLong same bad refuses taken = absurd refuses
+
+-- a run ends at the end of its input, by whether a reply has differed
+pub input_ends : {F : Type 0} (verb : Verb) (device : Flash F) (reads writes : Type 0) (at at' : Standing F (Memory verb)) (old : Reading) (before now : Outside) (differs : Bool)
+    → at.differs ≡ differs → at' ≡ at → IsAtEnd reads writes old before now → EndsWith verb device reads writes at at' old before now (ending_of differs)
+input_ends verb device reads writes at at' old before now false is same over = (same, is, over)
+input_ends verb device reads writes at at' old before now true is same over = (same, is, over)
 
 -- what was written before stays
 pub refuses_from : (writes : Type 0) (number : ℕ) (before mid now : List ℕ) (ending : Ending) → (writes → mid ≡ before)
@@ -34,31 +40,32 @@ refuses_from writes number before mid now BadLine same refuses = λ told. refuse
 refuses_from writes number before mid now WriteFault same refuses =
     λ told. (let part = refuses told in (part.0, part.1 ∙ ap (λ w. w ++ take part.0 (bad_line number)) (same told)))
 refuses_from writes number before mid now Finished same refuses = absurd refuses
+refuses_from writes number before mid now Differs same refuses = absurd refuses
 refuses_from writes number before mid now FlashFault same refuses = absurd refuses
 refuses_from writes number before mid now ReadFault same refuses = absurd refuses
 refuses_from writes number before mid now InputTooLong same refuses = absurd refuses
 
 -- the line that was given is the next one ahead
-unfoldable pub given_line : (reads : Type 0) (old new : Reading) (left left' : List ℕ) (line : Line) (After : State → Type 0) (Leaving : List Registry → Type 0) (count count' : ℕ) (state : State)
+unfoldable pub given_line : {F : Type 0} (verb : Verb) (device : Flash F) (reads : Type 0) (number : ℕ) (at at' : Standing F (Memory verb)) (place : Place (Memory verb)) (old new : Reading) (left left' : List ℕ) (line : Line)
     → GivesLine reads old new left left' line → length line.text.now ≤ LINE_LIMIT
-    → RunsLine line.text.now After Leaving count count' state → TakesLine reads After Leaving count count' state (room old) (ahead old left) (ahead new left')
-given_line reads old new left left' line After Leaving count count' state gives fits played = record { line = line.text.now; next = gives.line; fits = fits; played = played }
+    → RunsLine (PlaysLine verb number line.text.now) device at at' place → TakesLine verb device reads number at at' place (room old) (ahead old left) (ahead new left')
+given_line verb device reads number at at' place old new left left' line gives fits played = record { line = line.text.now; next = gives.line; fits = fits; played = played }
 
 -- the device failed in its command
-pub failing_line : (reads : Type 0) (old new : Reading) (left left' : List ℕ) (line : Line) (Leaving : List Registry → Type 0) (state : State)
-    → GivesLine reads old new left left' line → length line.text.now ≤ LINE_LIMIT → FailsLine line.text.now Leaving state
-    → FailsNext reads Leaving state (room old) (ahead old left)
-failing_line reads old new left left' line Leaving state gives fits fails = record {
+pub failing_line : {F : Type 0} (verb : Verb) (device : Flash F) (reads : Type 0) (at at' : Standing F (Memory verb)) (place : Place (Memory verb)) (old new : Reading) (left left' : List ℕ) (line : Line)
+    → GivesLine reads old new left left' line → length line.text.now ≤ LINE_LIMIT → BreaksLine (FailsLine verb line.text.now) device at at' place
+    → BreaksNext verb device reads at at' place (room old) (ahead old left)
+failing_line verb device reads at at' place old new left left' line gives fits breaks = record {
   line = line.text.now;
   next = λ told. (ahead new left', gives.line told);
   fits = fits;
-  fails = fails;
+  breaks = breaks;
 }
 
 -- a line of no form that was given is a bad one
-pub bad_form : (reads : Type 0) (old new : Reading) (left left' : List ℕ) (line : Line)
-    → GivesLine reads old new left left' line → HasNoForm line.text.now → reads → IsBad (room old) (ahead old left)
-bad_form reads old new left left' line gives none told = (line.text.now, inl (ahead new left', gives.line told, none))
+pub bad_form : (verb : Verb) (memory : Memory verb) (reads : Type 0) (old new : Reading) (left left' : List ℕ) (line : Line)
+    → GivesLine reads old new left left' line → (HasForm verb line.text.now memory → ⊥) → reads → IsBad verb memory (room old) (ahead old left)
+bad_form verb memory reads old new left left' line gives none told = (line.text.now, inl (ahead new left', gives.line told, none))
 
 -- what was taken behind a line that was given
 pub line_leaves : (reads : Type 0) (old new : Reading) (left left' : List ℕ) (line : Line)

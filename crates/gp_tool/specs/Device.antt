@@ -19,6 +19,10 @@ registries first outcomes = first.registry ∷ map (λ outcome. outcome.state.re
 abbrev pub LeavesOneOf : {F : Type 0} → Flash F → F → F → List Registry → Type 0
 LeavesOneOf device old new all = device.tells → LeavesOnly device old new (ReopensAsOne all)
 
+-- power lost now leaves one of these registries
+abbrev pub LeftOneOf : {F : Type 0} → Flash F → F → List Registry → Type 0
+LeftOneOf device flash all = device.tells → Always (device.may_leave flash) (ReopensAsOne all)
+
 -- the status of a program whose card is not powered on
 abbrev pub refusal_status : PowerCause → ℕ
 refusal_status (Memory refused) = 7
@@ -48,5 +52,5 @@ pub record HasRun {F : Type 0} (device : Flash F) (old new : F) (first : State) 
 -- it.
 pub record HasFailed {F : Type 0} (device : Flash F) (old new : F) (first : State) (count : ℕ) (outcomes : List Outcome) (last : State) (next : Outcome) : Type 0 where
   pub done : count ≡ length outcomes
-  pub left : device.tells → Always (device.may_leave new) (ReopensAsOne (last.registry ∷ next.state.registry ∷ []))
+  pub left : LeftOneOf device new (last.registry ∷ next.state.registry ∷ [])
   pub moments : device.tells → Always (device.may_leave old) (λ outcome. Reopens outcome first.registry) → LeavesOnly device old new (ReopensAsOne (registries first (outcomes ++ next ∷ [])))

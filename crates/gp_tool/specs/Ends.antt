@@ -1,19 +1,18 @@
 -- How a run ends, and what has been read and written then.
-use Rattle.std.specs.Prelude.{◌≡◌, ◌⊎◌, ℕ, ◌+◌, ◌-◌, ◌<◌, ◌≤◌, List, [], ◌∷◌, ◌++◌, length, take}
-use Rattle.std.specs.List.{AllByRecursion}
+use Rattle.std.specs.Prelude.{◌≡◌, ◌≢◌, ◌⊎◌, ℕ, ◌+◌, ◌-◌, ◌<◌, ◌≤◌, true, false, List, [], ◌∷◌, ◌++◌, length, take}
+use Rattle.std.specs.List.{AllByRecursion, concat}
 use Rattle.std.specs.Str.Lines.{lines, strip_carriage_return}
 use Rattle.faults.specs.Faults.{Rose, next_count}
 use Rattle.io_edge.specs.Lines.{NoNewline, IsNextLine, IsCut, IsNextText}
 use Rattle.io_edge.specs.Streams.{SinkState, SourceState}
 use Rattle.io_edge.specs.declared.line.TheConstants.{HELD_LIMIT, INPUT_LIMIT, LINE_LIMIT}
-use Rattle.policy_rules.specs.Run.{Command}
 use Rattle.policy_rules.specs.State.{State}
-use Rattle.policy_rules.specs.Step.{Outcome, Step}
+use Rattle.policy_rules.specs.Step.{Outcome}
+use Rattle.gp_tool.specs.Effects.{Effect, Place}
 use Rattle.gp_tool.specs.Flush.{FlushesLast, IsHandedOn}
-use Rattle.gp_tool.specs.Form.{HasNoForm, SpellsInputs}
-use Rattle.gp_tool.specs.RunsLines.{RunsLines, bad_line, reply_line, text_of}
+use Rattle.gp_tool.specs.RunsLines.{FailsLine, HasForm, Memory, RunsLines, bad_line, start}
 use Rattle.gp_tool.specs.declared.ending.Ending.{Ending}
-use Rattle.gp_tool.specs.declared.ending.Ending.TheVariants.{Finished, BadLine, FlashFault, ReadFault, WriteFault, InputTooLong}
+use Rattle.gp_tool.specs.declared.ending.Ending.TheVariants.{Finished, Differs, BadLine, FlashFault, ReadFault, WriteFault, InputTooLong}
 use Rattle.gp_tool.specs.declared.verb.Verb.{Verb}
 
 -- A source and a sink.
@@ -27,11 +26,6 @@ outside source sink = record { source = source; sink = sink }
 -- no line is too long
 abbrev pub AreShort : List (List ℕ) → Type 0
 AreShort lines = AllByRecursion (λ line. length line ≤ LINE_LIMIT) lines
-
--- The lines that were given to a card, from a first state on: each has a form and is not too long.
-pub record RunSoFar (first : State) (given : List (List ℕ)) (outcomes : List Outcome) (state : State) : Type 0 where
-  pub fits : AreShort given
-  pub plays : RunsLines first given outcomes state
 
 -- how many bytes may be taken of what stands ahead
 abbrev pub room_ahead : List ℕ → List ℕ → ℕ
@@ -48,9 +42,19 @@ abbrev pub Reached : List ℕ → List (List ℕ) → List ℕ → Type 0
 Reached input given ahead = ComeFirst INPUT_LIMIT input given ahead
 
 -- the next line has no form, or is too long
-abbrev pub IsBad : ℕ → List ℕ → Type 0
-IsBad room ahead =
-    (text : List ℕ) × (((after : List ℕ) × IsNextLine room ahead text after × HasNoForm text) ⊎ (IsNextText room ahead text × (LINE_LIMIT < length text)))
+abbrev pub IsBad : (verb : Verb) → Memory verb → ℕ → List ℕ → Type 0
+IsBad verb memory room ahead =
+    (text : List ℕ)
+    × (((after : List ℕ) × IsNextLine room ahead text after × (HasForm verb text memory → ⊥)) ⊎ (IsNextText room ahead text × (LINE_LIMIT < length text)))
+
+-- the limit of the input comes before the next line's end, and the line is not too long already
+abbrev pub IsShortCut : ℕ → List ℕ → Type 0
+IsShortCut room ahead = (text : List ℕ) × IsCut room ahead text × (length text ≤ LINE_LIMIT)
+
+-- the bytes ahead that are not left are no whole line, and no line that is too long already
+abbrev pub HoldsNoLine : List ℕ → List ℕ → Type 0
+HoldsNoLine ahead left =
+    (held : List ℕ) × (ahead ≡ held ++ left) × NoNewline held × (length (strip_carriage_return held) ≤ LINE_LIMIT)
 
 -- What stands ahead behind the lines given is no more than the bytes held at once, and then what is left in the source. Of an
 -- input of so many bytes no more is taken in all than may be.
@@ -60,125 +64,88 @@ pub record TakesNoMore (total : ℕ) (ahead left : List ℕ) : Type 0 where
   pub few : length held ≤ HELD_LIMIT
   pub within : total ≤ length left + INPUT_LIMIT
 
--- the text of the replies to some commands is what stands before its last line, and that line; they are empty where it is
-abbrev pub IsText : Verb → List Outcome → List ℕ → List ℕ → Type 0
-IsText verb outcomes before line =
-    ((outcomes ≡ []) × (before ≡ []) × (line ≡ []))
-    ⊎ ((some : List Outcome) × (last : Outcome) × (outcomes ≡ some ++ last ∷ []) × (before ≡ text_of verb some) × (line ≡ reply_line verb last))
-
 -- In what follows `reads` and `writes` are facts where the source and the sink tell their bytes, and `⊥` where they don't.
 -- `Rests` is what holds of the device after some commands and at the state behind them, and `Fails` what holds where it
 -- failed in the next one.
 
--- The input was read to its end, each line has a form and is not too long, and the text of all lines was written.
-pub record IsFinished (verb : Verb) (reads writes : Type 0) (Rests : List Outcome → State → Type 0) (first : State) (old new : Outside) : Type 0 where
+-- The course of a run up to its end: the lines that were given to the card, each of a form and not too long, what came of
+-- them, and what stands ahead behind them.
+pub record Course (verb : Verb) (reads : Type 0) (first : State) (input left : List ℕ) : Type 0 where
   pub given : List (List ℕ)
-  pub outcomes : List Outcome
-  pub state : State
-  pub course : RunSoFar first given outcomes state
-  pub reached : reads → Reached old.source.left given []
-  pub all : reads → lines old.source.left ≡ given
-  pub short : reads → length old.source.left < INPUT_LIMIT
-  pub read : reads → new.source.left ≡ []
-  pub written : writes → new.sink.written ≡ old.sink.written ++ text_of verb outcomes
-  pub device : Rests outcomes state
-
--- The next line is bad: the text of the lines before it was written, and then the line's number.
-pub record IsAtBadLine (verb : Verb) (reads writes : Type 0) (Rests : List Outcome → State → Type 0) (first : State) (old new : Outside) : Type 0 where
-  pub given : List (List ℕ)
-  pub outcomes : List Outcome
-  pub state : State
+  pub effect : Effect
+  pub last : Place (Memory verb)
   pub ahead : List ℕ
-  pub course : RunSoFar first given outcomes state
-  pub reached : reads → Reached old.source.left given ahead
-  pub taken : reads → TakesNoMore (length old.source.left) ahead new.source.left
-  pub bad : reads → IsBad (room_ahead old.source.left ahead) ahead
-  pub written : writes → new.sink.written ≡ old.sink.written ++ (text_of verb outcomes ++ bad_line (length given + 1))
-  pub device : Rests outcomes state
+  pub fits : AreShort given
+  pub plays : RunsLines verb 1 given (start verb first) effect last
+  pub reached : reads → Reached input given ahead
+  pub taken : reads → TakesNoMore (length input) ahead left
 
--- A read was refused: the text of the whole lines of the bytes taken was written. The bytes behind them are no line that is
--- too long already.
-pub record IsAtReadFault (verb : Verb) (reads writes : Type 0) (Rests : List Outcome → State → Type 0) (first : State) (old new : Outside) : Type 0 where
-  pub given : List (List ℕ)
-  pub outcomes : List Outcome
-  pub state : State
-  pub held : List ℕ
-  pub course : RunSoFar first given outcomes state
-  pub reached : reads → Reached old.source.left given (held ++ new.source.left)
-  pub no_line : reads → NoNewline held
-  pub short : reads → length (strip_carriage_return held) ≤ LINE_LIMIT
-  pub few : reads → length held ≤ HELD_LIMIT
-  pub within : reads → length held ≤ room_ahead old.source.left (held ++ new.source.left)
-  pub written : writes → new.sink.written ≡ old.sink.written ++ text_of verb outcomes
-  pub device : Rests outcomes state
+-- all lines of the input were given, and it is short enough
+pub record IsRead (input : List ℕ) (given : List (List ℕ)) (ahead : List ℕ) : Type 0 where
+  pub all : lines input ≡ given
+  pub none : ahead ≡ []
+  pub short : length input < INPUT_LIMIT
 
--- The limit of the input comes before the next line's end.
-pub record IsAtLimit (verb : Verb) (reads writes : Type 0) (Rests : List Outcome → State → Type 0) (first : State) (old new : Outside) : Type 0 where
-  pub given : List (List ℕ)
-  pub outcomes : List Outcome
-  pub state : State
-  pub ahead : List ℕ
-  pub course : RunSoFar first given outcomes state
-  pub reached : reads → Reached old.source.left given ahead
-  pub taken : reads → TakesNoMore (length old.source.left) ahead new.source.left
-  pub cut : reads → (text : List ℕ) × IsCut (room_ahead old.source.left ahead) ahead text × (length text ≤ LINE_LIMIT)
-  pub written : writes → new.sink.written ≡ old.sink.written ++ text_of verb outcomes
-  pub device : Rests outcomes state
+-- the texts were written
+abbrev pub Wrote : Type 0 → List (List ℕ) → SinkState → SinkState → Type 0
+Wrote writes texts old new = writes → new.written ≡ old.written ++ concat texts
 
--- The device failed in the command of the next line: the text of the lines before it was written, and nothing of its reply.
-pub record IsAtFlashFault (verb : Verb) (reads writes : Type 0) (Fails : List Outcome → State → Outcome → Type 0) (first : State) (old new : Outside) : Type 0 where
-  pub given : List (List ℕ)
-  pub outcomes : List Outcome
-  pub state : State
-  pub ahead : List ℕ
+-- A write or the flush was refused: of these texts, if there are some, no more than the last one is missing or cut.
+pub record CutsLast (writes : Type 0) (texts : List (List ℕ)) (old new : SinkState) : Type 0 where
+  pub before : List (List ℕ)
+  pub last : List ℕ
+  pub texts_are : (texts ≡ before ++ last ∷ []) ⊎ ((texts ≡ []) × (before ≡ []) × (last ≡ []))
+  pub written : writes → (count : ℕ) × (new.written ≡ old.written ++ (concat before ++ take count last))
+  pub flushes : FlushesLast writes old (concat texts) new
+
+-- The device failed in a command of the next line, behind the outcomes of those before it in the line.
+pub record FailsNext (verb : Verb) (reads : Type 0) (Fails : List Outcome → State → Outcome → Type 0) (at : Place (Memory verb)) (room : ℕ) (ahead : List ℕ) : Type 0 where
   pub line : List ℕ
-  pub bytes : List ℕ
+  pub begun : List Outcome
+  pub mid : State
   pub next : Outcome
-  pub course : RunSoFar first given outcomes state
-  pub reached : reads → Reached old.source.left given ahead
-  pub taken : reads → TakesNoMore (length old.source.left) ahead new.source.left
-  pub comes : reads → (after : List ℕ) × IsNextLine (room_ahead old.source.left ahead) ahead line after
+  pub comes : reads → (after : List ℕ) × IsNextLine room ahead line after
   pub fits : length line ≤ LINE_LIMIT
-  pub spelled : SpellsInputs line (Command bytes ∷ [])
-  pub step : Step state bytes next
-  pub written : writes → new.sink.written ≡ old.sink.written ++ text_of verb outcomes
-  pub device : Fails outcomes state next
+  pub fails : FailsLine verb line at begun mid next
+  pub device : Fails begun mid next
 
--- A write or the flush was refused: of the text no more than its last line is missing or cut. That is the reply to the last
--- command, or the number of a bad line behind them all.
-pub record IsAtWriteFault (verb : Verb) (reads writes : Type 0) (Rests : List Outcome → State → Type 0) (first : State) (old new : Outside) : Type 0 where
-  pub given : List (List ℕ)
-  pub outcomes : List Outcome
-  pub state : State
-  pub ahead : List ℕ
-  pub before : List ℕ
-  pub line : List ℕ
-  pub course : RunSoFar first given outcomes state
-  pub reached : reads → Reached old.source.left given ahead
-  pub taken : reads → TakesNoMore (length old.source.left) ahead new.source.left
-  pub is_text : IsText verb outcomes before line
-      ⊎ ((reads → IsBad (room_ahead old.source.left ahead) ahead) × (before ≡ text_of verb outcomes) × (line ≡ bad_line (length given + 1)))
-  pub written : writes → (count : ℕ) × (new.sink.written ≡ old.sink.written ++ (before ++ take count line))
-  pub flushes : FlushesLast writes old.sink (before ++ line) new.sink
-  pub device : Rests outcomes state
+-- the texts of the lines given, and of a bad line behind them
+abbrev pub with_bad_line : List (List ℕ) → Effect → List (List ℕ)
+with_bad_line given effect = effect.texts ++ bad_line (length given + 1) ∷ []
 
--- what holds at each ending of a run from a first state
-abbrev pub Ends : Verb → Type 0 → Type 0 → (List Outcome → State → Type 0) → (List Outcome → State → Outcome → Type 0) → State → Ending → Outside → Outside → Type 0
-Ends verb reads writes Rests Fails first Finished old new = IsFinished verb reads writes Rests first old new
-Ends verb reads writes Rests Fails first BadLine old new = IsAtBadLine verb reads writes Rests first old new
-Ends verb reads writes Rests Fails first FlashFault old new = IsAtFlashFault verb reads writes Fails first old new
-Ends verb reads writes Rests Fails first ReadFault old new = IsAtReadFault verb reads writes Rests first old new
-Ends verb reads writes Rests Fails first WriteFault old new = IsAtWriteFault verb reads writes Rests first old new
-Ends verb reads writes Rests Fails first InputTooLong old new = IsAtLimit verb reads writes Rests first old new
+-- What holds at each ending behind the course: why no further line was given, and what was written.
+abbrev pub EndsAt : (verb : Verb) (reads writes : Type 0) → (List Outcome → State → Outcome → Type 0) → (first : State) (old new : Outside) → Course verb reads first old.source.left new.source.left → Ending → Type 0
+EndsAt verb reads writes Fails first old new course Finished =
+    (course.effect.differs ≡ false) × (reads → IsRead old.source.left course.given course.ahead) × Wrote writes course.effect.texts old.sink new.sink
+EndsAt verb reads writes Fails first old new course Differs =
+    (course.effect.differs ≡ true) × (reads → IsRead old.source.left course.given course.ahead) × Wrote writes course.effect.texts old.sink new.sink
+EndsAt verb reads writes Fails first old new course BadLine =
+    (reads → IsBad verb course.last.memory (room_ahead old.source.left course.ahead) course.ahead)
+    × Wrote writes (with_bad_line course.given course.effect) old.sink new.sink
+EndsAt verb reads writes Fails first old new course ReadFault =
+    (reads → HoldsNoLine course.ahead new.source.left) × Wrote writes course.effect.texts old.sink new.sink
+EndsAt verb reads writes Fails first old new course InputTooLong =
+    (reads → IsShortCut (room_ahead old.source.left course.ahead) course.ahead) × Wrote writes course.effect.texts old.sink new.sink
+EndsAt verb reads writes Fails first old new course FlashFault =
+    FailsNext verb reads (λ begun. Fails (course.effect.outcomes ++ begun)) course.last (room_ahead old.source.left course.ahead) course.ahead
+    × Wrote writes course.effect.texts old.sink new.sink
+EndsAt verb reads writes Fails first old new course WriteFault =
+    CutsLast writes course.effect.texts old.sink new.sink
+    ⊎ ((reads → IsBad verb course.last.memory (room_ahead old.source.left course.ahead) course.ahead)
+    × CutsLast writes (with_bad_line course.given course.effect) old.sink new.sink)
+
+-- how a run from a first state ends
+pub record Ends (verb : Verb) (reads writes : Type 0) (Rests : List Outcome → State → Type 0) (Fails : List Outcome → State → Outcome → Type 0) (first : State) (ending : Ending) (old new : Outside) : Type 0 where
+  pub course : Course verb reads first old.source.left new.source.left
+  pub ends : EndsAt verb reads writes Fails first old new course ending
+  pub rests : ending ≢ FlashFault → Rests course.effect.outcomes course.last.state
 
 -- What was done with the text at each ending. At a refused write `Ends` says it.
 abbrev pub Flushes : Type 0 → Ending → SinkState → SinkState → Type 0
-Flushes writes Finished old new = IsHandedOn writes old new
-Flushes writes BadLine old new = IsHandedOn writes old new
-Flushes writes InputTooLong old new = IsHandedOn writes old new
 Flushes writes FlashFault old new = new.flushes ≡ next_count old.flushes
 Flushes writes ReadFault old new = new.flushes ≡ next_count old.flushes
 Flushes writes WriteFault old new = Unit {0}
+Flushes writes ending old new = IsHandedOn writes old new
 
 -- The counts of faults of a source, a sink and a device.
 pub record Faults : Type 0 where
@@ -195,16 +162,15 @@ NoneRose old new = (new.source ≡ old.source) × (new.sink ≡ old.sink)
 
 -- Whose count has risen at an ending. A flush that is refused behind a failed device raises the sink's too.
 abbrev pub EndCause : Ending → Faults → Faults → Type 0
-EndCause Finished old new = NoneRose old new
-EndCause BadLine old new = NoneRose old new
 EndCause FlashFault old new = (new.source ≡ old.source) × ((new.sink ≡ old.sink) ⊎ Rose old.sink new.sink) × Rose old.device new.device
 EndCause ReadFault old new = Rose old.source new.source
 EndCause WriteFault old new = (new.source ≡ old.source) × Rose old.sink new.sink
-EndCause InputTooLong old new = NoneRose old new
+EndCause ending old new = NoneRose old new
 
 -- the status of a program that ends so
 abbrev pub exit_status : Ending → ℕ
 exit_status Finished = 0
+exit_status Differs = 8
 exit_status BadLine = 2
 exit_status FlashFault = 3
 exit_status ReadFault = 5

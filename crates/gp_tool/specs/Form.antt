@@ -1,7 +1,10 @@
 -- The forms of a line, and what a card is given by it.
-use Rattle.std.specs.Prelude.{◌≡◌, ◌⊎◌, ℕ, ◌<◌, List, [], ◌∷◌, ◌++◌, length, codes, Ok, All}
+use Rattle.std.specs.Prelude.{◌≡◌, ◌⊎◌, ℕ, ◌<◌, List, [], ◌∷◌, length, codes, Ok, All}
 use Rattle.hex.specs.Hex.{decode_of}
 use Rattle.policy_rules.specs.Run.{Input, Command, Reset}
+use Rattle.policy_rules.specs.State.{State}
+use Rattle.policy_rules.specs.Step.{Outcome, Step}
+use Rattle.gp_tool.specs.Effects.{Place}
 
 -- empty, or spaces alone
 abbrev pub IsBlank : List ℕ → Type 0
@@ -22,10 +25,11 @@ SpellsInputs line inputs =
     ⊎ ((line ≡ codes "reset") × (inputs ≡ Reset ∷ []))
     ⊎ ((bytes : List ℕ) × IsHex line bytes × (inputs ≡ Command bytes ∷ []))
 
-abbrev pub HasNoForm : List ℕ → Type 0
-HasNoForm line = (inputs : List Input) → SpellsInputs line inputs → ⊥
+-- a line for a card
+abbrev pub IsForCard : List ℕ → Type 0
+IsForCard line = (inputs : List Input) × SpellsInputs line inputs
 
--- lines, each of a form, give these inputs
-abbrev pub AreSpelled : List (List ℕ) → List Input → Type 0
-AreSpelled [] inputs = inputs ≡ []
-AreSpelled (line ∷ lines) inputs = (first : List Input) × (more : List Input) × SpellsInputs line first × AreSpelled lines more × (inputs ≡ first ++ more)
+-- The device failed in the command of a line, which is its first.
+abbrev pub FailsCommand : {Memory : Type 0} → List ℕ → Place Memory → List Outcome → State → Outcome → Type 0
+FailsCommand line at begun mid next =
+    (begun ≡ []) × (mid ≡ at.state) × (bytes : List ℕ) × SpellsInputs line (Command bytes ∷ []) × Step at.state bytes next

@@ -6,7 +6,7 @@ use Rattle.flash_core.specs.declared.flash.Flash.{Ghosts as Flash}
 use Rattle.io_edge.specs.Streams.{SinkState}
 use Rattle.rec_store.specs.Reopens.{Keeps}
 use Rattle.gp_tool.specs.declared.ending.Ending.{Ending}
-use Rattle.gp_tool.specs.declared.ending.Ending.TheVariants.{Finished, BadLine, FlashFault, ReadFault, WriteFault, InputTooLong}
+use Rattle.gp_tool.specs.declared.ending.Ending.TheVariants.{Finished, FlashFault, WriteFault}
 
 -- power lost leaves the card as it leaves the factory
 abbrev pub IsFactoryCard : {F : Type 0} → Flash F → F → Type 0
@@ -18,6 +18,4 @@ FormatEnds device writes Finished flash old new = IsFactoryCard device flash × 
 FormatEnds device writes FlashFault flash old new = writes → new.written ≡ old.written
 FormatEnds device writes WriteFault flash old new =
     IsFactoryCard device flash × (writes → new.written ≡ old.written) × (new.flushes ≡ next_count old.flushes)
-FormatEnds device writes BadLine flash old new = ⊥
-FormatEnds device writes ReadFault flash old new = ⊥
-FormatEnds device writes InputTooLong flash old new = ⊥
+FormatEnds device writes ending flash old new = ⊥

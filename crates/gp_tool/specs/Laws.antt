@@ -1,33 +1,33 @@
 -- The laws of runs over lines.
 use Rattle.std.specs.Prelude.{◌≡◌, ℕ, List}
 use Rattle.policy_rules.specs.State.{State}
-use Rattle.policy_rules.specs.Step.{Outcome}
+use Rattle.gp_tool.specs.Effects.{Effect, Place}
 use Rattle.gp_tool.specs.Ends.{Ends, Outside}
-use Rattle.gp_tool.specs.RunsLines.{RunsLines, text_of}
+use Rattle.gp_tool.specs.RunsLines.{Memory, RunsLines, start}
 use Rattle.gp_tool.specs.declared.ending.Ending.{Ending}
-use Rattle.gp_tool.specs.declared.ending.Ending.TheVariants.{Finished, BadLine, FlashFault, ReadFault, WriteFault, InputTooLong}
+use Rattle.gp_tool.specs.declared.ending.Ending.TheVariants.{FlashFault, ReadFault, WriteFault}
 use Rattle.gp_tool.specs.declared.verb.Verb.{Verb}
 
--- from one state the same lines write one text
+-- what the same lines from one state have in common
+abbrev pub OfLines : (Effect → State → Effect → State → Type 0) → Type 0
+OfLines holds =
+    (verb : Verb) (first : State) (lines : List (List ℕ)) (effect other : Effect) (last another : Place (Memory verb))
+    → RunsLines verb 1 lines (start verb first) effect last → RunsLines verb 1 lines (start verb first) other another → holds effect last.state other another.state
+
+-- they write one text
 abbrev pub OneText : Type 0
-OneText =
-    (verb : Verb) (first : State) (lines : List (List ℕ)) (some others : List Outcome) (last another : State)
-    → RunsLines first lines some last → RunsLines first lines others another → text_of verb some ≡ text_of verb others
+OneText = OfLines (λ effect last other another. effect.texts ≡ other.texts)
 
 -- and lead to one state
 abbrev pub OneLast : Type 0
-OneLast =
-    (first : State) (lines : List (List ℕ)) (some others : List Outcome) (last another : State)
-    → RunsLines first lines some last → RunsLines first lines others another → last ≡ another
+OneLast = OfLines (λ effect last other another. last ≡ another)
 
 -- nothing was refused by source, sink or device
 abbrev pub IsFaultless : Ending → Type 0
-IsFaultless Finished = Unit {0}
-IsFaultless BadLine = Unit {0}
-IsFaultless InputTooLong = Unit {0}
 IsFaultless FlashFault = ⊥
 IsFaultless ReadFault = ⊥
 IsFaultless WriteFault = ⊥
+IsFaultless ending = Unit {0}
 
 -- what holds at the ending of a run over bytes that are told, whatever is said of the device
 abbrev pub EndsTold : Verb → State → Ending → Outside → Outside → Type 0

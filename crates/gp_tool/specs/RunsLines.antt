@@ -1,39 +1,60 @@
--- What lines do to a card, and the text that they write.
-use Rattle.std.specs.Prelude.{ℕ, List, [], ◌∷◌, ◌++◌, None, Option, Some, codes, decimal}
-use Rattle.std.specs.List.{flat_map}
-use Rattle.hex.specs.Hex.{encode_lower}
-use Rattle.policy_rules.specs.Rules.{name_of}
-use Rattle.policy_rules.specs.Run.{Input, Run as RunOf}
+-- What lines do to a card, by the verb, and the texts that they write.
+use Rattle.std.specs.Prelude.{◌≡◌, ℕ, ◌+◌, ◌≤◌, true, false, List, [], ◌∷◌, ◌++◌, length, None, codes, decimal}
+use Rattle.io_edge.specs.declared.line.TheConstants.{LINE_LIMIT}
 use Rattle.policy_rules.specs.State.{State}
 use Rattle.policy_rules.specs.Step.{Outcome}
-use Rattle.policy_rules.specs.declared.rule.Rule.{Rule}
-use Rattle.gp_tool.specs.Form.{AreSpelled}
+use Rattle.gp_tool.specs.Effects.{Effect, Place, joined, nothing}
+use Rattle.gp_tool.specs.Form.{FailsCommand, IsForCard}
+use Rattle.gp_tool.specs.Replay.{IsForReplay, Kept, Replays}
+use Rattle.gp_tool.specs.Replies.{Replies}
 use Rattle.gp_tool.specs.declared.verb.Verb.{Verb}
-use Rattle.gp_tool.specs.declared.verb.Verb.TheVariants.{Run, Why}
+use Rattle.gp_tool.specs.declared.verb.Verb.TheVariants.{Run, Why, Replay}
 
--- why a command was refused: the name of the rule, or a sign where none refused it
-abbrev pub reason : Option Rule → List ℕ
-reason None = codes "-"
-reason (Some rule) = name_of rule
+-- what a verb keeps of the lines before
+abbrev pub Memory : Verb → Type 0
+Memory Run = Unit {0}
+Memory Why = Unit {0}
+Memory Replay = Kept
 
--- what stands behind the digits of a reply: nothing, or why the command was refused, and a newline
-abbrev pub behind_reply : Verb → Option Rule → List ℕ
-behind_reply Run rule = 10 ∷ []
-behind_reply Why rule = 32 ∷ reason rule ++ 10 ∷ []
+-- nothing is kept at the start
+abbrev pub no_memory : (verb : Verb) → Memory verb
+no_memory Run = tt
+no_memory Why = tt
+no_memory Replay = None
 
--- a reply in lower-case hexadecimal digits, and what stands behind them
-abbrev pub reply_line : Verb → Outcome → List ℕ
-reply_line verb outcome = encode_lower outcome.reply ++ behind_reply verb outcome.rule
+abbrev pub start : (verb : Verb) → State → Place (Memory verb)
+start verb first = record { memory = no_memory verb; state = first }
 
-abbrev pub text_of : Verb → List Outcome → List ℕ
-text_of verb outcomes = flat_map (reply_line verb) outcomes
+-- From one place the line of this number leads to another.
+abbrev pub PlaysLine : (verb : Verb) → ℕ → List ℕ → Place (Memory verb) → Effect → Place (Memory verb) → Type 0
+PlaysLine Run number line at effect next = Replies false line at effect next
+PlaysLine Why number line at effect next = Replies true line at effect next
+PlaysLine Replay number line at effect next = Replays number line at effect next
 
--- From one state of the card the lines, each of a form, lead to another, with an outcome for each command.
-pub record RunsLines (state : State) (lines : List (List ℕ)) (outcomes : List Outcome) (last : State) : Type 0 where
-  pub inputs : List Input
-  pub spelled : AreSpelled lines inputs
-  pub run : RunOf state inputs outcomes last
+-- a line has a form
+abbrev pub HasForm : (verb : Verb) → List ℕ → Memory verb → Type 0
+HasForm Run line memory = IsForCard line
+HasForm Why line memory = IsForCard line
+HasForm Replay line memory = IsForReplay line memory
 
--- what is written of a line that has no form or is too long
+-- The device failed in a command of a line, behind the outcomes of those before it in the line.
+abbrev pub FailsLine : (verb : Verb) → List ℕ → Place (Memory verb) → List Outcome → State → Outcome → Type 0
+FailsLine verb line at begun mid next = FailsCommand line at begun mid next
+
+-- From one place lines, the first of which has this number, lead to another.
+abbrev pub RunsLines : (verb : Verb) → ℕ → List (List ℕ) → Place (Memory verb) → Effect → Place (Memory verb) → Type 0
+RunsLines verb number [] at effect last = (effect ≡ nothing) × (last ≡ at)
+RunsLines verb number (line ∷ lines) at effect last =
+    (one : Effect) × (next : Place (Memory verb)) × (more : Effect)
+    × PlaysLine verb number line at one next × RunsLines verb (number + 1) lines next more last × (effect ≡ joined one more)
+
+-- each line has a form where a run comes to it, and is not too long
+abbrev pub AreServable : (verb : Verb) → ℕ → List (List ℕ) → Place (Memory verb) → Type 0
+AreServable verb number [] at = Unit {0}
+AreServable verb number (line ∷ lines) at =
+    HasForm verb line at.memory × (length line ≤ LINE_LIMIT)
+    × ((one : Effect) (next : Place (Memory verb)) → PlaysLine verb number line at one next → AreServable verb (number + 1) lines next)
+
+-- the text of a line that has no form or is too long
 abbrev pub bad_line : ℕ → List ℕ
 bad_line number = codes "line " ++ decimal number ++ 10 ∷ []

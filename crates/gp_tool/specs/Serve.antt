@@ -1,54 +1,66 @@
 -- What comes of one line.
-use Rattle.std.specs.Prelude.{◌≡◌, ℕ, ◌+◌, List, [], ◌∷◌, ◌++◌, length, take}
-use Rattle.card_types.specs.Registry.{Registry}
+use Rattle.std.specs.Prelude.{◌≡◌, ℕ, ◌+◌, Bool, ◌||◌, List, [], ◌∷◌, ◌++◌, length, take}
+use Rattle.std.specs.List.{concat}
+use Rattle.card_core.specs.Card.{CardOver, CardRepresents}
 use Rattle.faults.specs.Faults.{Rose}
-use Rattle.policy_rules.specs.Run.{Command}
+use Rattle.flash_core.specs.declared.flash.Flash.{Ghosts as Flash}
 use Rattle.policy_rules.specs.State.{State}
-use Rattle.policy_rules.specs.Step.{Outcome, Step}
-use Rattle.gp_tool.specs.Device.{registries}
-use Rattle.gp_tool.specs.Form.{HasNoForm, SpellsInputs}
-use Rattle.gp_tool.specs.RunsLines.{RunsLines, reply_line, text_of}
+use Rattle.policy_rules.specs.Step.{Outcome}
+use Rattle.gp_tool.specs.Device.{LeavesOneOf, LeftOneOf, registries}
+use Rattle.gp_tool.specs.Effects.{Effect, Place}
 use Rattle.gp_tool.specs.declared.line.LineEnd.{LineEnd}
 use Rattle.gp_tool.specs.declared.line.LineEnd.TheVariants.{Done, NoForm, WriteFault, FlashFault}
-use Rattle.gp_tool.specs.declared.verb.Verb.{Verb}
 
--- In what follows `Before` and `After` say which states a card stands for, `Leaving` which registries power lost in between
--- may leave on its device, and `count` and `count'` are how many commands were processed.
+-- Where the program stands between two lines: the card, what is kept, how many commands were answered, and whether a reply
+-- differed.
+pub record Standing (F M : Type 0) : Type 0 where
+  pub card : CardOver F
+  pub memory : M
+  pub done : ℕ
+  pub differs : Bool
 
--- The card plays the line: it stands for the state behind it.
-pub record RunsLine (line : List ℕ) (After : State → Type 0) (Leaving : List Registry → Type 0) (count count' : ℕ) (state : State) : Type 0 where
-  pub outcomes : List Outcome
-  pub last : State
-  pub plays : RunsLines state (line ∷ []) outcomes last
-  pub stands : After last
-  pub leaves : Leaving (registries state outcomes)
-  pub done : count' ≡ count + length outcomes
+-- the card stands for the state of a place, and what is kept there is kept
+abbrev pub StandsAt : {F M : Type 0} → Flash F → Standing F M → Place M → Type 0
+StandsAt device standing place = CardRepresents device standing.card place.state × (standing.memory ≡ place.memory)
 
--- The device failed in the command of the line.
-pub record FailsLine (line : List ℕ) (Leaving : List Registry → Type 0) (state : State) : Type 0 where
-  pub bytes : List ℕ
+-- In what follows `Plays` is what a line does, `HasForm` what is kept where it has a form, and `Fails` how the device fails in it.
+
+-- The line was played from a place.
+pub record RunsLine {F M : Type 0} (Plays : Place M → Effect → Place M → Type 0) (device : Flash F) (old new : Standing F M) (place : Place M) : Type 0 where
+  pub effect : Effect
+  pub next : Place M
+  pub plays : Plays place effect next
+  pub stands : StandsAt device new next
+  pub leaves : LeavesOneOf device old.card.flash new.card.flash (registries place.state effect.outcomes)
+  pub done : new.done ≡ old.done + length effect.outcomes
+  pub differs : new.differs ≡ (old.differs || effect.differs)
+
+-- The device failed in a command of the line.
+pub record BreaksLine {F M : Type 0} (Fails : Place M → List Outcome → State → Outcome → Type 0) (device : Flash F) (old new : Standing F M) (place : Place M) : Type 0 where
+  pub begun : List Outcome
+  pub mid : State
   pub next : Outcome
-  pub spelled : SpellsInputs line (Command bytes ∷ [])
-  pub step : Step state bytes next
-  pub leaves : Leaving (state.registry ∷ next.state.registry ∷ [])
+  pub fails : Fails place begun mid next
+  pub done : new.done ≡ old.done + length begun
+  pub left : LeftOneOf device new.card.flash (mid.registry ∷ next.state.registry ∷ [])
+  pub leaves : LeavesOneOf device old.card.flash new.card.flash (registries place.state (begun ++ next ∷ []))
 
--- How the card stands after a line, and what has been written where the sink tells it. `Same` says that the card and the count are
--- as they were.
-abbrev pub ServesLine : Verb → Type 0 → List ℕ → Type 0 → (State → Type 0) → (State → Type 0) → (List Registry → Type 0) → ℕ → ℕ → List ℕ → List ℕ → LineEnd → Type 0
-ServesLine verb writes line Same Before After Leaving count count' old new Done =
-    (state : State) → Before state
-    → (played : RunsLine line After Leaving count count' state) × (writes → new ≡ old ++ text_of verb played.outcomes)
-ServesLine verb writes line Same Before After Leaving count count' old new NoForm = HasNoForm line × Same × (writes → new ≡ old)
-ServesLine verb writes line Same Before After Leaving count count' old new WriteFault =
-    (state : State) → Before state
-    → (played : RunsLine line After Leaving count count' state) × (outcome : Outcome) × (played.outcomes ≡ outcome ∷ [])
-    × (writes → (n : ℕ) × (new ≡ old ++ take n (reply_line verb outcome)))
-ServesLine verb writes line Same Before After Leaving count count' old new FlashFault =
-    (count' ≡ count) × (writes → new ≡ old) × ((state : State) → Before state → FailsLine line Leaving state)
+-- How the program stands after a line, and what has been written where the sink tells it.
+abbrev pub ServesLine : {F M : Type 0} → (Place M → Effect → Place M → Type 0) → (M → Type 0) → (Place M → List Outcome → State → Outcome → Type 0) → Flash F → Type 0 → Standing F M → Standing F M → List ℕ → List ℕ → LineEnd → Type 0
+ServesLine {F} {M} Plays HasForm Fails device writes old new text text' Done =
+    (place : Place M) → StandsAt device old place
+    → (played : RunsLine Plays device old new place) × (writes → text' ≡ text ++ concat played.effect.texts)
+ServesLine {F} {M} Plays HasForm Fails device writes old new text text' NoForm =
+    (HasForm old.memory → ⊥) × (new ≡ old) × (writes → text' ≡ text)
+ServesLine {F} {M} Plays HasForm Fails device writes old new text text' WriteFault =
+    (place : Place M) → StandsAt device old place
+    → (played : RunsLine Plays device old new place) × (line : List ℕ) × (played.effect.texts ≡ line ∷ [])
+    × (writes → (n : ℕ) × (text' ≡ text ++ take n line))
+ServesLine {F} {M} Plays HasForm Fails device writes old new text text' FlashFault =
+    (writes → text' ≡ text) × ((place : Place M) → StandsAt device old place → BreaksLine Fails device old new place)
 
 -- whose count of faults has risen: the sink's, from one number to another, or the device's
 abbrev pub ServeCause : ℕ → ℕ → ℕ → ℕ → LineEnd → Type 0
-ServeCause sink sink' device device' Done = sink' ≡ sink
-ServeCause sink sink' device device' NoForm = sink' ≡ sink
 ServeCause sink sink' device device' WriteFault = Rose sink sink'
 ServeCause sink sink' device device' FlashFault = (sink' ≡ sink) × Rose device device'
+ServeCause sink sink' device device' end = sink' ≡ sink

@@ -8,7 +8,7 @@ use Rattle.rec_store.specs.Reopens.{Reopens}
 use Rattle.gp_tool.specs.Flush.{FlushesLast}
 use Rattle.gp_tool.specs.Show.{shown}
 use Rattle.gp_tool.specs.declared.ending.Ending.{Ending}
-use Rattle.gp_tool.specs.declared.ending.Ending.TheVariants.{Finished, BadLine, FlashFault, ReadFault, WriteFault, InputTooLong}
+use Rattle.gp_tool.specs.declared.ending.Ending.TheVariants.{Finished, FlashFault, WriteFault}
 
 -- a prefix of the registry's text was written
 abbrev pub ShowsPart : Registry → SinkState → SinkState → Type 0
@@ -21,9 +21,7 @@ ShowEnds told registry Finished old new = told → new.written ≡ old.written +
 ShowEnds told registry FlashFault old new = told → ShowsPart registry old new
 ShowEnds told registry WriteFault old new =
     (told → ShowsPart registry old new) × FlushesLast told old (shown registry) new
-ShowEnds told registry BadLine old new = ⊥
-ShowEnds told registry ReadFault old new = ⊥
-ShowEnds told registry InputTooLong old new = ⊥
+ShowEnds told registry ending old new = ⊥
 
 -- the device reopens as the registry, now and after power lost at any moment
 pub record HasShown {F : Type 0} (device : Flash F) (old new : F) (registry : Registry) : Type 0 where

@@ -10,13 +10,14 @@ use Rattle.io_edge.specs.declared.sink.Sink.{Ghosts as Sink}
 use Rattle.io_edge.specs.declared.source.Source.{Ghosts as Source}
 use Rattle.policy_rules.specs.State.{State, powered_on}
 use Rattle.rec_store.specs.Reopens.{Reopens}
-use Rattle.gp_tool.specs.Device.{HasFailed, HasRun, IsNotPowered}
+use Rattle.gp_tool.specs.Device.{HasFailed, HasRun, HoldsCard, IsNotPowered}
 use Rattle.gp_tool.specs.Ends.{EndCause, Ends, Flushes, exit_status, faults_of, outside}
 use Rattle.gp_tool.specs.Formatted.{FormatEnds}
-use Rattle.gp_tool.specs.Servable.{AreServable}
+use Rattle.gp_tool.specs.RunsLines.{AreServable, start}
 use Rattle.gp_tool.specs.Shown.{HasShown, ShowEnds}
 use Rattle.gp_tool.specs.declared.ending.Ending.{Ending}
 use Rattle.gp_tool.specs.declared.verb.Verb.{Verb}
+use Rattle.gp_tool.specs.declared.verb.Verb.TheVariants.{Run, Why, Replay}
 
 -- what a run is given
 pub record Around (S K F : Type 0) : Type 0 where
@@ -67,9 +68,21 @@ pub record NoFault {S K F : Type 0} (source : Source S) (sink : Sink K) (device 
   pub writes : Rose (sink.state old.sink).faults (sink.state new.sink).faults → ⊥
   pub flash : Rose (device.faults old.flash) (device.faults new.flash) → ⊥
 
--- each line of an input has a form and is not too long, and the input is short enough
-abbrev pub IsGoodInput : List ℕ → Type 0
-IsGoodInput input = AreServable (lines input) × (length input < INPUT_LIMIT)
+-- from whatever state each line of an input has a form and is not too long, and the input is short enough
+abbrev pub IsGoodInput : Verb → List ℕ → Type 0
+IsGoodInput verb input = ((first : State) → AreServable verb 1 (lines input) (start verb first)) × (length input < INPUT_LIMIT)
+
+-- the statuses of a verb where all is done
+abbrev pub IsDone : Verb → ℕ → Type 0
+IsDone Run status = status ≡ 0
+IsDone Why status = status ≡ 0
+IsDone Replay status = (status ≡ 0) ⊎ (status ≡ 8)
+
+-- What is done where nothing can stop a run, but for want of memory.
+abbrev pub Completes : {S K F : Type 0} → Verb → Source S → Sink K → Flash F → ℕ → Around S K F → Around S K F → Type 0
+Completes verb source sink device status old new =
+    source.tells → device.tells → HoldsCard device old.flash → IsGoodInput verb (source.state old.source).left
+    → NoFault source sink device old new → IsDone verb status ⊎ (status ≡ 7)
 
 -- What `format` and `show` are given: they read nothing.
 pub record Beside (K F : Type 0) : Type 0 where

@@ -8,6 +8,8 @@ ghost use Rattle.gp_tool.specs.Ends.{exit_status};
 pub enum Ending {
     /// The input was read to its end, and all was written: 0.
     Finished,
+    /// The input was read to its end, all was written, and some reply differed from the one that a line wants: 8.
+    Differs,
     /// A line has no form or is too long, and its number was written: 2.
     BadLine,
     /// The device of the card failed: 3.
@@ -27,6 +29,7 @@ impl Ending {
     {
         match self {
             Ending::Finished => 0,
+            Ending::Differs => 8,
             Ending::BadLine => 2,
             Ending::FlashFault => 3,
             Ending::ReadFault => 5,

@@ -2,7 +2,7 @@
 
 ghost use Rattle.std.specs.Prelude.{◌≡◌, ◌≤◌, ◌<◌, ◌*◌, ℕ, List, length, take, codes, IsTrue, ◌↔◌, IfSome, IfNone, IfOk, OnErr, All, Ok, MatchOption};
 ghost use Rattle.hex.specs.Hex.{decode_of};
-ghost use Rattle.gp_tool.specs.Form.{SpellsInputs, HasNoForm, IsBlank, IsComment};
+ghost use Rattle.gp_tool.specs.Form.{SpellsInputs, IsForCard, IsBlank, IsComment};
 ghost use Rattle.gp_tool.specs.Read.{FitsRoom, inputs_of};
 
 use io_edge::LINE_LIMIT;
@@ -21,8 +21,8 @@ pub enum Form {
     Command(usize),
 }
 
-// Decodes hexadecimal digits into the front of `bytes`, and answers how many bytes they are.
-fn decode(line: &[u8], bytes: &mut [u8; COMMAND_LIMIT]) -> Option<usize>
+/// Decodes hexadecimal digits into the front of `bytes`, and answers how many bytes they are.
+pub fn decode(line: &[u8], bytes: &mut [u8; COMMAND_LIMIT]) -> Option<usize>
     requires { length line.now ≤ LINE_LIMIT }
     ensures { MatchOption result ((out : List ℕ) → decode_of line.now ≡ Ok out → ⊥)
         (λ count. (2 * count ≡ length line.now) × (decode_of line.now ≡ Ok (take count bytes.new))) }
@@ -57,7 +57,7 @@ fn is_reset(line: &[u8]) -> bool
 /// What a line says, with the bytes of a command in the front of `bytes`, or nothing where it has no form.
 pub fn read_form(line: &[u8], bytes: &mut [u8; COMMAND_LIMIT]) -> Option<Form>
     requires { length line.now ≤ LINE_LIMIT }
-    ensures spelled { MatchOption result (HasNoForm line.now) (λ form. SpellsInputs line.now (inputs_of form bytes.new)) }
+    ensures spelled { MatchOption result (IsForCard line.now → ⊥) (λ form. SpellsInputs line.now (inputs_of form bytes.new)) }
     ensures fits { IfSome result FitsRoom }
 {
     if is_blank(line) || is_comment(line) {

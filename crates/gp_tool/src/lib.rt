@@ -12,22 +12,29 @@
 //! 67,108,864 bytes hold no further whole line. The status of the program says which it was.
 #![tactic(auto)]
 
+mod answer;
+mod difference;
 mod ended;
 mod ending;
 mod form;
 mod format_verb;
+mod give;
 mod laws;
 mod line;
 mod literals;
+mod push;
+mod replay;
 mod reply;
 mod run;
 mod run_verb;
 mod serving;
 mod show;
 mod show_verb;
+mod tally;
 mod task;
 mod top;
 mod verb;
+mod workspace;
 
 pub use ended::Ended;
 pub use ending::Ending;

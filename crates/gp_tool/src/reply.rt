@@ -3,9 +3,9 @@
 ghost use Rattle.std.specs.Prelude.{◌≡◌, ◌≤◌, ◌<◌, ◌*◌, ◌+◌, ◌++◌, [], ◌∷◌, ℕ, length, take, OnOk, OnErr};
 ghost use Rattle.faults.specs.Faults.{HasCause};
 ghost use Rattle.hex.specs.Hex.{encode_lower};
-ghost use Rattle.gp_tool.specs.RunsLines.{bad_line, behind_reply, reason};
+ghost use Rattle.gp_tool.specs.Replies.{behind_reply, reason};
+ghost use Rattle.gp_tool.specs.RunsLines.{bad_line};
 
-use crate::verb::Verb;
 use arrayvec::ArrayVec;
 use card_core::REPLY_LIMIT;
 use io_edge::{Sink, WriteFailed};
@@ -29,12 +29,12 @@ fn reason_of(rule: Option<Rule>) -> &'static str
     }
 }
 
-// What stands behind the digits of a reply.
-fn behind(verb: Verb, rule: Option<Rule>) -> ArrayVec<u8, BEHIND_LIMIT>
-    ensures { result.items ≡ behind_reply verb rule }
+// What stands behind the digits of a reply, with the reason of a refusal where it is to be explained.
+fn behind(explains: bool, rule: Option<Rule>) -> ArrayVec<u8, BEHIND_LIMIT>
+    ensures { result.items ≡ behind_reply explains rule }
 {
     let mut text = ArrayVec::new();
-    if let Verb::Why = verb {
+    if explains {
         text.push(b' ');
         text.try_extend_from_slice(reason_of(rule).as_bytes())
             .unwrap();
@@ -45,38 +45,38 @@ fn behind(verb: Verb, rule: Option<Rule>) -> ArrayVec<u8, BEHIND_LIMIT>
 
 // The line of a reply, in the front of `text`: how many bytes it has.
 fn spell_reply(
-    verb: Verb,
+    explains: bool,
     reply: &[u8],
     rule: Option<Rule>,
     text: &mut [u8; REPLY_LINE_LIMIT],
 ) -> usize
     requires { length reply.now ≤ REPLY_LIMIT }
     ensures within { result ≤ REPLY_LINE_LIMIT }
-    ensures spelled { take result text.new ≡ encode_lower reply.now ++ behind_reply verb rule }
+    ensures spelled { take result text.new ≡ encode_lower reply.now ++ behind_reply explains rule }
 {
     let digits = 2 * reply.len();
-    let behind = behind(verb, rule);
+    let behind = behind(explains, rule);
     let count = digits + behind.len();
     let _ = hex::encode_to_slice(reply, &mut text[..digits]);
     text[digits..count].copy_from_slice(&behind);
     count
 }
 
-/// Writes a reply as one line, with the reason of a refusal where the verb asks for it, by one write.
+/// Writes a reply as one line, with the reason of a refusal where it is to be explained, by one write.
 pub fn write_reply<K: Sink>(
-    verb: Verb,
+    explains: bool,
     reply: &[u8],
     rule: Option<Rule>,
     text: &mut [u8; REPLY_LINE_LIMIT],
     sink: &mut K,
 ) -> Result<(), WriteFailed>
     requires { length reply.now ≤ REPLY_LIMIT }
-    ensures ok { K.tells → OnOk result ((K.state sink.new).written ≡ (K.state sink.old).written ++ (encode_lower reply.now ++ behind_reply verb rule)) }
-    ensures err { K.tells → OnErr result ((n : ℕ) × ((K.state sink.new).written ≡ (K.state sink.old).written ++ take n (encode_lower reply.now ++ behind_reply verb rule))) }
+    ensures ok { K.tells → OnOk result ((K.state sink.new).written ≡ (K.state sink.old).written ++ (encode_lower reply.now ++ behind_reply explains rule)) }
+    ensures err { K.tells → OnErr result ((n : ℕ) × ((K.state sink.new).written ≡ (K.state sink.old).written ++ take n (encode_lower reply.now ++ behind_reply explains rule))) }
     ensures flushes { (K.state sink.new).flushes ≡ (K.state sink.old).flushes }
     ensures cause { HasCause (K.state sink.old).faults (K.state sink.new).faults result }
 {
-    let count = spell_reply(verb, reply, rule, text);
+    let count = spell_reply(explains, reply, rule, text);
     sink.write_all(&text[..count])
 }
 

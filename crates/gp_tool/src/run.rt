@@ -6,15 +6,16 @@ ghost use Rattle.policy_rules.specs.State.{State};
 ghost use Rattle.gp_tool.specs.Ends.{EndCause, Faults, Flushes, faults_of, outside};
 ghost use Rattle.gp_tool.specs.Flush.{AfterFlush};
 ghost use Rattle.gp_tool.specs.declared.ending.Ending.TheVariants.{FlashFault};
-ghost use Rattle.gp_tool.specs.Turn.{Refuses, TurnEnds, TurnGoesOn};
+ghost use Rattle.gp_tool.specs.Standing.{memory_in, standing};
+ghost use Rattle.gp_tool.specs.Turn.{EndsWith, GoesOn, Refuses, ending_of};
 ghost use Rattle.gp_tool.specs.Verbs.{RunCause, RunEnds, around};
 
 use crate::ending::Ending;
-use crate::form::COMMAND_LIMIT;
-use crate::line::{LineEnd, Workspace, serve_line};
-use crate::reply::{REPLY_LINE_LIMIT, write_bad_line};
+use crate::line::{LineEnd, serve_line};
+use crate::reply::write_bad_line;
+use crate::tally::Tally;
 use crate::verb::Verb;
-use arrayvec::ArrayVec;
+use crate::workspace::Workspace;
 use card_core::Card;
 use flash_core::Flash;
 use io_edge::{LineStop, Lines, Sink, Source};
@@ -40,26 +41,39 @@ fn refuse_line<K: Sink>(number: u32, sink: &mut K) -> Ending
     }
 }
 
+// How a run ends at the end of its input.
+fn end_of_input(differs: bool) -> Ending
+    ensures { result ≡ ending_of differs }
+{
+    if differs {
+        Ending::Differs
+    } else {
+        Ending::Finished
+    }
+}
+
 // Takes the next line and gives it to the card. It answers how the run ends, if it does.
 fn take_turn<S: Source, K: Sink, F: Flash>(
     verb: Verb,
     lines: &mut Lines,
     source: &mut S,
     card: &mut Card<F>,
-    done: &mut u32,
+    tally: &mut Tally,
     space: &mut Workspace,
     sink: &mut K,
 ) -> Option<Ending>
     requires stop { lines.old.stop ≡ None }
     requires live { card.old.live ≡ true }
-    requires few { done.old ≤ lines.old.passed }
-    ensures goes_on { IfNone result (TurnGoesOn verb F.Flash S.tells K.tells card.old card.new done.old done.new lines.old lines.new
+    requires few { tally.old.done ≤ lines.old.passed }
+    ensures goes_on { IfNone result (GoesOn verb F.Flash S.tells K.tells
+        (standing card.old (memory_in verb space.old) tally.old) (standing card.new (memory_in verb space.new) tally.new) lines.old lines.new
         (outside (S.state source.old) (K.state sink.old)) (outside (S.state source.new) (K.state sink.new))) }
-    ensures ends { IfSome result (TurnEnds verb F.Flash S.tells K.tells card.old card.new done.old done.new lines.old
+    ensures ends { IfSome result (EndsWith verb F.Flash S.tells K.tells
+        (standing card.old (memory_in verb space.old) tally.old) (standing card.new (memory_in verb space.new) tally.new) lines.old
         (outside (S.state source.old) (K.state sink.old)) (outside (S.state source.new) (K.state sink.new))) }
     ensures live { IfNone result (card.new.live ≡ true) }
     ensures ends_live { IfSome result (λ ending. ending ≢ FlashFault → card.new.live ≡ true) }
-    ensures few { done.new ≤ done.old + 1 }
+    ensures few { tally.new.done ≤ tally.old.done + 1 }
     ensures flushes { (K.state sink.new).flushes ≡ (K.state sink.old).flushes }
     ensures quiet { IfNone result (((S.state source.new).faults ≡ (S.state source.old).faults) × ((K.state sink.new).faults ≡ (K.state sink.old).faults)) }
     ensures later { F.faults card.old.flash ≤ F.faults card.new.flash }
@@ -67,13 +81,13 @@ fn take_turn<S: Source, K: Sink, F: Flash>(
         (faults_of (S.state source.old) (K.state sink.old) (F.faults card.old.flash)) (faults_of (S.state source.new) (K.state sink.new) (F.faults card.new.flash))) }
 {
     match lines.next_line(source) {
-        Ok(line) => match serve_line(verb, line.text, card, done, space, sink) {
+        Ok(line) => match serve_line(verb, line.number, line.text, card, tally, space, sink) {
             LineEnd::Done => None,
             LineEnd::NoForm => Some(refuse_line(line.number, sink)),
             LineEnd::WriteFault => Some(Ending::WriteFault),
             LineEnd::FlashFault => Some(Ending::FlashFault),
         },
-        Err(LineStop::End) => Some(Ending::Finished),
+        Err(LineStop::End) => Some(end_of_input(tally.differs)),
         Err(LineStop::ReadFailed) => Some(Ending::ReadFault),
         Err(LineStop::TooLong(number)) => Some(refuse_line(number, sink)),
         Err(LineStop::InputTooLong) => Some(Ending::InputTooLong),
@@ -97,17 +111,19 @@ fn take_lines<S: Source, K: Sink, F: Flash>(
     ensures cause { RunCause S.Source K.Sink F.Flash result.ending (around source.old sink.old card.old.flash) (around source.new sink.new card.new.flash) }
 {
     let mut lines = Lines::new();
-    let mut done = 0;
-    let mut space = Workspace {
-        command: [0; COMMAND_LIMIT],
-        reply: ArrayVec::new(),
-        text: [0; REPLY_LINE_LIMIT],
+    let mut tally = Tally {
+        done: 0,
+        differs: false,
     };
+    let mut space = Workspace::new();
     loop {
         if let Some(ending) = take_turn(
-            verb, &mut lines, source, card, &mut done, &mut space, sink,
+            verb, &mut lines, source, card, &mut tally, &mut space, sink,
         ) {
-            return RunEnd { ending, done };
+            return RunEnd {
+                ending,
+                done: tally.done,
+            };
         }
     }
 }

@@ -2,7 +2,7 @@
 
 ghost use Rattle.std.specs.Prelude.{◌≡◌, ◌≢◌, ◌⊎◌, ◌≤◌};
 ghost use Rattle.gp_tool.specs.Device.{HoldsCard, refusal_status};
-ghost use Rattle.gp_tool.specs.Verbs.{EndsRun, IsGoodInput, NoFault, around};
+ghost use Rattle.gp_tool.specs.Verbs.{Completes, EndsRun, around};
 
 use crate::ended::Ended;
 use crate::serving::serve;
@@ -35,8 +35,7 @@ pub fn run_verb<S: Source, K: Sink, F: Flash>(
     ensures run { result.status ≢ 7 → EndsRun verb S.Source K.Sink F.Flash result.status result.done
         (around source.old sink.old flash) (around source.new sink.new result.flash) }
     ensures no_card { F.tells → (HoldsCard F.Flash flash → ⊥) → (result.status ≡ 3) ⊎ (result.status ≡ 4) ⊎ (result.status ≡ 7) }
-    ensures complete { S.tells → F.tells → HoldsCard F.Flash flash → IsGoodInput (S.state source.old).left
-        → NoFault S.Source K.Sink F.Flash (around source.old sink.old flash) (around source.new sink.new result.flash) → (result.status ≡ 0) ⊎ (result.status ≡ 7) }
+    ensures complete { Completes verb S.Source K.Sink F.Flash result.status (around source.old sink.old flash) (around source.new sink.new result.flash) }
     ensures later { F.faults flash ≤ F.faults result.flash }
 {
     match Card::power_on(alloc, flash) {

@@ -3,7 +3,7 @@
 ghost use Rattle.std.specs.Prelude.{◌≡◌, ◌≢◌, ◌≤◌, true};
 ghost use Rattle.card_core.specs.Card.{CardRepresents};
 ghost use Rattle.policy_rules.specs.State.{State, powered_on};
-ghost use Rattle.gp_tool.specs.Verbs.{IsGoodInput, NoFault, Serves, around};
+ghost use Rattle.gp_tool.specs.Verbs.{IsDone, IsGoodInput, NoFault, Serves, around};
 
 use crate::run::run;
 use crate::verb::Verb;
@@ -43,8 +43,8 @@ pub fn serve<S: Source, K: Sink, F: Flash>(
     ensures never { (result.status ≢ 1) × (result.status ≢ 4) × (result.status ≢ 7) }
 
     // Where each line has a form, the input is short enough and nothing fails, all is done.
-    ensures complete { (state : State) → CardRepresents F.Flash card state → S.tells → IsGoodInput (S.state source.old).left
-        → NoFault S.Source K.Sink F.Flash (around source.old sink.old card.flash) (around source.new sink.new result.card.flash) → result.status ≡ 0 }
+    ensures complete { (state : State) → CardRepresents F.Flash card state → S.tells → IsGoodInput verb (S.state source.old).left
+        → NoFault S.Source K.Sink F.Flash (around source.old sink.old card.flash) (around source.new sink.new result.card.flash) → IsDone verb result.status }
 
     // The card may be served again, unless the device failed.
     ensures live { result.status ≢ 3 → result.card.live ≡ true }

@@ -27,6 +27,7 @@ mod listing;
 mod objects;
 mod owner;
 
+use crate::push::{push_hex, push_word};
 use arrayvec::ArrayVec;
 use card_core::Card;
 use card_types::{CardLife, Tables};
@@ -37,7 +38,7 @@ use files::show_files;
 use flash_core::Flash;
 use io_edge::{Sink, WriteFailed};
 use keys::show_keys;
-use line::{push_hex, push_word};
+use line::LINE_ROOM;
 use objects::show_objects;
 
 // Writes the line of the card.
@@ -46,7 +47,7 @@ fn show_life<K: Sink>(life: CardLife, sink: &mut K) -> Result<(), WriteFailed>
     ensures flushes { (K.state sink.new).flushes ≡ (K.state sink.old).flushes }
     ensures cause { HasCause (K.state sink.old).faults (K.state sink.new).faults result }
 {
-    let mut line = ArrayVec::new();
+    let mut line = ArrayVec::<u8, LINE_ROOM>::new();
     push_word(b"card ", &mut line);
     push_hex(&[life.code()], &mut line);
     push_word(b"\n", &mut line);

@@ -4,7 +4,7 @@ ghost use Rattle.std.specs.Prelude.{◌≡◌, ◌≢◌, ◌⊎◌, ◌≤◌, 
 ghost use Rattle.faults.specs.Faults.{HasCause, Rose};
 ghost use Rattle.gp_tool.specs.Device.{HoldsCard};
 ghost use Rattle.gp_tool.specs.Flush.{FlushesLast, IsHandedOn};
-ghost use Rattle.gp_tool.specs.Verbs.{EndsFormat, EndsRun, EndsShow, IsGoodInput, NoFault, around, beside};
+ghost use Rattle.gp_tool.specs.Verbs.{Completes, EndsFormat, EndsRun, EndsShow, around, beside};
 ghost use Rattle.gp_tool.specs.Words.{AreFormat, AreShow, AreVerb, EndsInUsage, HaveForm, usage_line};
 ghost use Rattle.gp_tool.specs.declared.verb.Verb.{Verb};
 
@@ -17,7 +17,7 @@ use flash_core::Flash;
 use io_edge::{Sink, Source, WriteFailed};
 use std::alloc::Global;
 
-const USAGE: &[u8] = b"usage: gp format | run | why | show\n";
+const USAGE: &[u8] = b"usage: gp format | run | why | replay | show\n";
 
 // Writes the usage line, and hands it on.
 fn write_usage<K: Sink>(sink: &mut K) -> Result<(), WriteFailed>
@@ -43,9 +43,10 @@ fn refuse_words<K: Sink>(sink: &mut K) -> u8
 
 /// Does what the words say, and answers the status of the program, how many commands the card has answered, and the device.
 ///
-/// 0: all was done, and the input of `run` or `why` was read to its end. 1: words that have no form. 2: a line that has no form or is too long. 3: the device
+/// 0: all was done, and the input of `run`, `why` or `replay` was read to its end. 1: words that have no form. 2: a line that has no form or is too long. 3: the device
 /// failed. 4: the device holds no card. 5: the source refused a read. 6: the sink refused a write or its flush. 7: want of
-/// memory for the card. 9: the input is too long.
+/// memory for the card. 8: all was done in
+/// `replay`, and some reply differed from the one wanted. 9: the input is too long.
 pub fn gp<S: Source, K: Sink, F: Flash>(
     alloc: Global,
     words: &[String],
@@ -60,7 +61,7 @@ pub fn gp<S: Source, K: Sink, F: Flash>(
     // Want of memory for the card: nothing is read or written, and no call is made on the device.
     ensures memory { HaveForm words.now → result.status ≡ 7 → (source.new ≡ source.old) × (sink.new ≡ sink.old) × (result.flash ≡ flash) × (result.done ≡ 0) }
 
-    // `run` and `why`: the card was not powered on, and nothing is read or written. Or the status is that of an ending, which says what
+    // `run`, `why` and `replay`: the card was not powered on, and nothing is read or written. Or the status is that of an ending, which says what
     // was read, written and handed on, and what the device holds.
     ensures run { (verb : Verb) → AreVerb verb words.now → result.status ≢ 7 → EndsRun verb S.Source K.Sink F.Flash result.status result.done
         (around source.old sink.old flash) (around source.new sink.new result.flash) }
@@ -75,14 +76,14 @@ pub fn gp<S: Source, K: Sink, F: Flash>(
     ensures show { AreShow words.now → result.status ≢ 7
         → (source.new ≡ source.old) × EndsShow K.Sink F.Flash result.status result.done (beside sink.old flash) (beside sink.new result.flash) }
 
-    // Where the device holds no card, `run`, `why` and `show` answer 4, but for want of memory and a device that failed.
+    // Where the device holds no card, `run`, `why`, `replay` and `show` answer 4, but for want of memory and a device that failed.
     ensures no_card { F.tells → ((verb : Verb) × AreVerb verb words.now) ⊎ AreShow words.now → (HoldsCard F.Flash flash → ⊥)
         → (result.status ≡ 3) ⊎ (result.status ≡ 4) ⊎ (result.status ≡ 7) }
 
-    // Where each line has a form, the input is short enough and nothing fails, all is done. Only want of memory comes
+    // `run`, `why` and `replay`: where each line has a form, the input is short enough and nothing fails, all is done. Only want of memory comes
     // then besides.
-    ensures complete { (verb : Verb) → AreVerb verb words.now → S.tells → F.tells → HoldsCard F.Flash flash → IsGoodInput (S.state source.old).left
-        → NoFault S.Source K.Sink F.Flash (around source.old sink.old flash) (around source.new sink.new result.flash) → (result.status ≡ 0) ⊎ (result.status ≡ 7) }
+    ensures complete { (verb : Verb) → AreVerb verb words.now
+        → Completes verb S.Source K.Sink F.Flash result.status (around source.old sink.old flash) (around source.new sink.new result.flash) }
     ensures show_complete { AreShow words.now → F.tells → HoldsCard F.Flash flash
         → (Rose (K.state sink.old).faults (K.state sink.new).faults → ⊥) → (Rose (F.faults flash) (F.faults result.flash) → ⊥)
         → (result.status ≡ 0) ⊎ (result.status ≡ 7) }

@@ -1,11 +1,14 @@
 //! The verbs over lines.
 
-/// What is written of a command.
+/// What is done with the reply to a command.
 #[derive(Clone, Copy)]
 pub enum Verb {
-    /// Its reply.
+    /// It is written.
     Run,
 
-    /// Its reply, and why it was refused.
+    /// It is written, and why the command was refused.
     Why,
+
+    /// It is compared with the one that a line wants, and a difference is written.
+    Replay,
 }

@@ -13,7 +13,8 @@ ghost use Rattle.faults.specs.Faults.{HasCause};
 ghost use Rattle.gp_tool.specs.Listing.{Writes};
 ghost use Rattle.gp_tool.specs.Show.{entry_kind, entry_line, entry_names, entry_state};
 
-use crate::show::line::{LINE_ROOM, push_hex, push_word};
+use crate::push::{push_hex, push_word};
+use crate::show::line::LINE_ROOM;
 use crate::show::listing::{Listing, TextListing, write_lines};
 use crate::show::owner::{aid_of_domain, aid_of_file};
 use arrayvec::ArrayVec;

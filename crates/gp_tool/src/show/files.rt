@@ -16,8 +16,9 @@ ghost use Rattle.gp_tool.specs.declared.show.fault.ShowFault.TheVariants.{Write}
 ghost use Rattle.gp_tool.specs.Listing.{Writes, is_next_file};
 ghost use Rattle.gp_tool.specs.Show.{ShowCause, file_content, file_line, file_names};
 
+use crate::push::{push_decimal, push_hex, push_word};
 use crate::show::fault::ShowFault;
-use crate::show::line::{LINE_ROOM, push_decimal, push_hex, push_word};
+use crate::show::line::LINE_ROOM;
 use crate::show::listing::{Listing, next};
 use crate::show::owner::aid_of_domain;
 use arrayvec::ArrayVec;

@@ -1,46 +1,4 @@
-//! A line of text, word by word.
-
-ghost use Rattle.std.specs.Prelude.{◌≡◌, ◌≤◌, ◌+◌, ◌*◌, ◌++◌, length, decimal};
-ghost use Rattle.arrayvec.specs.ArrayVec.{array_vec_len};
-ghost use Rattle.hex.specs.Hex.{encode_lower};
-
-use arrayvec::ArrayVec;
-use itoa::Buffer;
+//! A line of the text of `show`.
 
 /// How many bytes a line has, at most.
 pub const LINE_ROOM: usize = 320;
-
-/// How many bytes are written in hexadecimal digits at once, at most.
-pub const HEX_LIMIT: usize = 120;
-
-/// Appends bytes as they are.
-pub fn push_word(word: &[u8], line: &mut ArrayVec<u8, LINE_ROOM>)
-    requires room { array_vec_len line.old + length word.now ≤ LINE_ROOM }
-    ensures written { line.new.items ≡ line.old.items ++ word.now }
-    ensures size { array_vec_len line.new ≡ array_vec_len line.old + length word.now }
-{
-    line.try_extend_from_slice(word).unwrap();
-}
-
-/// Appends bytes in hexadecimal digits.
-pub fn push_hex(bytes: &[u8], line: &mut ArrayVec<u8, LINE_ROOM>)
-    requires few { length bytes.now ≤ HEX_LIMIT }
-    requires room { array_vec_len line.old + 2 * length bytes.now ≤ LINE_ROOM }
-    ensures written { line.new.items ≡ line.old.items ++ encode_lower bytes.now }
-    ensures size { array_vec_len line.new ≡ array_vec_len line.old + 2 * length bytes.now }
-{
-    let mut digits = [0; 2 * HEX_LIMIT];
-    let count = 2 * bytes.len();
-    let _ = hex::encode_to_slice(bytes, &mut digits[..count]);
-    push_word(&digits[..count], line);
-}
-
-/// Appends a number in decimal digits.
-pub fn push_decimal(number: usize, line: &mut ArrayVec<u8, LINE_ROOM>)
-    requires room { array_vec_len line.old + 40 ≤ LINE_ROOM }
-    ensures written { line.new.items ≡ line.old.items ++ decimal number }
-    ensures size { array_vec_len line.new ≤ array_vec_len line.old + 40 }
-{
-    let mut digits = Buffer::new();
-    push_word(digits.format(number).as_bytes(), line);
-}

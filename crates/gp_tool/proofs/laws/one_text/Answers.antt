@@ -1,12 +1,13 @@
 use Rattle.std.proofs.Common.{ap}
-use Rattle.gp_tool.proofs.OneText.{plays_once}
+use Rattle.gp_tool.proofs.RunsMore.{runs_once}
 use Rattle.gp_tool.proofs.laws.one_text.Goals as goal
-use Rattle.gp_tool.specs.RunsLines.{text_of}
+use Rattle.gp_tool.specs.Effects.{Effect, Place}
+use Rattle.gp_tool.specs.RunsLines.{Memory, start}
 
 pub returns-clause-text : goal.returns-clause-text
-returns-clause-text c verb first lines some others last another one other =
-    let same = plays_once first lines some others last another one other in ap (text_of verb) same.0
+returns-clause-text c verb first lines effect other last another one two =
+    let same = runs_once verb 1 lines (start verb first) last another effect other one two in ap (λ (e : Effect). e.texts) same.0
 
 pub returns-clause-last : goal.returns-clause-last
-returns-clause-last c first lines some others last another one other =
-    let same = plays_once first lines some others last another one other in same.1
+returns-clause-last c verb first lines effect other last another one two =
+    let same = runs_once verb 1 lines (start verb first) last another effect other one two in ap (λ (place : Place (Memory verb)). place.state) same.1

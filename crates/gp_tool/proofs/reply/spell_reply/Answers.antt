@@ -2,7 +2,7 @@ use Rattle.std.proofs.Common.{◌≡◌, ◌+◌, ◌*◌, length, ap, sym, ◌�
 use Rattle.std.proofs.lemmas.List.{length-take-le}
 use Rattle.hex.proofs.HexLemmas.{length-encode_with}
 use Rattle.hex.specs.Hex.{encode_lower, lower_digits}
-use Rattle.gp_tool.specs.RunsLines.{behind_reply}
+use Rattle.gp_tool.specs.Replies.{behind_reply}
 use Rattle.gp_tool.proofs.ReplyLine.{from_ok, line_spelled}
 use Rattle.gp_tool.proofs.reply.spell_reply.Goals as goal
 
@@ -13,5 +13,5 @@ returns-clause-spelled c =
     let digits = from_ok c.encode_to_slice.result _ ok c.encode_to_slice.ensures.written in
     let len : length c.encode_to_slice.new.output ≡ 2 * length reply = (let twice = length-encode_with lower_digits reply in omega (arith, ap length digits, twice)) in
     let behind = c.copy_from_slice.ensures.after ∙ c.deref.ensures.0 ∙ c.behind-behind.ensures in
-    line_spelled (2 * length reply) (2 * length reply + c.len.result) _ c.encode_to_slice.new.output _ c.copy_from_slice.new.self (encode_lower reply) (behind_reply c.args.verb c.args.rule)
+    line_spelled (2 * length reply) (2 * length reply + c.len.result) _ c.encode_to_slice.new.output _ c.copy_from_slice.new.self (encode_lower reply) (behind_reply c.args.explains c.args.rule)
     (ap (λ n. 2 * length reply + n) (c.len.ensures.value ∙ sym (ap length (c.copy_from_slice.ensures.after ∙ c.deref.ensures.0)))) len digits behind

@@ -1,4 +1,3 @@
-use Rattle.std.proofs.Common.{refl}
 use Rattle.card_core.specs.Card.{CardRepresents}
 use Rattle.gp_tool.proofs.Flush.{after_flush, after_from, flushed}
 use Rattle.gp_tool.specs.Device.{HasFailed, HasRun}
@@ -17,8 +16,8 @@ returns-clause-ends g c first stands =
     after_flush c.args.verb g.S.Source.tells g.K.Sink.tells
     (λ outcomes last. HasRun F from new first c.take_lines-end.result.done outcomes last × CardRepresents F c.take_lines-end.new.card last)
     (HasFailed F from new first c.take_lines-end.result.done)
-    first _ _ _
-    (record { left = refl; written = c.flush_at_end.ensures.same })
+    first _ (g.S.Source.state c.take_lines-end.new.source) (g.K.Sink.state c.take_lines-end.new.sink) _
+    c.flush_at_end.ensures.same
     c.take_lines-end.result.ending c.flush_at_end.result
     (after_from g.K.Sink.tells c.take_lines-end.result.ending _ _ _ _ c.take_lines-end.ensures.flushes c.flush_at_end.ensures.ending)
     c.take_lines-end.ensures.flushes

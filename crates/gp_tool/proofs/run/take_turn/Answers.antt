@@ -1,5 +1,6 @@
-use Rattle.std.proofs.Common.{refl, ◌∙◌, inl, inr}
+use Rattle.std.proofs.Common.{refl, sym, ◌∙◌, inl, inr}
 use Rattle.gp_tool.specs.Ends.{outside}
+use Rattle.gp_tool.specs.Standing.{memory_in}
 use Rattle.gp_tool.proofs.Turns.{given_line, bad_form, failing_line, line_leaves, line_takes, refusal_ends, refuses_from, stop_takes}
 use Rattle.gp_tool.proofs.run.take_turn.Goals as goal
 
@@ -13,21 +14,21 @@ returns-in-Done-clause-goes_on g c =
       within = gives.within;
       further = gives.further;
       passed = gives.passed;
-      line = λ state stands.
-          (let served = c.in-Done.ensures.served state stands in
-          (given_line g.S.Source.tells _ _ _ _ c.in-Ok.line _ _ _ _ state gives c.in-Ok.ensures.text served.0, served.1));
+      line = λ place stands.
+          (let served = (rw c.in-Ok.ensures.number at c.in-Done.ensures.served) place stands in
+          (given_line c.args.verb g.F.Flash g.S.Source.tells _ _ _ place _ _ _ _ c.in-Ok.line gives c.in-Ok.ensures.text served.0, served.1));
     }
 
 pub returns-in-NoForm-clause-ends : goal.returns-in-NoForm-clause-ends
 returns-in-NoForm-clause-ends g c =
     let gives = rw c.in-Ok.is at c.next_line.follows.holds-at-none in
     let served = c.in-NoForm.ensures.served in
-    refusal_ends c.args.verb g.S.Source.tells g.K.Sink.tells _ _ _ _ _ _ c.args.lines.now
+    refusal_ends c.args.verb g.F.Flash g.S.Source.tells g.K.Sink.tells _ _ c.args.lines.now
     (outside (g.S.Source.state c.args.source.now) (g.K.Sink.state c.args.sink.now))
     (outside (g.S.Source.state c.next_line.new.source) (g.K.Sink.state c.refuse_line.new.sink))
     c.refuse_line.result
     served.1
-    (bad_form g.S.Source.tells _ _ _ _ c.in-Ok.line gives served.0)
+    (bad_form c.args.verb (memory_in c.args.verb c.args.space.now) g.S.Source.tells _ _ _ _ c.in-Ok.line gives served.0)
     (refuses_from g.K.Sink.tells _ _ _ _ c.refuse_line.result served.2 (rw (← c.in-Ok.ensures.number) c.refuse_line.ensures.refused))
     (line_takes g.S.Source.tells _ _ _ _ c.in-Ok.line gives)
 
@@ -35,24 +36,36 @@ pub returns-in-WriteFault-clause-ends : goal.returns-in-WriteFault-clause-ends
 unfolding given_line
 returns-in-WriteFault-clause-ends g c =
     let gives = rw c.in-Ok.is at c.next_line.follows.holds-at-none in
-    inl (λ state stands.
-    (let served = c.in-WriteFault.ensures.served state stands in
-    (_, given_line g.S.Source.tells _ _ _ _ c.in-Ok.line _ _ _ _ state gives c.in-Ok.ensures.text served.0, served.1, served.2, served.3, line_leaves g.S.Source.tells _ _ _ _ c.in-Ok.line gives)))
+    inl (λ place stands.
+    (let served = (rw c.in-Ok.ensures.number at c.in-WriteFault.ensures.served) place stands in
+    (_, given_line c.args.verb g.F.Flash g.S.Source.tells _ _ _ place _ _ _ _ c.in-Ok.line gives c.in-Ok.ensures.text served.0, served.1, served.2, served.3, line_leaves g.S.Source.tells _ _ _ _ c.in-Ok.line gives)))
 
 pub returns-in-FlashFault-clause-ends : goal.returns-in-FlashFault-clause-ends
 returns-in-FlashFault-clause-ends g c =
     let gives = rw c.in-Ok.is at c.next_line.follows.holds-at-none in
-    let served = c.in-FlashFault.ensures.served in
-    (served.0, served.1, λ state stands. failing_line g.S.Source.tells _ _ _ _ c.in-Ok.line _ state gives c.in-Ok.ensures.text (served.2 state stands), line_takes g.S.Source.tells _ _ _ _ c.in-Ok.line gives)
+    let served = c.in-FlashFault.ensures.served in (
+      served.0,
+      line_takes g.S.Source.tells _ _ _ _ c.in-Ok.line gives,
+      λ place stands. failing_line c.args.verb g.F.Flash g.S.Source.tells _ _ place _ _ _ _ c.in-Ok.line gives c.in-Ok.ensures.text (served.1 place stands),
+    )
 
 pub returns-in-Err-TooLong-clause-ends : goal.returns-in-Err-TooLong-clause-ends
 returns-in-Err-TooLong-clause-ends g c =
-    refusal_ends c.args.verb g.S.Source.tells g.K.Sink.tells _ _ _ _ _ _ c.args.lines.now
+    refusal_ends c.args.verb g.F.Flash g.S.Source.tells g.K.Sink.tells _ _ c.args.lines.now
     (outside (g.S.Source.state c.args.source.now) (g.K.Sink.state c.args.sink.now))
     (outside (g.S.Source.state c.next_line.new.source) (g.K.Sink.state c.refuse_line-in-Err-TooLong.new.sink))
     c.refuse_line-in-Err-TooLong.result
-    (refl, refl)
+    refl
     (λ told. (let stop = rw c.in-Err-TooLong.field-0-is at (c.in-Err-TooLong.ensures.stop told c.requires.stop) in (stop.1.0, inr (stop.1.1, stop.1.2))))
     (let number = rw c.in-Err-TooLong.field-0-is at (c.in-Err-TooLong.ensures.numbered c.requires.stop) in
     rw (← number) (rw c.in-Err-TooLong.field-0-is at c.refuse_line-in-Err-TooLong.ensures.refused))
     (stop_takes g.S.Source.tells _ _ _ _ _ (rw c.in-Err-TooLong.is at c.next_line.follows.holds-at-none))
+
+pub returns-in-Err-ReadFailed-clause-ends : goal.returns-in-Err-ReadFailed-clause-ends
+returns-in-Err-ReadFailed-clause-ends g c =
+    let gives = rw c.in-Err-ReadFailed.is at c.next_line.follows.holds-at-none in (
+      refl,
+      λ told. (_, sym (gives.kept told), gives.clear c.requires.stop c.in-Err-ReadFailed.field-0-is, gives.short c.requires.stop c.in-Err-ReadFailed.field-0-is),
+      λ told. refl,
+      stop_takes g.S.Source.tells _ _ _ _ _ gives,
+    )

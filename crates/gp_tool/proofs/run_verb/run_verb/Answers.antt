@@ -34,4 +34,4 @@ returns-in-Err-clause-run g c fits =
 pub returns-in-Err-clause-complete : goal.returns-in-Err-clause-complete
 returns-in-Err-clause-complete g c told tells card good none =
     let F = g.F.Flash in
-    no_other_cause F c.args.flash c.in-Err.refused.flash c.in-Err.refused.cause c.refusal.result c.in-Err.ensures.err c.refusal.ensures tells card.0 card.1 none.flash
+    inr (no_other_cause F c.args.flash c.in-Err.refused.flash c.in-Err.refused.cause c.refusal.result c.in-Err.ensures.err c.refusal.ensures tells card.0 card.1 none.flash)

@@ -1,7 +1,6 @@
 use Rattle.std.proofs.Common.{ap, ◌∙◌}
 use Rattle.policy_rules.specs.State.{powered_on}
-use Rattle.card_core.specs.Card.{CardRepresents}
-use Rattle.gp_tool.proofs.Complete.{finishes}
+use Rattle.gp_tool.proofs.Complete.{is_done}
 use Rattle.gp_tool.proofs.Statuses.{never_others}
 use Rattle.gp_tool.specs.Ends.{exit_status}
 use Rattle.gp_tool.proofs.serving.serve.Goals as goal
@@ -24,9 +23,8 @@ pub returns-clause-complete : goal.returns-clause-complete
 returns-clause-complete g c state stands told good none =
     let again = c.reset.ensures.stands state stands in
     let end = c.run-end.result in
-    let F = g.F.Flash in
-    c.status.ensures ∙ ap exit_status (finishes c.args.verb g.S.Source.tells g.K.Sink.tells _ _ (powered_on state.registry) _ _ _ _ end.ending c.run-end.ensures.cause
-    (c.run-end.ensures.ends (powered_on state.registry) again) told good.0 good.1 none.reads none.writes (rw (← c.reset.ensures.same.0) at none.flash))
+    rw c.status.ensures (is_done c.args.verb g.S.Source.tells g.K.Sink.tells _ _ (powered_on state.registry) _ _ _ _ end.ending c.run-end.ensures.cause
+    (c.run-end.ensures.ends (powered_on state.registry) again) told (good.0 (powered_on state.registry)) good.1 none.reads none.writes (rw (← c.reset.ensures.same.0) at none.flash))
 
 pub returns-clause-live : goal.returns-clause-live
 returns-clause-live g c other = c.run-end.ensures.live (λ is. other (c.status.ensures ∙ ap exit_status is))

@@ -43,4 +43,4 @@ returns-in-Ok-clause-complete g c told card no_write no_flash =
 pub returns-in-Err-clause-complete : goal.returns-in-Err-clause-complete
 returns-in-Err-clause-complete g c told card no_write no_flash =
     let F = g.F.Flash in
-    no_other_cause F c.args.flash c.in-Err.refused.flash c.in-Err.refused.cause c.refusal.result c.in-Err.ensures.err c.refusal.ensures told card.0 card.1 no_flash
+    inr (no_other_cause F c.args.flash c.in-Err.refused.flash c.in-Err.refused.cause c.refusal.result c.in-Err.ensures.err c.refusal.ensures told card.0 card.1 no_flash)

@@ -1,0 +1,50 @@
+-- What comes of one line in `replay`.
+use Rattle.std.specs.Prelude.{◌≡◌, ℕ, Bool, ◌||◌, List, [], ◌∷◌, ◌++◌, None, take}
+use Rattle.std.specs.List.{concat}
+use Rattle.card_core.specs.Card.{CardOver}
+use Rattle.flash_core.specs.declared.flash.Flash.{Ghosts as Flash}
+use Rattle.gp_tool.specs.Effects.{Effect, Place}
+use Rattle.gp_tool.specs.Form.{FailsCommand, IsBlank, IsForCard}
+use Rattle.gp_tool.specs.Replay.{Compares, Keeps, Kept, Meets}
+use Rattle.gp_tool.specs.Serve.{BreaksLine, RunsLine, Standing, StandsAt}
+use Rattle.gp_tool.specs.declared.line.LineEnd.{LineEnd}
+use Rattle.gp_tool.specs.declared.line.LineEnd.TheVariants.{Done, NoForm, WriteFault, FlashFault}
+
+-- Some spaces come first in a text, and this stands behind them, which begins with none.
+pub record SkipsSpaces (text rest : List ℕ) : Type 0 where
+  pub spaces : List ℕ
+  pub is : text ≡ spaces ++ rest
+  pub blank : IsBlank spaces
+  pub no_more : (more : List ℕ) → rest ≡ 32 ∷ more → ⊥
+
+-- The reply that was kept was compared.
+pub record IsMet (number : ℕ) (line : List ℕ) (kept kept' : Kept) (differs differs' : Bool) : Type 0 where
+  pub want : List ℕ
+  pub got : List ℕ
+  pub effect : Effect
+  pub meets : Meets line kept want got
+  pub compares : Compares number want got effect
+  pub kept_no_more : kept' ≡ None
+  pub tells : differs' ≡ (differs || effect.differs)
+
+-- what is kept then, whether a reply has differed, and what has been written
+abbrev pub ComparesLine : ℕ → List ℕ → Type 0 → Kept → Kept → Bool → Bool → List ℕ → List ℕ → LineEnd → Type 0
+ComparesLine number line writes kept kept' differs differs' old new Done =
+    (met : IsMet number line kept kept' differs differs') × (writes → new ≡ old ++ concat met.effect.texts)
+ComparesLine number line writes kept kept' differs differs' old new NoForm =
+    ((want got : List ℕ) → Meets line kept want got → ⊥) × (kept' ≡ kept) × (differs' ≡ differs) × (writes → new ≡ old)
+ComparesLine number line writes kept kept' differs differs' old new WriteFault =
+    (met : IsMet number line kept kept' differs differs') × (text : List ℕ) × (met.effect.texts ≡ text ∷ [])
+    × (writes → (n : ℕ) × (new ≡ old ++ take n text))
+ComparesLine number line writes kept kept' differs differs' old new FlashFault = ⊥
+
+-- what comes of a line for the card in `replay`, which writes nothing
+abbrev pub KeepsLine : {F : Type 0} → List ℕ → Flash F → Standing F Kept → Standing F Kept → LineEnd → Type 0
+KeepsLine line device old new Done = (place : Place Kept) → StandsAt device old place → (played : RunsLine (Keeps line) device old new place) × (played.effect.texts ≡ [])
+KeepsLine line device old new NoForm = (IsForCard line → ⊥) × (new ≡ old)
+KeepsLine line device old new WriteFault = ⊥
+KeepsLine line device old new FlashFault = (place : Place Kept) → StandsAt device old place → BreaksLine (FailsCommand line) device old new place
+
+-- where the code stands in `replay`
+abbrev pub keeping : {F : Type 0} → CardOver F → Kept → ℕ → Bool → Standing F Kept
+keeping card kept done differs = record { card = card; memory = kept; done = done; differs = differs }

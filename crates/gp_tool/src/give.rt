@@ -1,0 +1,65 @@
+//! A line that is given to a card.
+
+ghost use Rattle.std.specs.Prelude.{◌≡◌, ◌≢◌, ◌≤◌, ◌<◌, ◌+◌, true, length};
+ghost use Rattle.io_edge.specs.declared.line.TheConstants.{INPUT_LIMIT};
+ghost use Rattle.faults.specs.Faults.{Rose};
+ghost use Rattle.gp_tool.specs.Give.{GivesLine};
+ghost use Rattle.gp_tool.specs.declared.give.Given.TheVariants.{FlashFault};
+
+use crate::form::{Form, read_form};
+use crate::workspace::Workspace;
+use card_core::Card;
+use flash_core::{Flash, FlashFailed};
+use io_edge::LINE_LIMIT;
+use policy_rules::Rule;
+
+/// What came of a line that is given to a card.
+#[derive(Clone, Copy)]
+pub enum Given {
+    /// It is no line for a card.
+    NoForm,
+    /// It gives the card nothing.
+    Nothing,
+    /// The card's power was taken away and given back.
+    Reset,
+    /// The card answered its command, whose reply is in the workspace, with the rule that refused it.
+    Answered(Option<Rule>),
+    /// The device failed in its command.
+    FlashFault,
+}
+
+/// Gives a line to the card. `done` counts the commands that the card has answered.
+pub fn give_line<F: Flash>(
+    line: &[u8],
+    card: &mut Card<F>,
+    done: &mut u32,
+    space: &mut Workspace,
+) -> Given
+    requires line { length line.now ≤ LINE_LIMIT }
+    requires live { card.old.live ≡ true }
+    requires few { done.old < INPUT_LIMIT }
+    ensures given { GivesLine line.now F.Flash card.old card.new done.old done.new space.old.reply.items space.new.reply.items result }
+    ensures has_reply { space.new.has_reply ≡ space.old.has_reply }
+    ensures live { result ≢ FlashFault → card.new.live ≡ true }
+    ensures few { done.new ≤ done.old + 1 }
+    ensures later { F.faults card.old.flash ≤ F.faults card.new.flash }
+    ensures cause { result ≡ FlashFault → Rose (F.faults card.old.flash) (F.faults card.new.flash) }
+{
+    match read_form(line, &mut space.command) {
+        None => Given::NoForm,
+        Some(Form::Nothing) => Given::Nothing,
+        Some(Form::Reset) => {
+            card.reset();
+            Given::Reset
+        }
+        Some(Form::Command(count)) => {
+            match card.process(&space.command[..count], &mut space.reply) {
+                Ok(rule) => {
+                    *done += 1;
+                    Given::Answered(rule)
+                }
+                Err(FlashFailed) => Given::FlashFault,
+            }
+        }
+    }
+}

@@ -1,0 +1,160 @@
+//! A line of the verb `replay`.
+
+ghost use Rattle.std.specs.Prelude.{◌≡◌, ◌≢◌, ◌≤◌, ◌<◌, ◌+◌, ◌++◌, ◌∷◌, ℕ, Bool, List, true, take, length, IfSome, IsTrue, MatchOption, ◌↔◌};
+ghost use Rattle.io_edge.specs.declared.line.TheConstants.{INPUT_LIMIT};
+ghost use Rattle.gp_tool.specs.Compare.{ComparesLine, KeepsLine, SkipsSpaces, keeping};
+ghost use Rattle.gp_tool.specs.Form.{FailsCommand};
+ghost use Rattle.gp_tool.specs.Replay.{IsForReplay, Replays, Wants};
+ghost use Rattle.gp_tool.specs.Serve.{ServesLine, ServeCause};
+ghost use Rattle.gp_tool.specs.Standing.{kept_in, standing};
+ghost use Rattle.gp_tool.specs.declared.form.TheConstants.{COMMAND_LIMIT};
+ghost use Rattle.gp_tool.specs.declared.line.LineEnd.TheVariants.{FlashFault};
+
+use crate::difference::write_difference;
+use crate::form::{COMMAND_LIMIT, decode};
+use crate::give::{Given, give_line};
+use crate::line::LineEnd;
+use crate::tally::Tally;
+use crate::workspace::Workspace;
+use card_core::Card;
+use flash_core::Flash;
+use io_edge::{LINE_LIMIT, Sink};
+
+/// How many digits a wanted reply has, at least.
+const DIGITS_LEAST: usize = 4;
+
+fn begins_with_space(text: &[u8]) -> bool
+    ensures { IsTrue result ↔ ((more : List ℕ) × (text.now ≡ 32 ∷ more)) }
+{
+    matches!(text, [b' ', ..])
+}
+
+// What stands behind the spaces that a text begins with.
+fn skip_spaces(text: &[u8]) -> &[u8]
+    ensures { SkipsSpaces text.now result.now }
+{
+    let mut rest = text;
+    while begins_with_space(rest) {
+        rest = &rest[1..];
+    }
+    rest
+}
+
+// Whether a line wants a reply, by its first byte.
+fn wants_reply(line: &[u8]) -> bool
+    ensures { IsTrue result ↔ ((rest : List ℕ) × (line.now ≡ 61 ∷ rest)) }
+{
+    matches!(line, [b'=', ..])
+}
+
+// The bytes that a line wants, in the front of `bytes`, where it wants a reply.
+fn read_wanted(line: &[u8], bytes: &mut [u8; COMMAND_LIMIT]) -> Option<usize>
+    requires line { length line.now ≤ LINE_LIMIT }
+    requires sign { (rest : List ℕ) × (line.now ≡ 61 ∷ rest) }
+    ensures wanted { MatchOption result ((want : List ℕ) → Wants line.now want → ⊥) (λ count. Wants line.now (take count bytes.new)) }
+    ensures fits { IfSome result (λ count. count ≤ COMMAND_LIMIT) }
+{
+    let digits = skip_spaces(&line[1..]);
+    if digits.len() < DIGITS_LEAST {
+        return None;
+    }
+    decode(digits, bytes)
+}
+
+fn is_same(wanted: &[u8], reply: &[u8]) -> bool
+    ensures { IsTrue result ↔ (wanted.now ≡ reply.now) }
+{
+    wanted == reply
+}
+
+// Compares the reply that is there with the one that a line wants, and writes a difference.
+fn compare_line<K: Sink>(
+    number: u32,
+    line: &[u8],
+    differs: &mut bool,
+    space: &mut Workspace,
+    sink: &mut K,
+) -> LineEnd
+    requires line { length line.now ≤ LINE_LIMIT }
+    requires sign { (rest : List ℕ) × (line.now ≡ 61 ∷ rest) }
+    ensures compared { ComparesLine number line.now K.tells (kept_in space.old) (kept_in space.new) differs.old differs.new
+        (K.state sink.old).written (K.state sink.new).written result }
+    ensures flushes { (K.state sink.new).flushes ≡ (K.state sink.old).flushes }
+    ensures cause { (device : ℕ) → ServeCause (K.state sink.old).faults (K.state sink.new).faults device device result }
+{
+    if !space.has_reply {
+        return LineEnd::NoForm;
+    }
+    let Some(count) = read_wanted(line, &mut space.command) else {
+        return LineEnd::NoForm;
+    };
+    space.has_reply = false;
+    let wanted = &space.command[..count];
+    if is_same(wanted, &space.reply) {
+        return LineEnd::Done;
+    }
+    *differs = true;
+    match write_difference(number, wanted, &space.reply, sink) {
+        Ok(()) => LineEnd::Done,
+        Err(_) => LineEnd::WriteFault,
+    }
+}
+
+// Gives a line to the card, and keeps the reply.
+fn keep_reply<F: Flash>(
+    line: &[u8],
+    card: &mut Card<F>,
+    done: &mut u32,
+    space: &mut Workspace,
+) -> LineEnd
+    requires line { length line.now ≤ LINE_LIMIT }
+    requires live { card.old.live ≡ true }
+    requires few { done.old < INPUT_LIMIT }
+    ensures kept { (differs : Bool) → KeepsLine line.now F.Flash (keeping card.old (kept_in space.old) done.old differs) (keeping card.new (kept_in space.new) done.new differs) result }
+    ensures live { result ≢ FlashFault → card.new.live ≡ true }
+    ensures few { done.new ≤ done.old + 1 }
+    ensures later { F.faults card.old.flash ≤ F.faults card.new.flash }
+    ensures cause { (sink : ℕ) → ServeCause sink sink (F.faults card.old.flash) (F.faults card.new.flash) result }
+{
+    match give_line(line, card, done, space) {
+        Given::NoForm => LineEnd::NoForm,
+        Given::Nothing => LineEnd::Done,
+        Given::Reset => {
+            space.has_reply = false;
+            LineEnd::Done
+        }
+        Given::Answered(_) => {
+            space.has_reply = true;
+            LineEnd::Done
+        }
+        Given::FlashFault => LineEnd::FlashFault,
+    }
+}
+
+/// Gives a line to the card and keeps the reply, or compares the one that was kept with the one that the line wants.
+pub fn replay_line<K: Sink, F: Flash>(
+    number: u32,
+    line: &[u8],
+    card: &mut Card<F>,
+    tally: &mut Tally,
+    space: &mut Workspace,
+    sink: &mut K,
+) -> LineEnd
+    requires line { length line.now ≤ LINE_LIMIT }
+    requires live { card.old.live ≡ true }
+    requires few { tally.old.done < INPUT_LIMIT }
+    ensures served { ServesLine (Replays number line.now) (IsForReplay line.now) (FailsCommand line.now) F.Flash K.tells
+        (standing card.old (kept_in space.old) tally.old) (standing card.new (kept_in space.new) tally.new)
+        (K.state sink.old).written (K.state sink.new).written result }
+    ensures live { result ≢ FlashFault → card.new.live ≡ true }
+    ensures few { tally.new.done ≤ tally.old.done + 1 }
+    ensures flushes { (K.state sink.new).flushes ≡ (K.state sink.old).flushes }
+    ensures later { F.faults card.old.flash ≤ F.faults card.new.flash }
+    ensures cause { ServeCause (K.state sink.old).faults (K.state sink.new).faults (F.faults card.old.flash) (F.faults card.new.flash) result }
+{
+    if wants_reply(line) {
+        compare_line(number, line, &mut tally.differs, space, sink)
+    } else {
+        keep_reply(line, card, &mut tally.done, space)
+    }
+}
