@@ -9,7 +9,8 @@ use Rattle.policy_rules.specs.State.{State}
 use Rattle.policy_rules.specs.Step.{Outcome}
 use Rattle.gp_tool.proofs.ComeFirst.{lines_come, shrinks}
 use Rattle.gp_tool.specs.Effects.{Effect, Place}
-use Rattle.gp_tool.specs.Ends.{Outside, Reached, Ends, EndCause, Faults, IsBad, exit_status, room_ahead}
+use Rattle.gp_tool.specs.Ends.{Outside, Ends, EndCause, Faults, IsBad, exit_status, room_ahead}
+use Rattle.gp_tool.specs.Going.{Reached}
 use Rattle.gp_tool.specs.RunsLines.{AreServable, HasForm, Memory, RunsLines, start}
 use Rattle.gp_tool.specs.Verbs.{IsDone}
 use Rattle.gp_tool.specs.declared.ending.Ending.{Ending}

@@ -9,7 +9,8 @@ use Rattle.gp_tool.proofs.ComeFirst.{room_further, room_left, room_whole}
 use Rattle.gp_tool.proofs.One.{line_once, plays_form}
 use Rattle.gp_tool.proofs.RunsMore.{runs_once}
 use Rattle.gp_tool.specs.Effects.{Effect, Place}
-use Rattle.gp_tool.specs.Ends.{AreShort, ComeFirst, Course, IsBad, IsRead, IsShortCut, Outside, with_bad_line}
+use Rattle.gp_tool.specs.Ends.{ComeFirst, Course, IsBad, IsRead, IsShortCut, Outside, with_bad_line}
+use Rattle.gp_tool.specs.Going.{AreShort}
 use Rattle.gp_tool.specs.Laws.{EndsTold, IsFaultless}
 use Rattle.gp_tool.specs.RunsLines.{HasForm, Memory, PlaysLine, RunsLines, start}
 use Rattle.gp_tool.specs.declared.ending.Ending.{Ending}
@@ -185,7 +186,7 @@ module _ (verb : Verb) where
   texts_at WriteFault given effect = effect.texts
 
   is_over : (input : List ℕ) (given : List (List ℕ)) (ahead : List ℕ) → IsRead input given ahead → IsOver (room_left INPUT_LIMIT input ahead) ahead
-  is_over input given ahead read = (let short = read.short in (read.none, omega (arith, short)))
+  is_over input given ahead read = (let short = read.2 in (read.1, omega (arith, short)))
 
   module _ (first : State) (old : Outside) where
     -- the course of a run, and what its ending says

@@ -1,7 +1,6 @@
 -- A run behind its flush.
-use Rattle.std.proofs.Common.{◌≡◌, ◌≢◌, ◌⊎◌, ℕ, List, [], ◌∷◌, ◌++◌, length, refl, sym, ap, ◌∙◌, inl, inr, append_assoc}
+use Rattle.std.proofs.Common.{◌≡◌, ◌≢◌, arith, ℕ, List, [], ◌++◌, refl, sym, ap, ◌∙◌, inl, inr}
 use Rattle.std.proofs.lemmas.List.{append-nil}
-use Rattle.std.proofs.Math.Seq.{take-length}
 use Rattle.std.specs.List.{concat}
 use Rattle.faults.specs.Faults.{next_count}
 use Rattle.io_edge.specs.Streams.{SinkState, SourceState}
@@ -30,56 +29,26 @@ after_from writes FlashFault old mid new result same after = (after.0, after.1 �
 after_from writes ReadFault old mid new result same after = (after.0, after.1 ∙ ap next_count same)
 after_from writes WriteFault old mid new result same after = (after.0, after.1 ∙ same)
 
--- texts before the last one, and that
-record Split (texts : List (List ℕ)) : Type 0 where
-  pub before : List (List ℕ)
-  pub last : List ℕ
-  pub texts_are : (texts ≡ before ++ last ∷ []) ⊎ ((texts ≡ []) × (before ≡ []) × (last ≡ []))
-  pub whole : concat texts ≡ concat before ++ last
-
--- the same, of one text more
-split_more : (first : List ℕ) (texts : List (List ℕ)) → Split texts → Split (first ∷ texts)
-split_more first texts split = elim split.texts_are [
-  | inl some ↦
-      record {
-        before = first ∷ split.before;
-        last = split.last;
-        texts_are = inl (ap (λ more. first ∷ more) some);
-        whole = ap (λ more. first ++ more) split.whole ∙ sym (append_assoc first (concat split.before) split.last);
-      }
-  | inr none ↦
-      record {
-        before = [];
-        last = first;
-        texts_are = inl (ap (λ more. first ∷ more) none.0);
-        whole = ap (λ more. first ++ concat more) none.0 ∙ append-nil first;
-      }
-]
-
-split : (texts : List (List ℕ)) → Split texts
-split [] = record { before = []; last = []; texts_are = inr (refl, refl, refl); whole = refl }
-split (first ∷ texts) = split_more first texts (split texts)
-
 -- the flush was refused behind all texts
-all_cut : (writes : Type 0) (texts : List (List ℕ)) (old later : SinkState) → Wrote writes texts old later → later.flushes ≡ next_count old.flushes → CutsLast writes texts old later
-all_cut writes texts old later wrote once =
-    let parts = split texts in
-    record {
-      before = parts.before;
-      last = parts.last;
-      texts_are = parts.texts_are;
-      written = λ told. (
-        length parts.last,
-        wrote told ∙ ap (λ t. old.written ++ t) (parts.whole ∙ ap (λ t. concat parts.before ++ t) (sym (take-length parts.last))),
-      );
-      flushes = inr (once, wrote);
-    }
+all_cut : (writes : Type 0) (texts : List (List ℕ)) (old later : Outside) → Wrote writes texts old later → later.sink.flushes ≡ next_count old.sink.flushes → CutsLast writes texts old later
+all_cut writes texts old later wrote once = (
+  inr (once, wrote),
+  texts,
+  [],
+  sym (append-nil texts),
+  omega arith,
+  λ told. (0, wrote told ∙ ap (λ t. old.sink.written ++ t) (sym (append-nil (concat texts)))),
+)
 
 module _ (verb : Verb) (reads writes : Type 0) (Rests : List Outcome → State → Type 0) (Fails : List Outcome → State → Outcome → Type 0) (first : State) (before : Outside) (source : SourceState) (now later : SinkState)
     (same : writes → later.written ≡ now.written) where
   -- what was written stays over a flush
-  still_wrote : (texts : List (List ℕ)) → Wrote writes texts before.sink now → Wrote writes texts before.sink later
+  still_wrote : (texts : List (List ℕ)) → Wrote writes texts before (outside source now) → Wrote writes texts before (outside source later)
   still_wrote texts wrote told = same told ∙ wrote told
+
+  still_cut : (texts : List (List ℕ)) → later.flushes ≡ before.sink.flushes → CutsLast writes texts before (outside source now) → CutsLast writes texts before (outside source later)
+  still_cut texts none (flushes, first, last, are, one, written) =
+      (inl none, first, last, are, one, λ told. (let part = written told in (part.0, same told ∙ part.1)))
 
   module _ (course : Course verb reads first before.source.left source.left) where
     abbrev At : SinkState → Ending → Type 0
@@ -102,38 +71,20 @@ module _ (verb : Verb) (reads writes : Type 0) (Rests : List Outcome → State �
     flush_at ending result other cut at (inr fault) = rw fault.0 (cut fault.1)
 
     -- of all texts the last one may be missing
-    cut_texts : Wrote writes course.effect.texts before.sink now → later.flushes ≡ next_count before.sink.flushes → At later WriteFault
-    cut_texts wrote once = inl (all_cut writes course.effect.texts before.sink later (still_wrote course.effect.texts wrote) once)
+    cut_texts : Wrote writes course.effect.texts before (outside source now) → later.flushes ≡ next_count before.sink.flushes → At later WriteFault
+    cut_texts wrote once = inl (all_cut writes course.effect.texts before (outside source later) (still_wrote course.effect.texts wrote) once)
 
     after_at : (ending result : Ending) → AfterFlush writes ending before.sink later result → now.flushes ≡ before.sink.flushes → At now ending → At later result
     after_at Finished result after none at = flush_at Finished result (λ is. cc is) (cut_texts at.2) at after
     after_at Differs result after none at = flush_at Differs result (λ is. cc is) (cut_texts at.2) at after
     after_at BadLine result after none at =
         flush_at BadLine result (λ is. cc is)
-        (λ once. inr (at.0, all_cut writes (with_bad_line course.given course.effect) before.sink later (still_wrote (with_bad_line course.given course.effect) at.1) once)) at after
+        (λ once. inr (at.0, all_cut writes (with_bad_line course.given course.effect) before (outside source later) (still_wrote (with_bad_line course.given course.effect) at.1) once)) at after
     after_at InputTooLong result after none at = flush_at InputTooLong result (λ is. cc is) (cut_texts at.1) at after
     after_at FlashFault result after none at = rw after.0 (still_at FlashFault (λ is. cc is) at)
     after_at ReadFault result after none at = rw after.0 (still_at ReadFault (λ is. cc is) at)
-    after_at WriteFault result after none (inl cuts) =
-        rw after.0 (inl (record {
-          before = cuts.before;
-          last = cuts.last;
-          texts_are = cuts.texts_are;
-          written = λ told. (let part = cuts.written told in (part.0, same told ∙ part.1));
-          flushes = inl after.1;
-        }))
-    after_at WriteFault result after none (inr bad) =
-        let cuts = bad.1 in
-        rw after.0 (inr (
-          bad.0,
-          record {
-            before = cuts.before;
-            last = cuts.last;
-            texts_are = cuts.texts_are;
-            written = λ told. (let part = cuts.written told in (part.0, same told ∙ part.1));
-            flushes = inl after.1;
-          },
-        ))
+    after_at WriteFault result after none (inl cuts) = rw after.0 (inl (still_cut course.effect.texts after.1 cuts))
+    after_at WriteFault result after none (inr bad) = rw after.0 (inr (bad.0, still_cut (with_bad_line course.given course.effect) after.1 bad.1))
 
   -- a run whose flush was refused rests where it rested before
   rests_still : (ending result : Ending) → AfterFlush writes ending before.sink later result → result ≢ FlashFault → ending ≢ FlashFault

@@ -65,9 +65,7 @@ module _ {S K F : Type 0} (verb : Verb) (source : Source S) (sink : Sink K) (dev
       → Serves verb source sink device (λ last. Unit {0}) first status count (around s k old) (around s' k' new)
   serves_since Stands status count s s' k k' new serves = record {
     ending = serves.ending;
-    status_is = serves.status_is;
-    cause = cause_since serves.ending _ _ _ _ _ later serves.cause;
-    flushes = serves.flushes;
+    ended = (let ended = serves.ended in record { status_is = ended.status_is; cause = cause_since serves.ending _ _ _ _ _ later ended.cause; flushes = ended.flushes });
     ends = said_else verb source.tells sink.tells
         (λ outcomes last. HasRun device card.flash new first count outcomes last × Stands last)
         (λ outcomes last. HasRun device old new first count outcomes last × Unit {0})

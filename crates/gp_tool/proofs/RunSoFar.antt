@@ -15,8 +15,8 @@ use Rattle.gp_tool.proofs.Moments.{among_first, among_more, joins, has_run, has_
 use Rattle.gp_tool.proofs.RunsMore.{runs_end, runs_more}
 use Rattle.gp_tool.specs.Device.{HasFailed, HasRun, LeavesOneOf, registries}
 use Rattle.gp_tool.specs.Effects.{Effect, Place, joined, nothing}
-use Rattle.gp_tool.specs.Ends.{AreShort, Course, Ends, IsBad, IsRead, IsShortCut, Outside, Reached, TakesNoMore, room_ahead}
-use Rattle.gp_tool.specs.Going.{Going}
+use Rattle.gp_tool.specs.Ends.{Course, Ends, IsBad, IsRead, IsShortCut, Outside, TakesNoMore, room_ahead}
+use Rattle.gp_tool.specs.Going.{AreShort, Going, Reached}
 use Rattle.gp_tool.specs.RunsLines.{Memory, PlaysLine, RunsLines, bad_line, no_memory, start}
 use Rattle.gp_tool.specs.Serve.{Standing}
 use Rattle.gp_tool.specs.Turn.{EndsWith, GoesOn, TakesLine, total}
@@ -181,6 +181,13 @@ module _ {F : Type 0} (verb : Verb) (device : Flash F) (reads writes : Type 0) (
         all_written before.sink.written (concat going.effect.texts) (text (length going.given + 1)) now.sink.written later.sink.written (going.written told)
         (wrote told ∙ ap (λ n. now.sink.written ++ text (n + 1)) going.number)
 
+    -- the last text was cut
+    last_cut : (n : ℕ) (text : List ℕ) → writes → later.sink.written ≡ now.sink.written ++ take n text
+        → later.sink.written ≡ before.sink.written ++ (concat going.effect.texts ++ take n (concat (text ∷ [])))
+    last_cut n text told wrote =
+        all_written before.sink.written (concat going.effect.texts) (take n text) now.sink.written later.sink.written (going.written told) wrote
+        ∙ ap (λ t. before.sink.written ++ (concat going.effect.texts ++ take n t)) (sym (append-nil text))
+
     -- the input is at its end
     course_read : (reads → ahead old now.source.left ≡ []) → (reads → 0 < room old) → (reads → later.source.left ≡ [])
         → (course : Course verb reads first before.source.left later.source.left)
@@ -197,12 +204,12 @@ module _ {F : Type 0} (verb : Verb) (device : Flash F) (reads writes : Type 0) (
               (λ told. taken_all (length before.source.left) later.source.left (none told) (short told)),
           refl,
           refl,
-          λ told. record {
-            all = lines_come INPUT_LIMIT before.source.left going.given (ahead old now.source.left) (going.reached told)
-                ∙ ap (λ rest. going.given ++ lines rest) (over told) ∙ append-nil going.given;
-            none = refl;
-            short = short told;
-          },
+          λ told. (
+            lines_come INPUT_LIMIT before.source.left going.given (ahead old now.source.left) (going.reached told)
+                ∙ ap (λ rest. going.given ++ lines rest) (over told) ∙ append-nil going.given,
+            refl,
+            short told,
+          ),
         )
 
     pub going_ends : (ending : Ending) → EndsWith verb device reads writes at at' old now later ending → later.sink.flushes ≡ before.sink.flushes
@@ -236,20 +243,20 @@ module _ {F : Type 0} (verb : Verb) (device : Flash F) (reads writes : Type 0) (
         record {
           course = course_here (ahead old now.source.left) later.source.left going.reached (taken_there (ahead old now.source.left) later.source.left taken);
           ends = (
-            record {
-              line = next.line;
-              begun = b.begun;
-              mid = b.mid;
-              next = b.next;
-              comes = λ told.
+            (
+              next.line,
+              λ told.
                   (let comes = next.next told in
-                  (comes.0, subst (λ (n : ℕ). IsNextLine n (ahead old now.source.left) next.line comes.0) (room_is told) comes.1));
-              fits = next.fits;
-              fails = b.fails;
-              device = has_failed device from at'.card.flash first at'.done (going.effect.outcomes ++ b.begun) b.mid b.next (done_more b.begun at'.done b.done) b.left
+                  (comes.0, subst (λ (n : ℕ). IsNextLine n (ahead old now.source.left) next.line comes.0) (room_is told) comes.1)),
+              next.fits,
+              b.begun,
+              b.mid,
+              b.next,
+              b.fails,
+              has_failed device from at'.card.flash first at'.done (going.effect.outcomes ++ b.begun) b.mid b.next (done_more b.begun at'.done b.done) b.left
                   (subst (λ (os : List Outcome). LeavesOneOf device from at'.card.flash (registries first os)) (sym (append_assoc going.effect.outcomes b.begun (b.next ∷ [])))
-                  (leaves_more at.card.flash at'.card.flash (b.begun ++ b.next ∷ []) going.leaves b.leaves));
-            },
+                  (leaves_more at.card.flash at'.card.flash (b.begun ++ b.next ∷ []) going.leaves b.leaves)),
+            ),
             so_far silent,
           );
           rests = λ other. absurd (other refl);
@@ -271,15 +278,14 @@ module _ {F : Type 0} (verb : Verb) (device : Flash F) (reads writes : Type 0) (
         let stands = played.stands in
         record {
           course = course_more line.0 later.source.left takes (taken_there line.0 later.source.left line.5);
-          ends = inl (record {
-            before = going.effect.texts;
-            last = line.2;
-            texts_are = inl (ap (λ t. going.effect.texts ++ t) line.3);
-            written = λ told.
-                (let part = line.4 told in
-                (part.0, all_written before.sink.written (concat going.effect.texts) (take part.0 line.2) now.sink.written later.sink.written (going.written told) part.1));
-            flushes = inl flushes;
-          });
+          ends = inl (
+            inl flushes,
+            going.effect.texts,
+            line.2 ∷ [],
+            ap (λ t. going.effect.texts ++ t) line.3,
+            omega arith,
+            λ told. (let part = line.4 told in (part.0, last_cut part.0 line.2 told part.1)),
+          );
           rests = λ other.
               has_run device from at'.card first at'.done (going.effect.outcomes ++ played.effect.outcomes) played.next.state (done_more played.effect.outcomes at'.done played.done) stands.0
               (leaves_more at.card.flash at'.card.flash played.effect.outcomes going.leaves played.leaves);
@@ -288,13 +294,16 @@ module _ {F : Type 0} (verb : Verb) (device : Flash F) (reads writes : Type 0) (
       course = course_here (ahead old now.source.left) later.source.left going.reached (taken_there (ahead old now.source.left) later.source.left taken);
       ends = inr (
         bad_there bad,
-        record {
-          before = going.effect.texts;
-          last = bad_line (length going.given + 1);
-          texts_are = inl refl;
-          written = λ told. (let part = refuses told in (part.0, with_bad (λ n. take part.0 (bad_line n)) (λ again. part.1) told));
-          flushes = inl flushes;
-        },
+        (
+          inl flushes,
+          going.effect.texts,
+          bad_line (length going.given + 1) ∷ [],
+          refl,
+          omega arith,
+          λ told.
+              (let part = refuses told in
+              (part.0, last_cut part.0 (bad_line (length going.given + 1)) told (part.1 ∙ ap (λ n. now.sink.written ++ take part.0 (bad_line (n + 1))) going.number))),
+        ),
       );
       rests = λ other. rested same;
     }

@@ -20,19 +20,8 @@ module _ (verb : Verb) (reads writes : Type 0) (Rests Rests' : List Outcome → 
   at_else course InputTooLong at = at
   at_else course WriteFault at = at
   at_else course FlashFault at =
-      let next = at.0 in (
-        record {
-          line = next.line;
-          begun = next.begun;
-          mid = next.mid;
-          next = next.next;
-          comes = next.comes;
-          fits = next.fits;
-          fails = next.fails;
-          device = fails (course.effect.outcomes ++ next.begun) next.mid next.next next.device;
-        },
-        at.1,
-      )
+      let next = at.0 in
+      ((next.0, next.1, next.2, next.3, next.4, next.5, next.6, fails (course.effect.outcomes ++ next.3) next.4 next.5 next.7), at.1)
 
   pub said_else : (ending : Ending) → Ends verb reads writes Rests Fails first ending old new → Ends verb reads writes Rests' Fails' first ending old new
   said_else ending ends = record {

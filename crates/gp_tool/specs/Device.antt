@@ -37,8 +37,7 @@ HoldsCard device flash = (registry : Registry) × Reopens (device.pages flash) r
 -- leaves no registry that it could not leave before.
 pub record IsNotPowered {F : Type 0} (device : Flash F) (status count : ℕ) (old new : F) : Type 0 where
   pub none : count ≡ 0
-  pub why : ((status ≡ 3) × Rose (device.faults old) (device.faults new))
-      ⊎ ((status ≡ 4) × (device.tells → IsNoCard device old new))
+  pub why : ((status ≡ 3) × Rose (device.faults old) (device.faults new)) ⊎ ((status ≡ 4) × (device.tells → IsNoCard device old new))
   pub moments : device.tells → (all : List Registry) → Always (device.may_leave old) (ReopensAsOne all) → LeavesOnly device old new (ReopensAsOne all)
 
 -- The device after a run of commands: power lost now leaves the last registry, and left at no moment one that is not of the

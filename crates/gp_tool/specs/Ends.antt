@@ -23,10 +23,6 @@ pub record Outside : Type 0 where
 abbrev pub outside : SourceState → SinkState → Outside
 outside source sink = record { source = source; sink = sink }
 
--- no line is too long
-abbrev pub AreShort : List (List ℕ) → Type 0
-AreShort lines = AllByRecursion (λ line. length line ≤ LINE_LIMIT) lines
-
 -- how many bytes may be taken of what stands ahead
 abbrev pub room_ahead : List ℕ → List ℕ → ℕ
 room_ahead input ahead = INPUT_LIMIT - (length input - length ahead)
@@ -34,18 +30,12 @@ room_ahead input ahead = INPUT_LIMIT - (length input - length ahead)
 -- The lines come first in an input of which so many bytes may be taken, and this stands ahead behind them.
 abbrev pub ComeFirst : ℕ → List ℕ → List (List ℕ) → List ℕ → Type 0
 ComeFirst room input [] ahead = ahead ≡ input
-ComeFirst room input (line ∷ lines) ahead =
-    (after : List ℕ) × IsNextLine room input line after × ComeFirst (room - (length input - length after)) after lines ahead
-
--- the same, of an input of which nothing was taken before
-abbrev pub Reached : List ℕ → List (List ℕ) → List ℕ → Type 0
-Reached input given ahead = ComeFirst INPUT_LIMIT input given ahead
+ComeFirst room input (line ∷ lines) ahead = (after : List ℕ) × IsNextLine room input line after × ComeFirst (room - (length input - length after)) after lines ahead
 
 -- the next line has no form, or is too long
 abbrev pub IsBad : (verb : Verb) → Memory verb → ℕ → List ℕ → Type 0
 IsBad verb memory room ahead =
-    (text : List ℕ)
-    × (((after : List ℕ) × IsNextLine room ahead text after × (HasForm verb text memory → ⊥)) ⊎ (IsNextText room ahead text × (LINE_LIMIT < length text)))
+    (text : List ℕ) × (((after : List ℕ) × IsNextLine room ahead text after × (HasForm verb text memory → ⊥)) ⊎ (IsNextText room ahead text × (LINE_LIMIT < length text)))
 
 -- the limit of the input comes before the next line's end, and the line is not too long already
 abbrev pub IsShortCut : ℕ → List ℕ → Type 0
@@ -53,8 +43,7 @@ IsShortCut room ahead = (text : List ℕ) × IsCut room ahead text × (length te
 
 -- the bytes ahead that are not left are no whole line, and no line that is too long already
 abbrev pub HoldsNoLine : List ℕ → List ℕ → Type 0
-HoldsNoLine ahead left =
-    (held : List ℕ) × (ahead ≡ held ++ left) × NoNewline held × (length (strip_carriage_return held) ≤ LINE_LIMIT)
+HoldsNoLine ahead left = (held : List ℕ) × (ahead ≡ held ++ left) × NoNewline held × (length (strip_carriage_return held) ≤ LINE_LIMIT)
 
 -- What stands ahead behind the lines given is no more than the bytes held at once, and then what is left in the source. Of an
 -- input of so many bytes no more is taken in all than may be.
@@ -75,39 +64,30 @@ pub record Course (verb : Verb) (reads : Type 0) (first : State) (input left : L
   pub effect : Effect
   pub last : Place (Memory verb)
   pub ahead : List ℕ
-  pub fits : AreShort given
+  pub fits : AllByRecursion (λ line. length line ≤ LINE_LIMIT) given
   pub plays : RunsLines verb 1 given (start verb first) effect last
-  pub reached : reads → Reached input given ahead
+  pub reached : reads → ComeFirst INPUT_LIMIT input given ahead
   pub taken : reads → TakesNoMore (length input) ahead left
 
 -- all lines of the input were given, and it is short enough
-pub record IsRead (input : List ℕ) (given : List (List ℕ)) (ahead : List ℕ) : Type 0 where
-  pub all : lines input ≡ given
-  pub none : ahead ≡ []
-  pub short : length input < INPUT_LIMIT
+abbrev pub IsRead : List ℕ → List (List ℕ) → List ℕ → Type 0
+IsRead input given ahead = (lines input ≡ given) × (ahead ≡ []) × (length input < INPUT_LIMIT)
 
 -- the texts were written
-abbrev pub Wrote : Type 0 → List (List ℕ) → SinkState → SinkState → Type 0
-Wrote writes texts old new = writes → new.written ≡ old.written ++ concat texts
+abbrev pub Wrote : Type 0 → List (List ℕ) → Outside → Outside → Type 0
+Wrote writes texts old new = writes → new.sink.written ≡ old.sink.written ++ concat texts
 
--- A write or the flush was refused: of these texts, if there are some, no more than the last one is missing or cut.
-pub record CutsLast (writes : Type 0) (texts : List (List ℕ)) (old new : SinkState) : Type 0 where
-  pub before : List (List ℕ)
-  pub last : List ℕ
-  pub texts_are : (texts ≡ before ++ last ∷ []) ⊎ ((texts ≡ []) × (before ≡ []) × (last ≡ []))
-  pub written : writes → (count : ℕ) × (new.written ≡ old.written ++ (concat before ++ take count last))
-  pub flushes : FlushesLast writes old (concat texts) new
+-- A write or the flush was refused: no more than the last one of the texts is missing or cut.
+abbrev pub CutsLast : Type 0 → List (List ℕ) → Outside → Outside → Type 0
+CutsLast writes texts old new =
+    FlushesLast writes old.sink (concat texts) new.sink × (before last : List (List ℕ)) × (texts ≡ before ++ last) × (length last ≤ 1)
+    × (writes → (count : ℕ) × (new.sink.written ≡ old.sink.written ++ (concat before ++ take count (concat last))))
 
 -- The device failed in a command of the next line, behind the outcomes of those before it in the line.
-pub record FailsNext (verb : Verb) (reads : Type 0) (Fails : List Outcome → State → Outcome → Type 0) (at : Place (Memory verb)) (room : ℕ) (ahead : List ℕ) : Type 0 where
-  pub line : List ℕ
-  pub begun : List Outcome
-  pub mid : State
-  pub next : Outcome
-  pub comes : reads → (after : List ℕ) × IsNextLine room ahead line after
-  pub fits : length line ≤ LINE_LIMIT
-  pub fails : FailsLine verb line at begun mid next
-  pub device : Fails begun mid next
+abbrev pub FailsNext : (verb : Verb) → Type 0 → (List Outcome → State → Outcome → Type 0) → Place (Memory verb) → ℕ → List ℕ → Type 0
+FailsNext verb reads Fails at room ahead =
+    (line : List ℕ) × (reads → (after : List ℕ) × IsNextLine room ahead line after) × (length line ≤ LINE_LIMIT)
+    × (begun : List Outcome) × (mid : State) × (next : Outcome) × FailsLine verb line at begun mid next × Fails begun mid next
 
 -- the texts of the lines given, and of a bad line behind them
 abbrev pub with_bad_line : List (List ℕ) → Effect → List (List ℕ)
@@ -116,23 +96,19 @@ with_bad_line given effect = effect.texts ++ bad_line (length given + 1) ∷ []
 -- What holds at each ending behind the course: why no further line was given, and what was written.
 abbrev pub EndsAt : (verb : Verb) (reads writes : Type 0) → (List Outcome → State → Outcome → Type 0) → (first : State) (old new : Outside) → Course verb reads first old.source.left new.source.left → Ending → Type 0
 EndsAt verb reads writes Fails first old new course Finished =
-    (course.effect.differs ≡ false) × (reads → IsRead old.source.left course.given course.ahead) × Wrote writes course.effect.texts old.sink new.sink
+    (course.effect.differs ≡ false) × (reads → IsRead old.source.left course.given course.ahead) × Wrote writes course.effect.texts old new
 EndsAt verb reads writes Fails first old new course Differs =
-    (course.effect.differs ≡ true) × (reads → IsRead old.source.left course.given course.ahead) × Wrote writes course.effect.texts old.sink new.sink
+    (course.effect.differs ≡ true) × (reads → IsRead old.source.left course.given course.ahead) × Wrote writes course.effect.texts old new
 EndsAt verb reads writes Fails first old new course BadLine =
-    (reads → IsBad verb course.last.memory (room_ahead old.source.left course.ahead) course.ahead)
-    × Wrote writes (with_bad_line course.given course.effect) old.sink new.sink
-EndsAt verb reads writes Fails first old new course ReadFault =
-    (reads → HoldsNoLine course.ahead new.source.left) × Wrote writes course.effect.texts old.sink new.sink
+    (reads → IsBad verb course.last.memory (room_ahead old.source.left course.ahead) course.ahead) × Wrote writes (with_bad_line course.given course.effect) old new
+EndsAt verb reads writes Fails first old new course ReadFault = (reads → HoldsNoLine course.ahead new.source.left) × Wrote writes course.effect.texts old new
 EndsAt verb reads writes Fails first old new course InputTooLong =
-    (reads → IsShortCut (room_ahead old.source.left course.ahead) course.ahead) × Wrote writes course.effect.texts old.sink new.sink
+    (reads → IsShortCut (room_ahead old.source.left course.ahead) course.ahead) × Wrote writes course.effect.texts old new
 EndsAt verb reads writes Fails first old new course FlashFault =
-    FailsNext verb reads (λ begun. Fails (course.effect.outcomes ++ begun)) course.last (room_ahead old.source.left course.ahead) course.ahead
-    × Wrote writes course.effect.texts old.sink new.sink
+    FailsNext verb reads (λ begun. Fails (course.effect.outcomes ++ begun)) course.last (room_ahead old.source.left course.ahead) course.ahead × Wrote writes course.effect.texts old new
 EndsAt verb reads writes Fails first old new course WriteFault =
-    CutsLast writes course.effect.texts old.sink new.sink
-    ⊎ ((reads → IsBad verb course.last.memory (room_ahead old.source.left course.ahead) course.ahead)
-    × CutsLast writes (with_bad_line course.given course.effect) old.sink new.sink)
+    CutsLast writes course.effect.texts old new
+    ⊎ ((reads → IsBad verb course.last.memory (room_ahead old.source.left course.ahead) course.ahead) × CutsLast writes (with_bad_line course.given course.effect) old new)
 
 -- how a run from a first state ends
 pub record Ends (verb : Verb) (reads writes : Type 0) (Rests : List Outcome → State → Type 0) (Fails : List Outcome → State → Outcome → Type 0) (first : State) (ending : Ending) (old new : Outside) : Type 0 where
@@ -156,16 +132,12 @@ pub record Faults : Type 0 where
 abbrev pub faults_of : SourceState → SinkState → ℕ → Faults
 faults_of source sink device = record { source = source.faults; sink = sink.faults; device = device }
 
--- the counts of source and sink are as they were
-abbrev pub NoneRose : Faults → Faults → Type 0
-NoneRose old new = (new.source ≡ old.source) × (new.sink ≡ old.sink)
-
--- Whose count has risen at an ending. A flush that is refused behind a failed device raises the sink's too.
+-- Whose count has risen at an ending, or that those of source and sink are as they were. A flush that is refused behind a failed device raises the sink's too.
 abbrev pub EndCause : Ending → Faults → Faults → Type 0
 EndCause FlashFault old new = (new.source ≡ old.source) × ((new.sink ≡ old.sink) ⊎ Rose old.sink new.sink) × Rose old.device new.device
 EndCause ReadFault old new = Rose old.source new.source
 EndCause WriteFault old new = (new.source ≡ old.source) × Rose old.sink new.sink
-EndCause ending old new = NoneRose old new
+EndCause ending old new = (new.source ≡ old.source) × (new.sink ≡ old.sink)
 
 -- the status of a program that ends so
 abbrev pub exit_status : Ending → ℕ

@@ -16,6 +16,5 @@ IsFactoryCard device flash = device.tells → Keeps device flash factory_registr
 abbrev pub FormatEnds : {F : Type 0} → Flash F → Type 0 → Ending → F → SinkState → SinkState → Type 0
 FormatEnds device writes Finished flash old new = IsFactoryCard device flash × (writes → new.written ≡ old.written)
 FormatEnds device writes FlashFault flash old new = writes → new.written ≡ old.written
-FormatEnds device writes WriteFault flash old new =
-    IsFactoryCard device flash × (writes → new.written ≡ old.written) × (new.flushes ≡ next_count old.flushes)
+FormatEnds device writes WriteFault flash old new = IsFactoryCard device flash × (writes → new.written ≡ old.written) × (new.flushes ≡ next_count old.flushes)
 FormatEnds device writes ending flash old new = ⊥

@@ -1,15 +1,24 @@
 -- A run that goes on, between two lines.
-use Rattle.std.specs.Prelude.{◌≡◌, ℕ, ◌+◌, List, ◌++◌, length}
-use Rattle.std.specs.List.{concat}
+use Rattle.std.specs.Prelude.{◌≡◌, ℕ, ◌+◌, ◌≤◌, List, ◌++◌, length}
+use Rattle.std.specs.List.{AllByRecursion, concat}
 use Rattle.flash_core.specs.declared.flash.Flash.{Ghosts as Flash}
 use Rattle.io_edge.specs.Lines.{Reading, ahead}
+use Rattle.io_edge.specs.declared.line.TheConstants.{INPUT_LIMIT, LINE_LIMIT}
 use Rattle.policy_rules.specs.State.{State}
 use Rattle.gp_tool.specs.Device.{LeavesOneOf, registries}
 use Rattle.gp_tool.specs.Effects.{Effect, Place}
-use Rattle.gp_tool.specs.Ends.{AreShort, Outside, Reached}
+use Rattle.gp_tool.specs.Ends.{ComeFirst, Outside}
 use Rattle.gp_tool.specs.RunsLines.{Memory, RunsLines, start}
 use Rattle.gp_tool.specs.Serve.{Standing, StandsAt}
 use Rattle.gp_tool.specs.declared.verb.Verb.{Verb}
+
+-- no line is too long
+abbrev pub AreShort : List (List ℕ) → Type 0
+AreShort lines = AllByRecursion (λ line. length line ≤ LINE_LIMIT) lines
+
+-- the lines come first in an input of which nothing was taken before
+abbrev pub Reached : List ℕ → List (List ℕ) → List ℕ → Type 0
+Reached input given ahead = ComeFirst INPUT_LIMIT input given ahead
 
 -- The lines that were given have their texts written, and the reading and the card stand behind them. `from` is the device before
 -- the first line.

@@ -12,6 +12,7 @@ pub mod Listing
 pub mod Read
 pub mod Replay
 pub mod Replies
+pub mod RunCause
 pub mod RunsLines
 pub mod Serve
 pub mod Show

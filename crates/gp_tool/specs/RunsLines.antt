@@ -12,15 +12,13 @@ use Rattle.gp_tool.specs.declared.verb.Verb.TheVariants.{Run, Why, Replay}
 
 -- what a verb keeps of the lines before
 abbrev pub Memory : Verb → Type 0
-Memory Run = Unit {0}
-Memory Why = Unit {0}
 Memory Replay = Kept
+Memory verb = Unit {0}
 
 -- nothing is kept at the start
 abbrev pub no_memory : (verb : Verb) → Memory verb
-no_memory Run = tt
-no_memory Why = tt
 no_memory Replay = None
+no_memory verb = tt
 
 abbrev pub start : (verb : Verb) → State → Place (Memory verb)
 start verb first = record { memory = no_memory verb; state = first }
@@ -33,9 +31,8 @@ PlaysLine Replay number line at effect next = Replays number line at effect next
 
 -- a line has a form
 abbrev pub HasForm : (verb : Verb) → List ℕ → Memory verb → Type 0
-HasForm Run line memory = IsForCard line
-HasForm Why line memory = IsForCard line
 HasForm Replay line memory = IsForReplay line memory
+HasForm verb line memory = IsForCard line
 
 -- The device failed in a command of a line, behind the outcomes of those before it in the line.
 abbrev pub FailsLine : (verb : Verb) → List ℕ → Place (Memory verb) → List Outcome → State → Outcome → Type 0

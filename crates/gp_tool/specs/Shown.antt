@@ -19,8 +19,7 @@ ShowsPart registry old new = (count : ℕ) × (new.written ≡ old.written ++ ta
 abbrev pub ShowEnds : Type 0 → Registry → Ending → SinkState → SinkState → Type 0
 ShowEnds told registry Finished old new = told → new.written ≡ old.written ++ shown registry
 ShowEnds told registry FlashFault old new = told → ShowsPart registry old new
-ShowEnds told registry WriteFault old new =
-    (told → ShowsPart registry old new) × FlushesLast told old (shown registry) new
+ShowEnds told registry WriteFault old new = (told → ShowsPart registry old new) × FlushesLast told old (shown registry) new
 ShowEnds told registry ending old new = ⊥
 
 -- the device reopens as the registry, now and after power lost at any moment

@@ -17,7 +17,7 @@ use Rattle.gp_tool.specs.RunsLines.{AreServable, start}
 use Rattle.gp_tool.specs.Shown.{HasShown, ShowEnds}
 use Rattle.gp_tool.specs.declared.ending.Ending.{Ending}
 use Rattle.gp_tool.specs.declared.verb.Verb.{Verb}
-use Rattle.gp_tool.specs.declared.verb.Verb.TheVariants.{Run, Why, Replay}
+use Rattle.gp_tool.specs.declared.verb.Verb.TheVariants.{Replay}
 
 -- what a run is given
 pub record Around (S K F : Type 0) : Type 0 where
@@ -28,26 +28,31 @@ pub record Around (S K F : Type 0) : Type 0 where
 abbrev pub around : {S K F : Type 0} → S → K → F → Around S K F
 around source sink flash = record { source = source; sink = sink; flash = flash }
 
+-- The same without the source: `format` and `show` read nothing.
+pub record Beside (K F : Type 0) : Type 0 where
+  pub sink : K
+  pub flash : F
+
+abbrev pub beside : {K F : Type 0} → K → F → Beside K F
+beside sink flash = record { sink = sink; flash = flash }
+
+-- The status is that of an ending, with its cause and its flush.
+pub record HasEnded {K F : Type 0} (sink : Sink K) (device : Flash F) (ending : Ending) (status : ℕ) (read read' : SourceState) (old new : Beside K F) : Type 0 where
+  pub status_is : status ≡ exit_status ending
+  pub cause : EndCause ending (faults_of read (sink.state old.sink) (device.faults old.flash)) (faults_of read' (sink.state new.sink) (device.faults new.flash))
+  pub flushes : Flushes sink.tells ending (sink.state old.sink) (sink.state new.sink)
+
 -- How a run from a first state ends that has processed so many commands. `Stands` holds of the state behind it, unless the
 -- device failed.
 abbrev pub RunEnds : {S K F : Type 0} → Verb → Source S → Sink K → Flash F → (State → Type 0) → State → Ending → ℕ → Around S K F → Around S K F → Type 0
 RunEnds verb source sink device Stands first ending count old new =
-    Ends verb source.tells sink.tells (λ outcomes last. HasRun device old.flash new.flash first count outcomes last × Stands last)
-    (HasFailed device old.flash new.flash first count) first ending
+    Ends verb source.tells sink.tells (λ outcomes last. HasRun device old.flash new.flash first count outcomes last × Stands last) (HasFailed device old.flash new.flash first count) first ending
     (outside (source.state old.source) (sink.state old.sink)) (outside (source.state new.source) (sink.state new.sink))
 
--- whose faults a run ends with
-abbrev pub RunCause : {S K F : Type 0} → Source S → Sink K → Flash F → Ending → Around S K F → Around S K F → Type 0
-RunCause source sink device ending old new =
-    EndCause ending (faults_of (source.state old.source) (sink.state old.sink) (device.faults old.flash))
-    (faults_of (source.state new.source) (sink.state new.sink) (device.faults new.flash))
-
--- A card was served from a first state, and the status is that of the run's ending.
+-- A card was served from a first state, up to an ending.
 pub record Serves {S K F : Type 0} (verb : Verb) (source : Source S) (sink : Sink K) (device : Flash F) (Stands : State → Type 0) (first : State) (status count : ℕ) (old new : Around S K F) : Type 0 where
   pub ending : Ending
-  pub status_is : status ≡ exit_status ending
-  pub cause : RunCause source sink device ending old new
-  pub flushes : Flushes sink.tells ending (sink.state old.sink) (sink.state new.sink)
+  pub ended : HasEnded sink device ending status (source.state old.source) (source.state new.source) (beside old.sink old.flash) (beside new.sink new.flash)
   pub ends : RunEnds verb source sink device Stands first ending count old new
 
 -- The card was powered on with a registry, and served.
@@ -59,8 +64,7 @@ pub record RunsCard {S K F : Type 0} (verb : Verb) (source : Source S) (sink : S
 -- It was, or it was not powered on, and nothing is read or written.
 abbrev pub EndsRun : {S K F : Type 0} → Verb → Source S → Sink K → Flash F → ℕ → ℕ → Around S K F → Around S K F → Type 0
 EndsRun verb source sink device status count old new =
-    (IsNotPowered device status count old.flash new.flash × (new.source ≡ old.source) × (new.sink ≡ old.sink))
-    ⊎ RunsCard verb source sink device status count old new
+    (IsNotPowered device status count old.flash new.flash × (new.source ≡ old.source) × (new.sink ≡ old.sink)) ⊎ RunsCard verb source sink device status count old new
 
 -- nothing has failed
 pub record NoFault {S K F : Type 0} (source : Source S) (sink : Sink K) (device : Flash F) (old new : Around S K F) : Type 0 where
@@ -74,39 +78,23 @@ IsGoodInput verb input = ((first : State) → AreServable verb 1 (lines input) (
 
 -- the statuses of a verb where all is done
 abbrev pub IsDone : Verb → ℕ → Type 0
-IsDone Run status = status ≡ 0
-IsDone Why status = status ≡ 0
 IsDone Replay status = (status ≡ 0) ⊎ (status ≡ 8)
+IsDone verb status = status ≡ 0
 
 -- What is done where nothing can stop a run, but for want of memory.
 abbrev pub Completes : {S K F : Type 0} → Verb → Source S → Sink K → Flash F → ℕ → Around S K F → Around S K F → Type 0
 Completes verb source sink device status old new =
-    source.tells → device.tells → HoldsCard device old.flash → IsGoodInput verb (source.state old.source).left
-    → NoFault source sink device old new → IsDone verb status ⊎ (status ≡ 7)
-
--- What `format` and `show` are given: they read nothing.
-pub record Beside (K F : Type 0) : Type 0 where
-  pub sink : K
-  pub flash : F
-
-abbrev pub beside : {K F : Type 0} → K → F → Beside K F
-beside sink flash = record { sink = sink; flash = flash }
+    source.tells → device.tells → HoldsCard device old.flash → IsGoodInput verb (source.state old.source).left → NoFault source sink device old new → IsDone verb status ⊎ (status ≡ 7)
 
 -- a source that nothing is read from
 abbrev pub unread : SourceState
 unread = record { left = []; faults = 0 }
 
--- The status is that of an ending.
-pub record HasEnded {K F : Type 0} (sink : Sink K) (device : Flash F) (ending : Ending) (status : ℕ) (old new : Beside K F) : Type 0 where
-  pub status_is : status ≡ exit_status ending
-  pub cause : EndCause ending (faults_of unread (sink.state old.sink) (device.faults old.flash)) (faults_of unread (sink.state new.sink) (device.faults new.flash))
-  pub flushes : Flushes sink.tells ending (sink.state old.sink) (sink.state new.sink)
-
 -- no command is processed, and the device is the card as it leaves the factory unless it failed
 pub record EndsFormat {K F : Type 0} (sink : Sink K) (device : Flash F) (status count : ℕ) (old new : Beside K F) : Type 0 where
   pub none : count ≡ 0
   pub ending : Ending
-  pub ended : HasEnded sink device ending status old new
+  pub ended : HasEnded sink device ending status unread unread old new
   pub ends : FormatEnds device sink.tells ending new.flash (sink.state old.sink) (sink.state new.sink)
 
 -- The card was powered on with a registry, which was written, and the device keeps it.
@@ -114,7 +102,7 @@ pub record ShowsCard {K F : Type 0} (sink : Sink K) (device : Flash F) (status :
   pub registry : Registry
   pub reopens : device.tells → Reopens (device.pages old.flash) registry
   pub ending : Ending
-  pub ended : HasEnded sink device ending status old new
+  pub ended : HasEnded sink device ending status unread unread old new
   pub ends : ShowEnds (device.tells × sink.tells) registry ending (sink.state old.sink) (sink.state new.sink)
   pub shown : HasShown device old.flash new.flash registry
 

@@ -6,7 +6,6 @@ use Rattle.io_edge.specs.Streams.{SinkState}
 use Rattle.gp_tool.specs.Flush.{FlushesLast, IsHandedOn}
 use Rattle.gp_tool.specs.declared.task.Task.{Task}
 use Rattle.gp_tool.specs.declared.task.Task.TheVariants.{Format, Serve, Show}
-use Rattle.gp_tool.specs.declared.verb.Verb.{Verb}
 use Rattle.gp_tool.specs.declared.verb.Verb.TheVariants.{Run, Why, Replay}
 
 -- the word of a task
@@ -18,21 +17,12 @@ word_of (Serve Replay) = codes "replay"
 word_of Show = codes "show"
 
 -- the words are the task's alone
-abbrev pub Name : Task → List (String Global) → Type 0
-Name task words = map string_bytes words ≡ word_of task ∷ []
-
-abbrev pub AreFormat : List (String Global) → Type 0
-AreFormat words = Name Format words
-
-abbrev pub AreVerb : Verb → List (String Global) → Type 0
-AreVerb verb words = Name (Serve verb) words
-
-abbrev pub AreShow : List (String Global) → Type 0
-AreShow words = Name Show words
+abbrev pub AreOf : Task → List (String Global) → Type 0
+AreOf task words = map string_bytes words ≡ word_of task ∷ []
 
 -- the words have a form
 abbrev pub HaveForm : List (String Global) → Type 0
-HaveForm words = (task : Task) × Name task words
+HaveForm words = (task : Task) × AreOf task words
 
 -- what is written where the words have no form
 abbrev pub usage_line : List ℕ

@@ -6,9 +6,10 @@ ghost use Rattle.policy_rules.specs.State.{State};
 ghost use Rattle.gp_tool.specs.Ends.{EndCause, Faults, Flushes, faults_of, outside};
 ghost use Rattle.gp_tool.specs.Flush.{AfterFlush};
 ghost use Rattle.gp_tool.specs.declared.ending.Ending.TheVariants.{FlashFault};
+ghost use Rattle.gp_tool.specs.RunCause.{RunCause};
 ghost use Rattle.gp_tool.specs.Standing.{memory_in, standing};
 ghost use Rattle.gp_tool.specs.Turn.{EndsWith, GoesOn, Refuses, ending_of};
-ghost use Rattle.gp_tool.specs.Verbs.{RunCause, RunEnds, around};
+ghost use Rattle.gp_tool.specs.Verbs.{RunEnds, around};
 
 use crate::ending::Ending;
 use crate::line::{LineEnd, serve_line};

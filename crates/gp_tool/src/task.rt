@@ -1,7 +1,7 @@
 //! The words of the command line.
 
 ghost use Rattle.std.specs.Prelude.{◌≡◌, ◌↔◌, IsTrue, MatchOption, string_bytes};
-ghost use Rattle.gp_tool.specs.Words.{HaveForm, Name};
+ghost use Rattle.gp_tool.specs.Words.{AreOf, HaveForm};
 
 use crate::verb::Verb;
 
@@ -26,7 +26,7 @@ fn is_word(word: &String, wanted: &[u8]) -> bool
 
 /// The task whose word they are, alone.
 pub fn read_task(words: &[String]) -> Option<Task>
-    ensures { MatchOption result (HaveForm words.now → ⊥) (λ task. Name task words.now) }
+    ensures { MatchOption result (HaveForm words.now → ⊥) (λ task. AreOf task words.now) }
 {
     match words {
         [word] if is_word(word, b"format") => Some(Task::Format),

@@ -5,7 +5,8 @@ ghost use Rattle.faults.specs.Faults.{HasCause, Rose};
 ghost use Rattle.gp_tool.specs.Device.{HoldsCard};
 ghost use Rattle.gp_tool.specs.Flush.{FlushesLast, IsHandedOn};
 ghost use Rattle.gp_tool.specs.Verbs.{Completes, EndsFormat, EndsRun, EndsShow, around, beside};
-ghost use Rattle.gp_tool.specs.Words.{AreFormat, AreShow, AreVerb, EndsInUsage, HaveForm, usage_line};
+ghost use Rattle.gp_tool.specs.Words.{AreOf, EndsInUsage, HaveForm, usage_line};
+ghost use Rattle.gp_tool.specs.declared.task.Task.TheVariants.{Format, Serve, Show};
 ghost use Rattle.gp_tool.specs.declared.verb.Verb.{Verb};
 
 use crate::ended::Ended;
@@ -63,28 +64,28 @@ pub fn gp<S: Source, K: Sink, F: Flash>(
 
     // `run`, `why` and `replay`: the card was not powered on, and nothing is read or written. Or the status is that of an ending, which says what
     // was read, written and handed on, and what the device holds.
-    ensures run { (verb : Verb) → AreVerb verb words.now → result.status ≢ 7 → EndsRun verb S.Source K.Sink F.Flash result.status result.done
+    ensures run { (verb : Verb) → AreOf (Serve verb) words.now → result.status ≢ 7 → EndsRun verb S.Source K.Sink F.Flash result.status result.done
         (around source.old sink.old flash) (around source.new sink.new result.flash) }
 
     // `format`: nothing is read or written, no command is processed, and the device is the card as it leaves the factory
     // unless it failed.
-    ensures format { AreFormat words.now
+    ensures format { AreOf Format words.now
         → (source.new ≡ source.old) × EndsFormat K.Sink F.Flash result.status result.done (beside sink.old flash) (beside sink.new result.flash) }
 
     // `show`: nothing is read, and no command is processed. The card was not powered on, and nothing is written. Or the status
     // is that of an ending, which says what was written and handed on, and the device keeps its registry.
-    ensures show { AreShow words.now → result.status ≢ 7
+    ensures show { AreOf Show words.now → result.status ≢ 7
         → (source.new ≡ source.old) × EndsShow K.Sink F.Flash result.status result.done (beside sink.old flash) (beside sink.new result.flash) }
 
     // Where the device holds no card, `run`, `why`, `replay` and `show` answer 4, but for want of memory and a device that failed.
-    ensures no_card { F.tells → ((verb : Verb) × AreVerb verb words.now) ⊎ AreShow words.now → (HoldsCard F.Flash flash → ⊥)
+    ensures no_card { F.tells → ((verb : Verb) × AreOf (Serve verb) words.now) ⊎ AreOf Show words.now → (HoldsCard F.Flash flash → ⊥)
         → (result.status ≡ 3) ⊎ (result.status ≡ 4) ⊎ (result.status ≡ 7) }
 
     // `run`, `why` and `replay`: where each line has a form, the input is short enough and nothing fails, all is done. Only want of memory comes
     // then besides.
-    ensures complete { (verb : Verb) → AreVerb verb words.now
+    ensures complete { (verb : Verb) → AreOf (Serve verb) words.now
         → Completes verb S.Source K.Sink F.Flash result.status (around source.old sink.old flash) (around source.new sink.new result.flash) }
-    ensures show_complete { AreShow words.now → F.tells → HoldsCard F.Flash flash
+    ensures show_complete { AreOf Show words.now → F.tells → HoldsCard F.Flash flash
         → (Rose (K.state sink.old).faults (K.state sink.new).faults → ⊥) → (Rose (F.faults flash) (F.faults result.flash) → ⊥)
         → (result.status ≡ 0) ⊎ (result.status ≡ 7) }
     ensures later { F.faults flash ≤ F.faults result.flash }

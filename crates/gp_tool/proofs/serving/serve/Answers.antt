@@ -10,9 +10,7 @@ returns-clause-run g c state stands =
     let again = c.reset.ensures.stands state stands in
     rw (← c.reset.ensures.same.0) (record {
       ending = c.run-end.result.ending;
-      status_is = c.status.ensures;
-      cause = c.run-end.ensures.cause;
-      flushes = c.run-end.ensures.flushes;
+      ended = record { status_is = c.status.ensures; cause = c.run-end.ensures.cause; flushes = c.run-end.ensures.flushes };
       ends = c.run-end.ensures.ends (powered_on state.registry) again;
     })
 
