@@ -25,3 +25,7 @@ memory_in Replay space = kept_in space
 
 abbrev pub standing : {F M : Type 0} → CardOver F → M → Tally → Standing F M
 standing card memory tally = record { card = card; memory = memory; done = tally.done; differs = tally.differs }
+
+-- the same by the workspace
+abbrev pub standing_in : {F : Type 0} (verb : Verb) → CardOver F → Workspace → Tally → Standing F (Memory verb)
+standing_in verb card space tally = standing card (memory_in verb space) tally

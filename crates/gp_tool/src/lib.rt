@@ -5,6 +5,8 @@
 //! `00700000` come the lines `019000`, `029000` and `019000`. A blank line and a comment that begins with `#` do
 //! nothing. `reset` takes the card's power away and gives it back, and writes nothing. The word `why` does the same, and
 //! writes behind each reply the name of the rule that refused the command, or `-`: `80F28002024F00` gives `6982 G6`.
+//! The word `replay` compares each reply with the line behind its command that begins with `=`, if there is one, and writes
+//! differences alone: `00700000` and `= 029000` give `line 2 want 029000 got 019000`.
 //!
 //! Other words are refused by the usage line. Where there is no memory for the card, the device fails or it holds no
 //! card, nothing is read. A line of no other form, or of more than 522 bytes, ends the run by its number, as in `line 3`.

@@ -4,7 +4,7 @@ ghost use Rattle.std.specs.Prelude.{◌≡◌, ◌≢◌, ◌≤◌, ◌<◌, �
 ghost use Rattle.io_edge.specs.declared.line.TheConstants.{INPUT_LIMIT};
 ghost use Rattle.gp_tool.specs.RunsLines.{FailsLine, HasForm, PlaysLine};
 ghost use Rattle.gp_tool.specs.Serve.{ServesLine, ServeCause};
-ghost use Rattle.gp_tool.specs.Standing.{memory_in, standing};
+ghost use Rattle.gp_tool.specs.Standing.{standing_in};
 ghost use Rattle.gp_tool.specs.declared.line.LineEnd.TheVariants.{FlashFault};
 
 use crate::answer::answer_line;
@@ -43,7 +43,7 @@ pub fn serve_line<K: Sink, F: Flash>(
     requires live { card.old.live ≡ true }
     requires few { tally.old.done < INPUT_LIMIT }
     ensures served { ServesLine (PlaysLine verb number line.now) (HasForm verb line.now) (FailsLine verb line.now) F.Flash K.tells
-        (standing card.old (memory_in verb space.old) tally.old) (standing card.new (memory_in verb space.new) tally.new)
+        (standing_in verb card.old space.old tally.old) (standing_in verb card.new space.new tally.new)
         (K.state sink.old).written (K.state sink.new).written result }
     ensures live { result ≢ FlashFault → card.new.live ≡ true }
     ensures few { tally.new.done ≤ tally.old.done + 1 }

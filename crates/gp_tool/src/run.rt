@@ -7,7 +7,7 @@ ghost use Rattle.gp_tool.specs.Ends.{EndCause, Faults, Flushes, faults_of, outsi
 ghost use Rattle.gp_tool.specs.Flush.{AfterFlush};
 ghost use Rattle.gp_tool.specs.declared.ending.Ending.TheVariants.{FlashFault};
 ghost use Rattle.gp_tool.specs.RunCause.{RunCause};
-ghost use Rattle.gp_tool.specs.Standing.{memory_in, standing};
+ghost use Rattle.gp_tool.specs.Standing.{standing_in};
 ghost use Rattle.gp_tool.specs.Turn.{EndsWith, GoesOn, Refuses, ending_of};
 ghost use Rattle.gp_tool.specs.Verbs.{RunEnds, around};
 
@@ -67,10 +67,10 @@ fn take_turn<S: Source, K: Sink, F: Flash>(
     requires live { card.old.live ≡ true }
     requires few { tally.old.done ≤ lines.old.passed }
     ensures goes_on { IfNone result (GoesOn verb F.Flash S.tells K.tells
-        (standing card.old (memory_in verb space.old) tally.old) (standing card.new (memory_in verb space.new) tally.new) lines.old lines.new
+        (standing_in verb card.old space.old tally.old) (standing_in verb card.new space.new tally.new) lines.old lines.new
         (outside (S.state source.old) (K.state sink.old)) (outside (S.state source.new) (K.state sink.new))) }
     ensures ends { IfSome result (EndsWith verb F.Flash S.tells K.tells
-        (standing card.old (memory_in verb space.old) tally.old) (standing card.new (memory_in verb space.new) tally.new) lines.old
+        (standing_in verb card.old space.old tally.old) (standing_in verb card.new space.new tally.new) lines.old
         (outside (S.state source.old) (K.state sink.old)) (outside (S.state source.new) (K.state sink.new))) }
     ensures live { IfNone result (card.new.live ≡ true) }
     ensures ends_live { IfSome result (λ ending. ending ≢ FlashFault → card.new.live ≡ true) }
