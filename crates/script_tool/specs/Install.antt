@@ -2,6 +2,9 @@
 use Rattle.std.specs.Prelude.{◌≡◌, ◌⊎◌, ℕ, List, [], ◌∷◌, length, codes, Bool, true, false}
 use Rattle.script_tool.specs.Values.{SpellsAid, SpellsByte, SpellsUpTo}
 use Rattle.script_tool.specs.declared.install.Installation.{Installation}
+use Rattle.apdu_core.specs.Apdu.{Apdu}
+use Rattle.script_tool.specs.Tokens.{install_command}
+use Rattle.script_tool.specs.declared.tokens.Tokens.{Tokens}
 
 -- P1: for install, or for install and make selectable
 abbrev pub install_p1 : Bool → ℕ
@@ -22,3 +25,8 @@ SaysInstall (verb ∷ p1 ∷ file ∷ module' ∷ aid ∷ privileges ∷ paramet
     × SpellsAid file i.file × SpellsAid module' i.module × SpellsAid aid i.aid
     × SpellsPrivileges privileges i.privileges.items × SpellsParameters parameters i.parameters.items
 SaysInstall _ i = ⊥
+
+-- INSTALL for install (GlobalPlatform Card Specification 2.3.1, 11.5.2.3.2)
+abbrev pub installing : Tokens → Installation → Apdu
+installing tokens i =
+    install_command tokens (install_p1 i.selectable) (i.file ∷ i.module ∷ i.aid ∷ i.privileges.items ∷ i.parameters.items ∷ [])

@@ -3,6 +3,7 @@ use Rattle.std.specs.Prelude.{◌≡◌, ℕ, List, [], ◌∷◌, Option, Ok}
 use Rattle.hex.specs.Hex.{decode_of}
 use Rattle.apdu_core.specs.Apdu.{Apdu, Short}
 use Rattle.script_tool.specs.declared.plain.Plain.{Plain}
+use Rattle.script_tool.specs.Command.{plain_command}
 
 -- the command, of class 80, with some Le or none
 abbrev pub apdu_with : Plain → Option ℕ → Apdu
@@ -18,3 +19,7 @@ SpellsPlain word c = (bytes : List ℕ) × (decode_of word ≡ Ok bytes) × IsPl
 abbrev pub SaysSend : List ℕ → List (List ℕ) → Plain → Type 0
 SaysSend wanted (verb ∷ command ∷ []) c = (verb ≡ wanted) × SpellsPlain command c
 SaysSend wanted _ c = ⊥
+
+-- the command without its Le
+abbrev pub plain_of : Plain → Apdu
+plain_of c = plain_command c.ins c.p1 c.p2 c.body.items

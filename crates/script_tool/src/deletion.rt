@@ -1,9 +1,14 @@
 //! Objects to delete.
 
-ghost use Rattle.script_tool.specs.Delete.{SaysDelete};
+ghost use Rattle.std.specs.Prelude.{◌≡◌};
+ghost use Rattle.script_tool.specs.Delete.{SaysDelete, deleting};
 ghost use Rattle.script_tool.specs.Reads.{Reads};
+ghost use Rattle.script_tool.specs.Send.{plain_of};
 ghost use Rattle.script_tool.specs.Words.{left};
 
+use crate::fields::{Body, push_field};
+use crate::plain::Plain;
+use crate::tokens::Tokens;
 use crate::values::{aid, byte};
 use crate::words::Words;
 use card_types::Aid;
@@ -13,6 +18,27 @@ use card_types::Aid;
 pub struct Deletion {
     pub aid: Aid,
     pub p2: u8,
+}
+
+impl Deletion {
+    /// DELETE.
+    pub fn command(&self, tokens: &Tokens) -> Plain
+        ensures { plain_of result ≡ deleting tokens.now self.now }
+    {
+        let mut body = Body::new();
+        body.push(0x4f);
+        push_field(&mut body, self.aid.as_bytes());
+        if let Some(token) = tokens.token(0x00, self.p2, &body) {
+            body.push(0x9e);
+            push_field(&mut body, &token);
+        }
+        Plain {
+            ins: 0xe4,
+            p1: 0x00,
+            p2: self.p2,
+            body,
+        }
+    }
 }
 
 /// Reads `delete AID P2`.

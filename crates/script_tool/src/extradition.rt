@@ -1,9 +1,15 @@
 //! Applications to extradite.
 
-ghost use Rattle.script_tool.specs.Extradite.{SaysExtradite};
+ghost use Rattle.std.specs.Prelude.{◌≡◌};
+ghost use Rattle.script_tool.specs.Extradite.{SaysExtradite, extraditing};
 ghost use Rattle.script_tool.specs.Reads.{Reads};
+ghost use Rattle.script_tool.specs.Send.{plain_of};
 ghost use Rattle.script_tool.specs.Words.{left};
 
+use crate::fields::five_fields;
+use crate::install::install;
+use crate::plain::Plain;
+use crate::tokens::Tokens;
 use crate::values::aid;
 use crate::words::Words;
 use card_types::Aid;
@@ -13,6 +19,16 @@ use card_types::Aid;
 pub struct Extradition {
     pub aid: Aid,
     pub domain: Aid,
+}
+
+impl Extradition {
+    /// INSTALL for extradition.
+    pub fn command(&self, tokens: &Tokens) -> Plain
+        ensures { plain_of result ≡ extraditing tokens.now self.now }
+    {
+        let fields = five_fields(self.domain.as_bytes(), &[], self.aid.as_bytes(), &[], &[]);
+        install(tokens, 0x10, fields)
+    }
 }
 
 /// Reads `extradite AID DOMAIN`.

@@ -1,10 +1,17 @@
 //! Applications to install.
 
-ghost use Rattle.script_tool.specs.Install.{SaysInstall, SpellsParameters, SpellsPrivileges, install_p1};
+ghost use Rattle.std.specs.Prelude.{◌≡◌, ◌≤◌, ℕ, List, length, flat_map};
+ghost use Rattle.script_tool.specs.Install.{SaysInstall, SpellsParameters, SpellsPrivileges, install_p1, installing};
 ghost use Rattle.script_tool.specs.Reads.{Reads};
+ghost use Rattle.script_tool.specs.Send.{plain_of};
+ghost use Rattle.script_tool.specs.Tokens.{install_command};
 ghost use Rattle.script_tool.specs.Values.{SpellsByte};
 ghost use Rattle.script_tool.specs.Words.{left};
+ghost use Rattle.tokens_receipts.specs.Receipt.{with_length};
 
+use crate::fields::{Body, five_fields, push_field};
+use crate::plain::Plain;
+use crate::tokens::Tokens;
 use crate::values::{aid, byte, bytes};
 use crate::words::Words;
 use arrayvec::ArrayVec;
@@ -20,6 +27,47 @@ pub struct Installation {
     pub aid: Aid,
     pub privileges: ArrayVec<u8, 3>,
     pub parameters: ArrayVec<u8, 127>,
+}
+
+// P1 for install, or for install and make selectable.
+fn p1_of(selectable: bool) -> u8
+    ensures { result ≡ install_p1 selectable }
+{
+    if selectable { 0x0c } else { 0x04 }
+}
+
+impl Installation {
+    /// INSTALL for install, or for install and make selectable.
+    pub fn command(&self, tokens: &Tokens) -> Plain
+        ensures { plain_of result ≡ installing tokens.now self.now }
+    {
+        let fields = five_fields(
+            self.file.as_bytes(),
+            self.module.as_bytes(),
+            self.aid.as_bytes(),
+            &self.privileges,
+            &self.parameters,
+        );
+        install(tokens, p1_of(self.selectable), fields)
+    }
+}
+
+/// INSTALL of the fields that `body` holds, each behind its length, with its token.
+pub fn install(tokens: &Tokens, p1: u8, body: Body) -> Plain
+    requires { length body.items ≤ 238 }
+    ensures { (fields : List (List ℕ)) → body.items ≡ flat_map with_length fields → plain_of result ≡ install_command tokens.now p1 fields }
+{
+    let mut body = body;
+    match tokens.token(p1, 0x00, &body) {
+        Some(token) => push_field(&mut body, &token),
+        None => push_field(&mut body, &[]),
+    }
+    Plain {
+        ins: 0xe6,
+        p1,
+        p2: 0x00,
+        body,
+    }
 }
 
 // Whether P1 makes the application selectable.

@@ -1,7 +1,13 @@
-//! The law of lines, as a function that does nothing when it runs.
+//! The laws of lines, as functions that do nothing when they run.
 ghost use Rattle.script_tool.specs.Line.{OneLine};
+ghost use Rattle.script_tool.specs.Once.{OneTalk};
 
 /// A text says at most one line.
 pub fn one_line()
     ensures { OneLine }
+{}
+
+/// From one state of the card a line comes to one end, by one list of commands.
+pub fn one_talk()
+    ensures { OneTalk }
 {}

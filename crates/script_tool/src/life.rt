@@ -1,9 +1,13 @@
 //! Changes of a life cycle state.
 
-ghost use Rattle.script_tool.specs.Life.{MayName, SaysLife};
+ghost use Rattle.std.specs.Prelude.{◌≡◌};
+ghost use Rattle.script_tool.specs.Life.{MayName, SaysLife, changing_life};
 ghost use Rattle.script_tool.specs.Reads.{Reads};
+ghost use Rattle.script_tool.specs.Send.{plain_of};
 ghost use Rattle.script_tool.specs.Words.{left};
 
+use crate::fields::Body;
+use crate::plain::Plain;
 use crate::values::{aid, byte};
 use crate::words::Words;
 use card_types::Aid;
@@ -14,6 +18,24 @@ pub struct LifeChange {
     pub p1: u8,
     pub p2: u8,
     pub aid: Option<Aid>,
+}
+
+impl LifeChange {
+    /// SET STATUS.
+    pub fn command(&self) -> Plain
+        ensures { plain_of result ≡ changing_life self.now }
+    {
+        let mut body = Body::new();
+        if let Some(aid) = &self.aid {
+            body.try_extend_from_slice(aid.as_bytes()).unwrap();
+        }
+        Plain {
+            ins: 0xf0,
+            p1: self.p1,
+            p2: self.p2,
+            body,
+        }
+    }
 }
 
 // The AID, or none where the words end.

@@ -1,7 +1,8 @@
 //! What a line says.
 
-ghost use Rattle.std.specs.Prelude.{◌↔◌, IsTrue, IfNone, IfSome};
+ghost use Rattle.std.specs.Prelude.{◌≡◌, ◌↔◌, IsTrue, IfNone, IfSome};
 ghost use Rattle.script_tool.specs.Line.{HasNoForm, IsBlank, IsComment, SaysLine, SaysQuietly};
+ghost use Rattle.script_tool.specs.Quiet.{is_quiet};
 ghost use Rattle.script_tool.specs.Reads.{Reads};
 ghost use Rattle.script_tool.specs.Words.{left};
 
@@ -48,6 +49,13 @@ fn quiet(words: Words<'_>) -> Option<Exchange>
 }
 
 impl ScriptLine {
+    /// Whether it asks for the status alone.
+    pub fn is_quiet(&self) -> bool
+        ensures { result ≡ is_quiet self.now }
+    {
+        matches!(self, ScriptLine::Quiet(_))
+    }
+
     /// What a text says, or nothing where it has no form.
     pub fn read(text: &[u8]) -> Option<ScriptLine>
         ensures said { IfSome result (λ line. SaysLine text.now line) }

@@ -1,9 +1,13 @@
 //! Lists of objects.
 
-ghost use Rattle.script_tool.specs.Listing.{MayBegin, SaysListing};
+ghost use Rattle.std.specs.Prelude.{◌≡◌};
+ghost use Rattle.script_tool.specs.Listing.{MayBegin, SaysListing, listing_command};
 ghost use Rattle.script_tool.specs.Reads.{Reads};
+ghost use Rattle.script_tool.specs.Send.{plain_of};
 ghost use Rattle.script_tool.specs.Words.{left};
 
+use crate::fields::{Body, push_field};
+use crate::plain::Plain;
 use crate::values::{byte, bytes};
 use crate::words::Words;
 use arrayvec::ArrayVec;
@@ -13,6 +17,23 @@ use arrayvec::ArrayVec;
 pub struct Listing {
     pub p1: u8,
     pub prefix: ArrayVec<u8, 16>,
+}
+
+impl Listing {
+    /// GET STATUS with this P2.
+    pub fn command(&self, p2: u8) -> Plain
+        ensures { plain_of result ≡ listing_command p2 self.now }
+    {
+        let mut body = Body::new();
+        body.push(0x4f);
+        push_field(&mut body, &self.prefix);
+        Plain {
+            ins: 0xf2,
+            p1: self.p1,
+            p2,
+            body,
+        }
+    }
 }
 
 // The bytes that each AID begins with, or none where the words end.

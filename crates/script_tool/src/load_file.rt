@@ -1,11 +1,20 @@
 //! Executable Load Files to load.
 
-ghost use Rattle.std.specs.Prelude.{◌≡◌};
-ghost use Rattle.script_tool.specs.Load.{SaysContent, SaysLoad, SpellsDomain, hash_word};
+ghost use Rattle.std.specs.Prelude.{◌≡◌, ◌≤◌, [], ◌∷◌, drop, length, take};
+ghost use Rattle.std.specs.List.{flat_map};
+ghost use Rattle.script_tool.specs.Life.{aid_or_none};
+ghost use Rattle.script_tool.specs.Load.{SaysContent, SaysLoad, SpellsDomain, beginning_load, block_element, content_bytes, hash_of, hash_word, length_field};
 ghost use Rattle.script_tool.specs.Reads.{Reads};
+ghost use Rattle.script_tool.specs.Send.{plain_of};
 ghost use Rattle.script_tool.specs.Words.{left};
+ghost use Rattle.tokens_receipts.specs.Receipt.{with_length};
 
+use crate::content::{Piece, part};
+use crate::fields::{Body, push_field};
+use crate::install::install;
 use crate::number::count;
+use crate::plain::Plain;
+use crate::tokens::Tokens;
 use crate::values::{aid, byte, bytes};
 use crate::words::Words;
 use arrayvec::ArrayVec;
@@ -115,4 +124,102 @@ pub fn read(words: Words<'_>) -> Option<LoadFile>
         hash,
         content,
     })
+}
+
+// The tag of a Load File Data Block of so many bytes, and the length.
+fn tag_and_length(size: u16) -> ArrayVec<u8, 4>
+    ensures { result.items ≡ 0xC4 ∷ length_field size }
+{
+    let [high, low] = size.to_be_bytes();
+    let mut header = ArrayVec::new();
+    header.push(0xc4);
+    if size < 0x80 {
+        header.push(low);
+    } else if size < 0x100 {
+        header.push(0x81);
+        header.push(low);
+    } else {
+        header.push(0x82);
+        header.push(high);
+        header.push(low);
+    }
+    header
+}
+
+// The AID, or no bytes.
+fn name(aid: &Option<Aid>) -> &[u8]
+    ensures name { result.now ≡ aid_or_none aid.now }
+    ensures length { length result.now ≤ 16 }
+{
+    match aid {
+        Some(aid) => aid.as_bytes(),
+        None => &[],
+    }
+}
+
+impl LoadFile {
+    // What stands before the bytes.
+    fn header(&self) -> ArrayVec<u8, 4>
+        ensures { result.items ≡ 0xC4 ∷ length_field (length (content_bytes self.now.content)) }
+    {
+        tag_and_length(self.content.len() as u16)
+    }
+
+    /// How many bytes all blocks have.
+    pub fn len(&self) -> usize
+        ensures { result ≡ length (block_element (content_bytes self.now.content)) }
+    {
+        self.header().len() + self.content.len()
+    }
+
+    /// The block behind the bytes that were sent, of so many bytes or of those that are left.
+    pub fn block(&self, sent: usize, size: usize) -> Piece
+        requires { size ≤ 247 }
+        ensures { result.items ≡ take size (drop sent (block_element (content_bytes self.now.content))) }
+    {
+        let header = self.header();
+        let front = part(&header, sent, size);
+        let from = sent.saturating_sub(header.len());
+        let back = self.content.piece(from, size - front.len());
+        let mut block = ArrayVec::new();
+        block.try_extend_from_slice(front).unwrap();
+        block.try_extend_from_slice(&back).unwrap();
+        block
+    }
+
+    /// The Load File Data Block Hash, or nothing.
+    pub fn hash_value(&self) -> ArrayVec<u8, 32>
+        ensures { result.items ≡ hash_of self.now.hash (content_bytes self.now.content) }
+    {
+        let mut value = ArrayVec::new();
+        match self.hash {
+            None => (),
+            Some(HashFunction::Sha1) => value.try_extend_from_slice(&self.content.sha1()).unwrap(),
+            Some(HashFunction::Sha256) => value
+                .try_extend_from_slice(&self.content.sha256())
+                .unwrap(),
+        }
+        value
+    }
+
+    // What INSTALL for load says of it.
+    fn fields(&self) -> Body
+        ensures items { result.items ≡ flat_map with_length
+            (self.now.file ∷ aid_or_none self.now.domain ∷ hash_of self.now.hash (content_bytes self.now.content) ∷ [] ∷ []) }
+        ensures length { length result.items ≤ 68 }
+    {
+        let mut fields = Body::new();
+        push_field(&mut fields, self.file.as_bytes());
+        push_field(&mut fields, name(&self.domain));
+        push_field(&mut fields, &self.hash_value());
+        push_field(&mut fields, &[]);
+        fields
+    }
+
+    /// INSTALL for load.
+    pub fn install(&self, tokens: &Tokens) -> Plain
+        ensures { plain_of result ≡ beginning_load tokens.now self.now }
+    {
+        install(tokens, 0x02, self.fields())
+    }
 }

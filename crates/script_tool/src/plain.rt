@@ -1,10 +1,12 @@
 //! Commands to send in a session.
 
 ghost use Rattle.std.specs.Prelude.{◌≡◌, ◌↔◌, IsTrue};
+ghost use Rattle.apdu_core.specs.Apdu.{apdu_of};
 ghost use Rattle.script_tool.specs.Reads.{Reads};
-ghost use Rattle.script_tool.specs.Send.{IsPlain, SaysSend, SpellsPlain};
+ghost use Rattle.script_tool.specs.Send.{IsPlain, SaysSend, SpellsPlain, plain_of};
 ghost use Rattle.script_tool.specs.Words.{left};
 
+use crate::fields::Body;
 use crate::values::bytes;
 use crate::words::Words;
 use apdu_core::Command;
@@ -16,7 +18,23 @@ pub struct Plain {
     pub ins: u8,
     pub p1: u8,
     pub p2: u8,
-    pub body: ArrayVec<u8, 255>,
+    pub body: Body,
+}
+
+impl Plain {
+    /// The command.
+    pub fn command(&self) -> Command<'_>
+        ensures { apdu_of result ≡ plain_of self.now }
+    {
+        Command {
+            class: 0x80,
+            ins: self.ins,
+            p1: self.p1,
+            p2: self.p2,
+            body: &self.body,
+            le: None,
+        }
+    }
 }
 
 // Whether a command of this class has no secure messaging and is for the basic channel.

@@ -1,12 +1,20 @@
 //! Keys to put.
 
-ghost use Rattle.script_tool.specs.PutKey.{SaysPutKey, SpellNewKeys, SpellOne, SpellSized};
+ghost use Rattle.std.specs.Prelude.{◌≡◌, ◌∷◌};
+ghost use Rattle.std.specs.List.{flat_map};
+ghost use Rattle.policy_rules.specs.PutKey.{key_field};
+ghost use Rattle.script_tool.specs.PutKey.{SaysPutKey, SpellNewKeys, SpellOne, SpellSized, keys_of, put_key_p2, putting_keys, sent_under};
 ghost use Rattle.script_tool.specs.Reads.{Reads};
+ghost use Rattle.script_tool.specs.Send.{plain_of};
 ghost use Rattle.script_tool.specs.Words.{left};
 
+use crate::fields::Body;
+use crate::key_field::push_key_field;
 use crate::keys::{OfSize, Trio, three_keys};
+use crate::plain::Plain;
 use crate::values::{array, byte};
 use crate::words::Words;
+use aes_block::{BlockKey, SealingAes128, SealingAes192, SealingAes256};
 
 /// One key or three, of `N` bytes each.
 #[derive(Clone, Copy)]
@@ -74,4 +82,54 @@ pub fn read(words: Words<'_>) -> Option<Putting>
         version,
         keys,
     })
+}
+
+impl<const N: usize> NewKeys<N> {
+    // P2: the key identifier 01, and whether several keys come.
+    fn p2(&self) -> u8
+        ensures { result ≡ put_key_p2 (keys_of self.now) }
+    {
+        match self {
+            NewKeys::One(_) => 0x01,
+            NewKeys::Three(_) => 0x81,
+        }
+    }
+
+    // The new key version number and the key fields.
+    fn body<K: BlockKey, D: BlockKey>(&self, version: u8, dek: &D) -> Body
+        requires { N ≡ K.LEN }
+        ensures { result.items ≡ version ∷ flat_map (λ key. key_field (sent_under (D.key_bytes dek.now) key)) (keys_of self.now) }
+    {
+        let mut body = Body::new();
+        body.push(version);
+        match self {
+            NewKeys::One(key) => push_key_field::<K, D>(dek, key, &mut body),
+            NewKeys::Three(keys) => {
+                push_key_field::<K, D>(dek, &keys.enc, &mut body);
+                push_key_field::<K, D>(dek, &keys.mac, &mut body);
+                push_key_field::<K, D>(dek, &keys.dek, &mut body);
+            }
+        }
+        body
+    }
+}
+
+impl Putting {
+    /// PUT KEY, with keys that are enciphered under Key-DEK.
+    pub fn command<D: BlockKey>(&self, dek: &D) -> Plain
+        ensures { plain_of result ≡ putting_keys (D.key_bytes dek.now) self.now }
+    {
+        let version = self.version;
+        let (p2, body) = match &self.keys {
+            OfSize::Aes128(keys) => (keys.p2(), keys.body::<SealingAes128, D>(version, dek)),
+            OfSize::Aes192(keys) => (keys.p2(), keys.body::<SealingAes192, D>(version, dek)),
+            OfSize::Aes256(keys) => (keys.p2(), keys.body::<SealingAes256, D>(version, dek)),
+        };
+        Plain {
+            ins: 0xd8,
+            p1: self.replaced,
+            p2,
+            body,
+        }
+    }
 }

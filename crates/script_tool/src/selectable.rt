@@ -1,9 +1,15 @@
 //! Applications to make selectable.
 
+ghost use Rattle.std.specs.Prelude.{◌≡◌};
 ghost use Rattle.script_tool.specs.Reads.{Reads};
-ghost use Rattle.script_tool.specs.Selectable.{SaysSelectable};
+ghost use Rattle.script_tool.specs.Selectable.{SaysSelectable, making_selectable};
+ghost use Rattle.script_tool.specs.Send.{plain_of};
 ghost use Rattle.script_tool.specs.Words.{left};
 
+use crate::fields::five_fields;
+use crate::install::install;
+use crate::plain::Plain;
+use crate::tokens::Tokens;
 use crate::values::aid;
 use crate::words::Words;
 use card_types::Aid;
@@ -16,4 +22,12 @@ pub fn read(words: Words<'_>) -> Option<Aid>
     words.fixed(b"selectable")?;
     let aid = aid(words.last()?)?;
     Some(aid)
+}
+
+/// INSTALL for make selectable.
+pub fn command(aid: &Aid, tokens: &Tokens) -> Plain
+    ensures { plain_of result ≡ making_selectable tokens.now aid.now }
+{
+    let fields = five_fields(&[], &[], aid.as_bytes(), &[], &[]);
+    install(tokens, 0x08, fields)
 }

@@ -1,11 +1,16 @@
 //! The tokens of later commands.
 
+ghost use Rattle.std.specs.Prelude.{◌≡◌, ◌≤◌, length};
 ghost use Rattle.script_tool.specs.Reads.{Reads};
 ghost use Rattle.script_tool.specs.TokenKey.{SaysTokens};
+ghost use Rattle.script_tool.specs.Tokens.{key_of, token_made};
 ghost use Rattle.script_tool.specs.Words.{left};
+ghost use Rattle.tokens_receipts.specs.Token as approved;
 
-use crate::keys::{Key, key};
+use crate::keys::{Key, OfSize, key};
 use crate::words::Words;
+use aes_block::{BlockKey, SealingAes128, SealingAes192, SealingAes256};
+use tokens_receipts::token;
 
 /// The tokens that later commands carry: none, tokens under a key, or such tokens with the lowest bit of
 /// their last byte turned.
@@ -14,6 +19,36 @@ pub enum Tokens {
     Absent,
     Made(Key),
     Damaged(Key),
+}
+
+// The token under a key.
+fn token_under(key: &Key, p1: u8, p2: u8, before: &[u8]) -> [u8; 16]
+    requires { length before.now ≤ 255 }
+    ensures { result ≡ approved.token (key_of key.now) p1 p2 before.now }
+{
+    match key {
+        OfSize::Aes128(key) => token(&SealingAes128::from_key(key), p1, p2, before),
+        OfSize::Aes192(key) => token(&SealingAes192::from_key(key), p1, p2, before),
+        OfSize::Aes256(key) => token(&SealingAes256::from_key(key), p1, p2, before),
+    }
+}
+
+impl Tokens {
+    /// The token of a command, if it carries one, by P1, P2 and what stands before the token in the data field.
+    pub fn token(&self, p1: u8, p2: u8, before: &[u8]) -> Option<[u8; 16]>
+        requires { length before.now ≤ 255 }
+        ensures { result ≡ token_made self.now p1 p2 before.now }
+    {
+        match self {
+            Tokens::Absent => None,
+            Tokens::Made(key) => Some(token_under(key, p1, p2, before)),
+            Tokens::Damaged(key) => {
+                let mut token = token_under(key, p1, p2, before);
+                token[15] ^= 1;
+                Some(token)
+            }
+        }
+    }
 }
 
 // `tokenkey none`

@@ -1,0 +1,130 @@
+-- A protected command that is sent, and its reply.
+use Rattle.std.proofs.Common.{◌≡◌, ◌↔◌, ◌≤◌, ◌<◌, ℕ, List, [], ◌∷◌, length, Option, None, Some, Bool, true, false, ltb, nat_lt, Result, Ok, Err, refl, sym, subst, ap, ◌∙◌, inr, arith}
+use Rattle.std.specs.Prelude.{IsErr}
+use Rattle.std.proofs.lemmas.Bool.{le-ltb, ltb-false, ltb-true}
+use Rattle.std.proofs.lemmas.List.{length-append}
+use Rattle.apdu_core.specs.Apdu.{Apdu, Short, after_header, header}
+use Rattle.apdu_core.specs.declared.reply.Status.{Status}
+use Rattle.scp03_card.proofs.Lengths.{length-c_mac}
+use Rattle.scp03_card.specs.Kept.{KeptSession, RepresentsSession}
+use Rattle.scp03_card.specs.Session.{Session, c_mac}
+use Rattle.scp03_host.specs.Unwrapped.{HasRightMac, IsTooShort, Unwraps}
+use Rattle.scp03_host.specs.Wrapped.{having_sent, message_of, room_for, sent_field, wrapped}
+use Rattle.scp03_host.specs.declared.refusals.ReplyRefusal.{ReplyRefusal}
+use Rattle.scp03_host.specs.declared.refusals.ReplyRefusal.TheVariants as refusal
+use Rattle.script_tool.proofs.HostRules.{own_twice, represents_put, with_own_kept}
+use Rattle.script_tool.proofs.TalkRules.{goes_nothing}
+use Rattle.script_tool.specs.Channel.{number_of}
+use Rattle.script_tool.specs.Command.{spelled}
+use Rattle.script_tool.specs.Host.{Host, with_own}
+use Rattle.script_tool.specs.InSession.{after_reply, awaiting, protecting, refusal_word, spoiled}
+use Rattle.script_tool.specs.Kept.{RepresentsHost, with_kept}
+use Rattle.script_tool.specs.Link.{Breaks, Conveys}
+use Rattle.script_tool.specs.Played.{Continues, IsPlayed, Leads}
+use Rattle.script_tool.specs.Printed.{Said}
+use Rattle.script_tool.specs.Talk.{Answered, Ends, IsTaken, Refused, Taken, Takes, Talk}
+use Rattle.script_tool.specs.declared.channel_sessions.ChannelSessions.{ChannelSessions}
+use Rattle.script_tool.specs.declared.host_state.HostState.{HostState}
+use Rattle.script_tool.specs.declared.link.CardLink.{Ghosts as CardLink}
+use Rattle.script_tool.specs.declared.link.LinkFailed.{LinkFailed}
+use Rattle.script_tool.specs.declared.printout.Printout.{Printout}
+use Rattle.script_tool.specs.declared.word.Word.{Word}
+
+after_long : (body : List ℕ) (le : Option ℕ) → length body ≤ length (after_header body le)
+after_long [] le = omega arith
+after_long (b ∷ bs) None = omega arith
+after_long (b ∷ bs) (Some le) = omega (arith, length-append (b ∷ bs) (le ∷ []))
+
+spelled_long : (c : Apdu) → length c.body ≤ length (spelled c)
+spelled_long c = omega (arith, length-append (header c) (after_header c.body c.le), after_long c.body c.le)
+
+wrapped_long : (kept : Session) (command : Apdu) (channel : ℕ) → 8 ≤ length (spelled (wrapped kept command channel))
+wrapped_long kept command channel =
+    omega (arith, spelled_long (wrapped kept command channel), length-append (sent_field kept command.body) (c_mac (having_sent kept command)), length-c_mac kept (message_of kept command))
+
+pub not_refused : {A E : Type 0} {ok : A} (result : Result A E) → result ≡ Ok ok → IsErr result → ⊥
+not_refused result is e = cc
+
+fits_by : (refused : Type 0) (room size : ℕ) (b : Bool) → ltb room size ≡ b → refused ↔ (room < size) → (refused → ⊥) → size ≤ room
+fits_by refused room size true e iff h = absurd (h (iff.1 (ltb-true room size e)))
+fits_by refused room size false e iff h = ltb-false room size e
+
+-- what was not refused fits
+pub fits_room : (refused : Type 0) (room size : ℕ) → refused ↔ (room < size) → (refused → ⊥) → size ≤ room
+fits_room refused room size = fits_by refused room size (ltb room size) refl
+
+-- the bytes that are sent, where they are those that were wrapped, spoiled if they are to be
+pub spoiled_sent : (kept : Session) (command : Apdu) (channel : ℕ) (bad : Bool) (bytes sent : List ℕ) → Short (wrapped kept command channel) bytes
+    → (8 ≤ length bytes → sent ≡ spoiled bad bytes) → sent ≡ spoiled bad (spelled (wrapped kept command channel))
+spoiled_sent kept command channel bad bytes sent short is =
+    is (omega (arith, ap length short.spelling, wrapped_long kept command channel)) ∙ ap (λ (b : List ℕ). spoiled bad b) short.spelling
+
+-- a data field that fits is sent
+pub protecting_sends : (whole : Host) (kept : Session) (bad : Bool) (command : Apdu) (rest : Host → List ℕ → ℕ → Talk) (sent : List ℕ)
+    → length command.body ≤ room_for kept.level → sent ≡ spoiled bad (spelled (wrapped kept command (number_of whole.channel)))
+    → awaiting whole (having_sent kept command) sent rest ≡ protecting whole kept bad command rest
+protecting_sends whole kept bad command rest sent fits is =
+    let e : nat_lt (room_for kept.level) (length command.body) ≡ false = le-ltb (room_for kept.level) (length command.body) fits in
+    ap (λ (bytes : List ℕ). awaiting whole (having_sent kept command) bytes rest) is ∙ sym (rw (e) refl)
+
+pub await_broken : {L : Type 0} (link : CardLink L) (old new : L) (whole : Host) (sent : Session) (bytes : List ℕ) (rest : Host → List ℕ → ℕ → Talk)
+    (kept : HostState) (result : Result Printout LinkFailed) → IsErr result → Breaks link old new [] bytes
+    → Continues link old new (awaiting whole sent bytes rest) rest kept result
+await_broken link old new whole sent bytes rest kept (Ok printout) e breaks = absurd (cc)
+await_broken link old new whole sent bytes rest kept (Err failed) e breaks = record {
+  events = [];
+  command = bytes;
+  rest = λ reply. Takes sent reply (after_reply (with_own (Some sent) whole) rest);
+  goes = refl;
+  breaks = breaks;
+}
+
+-- the reply was taken for what it is
+pub reply_taken : {L : Type 0} (link : CardLink L) (old new : L) (whole : Host) (sent : Session) (bytes : List ℕ) (rest : Host → List ℕ → ℕ → Talk)
+    (reply : List ℕ) (taken : Taken) → Conveys link old new (Answered bytes reply ∷ []) → IsTaken sent reply taken
+    → Leads link old new (awaiting whole sent bytes rest) (after_reply (with_own (Some sent) whole) rest taken)
+reply_taken link old new whole sent bytes rest reply taken conveyed is = record {
+  events = Answered bytes reply ∷ [];
+  goes = (refl, inr (taken, is, goes_nothing (after_reply (with_own (Some sent) whole) rest taken)));
+  conveyed = conveyed;
+}
+
+refused_not_unwrapped : (session : Session) (reply out : List ℕ) (result : Result Status ReplyRefusal) (why : ReplyRefusal) → result ≡ Err why
+    → ((body : List ℕ) (status : ℕ) → Unwraps session reply body status → (result ≡ Ok (record { 0 = status })) × (out ≡ body))
+    → (body : List ℕ) (status : ℕ) → Unwraps session reply body status → ⊥
+refused_not_unwrapped session reply out result why is back body status unwraps = (let ok = (back body status unwraps).0 in cc (is, ok))
+
+-- why a reply is refused
+pub refusal_taken : (session : Session) (reply out : List ℕ) (result : Result Status ReplyRefusal) (why : ReplyRefusal) → result ≡ Err why
+    → (result ≡ Err refusal.Short) ↔ IsTooShort session reply
+    → (result ≡ Err refusal.Mac) ↔ (IsTooShort session reply → ⊥) × (HasRightMac session reply → ⊥)
+    → (result ≡ Err refusal.Padding) ↔ (IsTooShort session reply → ⊥) × HasRightMac session reply
+      × ((body : List ℕ) (status : ℕ) → Unwraps session reply body status → ⊥)
+    → ((body : List ℕ) (status : ℕ) → Unwraps session reply body status → (result ≡ Ok (record { 0 = status })) × (out ≡ body))
+    → IsTaken session reply (Refused why)
+refusal_taken session reply out result refusal.Short is short mac padding back = (refused_not_unwrapped session reply out result refusal.Short is back, short.0 is)
+refusal_taken session reply out result refusal.Mac is short mac padding back = (refused_not_unwrapped session reply out result refusal.Mac is back, mac.0 is)
+refusal_taken session reply out result refusal.Padding is short mac padding back =
+    (let why = padding.0 is in (refused_not_unwrapped session reply out result refusal.Padding is back, (why.0, why.1)))
+
+-- a reply that can't be unwrapped ends the session
+pub refused_played : {L : Type 0} (link : CardLink L) (old new : L) (talk : Talk) (host : HostState) (whole : Host) (session : Session)
+    (rest : Host → List ℕ → ℕ → Talk) (why : ReplyRefusal) (word : Word) → word ≡ refusal_word why → RepresentsHost host (with_own None whole)
+    → Leads link old new talk (after_reply (with_own (Some session) whole) rest (Refused why)) → IsPlayed link old new talk (Said word) host
+refused_played link old new talk host whole session rest why word is represents leads = record {
+  host = with_own None whole;
+  leads = subst (λ (w : Word). Leads link old new talk (Ends (Said w) (with_own None whole))) (sym is)
+      (subst (λ (h : Host). Leads link old new talk (Ends (Said (refusal_word why)) h)) (own_twice None (Some session) whole) leads);
+  stands = represents;
+}
+
+-- the session is put back
+pub put_back : (host : HostState) (whole : Host) (one : KeptSession) (session : Session) (all : ChannelSessions) → all ≡ with_kept host.channel (Some one) host.sessions
+    → RepresentsHost host (with_own None whole) → RepresentsSession one session
+    → RepresentsHost (record { channel = host.channel; keys = host.keys; tokens = host.tokens; sessions = all; last = host.last }) (with_own (Some session) whole)
+put_back host whole one session all put represents is =
+    subst
+    (λ (s : ChannelSessions). RepresentsHost (record { channel = host.channel; keys = host.keys; tokens = host.tokens; sessions = s; last = host.last }) (with_own (Some session) whole))
+    (sym put)
+    (subst (RepresentsHost (with_own_kept (Some one) host)) (own_twice (Some session) None whole)
+    (represents_put host (with_own None whole) (Some one) (Some session) represents is))

@@ -1,0 +1,30 @@
+use Rattle.std.proofs.Common.{Bool}
+use Rattle.script_tool.specs.Kept.{printed_of}
+use Rattle.script_tool.specs.declared.line.ScriptLine.{ScriptLine}
+use Rattle.std.proofs.Common.{subst, ap, ◌∙◌}
+use Rattle.script_tool.proofs.OneLine.{one_line}
+use Rattle.std.proofs.Common.{Bool}
+use Rattle.script_tool.specs.Play.{playing}
+use Rattle.script_tool.specs.Printed.{printed_text}
+use Rattle.script_tool.specs.Played.{IsBroken}
+use Rattle.script_tool.specs.Step.{HasPlayed}
+use Rattle.script_tool.proofs.player.Player.step.Goals as goal
+
+pub returns-in-Err-clause-played : goal.returns-in-Err-clause-played
+returns-in-Err-clause-played g c host said represents says =
+    let same = one_line c.args.line.now.text.now c.in-Some.said said c.in-Some.ensures.said says in
+    subst (λ (s : ScriptLine). IsBroken g.L.CardLink c.args.link.now c.play.new.link (playing host s)) same (c.in-Err.ensures.played host (rw (← c.self.view_is) at represents))
+
+pub returns-clause-played : goal.returns-clause-played
+returns-clause-played g c host said represents says =
+    let same = one_line c.args.line.now.text.now c.in-Some.said said c.in-Some.ensures.said says in
+    let played = c.in-Ok.ensures.played host (rw (← c.self.view_is) at represents) in
+    subst (λ (s : ScriptLine). HasPlayed g.L.CardLink c.args.link.now c.play.new.link host s c.remember.new.self c.write.new.out.items c.kind.result) same
+    (record {
+      printed = printed_of c.in-Ok.printout;
+      after = played.host;
+      leads = played.leads;
+      stands = c.remember.ensures played.host played.stands;
+      text_is = c.write.ensures ∙ ap (λ (b : Bool). printed_text b (printed_of c.in-Ok.printout)) c.is_quiet.ensures;
+      kind = c.kind.ensures;
+    })

@@ -1,0 +1,38 @@
+-- A command that is sent as it is, and its reply.
+use Rattle.std.specs.Prelude.{ℕ, ◌-◌, List, length, take, Bool, nat_lt, ◌==◌, ◌||◌, None, Option, if◌then◌else◌}
+use Rattle.scp03_host.specs.Unwrapped.{status_in}
+use Rattle.script_tool.specs.Channel.{number_of}
+use Rattle.script_tool.specs.Command.{spelled}
+use Rattle.script_tool.specs.Host.{Host, with_own}
+use Rattle.script_tool.specs.InSession.{printing}
+use Rattle.script_tool.specs.Printed.{Reply, Said}
+use Rattle.script_tool.specs.Select.{selecting}
+use Rattle.script_tool.specs.Talk.{Ends, Sends, Talk}
+use Rattle.script_tool.specs.declared.word.Word.TheVariants.{Short}
+
+-- what stands before the status of a reply
+abbrev pub body_in : List ℕ → List ℕ
+body_in reply = take (length reply - 2) reply
+
+-- a reply has a body and a status, or is too short
+abbrev pub reading : Host → List ℕ → (Host → List ℕ → ℕ → Talk) → Talk
+reading host reply rest = if nat_lt (length reply) 2 then Ends (Said Short) host else rest host (body_in reply) (status_in reply)
+
+abbrev pub in_plain : Host → List ℕ → (Host → List ℕ → ℕ → Talk) → Talk
+in_plain host bytes rest = Sends bytes (λ reply. reading host reply rest)
+
+-- `raw`: the sessions stay
+abbrev pub playing_raw : Host → List ℕ → Talk
+playing_raw host bytes = in_plain host bytes printing
+
+-- an application was selected, on a locked card too
+abbrev pub has_selected : ℕ → Bool
+has_selected status = status == 0x9000 || status == 0x6283
+
+-- which ends the session of the channel
+abbrev pub selected : Host → List ℕ → ℕ → Talk
+selected host body status = Ends (Reply body status) (if has_selected status then with_own None host else host)
+
+-- `select`
+abbrev pub playing_select : Host → Option (List ℕ) → Talk
+playing_select host aid = in_plain host (spelled (selecting (number_of host.channel) aid)) selected

@@ -1,0 +1,98 @@
+//! Executable Load Files, loaded block by block.
+
+ghost use Rattle.std.specs.Prelude.{◌≡◌, ◌↔◌, ◌≤◌, Some, true, length, IsTrue, OnOk};
+ghost use Rattle.apdu_core.specs.Apdu.{apdu_of};
+ghost use Rattle.faults.specs.Faults.{HasCause};
+ghost use Rattle.script_tool.specs.Host.{Host};
+ghost use Rattle.script_tool.specs.Kept.{RepresentsHost, printed_of};
+ghost use Rattle.script_tool.specs.Load as standard;
+ghost use Rattle.script_tool.specs.Load.{content_bytes};
+ghost use Rattle.script_tool.specs.Loading.{loading_all, playing_load};
+ghost use Rattle.script_tool.specs.Played.{ContinuesWith, Plays};
+ghost use Rattle.script_tool.specs.Printed.{status_printed};
+ghost use Rattle.script_tool.specs.Talk.{Talk};
+ghost use Rattle.script_tool.specs.declared.printout.TheConstants.{DONE};
+
+use crate::host_state::HostState;
+use crate::in_session::{protect, send};
+use crate::link::{CardLink, LinkFailed};
+use crate::load_file::LoadFile;
+use crate::printout::{DONE, Printout};
+use crate::wire::Wire;
+use crate::word::Word;
+use apdu_core::Command;
+
+// Whether the status is 9000.
+fn is_done(printout: &Printout) -> bool
+    ensures { IsTrue result ↔ (status_printed (printed_of printout.now) ≡ Some DONE) }
+{
+    printout.status() == Some(DONE)
+}
+
+// LOAD of a block.
+fn loading(last: bool, number: u8, block: &[u8]) -> Command<'_>
+    ensures { apdu_of result ≡ standard.loading last number block.now }
+{
+    Command {
+        class: 0x80,
+        ins: 0xe8,
+        p1: if last { 0x80 } else { 0x00 },
+        p2: number,
+        body: block,
+        le: None,
+    }
+}
+
+// Goes on behind what INSTALL for load printed: sends the blocks, of so many bytes, up to the first reply that is not 9000.
+fn send_blocks<L: CardLink>(
+    host: &mut HostState,
+    wire: &mut Wire,
+    link: &mut L,
+    file: &LoadFile,
+    size: usize,
+    installed: Printout,
+) -> Result<Printout, LinkFailed>
+    requires up { L.up link.old ≡ true }
+    requires fits { length (content_bytes file.now.content) ≤ 60_000 }
+    requires some { 239 ≤ size }
+    requires most { size ≤ 247 }
+    ensures played { (before : L) (talk : Talk)
+        → ContinuesWith L.CardLink before link.old talk (loading_all size file.now) host.old (printed_of installed)
+        → Plays L.CardLink before link.new talk host.new result }
+    ensures up { OnOk result (L.up link.new ≡ true) }
+    ensures cause { HasCause (L.faults link.old) (L.faults link.new) result }
+{
+    let mut last = installed;
+    let count = file.len().div_ceil(size);
+    for number in 0..count {
+        if !is_done(&last) {
+            return Ok(last);
+        }
+        let block = file.block(number * size, size);
+        let command = loading(number + 1 == count, number as u8, &block);
+        last = send(host, wire, link, false, &command)?;
+    }
+    Ok(last)
+}
+
+/// Sends INSTALL for load, and LOAD of each block, up to the first reply that is not 9000.
+pub fn load<L: CardLink>(
+    host: &mut HostState,
+    wire: &mut Wire,
+    link: &mut L,
+    file: &LoadFile,
+) -> Result<Printout, LinkFailed>
+    requires up { L.up link.old ≡ true }
+    requires fits { length (content_bytes file.now.content) ≤ 60_000 }
+    ensures played { (whole : Host) → RepresentsHost host.old whole → Plays L.CardLink link.old link.new (playing_load whole file.now) host.new result }
+    ensures up { OnOk result (L.up link.new ≡ true) }
+    ensures cause { HasCause (L.faults link.old) (L.faults link.new) result }
+{
+    let Some(session) = host.sessions.take(host.channel) else {
+        return Ok(Printout::Said(Word::NoSession));
+    };
+    let size = session.room();
+    let install = file.install(&host.tokens);
+    let installed = protect(host, wire, link, session, false, &install.command())?;
+    send_blocks(host, wire, link, file, size, installed)
+}

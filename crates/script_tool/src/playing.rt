@@ -1,0 +1,204 @@
+//! What is done with a line that has a form.
+
+ghost use Rattle.std.specs.Prelude.{◌≡◌, ℕ, List, true, false, OnOk};
+ghost use Rattle.apdu_core.specs.Apdu.{Apdu};
+ghost use Rattle.faults.specs.Faults.{HasCause};
+ghost use Rattle.script_tool.specs.Host.{Host};
+ghost use Rattle.script_tool.specs.InSession.{sending};
+ghost use Rattle.script_tool.specs.Kept.{RepresentsHost, printed_of};
+ghost use Rattle.script_tool.specs.Line.{SaysLine};
+ghost use Rattle.script_tool.specs.Play.{FitsBlocks, playing, playing_control, playing_exchange, playing_put_key, wanting};
+ghost use Rattle.script_tool.specs.Played.{IsPlayed, Plays};
+ghost use Rattle.script_tool.specs.Send.{plain_of};
+ghost use Rattle.script_tool.specs.Store.{storing};
+
+use crate::control::Control;
+use crate::exchange::Exchange;
+use crate::host_state::HostState;
+use crate::in_plain::{raw, select};
+use crate::in_session::{protect, send};
+use crate::line::ScriptLine;
+use crate::link::{CardLink, LinkFailed};
+use crate::loading::load;
+use crate::plain::Plain;
+use crate::printout::Printout;
+use crate::put_key::Putting;
+use crate::selectable;
+use crate::session_opening::open;
+use crate::wire::Wire;
+use crate::word::Word;
+use apdu_core::{Command, Status};
+
+/// P2 of GET STATUS, for the first objects and for the next ones.
+const FIRST: u8 = 0x02;
+
+const NEXT: u8 = 0x03;
+
+// Sends a plain command in the session of the channel.
+fn send_one<L: CardLink>(
+    host: &mut HostState,
+    wire: &mut Wire,
+    link: &mut L,
+    bad: bool,
+    command: &Plain,
+) -> Result<Printout, LinkFailed>
+    requires up { L.up link.old ≡ true }
+    ensures played { (whole : Host) (wanted : Apdu) → RepresentsHost host.old whole → plain_of command.now ≡ wanted
+        → Plays L.CardLink link.old link.new (sending bad whole wanted) host.new result }
+    ensures up { OnOk result (L.up link.new ≡ true) }
+    ensures cause { HasCause (L.faults link.old) (L.faults link.new) result }
+{
+    send(host, wire, link, bad, &command.command())
+}
+
+// STORE DATA of one block.
+fn store<L: CardLink>(
+    host: &mut HostState,
+    wire: &mut Wire,
+    link: &mut L,
+    field: &[u8],
+) -> Result<Printout, LinkFailed>
+    requires up { L.up link.old ≡ true }
+    ensures played { (whole : Host) → RepresentsHost host.old whole
+        → Plays L.CardLink link.old link.new (sending false whole (storing field.now)) host.new result }
+    ensures up { OnOk result (L.up link.new ≡ true) }
+    ensures cause { HasCause (L.faults link.old) (L.faults link.new) result }
+{
+    let command = Command {
+        class: 0x80,
+        ins: 0xe2,
+        p1: 0x90,
+        p2: 0x00,
+        body: field,
+        le: None,
+    };
+    send(host, wire, link, false, &command)
+}
+
+// PUT KEY of keys that are enciphered under the Key-DEK of the session.
+fn put_key<L: CardLink>(
+    host: &mut HostState,
+    wire: &mut Wire,
+    link: &mut L,
+    putting: &Putting,
+) -> Result<Printout, LinkFailed>
+    requires up { L.up link.old ≡ true }
+    ensures played { (whole : Host) → RepresentsHost host.old whole
+        → Plays L.CardLink link.old link.new (playing_put_key whole putting.now) host.new result }
+    ensures up { OnOk result (L.up link.new ≡ true) }
+    ensures cause { HasCause (L.faults link.old) (L.faults link.new) result }
+{
+    let Some(session) = host.sessions.take(host.channel) else {
+        return Ok(Printout::Said(Word::NoSession));
+    };
+    let command = session.put_key(putting);
+    protect(host, wire, link, session, false, &command.command())
+}
+
+// Sends what a line sends, and prints what it prints.
+fn play_exchange<L: CardLink>(
+    host: &mut HostState,
+    wire: &mut Wire,
+    link: &mut L,
+    exchange: &Exchange,
+) -> Result<Printout, LinkFailed>
+    requires up { L.up link.old ≡ true }
+    requires fits { FitsBlocks exchange.now }
+    ensures played { (whole : Host) → RepresentsHost host.old whole
+        → Plays L.CardLink link.old link.new (playing_exchange whole exchange.now) host.new result }
+    ensures up { OnOk result (L.up link.new ≡ true) }
+    ensures cause { HasCause (L.faults link.old) (L.faults link.new) result }
+{
+    match exchange {
+        Exchange::Select(aid) => select(host, wire, link, aid),
+        Exchange::Raw(bytes) => raw(wire, link, bytes),
+        Exchange::Open(opening) => open(host, wire, link, opening),
+        Exchange::Load(file) => load(host, wire, link, file),
+        Exchange::PutKey(putting) => put_key(host, wire, link, putting),
+        Exchange::Store(field) => store(host, wire, link, field),
+        Exchange::Send(command) => send_one(host, wire, link, false, command),
+        Exchange::Bad(command) => send_one(host, wire, link, true, command),
+        Exchange::Install(installation) => {
+            let command = installation.command(&host.tokens);
+            send_one(host, wire, link, false, &command)
+        }
+        Exchange::Selectable(aid) => {
+            let command = selectable::command(aid, &host.tokens);
+            send_one(host, wire, link, false, &command)
+        }
+        Exchange::Extradite(extradition) => {
+            let command = extradition.command(&host.tokens);
+            send_one(host, wire, link, false, &command)
+        }
+        Exchange::Delete(deletion) => {
+            let command = deletion.command(&host.tokens);
+            send_one(host, wire, link, false, &command)
+        }
+        Exchange::Life(change) => send_one(host, wire, link, false, &change.command()),
+        Exchange::List(listing) => send_one(host, wire, link, false, &listing.command(FIRST)),
+        Exchange::More(listing) => send_one(host, wire, link, false, &listing.command(NEXT)),
+    }
+}
+
+// Whether a status is the one that was printed last.
+fn wanted(last: Option<Status>, want: Status) -> Printout
+    ensures { printed_of result ≡ wanting last want.0 }
+{
+    match last {
+        Some(got) if got == want => Printout::Nothing,
+        _ => Printout::Differs(want, last),
+    }
+}
+
+// Does what a line asks for that sends nothing.
+fn obey<L: CardLink>(host: &mut HostState, link: &mut L, control: &Control) -> Printout
+    requires up { L.up link.old ≡ true }
+    ensures played { (whole : Host) → RepresentsHost host.old whole
+        → IsPlayed L.CardLink link.old link.new (playing_control whole control.now) (printed_of result) host.new }
+    ensures up { L.up link.new ≡ true }
+    ensures quiet { L.faults link.new ≡ L.faults link.old }
+{
+    match control {
+        Control::Want(status) => wanted(host.last, *status),
+        Control::Channel(channel) => {
+            host.channel = *channel;
+            Printout::Nothing
+        }
+        Control::Keys(keys) => {
+            host.keys = *keys;
+            Printout::Nothing
+        }
+        Control::Tokens(tokens) => {
+            host.tokens = *tokens;
+            Printout::Nothing
+        }
+        Control::Reset => {
+            link.reset();
+            host.reset();
+            Printout::Nothing
+        }
+    }
+}
+
+/// Plays a line that has a form.
+pub fn play<L: CardLink>(
+    host: &mut HostState,
+    wire: &mut Wire,
+    link: &mut L,
+    said: &ScriptLine,
+) -> Result<Printout, LinkFailed>
+    requires up { L.up link.old ≡ true }
+    requires form { (text : List ℕ) × SaysLine text said.now }
+    ensures played { (whole : Host) → RepresentsHost host.old whole
+        → Plays L.CardLink link.old link.new (playing whole said.now) host.new result }
+    ensures up { OnOk result (L.up link.new ≡ true) }
+    ensures cause { HasCause (L.faults link.old) (L.faults link.new) result }
+{
+    match said {
+        ScriptLine::Nothing => Ok(Printout::Nothing),
+        ScriptLine::Control(control) => Ok(obey(host, link, control)),
+        ScriptLine::Exchange(exchange) | ScriptLine::Quiet(exchange) => {
+            play_exchange(host, wire, link, exchange)
+        }
+    }
+}

@@ -1,0 +1,127 @@
+//! Sessions that are opened.
+
+ghost use Rattle.std.specs.Prelude.{◌≡◌, true, length, OnOk};
+ghost use Rattle.apdu_core.specs.Apdu.{Short};
+ghost use Rattle.faults.specs.Faults.{HasCause};
+ghost use Rattle.scp03_card.specs.Kept.{RepresentsSession};
+ghost use Rattle.scp03_card.specs.Offer.{Offer};
+ghost use Rattle.scp03_card.specs.Session.{answered};
+ghost use Rattle.script_tool.specs.Channel.{number_of};
+ghost use Rattle.script_tool.specs.Host.{Host};
+ghost use Rattle.script_tool.specs.InPlain.{in_plain};
+ghost use Rattle.script_tool.specs.Kept.{RepresentsHost};
+ghost use Rattle.script_tool.specs.Opening as standard;
+ghost use Rattle.script_tool.specs.Opening.{authenticated, playing_open, updating, with_field};
+ghost use Rattle.script_tool.specs.Played.{Plays};
+ghost use Rattle.script_tool.specs.declared.opening.Opening.{Opening};
+
+use crate::aes_session::AesSession;
+use crate::channel::Channel;
+use crate::host_state::HostState;
+use crate::in_plain::send_plain;
+use crate::link::{CardLink, LinkFailed};
+use crate::opening::Opening;
+use crate::printout::{DONE, Printout};
+use crate::wire::Wire;
+use crate::word::Word;
+use apdu_core::Command;
+use arrayvec::ArrayVec;
+use scp03_host::BeginRefusal;
+
+/// Opens a session on the host's channel.
+pub fn open<L: CardLink>(
+    host: &mut HostState,
+    wire: &mut Wire,
+    link: &mut L,
+    opening: &Opening,
+) -> Result<Printout, LinkFailed>
+    requires up { L.up link.old ≡ true }
+    ensures played { (whole : Host) → RepresentsHost host.old whole → Plays L.CardLink link.old link.new (playing_open whole opening.now) host.new result }
+    ensures up { OnOk result (L.up link.new ≡ true) }
+    ensures cause { HasCause (L.faults link.old) (L.faults link.new) result }
+{
+    write_update(host.channel, opening, &mut wire.sent);
+    match send_plain(wire, link)? {
+        Printout::Reply(field, status) => {
+            if status == DONE {
+                host.sessions.end(host.channel);
+                answer_update(host, wire, link, opening, &field)
+            } else {
+                Ok(Printout::Reply(ArrayVec::new(), status))
+            }
+        }
+        other => Ok(other),
+    }
+}
+
+// Replaces what `out` holds by INITIALIZE UPDATE.
+fn write_update(channel: Channel, opening: &Opening, out: &mut ArrayVec<u8, 261>)
+    ensures { Short (updating (number_of channel) opening.now) out.new.items }
+{
+    let command = Command {
+        class: 0x80 + channel.number(),
+        ins: 0x50,
+        p1: opening.version,
+        p2: 0x00,
+        body: &opening.challenge,
+        le: None,
+    };
+    command.write(out);
+}
+
+// Checks the card cryptogram in the data field of the reply to INITIALIZE UPDATE, and answers by EXTERNAL AUTHENTICATE.
+fn answer_update<L: CardLink>(
+    host: &mut HostState,
+    wire: &mut Wire,
+    link: &mut L,
+    opening: &Opening,
+    field: &[u8],
+) -> Result<Printout, LinkFailed>
+    requires up { L.up link.old ≡ true }
+    ensures played { (whole : Host) → RepresentsHost host.old whole
+        → Plays L.CardLink link.old link.new (with_field whole opening.now field.now) host.new result }
+    ensures up { OnOk result (L.up link.new ≡ true) }
+    ensures cause { HasCause (L.faults link.old) (L.faults link.new) result }
+{
+    let channel = host.channel.number();
+    match AesSession::begin(&host.keys, opening, field, channel, &mut wire.sent) {
+        Ok(session) => authenticate(host, wire, link, session, counter_in(field)),
+        Err(BeginRefusal::Short) => Ok(Printout::Said(Word::Short)),
+        Err(BeginRefusal::CardCryptogram) => Ok(Printout::Cryptogram(counter_in(field))),
+    }
+}
+
+// The sequence counter.
+fn counter_in(field: &[u8]) -> [u8; 3]
+    requires { length field.now ≡ 32 }
+    ensures { result ≡ standard.counter_in field.now }
+{
+    let mut counter = [0; 3];
+    counter.copy_from_slice(&field[29..]);
+    counter
+}
+
+// Sends EXTERNAL AUTHENTICATE, and puts the session on the host's channel where the card accepts it.
+fn authenticate<L: CardLink>(
+    host: &mut HostState,
+    wire: &mut Wire,
+    link: &mut L,
+    session: AesSession,
+    counter: [u8; 3],
+) -> Result<Printout, LinkFailed>
+    requires up { L.up link.old ≡ true }
+    ensures played { (whole : Host) (o : Opening) (offer : Offer) → RepresentsHost host.old whole → RepresentsSession session (answered offer o.level)
+        → Plays L.CardLink link.old link.new (in_plain whole wire.old.sent.items (authenticated o offer counter)) host.new result }
+    ensures up { OnOk result (L.up link.new ≡ true) }
+    ensures cause { HasCause (L.faults link.old) (L.faults link.new) result }
+{
+    match send_plain(wire, link)? {
+        Printout::Reply(_, status) => {
+            if status == DONE {
+                host.sessions.put(host.channel, session);
+            }
+            Ok(Printout::Opened(counter, status))
+        }
+        other => Ok(other),
+    }
+}
