@@ -1,0 +1,20 @@
+//! The verb `why`.
+
+use arrayvec::ArrayVec;
+use io_edge::LINE_LIMIT;
+
+/// For `why HEX` or `- why HEX`, the line that has `raw` in its place.
+pub fn raw_of(line: &[u8]) -> Option<ArrayVec<u8, LINE_LIMIT>> {
+    let mut raw = ArrayVec::new();
+    let asked = match line.strip_prefix(b"- ".as_slice()) {
+        Some(asked) => {
+            raw.try_extend_from_slice(b"- ").ok()?;
+            asked
+        }
+        None => line,
+    };
+    let digits = asked.strip_prefix(b"why ".as_slice())?;
+    raw.try_extend_from_slice(b"raw ").ok()?;
+    raw.try_extend_from_slice(digits).ok()?;
+    Some(raw)
+}
