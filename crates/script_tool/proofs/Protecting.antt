@@ -99,7 +99,7 @@ pub refusal_taken : (session : Session) (reply out : List ℕ) (result : Result 
     → (result ≡ Err refusal.Short) ↔ IsTooShort session reply
     → (result ≡ Err refusal.Mac) ↔ (IsTooShort session reply → ⊥) × (HasRightMac session reply → ⊥)
     → (result ≡ Err refusal.Padding) ↔ (IsTooShort session reply → ⊥) × HasRightMac session reply
-      × ((body : List ℕ) (status : ℕ) → Unwraps session reply body status → ⊥)
+    × ((body : List ℕ) (status : ℕ) → Unwraps session reply body status → ⊥)
     → ((body : List ℕ) (status : ℕ) → Unwraps session reply body status → (result ≡ Ok (record { 0 = status })) × (out ≡ body))
     → IsTaken session reply (Refused why)
 refusal_taken session reply out result refusal.Short is short mac padding back = (refused_not_unwrapped session reply out result refusal.Short is back, short.0 is)
