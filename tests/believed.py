@@ -17,6 +17,8 @@ CRATES = pathlib.Path(__file__).resolve().parent.parent / "crates"
 # A top call: the crate, its file, and where its clauses begin: a function, or a trait with all its clauses.
 CALLS = [
     ("gp_tool", "top.rt", "pub fn gp<"),
+    ("gp_tool", "serving.rt", "pub fn serve<"),
+    ("script_tool", "player.rt", "pub fn step<"),
     ("card_core", "card.rt", "pub fn power_on("),
     ("card_core", "card.rt", "pub fn process("),
     ("card_core", "card.rt", "pub fn reset("),
