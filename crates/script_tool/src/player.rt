@@ -1,6 +1,6 @@
 //! A host that plays the lines of a script.
 
-ghost use Rattle.std.specs.Prelude.{◌≡◌, ◌≤◌, ◌↔◌, ℕ, length, true, OnOk};
+ghost use Rattle.std.specs.Prelude.{◌≡◌, ◌≤◌, ◌↔◌, ◌⊎◌, ℕ, length, true, OnOk};
 ghost use Rattle.faults.specs.Faults.{HasCause, Rose};
 ghost use Rattle.script_tool.specs.Host.{Host, first_host};
 ghost use Rattle.script_tool.specs.Kept.{RepresentsHost, printed_of};
@@ -71,6 +71,7 @@ impl Player {
 
         // A line of no form: nothing is sent, and all stays as it is.
         ensures form { (n : ℕ) → (result ≡ Err (StepStop.Form n)) ↔ (n ≡ line.now.number) × HasNoForm line.now.text.now }
+        ensures said { HasNoForm line.now.text.now ⊎ ((said : ScriptLine) × SaysLine line.now.text.now said) }
         ensures refused { HasNoForm line.now.text.now → (self.new ≡ self.old) × (link.new ≡ link.old) × (text.new ≡ text.old) }
 
         // Any other line: what was sent and printed, by the replies.
