@@ -16,8 +16,11 @@ pub mod Pieces
 pub mod Plainly
 pub mod PlayedRules
 pub mod Protecting
+pub mod RoundLines
 pub mod ShortCommand
+pub mod Spelled
 pub mod Split
 pub mod TalkRules
 pub mod Verbs
 pub mod Workload
+pub mod WorkloadLines

@@ -41,3 +41,4 @@ pub mod TokenKey
 pub mod Tokens
 pub mod Values
 pub mod Words
+pub mod Workload

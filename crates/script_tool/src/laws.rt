@@ -1,6 +1,7 @@
 //! The laws of lines, as functions that do nothing when they run.
 ghost use Rattle.script_tool.specs.Line.{OneLine};
 ghost use Rattle.script_tool.specs.Once.{OneTalk};
+ghost use Rattle.script_tool.specs.Workload.{WorkloadLines};
 
 /// A text says at most one line.
 pub fn one_line()
@@ -10,4 +11,9 @@ pub fn one_line()
 /// From one state of the card a line comes to one end, by one list of commands.
 pub fn one_talk()
     ensures { OneTalk }
+{}
+
+/// Each line of the workload has a form, and fits a line.
+pub fn workload_lines()
+    ensures { WorkloadLines }
 {}

@@ -30,7 +30,8 @@
 //! and know no link. `CardLink` is what commands are sent over: a card at its other end is led from state
 //! to state by the steps of `policy_rules`, where the link tells its states.
 //!
-//! `Mill` gives the lines of a workload: rounds of ten lines each, that ChaCha20 chooses from a seed.
+//! `Mill` gives the lines of a workload: rounds of ten lines each, that ChaCha20 chooses from a seed. Each is
+//! a line of the language, and short enough for `io_edge`.
 #![tactic(auto)]
 
 mod aes_session;
@@ -83,7 +84,7 @@ pub use exchange::Exchange;
 pub use extradition::Extradition;
 pub use install::Installation;
 pub use keys::{Key, Keys, OfSize, Trio};
-pub use laws::{one_line, one_talk};
+pub use laws::{one_line, one_talk, workload_lines};
 pub use life::LifeChange;
 pub use line::ScriptLine;
 pub use link::{CardLink, LinkFailed};
