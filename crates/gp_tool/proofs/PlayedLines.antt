@@ -1,0 +1,101 @@
+-- What comes of one line in `play`.
+use Rattle.std.proofs.Common.{◌≡◌, ◌⊎◌, ℕ, Bool, true, false, ◌||◌, List, [], ◌∷◌, ◌++◌, refl, sym, ap, subst, ◌∙◌, inl, inr}
+use Rattle.std.specs.Prelude.{◌↔◌, Result, Ok, Err}
+use Rattle.card_core.specs.Card.{CardRepresents}
+use Rattle.flash_core.specs.declared.flash.Flash.{Ghosts as Flash}
+use Rattle.policy_rules.specs.State.{State}
+use Rattle.script_tool.specs.Host.{Host}
+use Rattle.script_tool.specs.Kept.{RepresentsHost}
+use Rattle.script_tool.specs.Kind.{kind_of}
+use Rattle.script_tool.specs.Line.{HasNoForm, SaysLine}
+use Rattle.script_tool.specs.Play.{playing, remembering}
+use Rattle.script_tool.specs.Printed.{Printed, Nothing, Reply, Opened, Cryptogram, Said, Differs, printed_text, status_printed}
+use Rattle.script_tool.specs.Quiet.{is_quiet}
+use Rattle.script_tool.specs.declared.host_state.HostState.{HostState}
+use Rattle.script_tool.specs.declared.line.ScriptLine.{ScriptLine}
+use Rattle.script_tool.specs.declared.played.Played as the_played
+use Rattle.script_tool.specs.declared.played.StepStop.{StepStop}
+use Rattle.script_tool.specs.declared.played.StepStop.TheVariants.{Form, LinkFailed}
+use Rattle.gp_tool.specs.CardEnd.{Counting}
+use Rattle.gp_tool.specs.Effects.{Place}
+use Rattle.gp_tool.specs.Kinds.{is_difference_kind, prints_kind}
+use Rattle.gp_tool.specs.Script.{BreaksScript, IsScript, PlaysScript, is_difference, texts_of}
+use Rattle.gp_tool.specs.Serve.{BreaksLine, RunsLine, Standing, StandsAt}
+use Rattle.gp_tool.specs.StepsCard.{StepsOver, StopsCard}
+
+-- a difference is of the kind of one
+differs_as : (printed : Printed) → is_difference_kind (kind_of printed) ≡ is_difference printed
+differs_as Nothing = refl
+differs_as (Reply body status) = refl
+differs_as (Opened counter status) = refl
+differs_as (Cryptogram counter) = refl
+differs_as (Said word) = refl
+differs_as (Differs want got) = refl
+
+-- a line that prints nothing has no text
+silent_text : (quiet : Bool) (printed : Printed) → prints_kind (kind_of printed) ≡ false → texts_of quiet printed ≡ []
+silent_text quiet Nothing none = refl
+silent_text quiet (Reply body status) none = cc none
+silent_text quiet (Opened counter status) none = cc none
+silent_text quiet (Cryptogram counter) none = cc none
+silent_text quiet (Said word) none = cc none
+silent_text quiet (Differs want got) none = cc none
+
+-- any other one has one
+one_text : (quiet : Bool) (printed : Printed) → prints_kind (kind_of printed) ≡ true → texts_of quiet printed ≡ (printed_text quiet printed ++ 10 ∷ []) ∷ []
+one_text quiet Nothing some = cc some
+one_text quiet (Reply body status) some = refl
+one_text quiet (Opened counter status) some = refl
+one_text quiet (Cryptogram counter) some = refl
+one_text quiet (Said word) some = refl
+one_text quiet (Differs want got) some = refl
+
+-- when the form of a line is refused
+abbrev pub RefusesForm : Result the_played.Played StepStop → ℕ → List ℕ → Type 0
+RefusesForm result number line = (n : ℕ) → (result ≡ Err (Form n)) ↔ ((n ≡ number) × HasNoForm line)
+
+-- a line that was not refused says something
+pub says_some : (result : Result the_played.Played StepStop) (number : ℕ) (line : List ℕ) → RefusesForm result number line
+    → HasNoForm line ⊎ ((said : ScriptLine) × SaysLine line said) → (result ≡ Err (Form number) → ⊥) → (said : ScriptLine) × SaysLine line said
+says_some result number line form (inl none) other = (let refused = form number in absurd (other (refused.1 (refl, none))))
+says_some result number line form (inr some) other = some
+
+module _ {F : Type 0} (device : Flash F) (line : List ℕ) (old new : Standing F HostState) (from to : Counting F)
+    (before : old.card ≡ from.card) (behind : new.card ≡ to.card) (count : old.done ≡ from.done) (count' : new.done ≡ to.done)
+    (place : Place Host) (said : ScriptLine) (says : SaysLine line said) where
+  module _ (text : List ℕ) (played : the_played.Played) (differs : new.differs ≡ (old.differs || is_difference_kind played))
+      (over : StepsOver device from to place.memory place.state said new.held text played) where
+    -- the line was played
+    line_runs : RunsLine RepresentsHost (PlaysScript line) device old new place
+    line_runs =
+        let plays = over.plays in
+        record {
+          effect = record { outcomes = plays.outcomes; texts = texts_of (is_quiet said) over.printed; differs = is_difference over.printed };
+          next = record { memory = remembering (status_printed over.printed) over.after; state = plays.last };
+          plays = (said, says, plays.events, over.printed, over.after, plays.goes, plays.answers, refl, refl, refl);
+          stands = (rw behind plays.stands, over.stands);
+          leaves = rw (before, behind) plays.leaves;
+          done = rw (count, count') plays.done;
+          differs = differs ∙ ap (λ d. old.differs || d) (ap is_difference_kind over.kind ∙ differs_as over.printed);
+        }
+
+    pub runs_silently : prints_kind played ≡ false → (run : RunsLine RepresentsHost (PlaysScript line) device old new place) × (run.effect.texts ≡ [])
+    unfolding line_runs
+    runs_silently none = (line_runs, silent_text (is_quiet said) over.printed (ap prints_kind (sym over.kind) ∙ none))
+
+    pub runs_printing : prints_kind played ≡ true → (run : RunsLine RepresentsHost (PlaysScript line) device old new place) × (run.effect.texts ≡ (text ++ 10 ∷ []) ∷ [])
+    unfolding line_runs
+    runs_printing some =
+        (line_runs, one_text (is_quiet said) over.printed (ap prints_kind (sym over.kind) ∙ some) ∙ ap (λ t. (t ++ 10 ∷ []) ∷ []) (sym over.text_is))
+
+  -- the device failed in a command of the line
+  pub line_breaks : StopsCard device from to place.state (playing place.memory said) → BreaksLine (BreaksScript line) device old new place
+  line_breaks stops = record {
+    begun = stops.outcomes;
+    mid = stops.mid;
+    next = stops.next;
+    fails = (said, says, stops.events, stops.command, stops.rest, stops.goes, stops.answers, stops.step);
+    done = rw (count, count') stops.done;
+    left = rw behind stops.left;
+    leaves = rw (before, behind) stops.leaves;
+  }

@@ -1,0 +1,44 @@
+//! A card at the end of a link.
+
+ghost use Rattle.card_core.specs.Card.{CardRepresents};
+ghost use Rattle.gp_tool.specs.CardEnd.{Comes};
+
+use arrayvec::ArrayVec;
+use card_core::{Card, REPLY_LIMIT};
+use flash_core::{Flash, FlashFailed};
+use script_tool::{CardLink, LinkFailed};
+
+/// A card, and how many commands it has answered.
+#[derive(Drop)]
+pub struct CardEnd<F: Flash> {
+    pub card: Card<F>,
+    pub done: u32,
+}
+
+impl<F: Flash> CardLink for CardEnd<F> {
+    ghost stands = { λ end state. CardRepresents F.Flash end.card state };
+
+    ghost came = { λ start end first inputs. Comes F.Flash (record { card = start.card; done = start.done }) (record { card = end.card; done = end.done }) first inputs end.card.live };
+
+    ghost up = { λ end. end.card.live };
+
+    ghost faults = { λ end. F.faults end.card.flash };
+
+    fn send(
+        &mut self,
+        command: &[u8],
+        reply: &mut ArrayVec<u8, REPLY_LIMIT>,
+    ) -> Result<(), LinkFailed> {
+        match self.card.process(command, reply) {
+            Ok(_) => {
+                self.done = self.done.saturating_add(1);
+                Ok(())
+            }
+            Err(FlashFailed) => Err(LinkFailed),
+        }
+    }
+
+    fn reset(&mut self) {
+        self.card.reset();
+    }
+}

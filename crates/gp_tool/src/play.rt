@@ -1,0 +1,94 @@
+//! A line of the verb `play`.
+
+ghost use Rattle.std.specs.Prelude.{◌≡◌, ◌≢◌, ◌≤◌, ◌||◌, ◌++◌, ◌∷◌, [], ℕ, true, take, OnOk, OnErr};
+ghost use Rattle.faults.specs.Faults.{HasCause};
+ghost use Rattle.script_tool.specs.Kept.{RepresentsHost};
+ghost use Rattle.gp_tool.specs.Kinds.{is_difference_kind, prints_kind};
+ghost use Rattle.gp_tool.specs.Script.{BreaksScript, IsScript, PlaysScript};
+ghost use Rattle.gp_tool.specs.Serve.{ServesLine, ServeCause};
+ghost use Rattle.gp_tool.specs.Standing.{standing};
+ghost use Rattle.gp_tool.specs.declared.line.LineEnd.TheVariants.{FlashFault};
+
+use crate::card_end::CardEnd;
+use crate::line::LineEnd;
+use crate::step_card::step_card;
+use crate::workspace::Workspace;
+use arrayvec::ArrayVec;
+use flash_core::Flash;
+use io_edge::{Line, Sink, WriteFailed};
+use script_tool::{Played, StepStop, Text};
+
+/// How many bytes a printed line has, with its newline, at most.
+const PRINTED_LIMIT: usize = 601;
+
+// Keeps that a status differed from the one that a line wants.
+fn note_difference(differs: &mut bool, played: Played)
+    ensures { differs.new ≡ (differs.old || is_difference_kind played) }
+{
+    if let Played::WantDiffers = played {
+        *differs = true;
+    }
+}
+
+/// Whether a line has printed something.
+pub fn has_printed(played: Played) -> bool
+    ensures { result ≡ prints_kind played }
+{
+    !matches!(played, Played::Quiet)
+}
+
+/// What a line has printed, and a newline.
+pub fn printed_line(printed: &Text) -> ArrayVec<u8, PRINTED_LIMIT>
+    ensures { result.items ≡ printed.now.items ++ 10 ∷ [] }
+{
+    let mut line = ArrayVec::new();
+    line.try_extend_from_slice(printed).unwrap();
+    line.push(b'\n');
+    line
+}
+
+// Writes what a line has printed as one line, by one write.
+fn write_printed<K: Sink>(printed: &Text, sink: &mut K) -> Result<(), WriteFailed>
+    ensures ok { K.tells → OnOk result ((K.state sink.new).written ≡ (K.state sink.old).written ++ (printed.now.items ++ 10 ∷ [])) }
+    ensures err { K.tells → OnErr result ((n : ℕ) × ((K.state sink.new).written ≡ (K.state sink.old).written ++ take n (printed.now.items ++ 10 ∷ []))) }
+    ensures flushes { (K.state sink.new).flushes ≡ (K.state sink.old).flushes }
+    ensures cause { HasCause (K.state sink.old).faults (K.state sink.new).faults result }
+{
+    sink.write_all(&printed_line(printed))
+}
+
+/// Plays the line of this number over the card, and writes what it prints.
+pub fn play_line<K: Sink, F: Flash>(
+    number: u32,
+    line: &[u8],
+    end: &mut CardEnd<F>,
+    differs: &mut bool,
+    space: &mut Workspace,
+    sink: &mut K,
+) -> LineEnd
+    requires live { end.old.card.live ≡ true }
+    ensures served { ServesLine RepresentsHost (PlaysScript line.now) (λ memory. IsScript line.now) (BreaksScript line.now) F.Flash K.tells
+        (standing end.old space.old.player differs.old) (standing end.new space.new.player differs.new)
+        (K.state sink.old).written (K.state sink.new).written result }
+    ensures live { result ≢ FlashFault → end.new.card.live ≡ true }
+    ensures flushes { (K.state sink.new).flushes ≡ (K.state sink.old).flushes }
+    ensures later { F.faults end.old.card.flash ≤ F.faults end.new.card.flash }
+    ensures cause { ServeCause (K.state sink.old).faults (K.state sink.new).faults (F.faults end.old.card.flash) (F.faults end.new.card.flash) result }
+{
+    let line = Line { number, text: line };
+    match step_card(&line, end, &mut space.player, &mut space.printed) {
+        Ok(played) => {
+            note_difference(differs, played);
+            if has_printed(played) {
+                match write_printed(&space.printed, sink) {
+                    Ok(()) => LineEnd::Done,
+                    Err(_) => LineEnd::WriteFault,
+                }
+            } else {
+                LineEnd::Done
+            }
+        }
+        Err(StepStop::Form(_)) => LineEnd::NoForm,
+        Err(StepStop::LinkFailed) => LineEnd::FlashFault,
+    }
+}
