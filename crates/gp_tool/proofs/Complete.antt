@@ -73,11 +73,13 @@ done_finished : (v : Verb) → IsDone v 0
 done_finished verb.Run = refl
 done_finished verb.Why = refl
 done_finished verb.Replay = inl refl
+done_finished verb.Play = inl refl
 
 done_differs : (v : Verb) (lines : List (List ℕ)) (at last : Place (Memory v)) (effect : Effect) → RunsLines v 1 lines at effect last → effect.differs ≡ true → IsDone v 8
 done_differs verb.Run lines at last effect runs differs = (let never = run_never_differs 1 lines at last effect runs in cc (never, differs))
 done_differs verb.Why lines at last effect runs differs = (let never = why_never_differs 1 lines at last effect runs in cc (never, differs))
 done_differs verb.Replay lines at last effect runs differs = inr refl
+done_differs verb.Play lines at last effect runs differs = inr refl
 
 module _ (v : Verb) (reads writes : Type 0) (Rests : List Outcome → State → Type 0) (Fails : List Outcome → State → Outcome → Type 0) (first : State) (before later : Outside) (old new : Faults) where
   pub is_done : (ending : Ending) → EndCause ending old new → Ends v reads writes Rests Fails first ending before later → reads

@@ -3,10 +3,12 @@ use Rattle.std.proofs.Common.{◌≡◌, ℕ, Bool, true, false, List, [], ◌�
 use Rattle.std.specs.Prelude.{IsTrue}
 use Rattle.std.specs.List.{concat}
 use Rattle.std.proofs.lemmas.List.{append-nil}
-use Rattle.gp_tool.specs.Standing.{kept_if, memory_in}
+use Rattle.script_tool.specs.Host.{first_host}
+use Rattle.script_tool.specs.Kept.{RepresentsHost}
+use Rattle.gp_tool.specs.Standing.{Means, held_in, kept_if}
 use Rattle.gp_tool.specs.RunsLines.{no_memory}
 use Rattle.gp_tool.specs.declared.verb.Verb.{Verb}
-use Rattle.gp_tool.specs.declared.verb.Verb.TheVariants.{Run, Why, Replay}
+use Rattle.gp_tool.specs.declared.verb.Verb.TheVariants.{Run, Why, Replay, Play}
 use Rattle.gp_tool.specs.declared.workspace.Workspace.{Workspace}
 
 -- it is there
@@ -21,8 +23,9 @@ not_true b is other = cc (is, other)
 pub wrote_line : (old new text : List ℕ) → new ≡ old ++ text → new ≡ old ++ concat (text ∷ [])
 wrote_line old new text wrote = wrote ∙ ap (λ t. old ++ t) (sym (append-nil text))
 
--- in a new workspace nothing is kept
-pub none_kept : (verb : Verb) (space : Workspace) → space.has_reply ≡ false → memory_in verb space ≡ no_memory verb
-none_kept Run space none = refl
-none_kept Why space none = refl
-none_kept Replay space none = ap (λ b. kept_if b space.reply.items) none
+-- what a new workspace holds means what is kept at the start
+pub means_first : (verb : Verb) (space : Workspace) → space.has_reply ≡ false → RepresentsHost space.player first_host → Means verb (held_in verb space) (no_memory verb)
+means_first Run space none player = refl
+means_first Why space none player = refl
+means_first Replay space none player = ap (λ b. kept_if b space.reply.items) none
+means_first Play space none player = player

@@ -1,5 +1,7 @@
 pub mod ComeFirst
+pub mod CardEnds
 pub mod Complete
+pub mod Counting
 pub mod RunSoFar
 pub mod Exclusive
 pub mod FileLine
@@ -15,6 +17,7 @@ pub mod Spaces
 pub mod Spelled
 pub mod Moments
 pub mod Parts
+pub mod PlayedLines
 pub mod RunsMore
 pub mod Powered
 pub mod SaidElse
@@ -23,6 +26,8 @@ pub mod ShownText
 pub mod Replayed
 pub mod ReplyLine
 pub mod RepresentsSoundly
+pub mod Scripts
 pub mod Statuses
+pub mod StepsOver
 pub mod Turns
 pub mod Written

@@ -7,6 +7,7 @@ use Rattle.policy_rules.specs.Run.{Input, Run}
 use Rattle.policy_rules.specs.State.{State}
 use Rattle.policy_rules.specs.Step.{Outcome}
 use Rattle.gp_tool.proofs.Moments.{run_ends}
+use Rattle.gp_tool.proofs.Scripts.{answers_end, script_once}
 use Rattle.gp_tool.proofs.Spelled.{spells_once, no_card_wants, wants_once}
 use Rattle.gp_tool.specs.Device.{registries}
 use Rattle.gp_tool.specs.Effects.{Effect, Place}
@@ -15,7 +16,7 @@ use Rattle.gp_tool.specs.Replay.{Compares, IsCompared, Keeps, Kept, kept_behind}
 use Rattle.gp_tool.specs.Replies.{Replies, reply_line}
 use Rattle.gp_tool.specs.RunsLines.{HasForm, Memory, PlaysLine}
 use Rattle.gp_tool.specs.declared.verb.Verb.{Verb}
-use Rattle.gp_tool.specs.declared.verb.Verb.TheVariants.{Run as run, Why as why, Replay as replay}
+use Rattle.gp_tool.specs.declared.verb.Verb.TheVariants.{Run as run, Why as why, Replay as replay, Play as play}
 
 -- a line that was played has a form
 pub plays_form : (verb : Verb) (number : ℕ) (line : List ℕ) (at next : Place (Memory verb)) (effect : Effect) → PlaysLine verb number line at effect next → HasForm verb line at.memory
@@ -23,6 +24,7 @@ plays_form run number line at next effect plays = (plays.0, plays.1)
 plays_form why number line at next effect plays = (plays.0, plays.1)
 plays_form replay number line at next effect (inl keeps) = inl (keeps.0, keeps.1)
 plays_form replay number line at next effect (inr compared) = inr (compared.0, compared.1, compared.2)
+plays_form play number line at next effect plays = (plays.0, plays.1)
 
 -- two effects, and two places
 abbrev pub Same : {M : Type 0} → Effect → Effect → Place M → Place M → Type 0
@@ -80,6 +82,9 @@ line_once replay number line at next another one other (inl keeps) (inl again) =
 line_once replay number line at next another one other (inl keeps) (inr compared) = absurd (no_card_wants line keeps.0 compared.0 keeps.1 compared.2.0)
 line_once replay number line at next another one other (inr compared) (inl keeps) = absurd (no_card_wants line keeps.0 compared.0 keeps.1 compared.2.0)
 line_once replay number line at next another one other (inr compared) (inr again) = compared_once number line at next another one other compared again
+line_once play number line at next another one other plays again =
+    let same = script_once line at next another one other plays again in
+    same_parts one other next another same.outcomes same.texts same.differs same.memory same.state
 
 -- the registry behind a line is one of the run's
 pub line_ends : (verb : Verb) (number : ℕ) (line : List ℕ) (at next : Place (Memory verb)) (effect : Effect)
@@ -89,3 +94,4 @@ line_ends why number line at next effect plays = run_ends at.state plays.0 effec
 line_ends replay number line at next effect (inl keeps) = run_ends at.state keeps.0 effect.outcomes next.state keeps.2
 line_ends replay number line at next effect (inr (want, got, meets, compares, is)) =
     subst (λ (place : Place Kept). Contains (registries at.state effect.outcomes) place.state.registry) (sym is) (contains_first at.state.registry _)
+line_ends play number line at next effect plays = answers_end at.state plays.2 effect.outcomes next.state plays.6

@@ -14,7 +14,7 @@ use Rattle.gp_tool.specs.Device.{LeavesOneOf, registries}
 use Rattle.gp_tool.specs.Effects.{Effect, Place}
 use Rattle.gp_tool.specs.Form.{FailsCommand}
 use Rattle.gp_tool.specs.Replay.{Compares, IsForReplay, Kept, Replays}
-use Rattle.gp_tool.specs.Serve.{RunsLine, ServesLine, Standing, StandsAt}
+use Rattle.gp_tool.specs.Serve.{IsHeld, RunsLine, ServesLine, Standing, StandsAt}
 use Rattle.gp_tool.specs.declared.line.LineEnd.{LineEnd}
 use Rattle.gp_tool.specs.declared.line.LineEnd.TheVariants.{Done, NoForm, WriteFault, FlashFault}
 
@@ -25,12 +25,12 @@ no_outcomes number want got effect (inr differs) = ap (λ (e : Effect). e.outcom
 
 module _ {F : Type 0} (device : Flash F) (writes : Type 0) (number : ℕ) (line : List ℕ) where
   abbrev Serves : Standing F Kept → Standing F Kept → List ℕ → List ℕ → LineEnd → Type 0
-  Serves old new text text' result = ServesLine (Replays number line) (IsForReplay line) (FailsCommand line) device writes old new text text' result
+  Serves old new text text' result = ServesLine IsHeld (Replays number line) (IsForReplay line) (FailsCommand line) device writes old new text text' result
 
   module _ (only : (f : F) (c : List Page) → device.tells → device.left_since f (device.moment f) c → device.may_leave f c) (card : CardOver F) (kept kept' : Kept) (done : ℕ) (differs differs' : Bool) where
     -- a reply was compared
-    met_runs : (met : IsMet number line kept kept' differs differs') (place : Place Kept) → StandsAt device (keeping card kept done differs) place
-        → (played : RunsLine (Replays number line) device (keeping card kept done differs) (keeping card kept' done differs') place) × (played.effect.texts ≡ met.effect.texts)
+    met_runs : (met : IsMet number line kept kept' differs differs') (place : Place Kept) → StandsAt IsHeld device (keeping card kept done differs) place
+        → (played : RunsLine IsHeld (Replays number line) device (keeping card kept done differs) (keeping card kept' done differs') place) × (played.effect.texts ≡ met.effect.texts)
     met_runs met place stands =
         let meets = met.meets in
         let none = no_outcomes number met.want met.got met.effect met.compares in (
@@ -40,7 +40,7 @@ module _ {F : Type 0} (device : Flash F) (writes : Type 0) (number : ℕ) (line 
             plays = inr (met.want, met.got, (meets.0, sym stands.1 ∙ meets.1), met.compares, refl);
             stands = (stands.0, met.kept_no_more);
             leaves = subst (λ (os : List Outcome). LeavesOneOf device card.flash card.flash (registries place.state os)) (sym none) (nothing_done device only card place.state stands.0);
-            done = (let len = ap length none in omega (arith, len));
+            done = (let len = ap length none in λ n is. omega (arith, len, is));
             differs = met.tells;
           },
           refl,
@@ -52,9 +52,9 @@ module _ {F : Type 0} (device : Flash F) (writes : Type 0) (number : ℕ) (line 
         (let played = met_runs compared.0 place stands in
         (played.0, λ told. compared.1 told ∙ ap (λ ts. text ++ concat ts) (sym played.1)))
     compared_serves rest text text' begins NoForm compared = (
-      λ form. elim form [
+      λ memory held form. elim form [
         | inl given ↦ not_for_card line rest given.0 begins given.1
-        | inr wants ↦ compared.0 wants.0 wants.1 wants.2
+        | inr wants ↦ (let meets = wants.2 in compared.0 wants.0 wants.1 (meets.0, held ∙ meets.1))
       ],
       λ i. keeping card (compared.1 i) done (compared.2 i),
       compared.3,
@@ -82,7 +82,7 @@ module _ {F : Type 0} (device : Flash F) (writes : Type 0) (number : ℕ) (line 
         λ told. sym (append-nil text) ∙ ap (λ ts. text ++ concat ts) (sym played.1),
       ))
   kept_serves old new text other NoForm kept = (
-    λ form. elim form [
+    λ memory held form. elim form [
       | inl given ↦ kept.0 given
       | inr wants ↦ (let meets = wants.2 in let want = meets.0 in other (want.0 ++ want.1) want.2)
     ],

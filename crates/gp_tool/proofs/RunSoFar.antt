@@ -11,14 +11,18 @@ use Rattle.io_edge.specs.declared.line.TheConstants.{INPUT_LIMIT, LINE_LIMIT}
 use Rattle.policy_rules.specs.State.{State}
 use Rattle.policy_rules.specs.Step.{Outcome}
 use Rattle.gp_tool.proofs.ComeFirst.{come_more, lines_come}
+use Rattle.gp_tool.proofs.Counting.{count_more, counts_from}
 use Rattle.gp_tool.proofs.Moments.{among_first, among_more, joins, has_run, has_failed}
 use Rattle.gp_tool.proofs.RunsMore.{runs_end, runs_more}
+use Rattle.gp_tool.specs.AtMost.{IsAtMost}
+use Rattle.gp_tool.specs.Counted.{CountsOn, counted}
 use Rattle.gp_tool.specs.Device.{HasFailed, HasRun, LeavesOneOf, registries}
 use Rattle.gp_tool.specs.Effects.{Effect, Place, joined, nothing}
 use Rattle.gp_tool.specs.Ends.{Course, Ends, IsBad, IsRead, IsShortCut, Outside, TakesNoMore, room_ahead}
 use Rattle.gp_tool.specs.Going.{AreShort, Going, Reached}
 use Rattle.gp_tool.specs.RunsLines.{Memory, PlaysLine, RunsLines, bad_line, no_memory, start}
 use Rattle.gp_tool.specs.Serve.{Standing}
+use Rattle.gp_tool.specs.Standing.{Held, Means}
 use Rattle.gp_tool.specs.Turn.{EndsWith, GoesOn, TakesLine, total}
 use Rattle.gp_tool.specs.declared.ending.Ending.{Ending}
 use Rattle.gp_tool.specs.declared.ending.Ending.TheVariants.{Finished, Differs, BadLine, FlashFault, ReadFault, WriteFault, InputTooLong}
@@ -42,10 +46,11 @@ concat_more texts text = concat-append texts (text ∷ []) ∙ ap (λ t. concat 
 
 module _ {F : Type 0} (verb : Verb) (device : Flash F) (reads writes : Type 0) (first : State) (from : F) (before : Outside) where
   -- nothing was read yet
-  pub going_first : (card : CardOver F) → CardRepresents device card first → LeavesOneOf device from card.flash (first.registry ∷ [])
-      → Going verb device reads writes first from (record { card = card; memory = no_memory verb; done = 0; differs = false }) before before
+  pub going_first : (card : CardOver F) (held : Held verb) (done : ℕ) → done ≡ 0 → CardRepresents device card first → Means verb held (no_memory verb)
+      → LeavesOneOf device from card.flash (first.registry ∷ [])
+      → Going verb device reads writes first from (record { card = card; held = held; done = done; differs = false }) before before
       (record { number = 0; passed = 0; held = []; stop = None })
-  going_first card stands leaves = record {
+  going_first card held done none stands means leaves = record {
     given = [];
     effect = nothing;
     place = start verb first;
@@ -54,14 +59,14 @@ module _ {F : Type 0} (verb : Verb) (device : Flash F) (reads writes : Type 0) (
     fits = tt;
     plays = (refl, refl);
     reached = λ _. refl;
-    stands = (stands, refl);
+    stands = (stands, means);
     leaves = leaves;
-    done = refl;
+    done = omega (arith, none);
     differs = refl;
     written = λ _. sym (append-nil before.sink.written);
   }
 
-  module _ (at at' : Standing F (Memory verb)) (now later : Outside) (old : Reading) (going : Going verb device reads writes first from at before now old) where
+  module _ (at at' : Standing F (Held verb)) (now later : Outside) (old : Reading) (going : Going verb device reads writes first from at before now old) where
     -- the room is that behind the bytes that were passed
     room_is : reads → room old ≡ room_ahead before.source.left (ahead old now.source.left)
     room_is told =
@@ -74,12 +79,11 @@ module _ {F : Type 0} (verb : Verb) (device : Flash F) (reads writes : Type 0) (
         come_more INPUT_LIMIT before.source.left going.given (ahead old now.source.left) line after (going.reached told) (rw (← room_is told) (next told))
 
     -- the next line is bad, by the room behind the bytes that were passed
-    bad_there : (reads → IsBad verb at.memory (room old) (ahead old now.source.left)) → reads
+    bad_there : ((memory : Memory verb) → Means verb at.held memory → reads → IsBad verb memory (room old) (ahead old now.source.left)) → reads
         → IsBad verb going.place.memory (room_ahead before.source.left (ahead old now.source.left)) (ahead old now.source.left)
     bad_there bad told =
         let stands = going.stands in
-        subst (λ (n : ℕ). IsBad verb going.place.memory n (ahead old now.source.left)) (room_is told)
-        (subst (λ (m : Memory verb). IsBad verb m (room old) (ahead old now.source.left)) stands.1 (bad told))
+        subst (λ (n : ℕ). IsBad verb going.place.memory n (ahead old now.source.left)) (room_is told) (bad going.place.memory stands.1 told)
 
     -- what was taken of the whole input
     taken_there : (ahead left : List ℕ) → (reads → TakesNoMore (total old now) ahead left) → reads → TakesNoMore (length before.source.left) ahead left
@@ -94,8 +98,8 @@ module _ {F : Type 0} (verb : Verb) (device : Flash F) (reads writes : Type 0) (
         (among_more first going.effect.outcomes more going.place.state (runs_end verb 1 going.given (start verb first) going.place going.effect going.plays))
         since leaves
 
-    done_more : (more : List Outcome) (count : ℕ) → count ≡ at.done + length more → count ≡ length (going.effect.outcomes ++ more)
-    done_more more count done = done ∙ ap (λ n. n + length more) going.done ∙ sym (length-append going.effect.outcomes more)
+    done_more : (more : List Outcome) (count : ℕ) → CountsOn at.done count (length more) → count ≡ counted (length (going.effect.outcomes ++ more))
+    done_more more count done = count_more at.done count going.effect.outcomes more going.done done
 
     plays_more : (line : List ℕ) (next : Place (Memory verb)) (one : Effect) → PlaysLine verb (old.number + 1) line going.place one next
         → RunsLines verb 1 (going.given ++ line ∷ []) (start verb first) (joined going.effect one) next
@@ -158,17 +162,18 @@ module _ {F : Type 0} (verb : Verb) (device : Flash F) (reads writes : Type 0) (
 
     -- what holds of the device and the card behind some commands
     abbrev pub Rests : List Outcome → State → Type 0
-    Rests outcomes last = HasRun device from at'.card.flash first at'.done outcomes last × CardRepresents device at'.card last
+    Rests outcomes last = HasRun verb device from at'.card.flash first at'.done outcomes last × CardRepresents device at'.card last
 
     abbrev pub Fails : List Outcome → State → Outcome → Type 0
-    Fails outcomes last next = HasFailed device from at'.card.flash first at'.done outcomes last next
+    Fails outcomes last next = HasFailed verb device from at'.card.flash first at'.done outcomes last next
 
     -- nothing was done on the card
-    rested : at' ≡ at → Rests going.effect.outcomes going.place.state
-    rested same =
+    rested : IsAtMost verb at'.done (INPUT_LIMIT + 1) → at' ≡ at → Rests going.effect.outcomes going.place.state
+    rested few same =
         let stands = going.stands in
-        subst (λ (a : Standing F (Memory verb)). HasRun device from a.card.flash first a.done going.effect.outcomes going.place.state × CardRepresents device a.card going.place.state) (sym same)
-        (has_run device from at.card first at.done going.effect.outcomes going.place.state going.done stands.0 going.leaves)
+        let little : IsAtMost verb at.done (INPUT_LIMIT + 1) = subst (λ (a : Standing F (Held verb)). IsAtMost verb a.done (INPUT_LIMIT + 1)) same few in
+        subst (λ (a : Standing F (Held verb)). HasRun verb device from a.card.flash first a.done going.effect.outcomes going.place.state × CardRepresents device a.card going.place.state) (sym same)
+        (has_run device verb from at.card first at.done going.effect.outcomes going.place.state (counts_from verb at.done (length going.effect.outcomes) little going.done) stands.0 going.leaves)
 
     -- the texts so far, and nothing more
     so_far : (writes → later.sink.written ≡ now.sink.written) → writes → later.sink.written ≡ before.sink.written ++ concat going.effect.texts
@@ -212,32 +217,32 @@ module _ {F : Type 0} (verb : Verb) (device : Flash F) (reads writes : Type 0) (
           ),
         )
 
-    pub going_ends : (ending : Ending) → EndsWith verb device reads writes at at' old now later ending → later.sink.flushes ≡ before.sink.flushes
+    pub going_ends : IsAtMost verb at'.done (INPUT_LIMIT + 1) → (ending : Ending) → EndsWith verb device reads writes at at' old now later ending → later.sink.flushes ≡ before.sink.flushes
         → Ends verb reads writes Rests Fails first ending before later
     unfolding course_here course_more
-    going_ends Finished (same, equal, (over, some, none, silent)) flushes =
+    going_ends few Finished (same, equal, (over, some, none, silent)) flushes =
         let read = course_read over some none in
         record {
           course = read.0;
           ends = (ap (λ (e : Effect). e.differs) read.1 ∙ sym going.differs ∙ equal, read.3, λ told. so_far silent told ∙ ap (λ (e : Effect). before.sink.written ++ concat e.texts) (sym read.1));
-          rests = λ other. rw (read.1, read.2) (rested same);
+          rests = λ other. rw (read.1, read.2) (rested few same);
         }
-    going_ends Differs (same, equal, (over, some, none, silent)) flushes =
+    going_ends few Differs (same, equal, (over, some, none, silent)) flushes =
         let read = course_read over some none in
         record {
           course = read.0;
           ends = (ap (λ (e : Effect). e.differs) read.1 ∙ sym going.differs ∙ equal, read.3, λ told. so_far silent told ∙ ap (λ (e : Effect). before.sink.written ++ concat e.texts) (sym read.1));
-          rests = λ other. rw (read.1, read.2) (rested same);
+          rests = λ other. rw (read.1, read.2) (rested few same);
         }
-    going_ends BadLine (same, (bad, refuses, taken)) flushes = record {
+    going_ends few BadLine (same, (bad, refuses, taken)) flushes = record {
       course = course_here (ahead old now.source.left) later.source.left going.reached (taken_there (ahead old now.source.left) later.source.left taken);
       ends = (
         bad_there bad,
         λ told. with_bad bad_line refuses told ∙ ap (λ t. before.sink.written ++ t) (sym (concat_more going.effect.texts (bad_line (length going.given + 1)))),
       );
-      rests = λ other. rested same;
+      rests = λ other. rested few same;
     }
-    going_ends FlashFault (silent, taken, breaks) flushes =
+    going_ends few FlashFault (silent, taken, breaks) flushes =
         let next = breaks going.place going.stands in
         let b = next.breaks in
         record {
@@ -253,7 +258,7 @@ module _ {F : Type 0} (verb : Verb) (device : Flash F) (reads writes : Type 0) (
               b.mid,
               b.next,
               b.fails,
-              has_failed device from at'.card.flash first at'.done (going.effect.outcomes ++ b.begun) b.mid b.next (done_more b.begun at'.done b.done) b.left
+              has_failed device verb from at'.card.flash first at'.done (going.effect.outcomes ++ b.begun) b.mid b.next (counts_from verb at'.done (length (going.effect.outcomes ++ b.begun)) few (done_more b.begun at'.done b.done)) b.left
                   (subst (λ (os : List Outcome). LeavesOneOf device from at'.card.flash (registries first os)) (sym (append_assoc going.effect.outcomes b.begun (b.next ∷ [])))
                   (leaves_more at.card.flash at'.card.flash (b.begun ++ b.next ∷ []) going.leaves b.leaves)),
             ),
@@ -261,17 +266,17 @@ module _ {F : Type 0} (verb : Verb) (device : Flash F) (reads writes : Type 0) (
           );
           rests = λ other. absurd (other refl);
         }
-    going_ends ReadFault (same, holds, silent, taken) flushes = record {
+    going_ends few ReadFault (same, holds, silent, taken) flushes = record {
       course = course_here (ahead old now.source.left) later.source.left going.reached (taken_there (ahead old now.source.left) later.source.left taken);
       ends = (holds, so_far silent);
-      rests = λ other. rested same;
+      rests = λ other. rested few same;
     }
-    going_ends InputTooLong (same, cut, silent, taken) flushes = record {
+    going_ends few InputTooLong (same, cut, silent, taken) flushes = record {
       course = course_here (ahead old now.source.left) later.source.left going.reached (taken_there (ahead old now.source.left) later.source.left taken);
       ends = (λ told. subst (λ (n : ℕ). IsShortCut n (ahead old now.source.left)) (room_is told) (cut told), so_far silent);
-      rests = λ other. rested same;
+      rests = λ other. rested few same;
     }
-    going_ends WriteFault (inl fault) flushes =
+    going_ends few WriteFault (inl fault) flushes =
         let line = fault going.place going.stands in
         let takes = line.1 in
         let played = takes.played in
@@ -287,10 +292,11 @@ module _ {F : Type 0} (verb : Verb) (device : Flash F) (reads writes : Type 0) (
             λ told. (let part = line.4 told in (part.0, last_cut part.0 line.2 told part.1)),
           );
           rests = λ other.
-              has_run device from at'.card first at'.done (going.effect.outcomes ++ played.effect.outcomes) played.next.state (done_more played.effect.outcomes at'.done played.done) stands.0
+              has_run device verb from at'.card first at'.done (going.effect.outcomes ++ played.effect.outcomes) played.next.state
+              (counts_from verb at'.done (length (going.effect.outcomes ++ played.effect.outcomes)) few (done_more played.effect.outcomes at'.done played.done)) stands.0
               (leaves_more at.card.flash at'.card.flash played.effect.outcomes going.leaves played.leaves);
         }
-    going_ends WriteFault (inr (same, (bad, refuses, taken))) flushes = record {
+    going_ends few WriteFault (inr (same, (bad, refuses, taken))) flushes = record {
       course = course_here (ahead old now.source.left) later.source.left going.reached (taken_there (ahead old now.source.left) later.source.left taken);
       ends = inr (
         bad_there bad,
@@ -305,5 +311,5 @@ module _ {F : Type 0} (verb : Verb) (device : Flash F) (reads writes : Type 0) (
               (part.0, last_cut part.0 (bad_line (length going.given + 1)) told (part.1 ∙ ap (λ n. now.sink.written ++ take part.0 (bad_line (n + 1))) going.number))),
         ),
       );
-      rests = λ other. rested same;
+      rests = λ other. rested few same;
     }

@@ -10,14 +10,15 @@ use Rattle.gp_tool.specs.Effects.{Place}
 use Rattle.gp_tool.specs.Ends.{Outside, IsBad, TakesNoMore}
 use Rattle.gp_tool.specs.RunsLines.{FailsLine, HasForm, Memory, PlaysLine, bad_line}
 use Rattle.gp_tool.specs.Serve.{BreaksLine, RunsLine, Standing}
+use Rattle.gp_tool.specs.Standing.{Held, Means}
 use Rattle.gp_tool.specs.Turn.{BreaksNext, EndsWith, IsAtEnd, Refuses, TakesLine, TakesNext, ending_of}
 use Rattle.gp_tool.specs.declared.ending.Ending.{Ending}
 use Rattle.gp_tool.specs.declared.ending.Ending.TheVariants.{Finished, Differs, BadLine, FlashFault, ReadFault, WriteFault, InputTooLong}
 use Rattle.gp_tool.specs.declared.verb.Verb.{Verb}
 
 -- a run ends with a bad line as its number was written
-pub refusal_ends : {F : Type 0} (verb : Verb) (device : Flash F) (reads writes : Type 0) (at at' : Standing F (Memory verb)) (old : Reading) (before now : Outside) (ending : Ending)
-    → at' ≡ at → (reads → IsBad verb at.memory (room old) (ahead old before.source.left)) → Refuses writes (old.number + 1) before.sink.written now.sink.written ending
+pub refusal_ends : {F : Type 0} (verb : Verb) (device : Flash F) (reads writes : Type 0) (at at' : Standing F (Held verb)) (old : Reading) (before now : Outside) (ending : Ending)
+    → at' ≡ at → ((memory : Memory verb) → Means verb at.held memory → reads → IsBad verb memory (room old) (ahead old before.source.left)) → Refuses writes (old.number + 1) before.sink.written now.sink.written ending
     → TakesNext reads old before now → EndsWith verb device reads writes at at' old before now ending
 refusal_ends verb device reads writes at at' old before now BadLine same bad refuses taken = (same, (bad, refuses, taken))
 refusal_ends verb device reads writes at at' old before now WriteFault same bad refuses taken = inr (same, (bad, refuses, taken))
@@ -28,7 +29,7 @@ refusal_ends verb device reads writes at at' old before now ReadFault same bad r
 refusal_ends verb device reads writes at at' old before now InputTooLong same bad refuses taken = absurd refuses
 
 -- a run ends at the end of its input, by whether a reply has differed
-pub input_ends : {F : Type 0} (verb : Verb) (device : Flash F) (reads writes : Type 0) (at at' : Standing F (Memory verb)) (old : Reading) (before now : Outside) (differs : Bool)
+pub input_ends : {F : Type 0} (verb : Verb) (device : Flash F) (reads writes : Type 0) (at at' : Standing F (Held verb)) (old : Reading) (before now : Outside) (differs : Bool)
     → at.differs ≡ differs → at' ≡ at → IsAtEnd reads writes old before now → EndsWith verb device reads writes at at' old before now (ending_of differs)
 input_ends verb device reads writes at at' old before now false is same over = (same, is, over)
 input_ends verb device reads writes at at' old before now true is same over = (same, is, over)
@@ -46,13 +47,13 @@ refuses_from writes number before mid now ReadFault same refuses = absurd refuse
 refuses_from writes number before mid now InputTooLong same refuses = absurd refuses
 
 -- the line that was given is the next one ahead
-unfoldable pub given_line : {F : Type 0} (verb : Verb) (device : Flash F) (reads : Type 0) (number : ℕ) (at at' : Standing F (Memory verb)) (place : Place (Memory verb)) (old new : Reading) (left left' : List ℕ) (line : Line)
+unfoldable pub given_line : {F : Type 0} (verb : Verb) (device : Flash F) (reads : Type 0) (number : ℕ) (at at' : Standing F (Held verb)) (place : Place (Memory verb)) (old new : Reading) (left left' : List ℕ) (line : Line)
     → GivesLine reads old new left left' line → length line.text.now ≤ LINE_LIMIT
-    → RunsLine (PlaysLine verb number line.text.now) device at at' place → TakesLine verb device reads number at at' place (room old) (ahead old left) (ahead new left')
+    → RunsLine (Means verb) (PlaysLine verb number line.text.now) device at at' place → TakesLine verb device reads number at at' place (room old) (ahead old left) (ahead new left')
 given_line verb device reads number at at' place old new left left' line gives fits played = record { line = line.text.now; next = gives.line; fits = fits; played = played }
 
 -- the device failed in its command
-pub failing_line : {F : Type 0} (verb : Verb) (device : Flash F) (reads : Type 0) (at at' : Standing F (Memory verb)) (place : Place (Memory verb)) (old new : Reading) (left left' : List ℕ) (line : Line)
+pub failing_line : {F : Type 0} (verb : Verb) (device : Flash F) (reads : Type 0) (at at' : Standing F (Held verb)) (place : Place (Memory verb)) (old new : Reading) (left left' : List ℕ) (line : Line)
     → GivesLine reads old new left left' line → length line.text.now ≤ LINE_LIMIT → BreaksLine (FailsLine verb line.text.now) device at at' place
     → BreaksNext verb device reads at at' place (room old) (ahead old left)
 failing_line verb device reads at at' place old new left left' line gives fits breaks = record {
@@ -63,9 +64,10 @@ failing_line verb device reads at at' place old new left left' line gives fits b
 }
 
 -- a line of no form that was given is a bad one
-pub bad_form : (verb : Verb) (memory : Memory verb) (reads : Type 0) (old new : Reading) (left left' : List ℕ) (line : Line)
-    → GivesLine reads old new left left' line → (HasForm verb line.text.now memory → ⊥) → reads → IsBad verb memory (room old) (ahead old left)
-bad_form verb memory reads old new left left' line gives none told = (line.text.now, inl (ahead new left', gives.line told, none))
+pub bad_form : (verb : Verb) (held : Held verb) (reads : Type 0) (old new : Reading) (left left' : List ℕ) (line : Line)
+    → GivesLine reads old new left left' line → ((memory : Memory verb) → Means verb held memory → HasForm verb line.text.now memory → ⊥)
+    → (memory : Memory verb) → Means verb held memory → reads → IsBad verb memory (room old) (ahead old left)
+bad_form verb held reads old new left left' line gives none memory means told = (line.text.now, inl (ahead new left', gives.line told, none memory means))
 
 -- what was taken behind a line that was given
 pub line_leaves : (reads : Type 0) (old new : Reading) (left left' : List ℕ) (line : Line)

@@ -6,7 +6,7 @@ use Rattle.flash_core.specs.declared.flash.Flash.{Ghosts as Flash}
 use Rattle.gp_tool.specs.Effects.{Effect, Place}
 use Rattle.gp_tool.specs.Form.{FailsCommand, IsBlank, IsForCard}
 use Rattle.gp_tool.specs.Replay.{Compares, Keeps, Kept, Meets}
-use Rattle.gp_tool.specs.Serve.{BreaksLine, RunsLine, Standing, StandsAt}
+use Rattle.gp_tool.specs.Serve.{BreaksLine, IsHeld, RunsLine, Standing, StandsAt}
 use Rattle.gp_tool.specs.declared.line.LineEnd.{LineEnd}
 use Rattle.gp_tool.specs.declared.line.LineEnd.TheVariants.{Done, NoForm, WriteFault, FlashFault}
 
@@ -40,11 +40,11 @@ ComparesLine number line writes kept kept' differs differs' old new FlashFault =
 
 -- what comes of a line for the card in `replay`, which writes nothing
 abbrev pub KeepsLine : {F : Type 0} → List ℕ → Flash F → Standing F Kept → Standing F Kept → LineEnd → Type 0
-KeepsLine line device old new Done = (place : Place Kept) → StandsAt device old place → (played : RunsLine (Keeps line) device old new place) × (played.effect.texts ≡ [])
+KeepsLine line device old new Done = (place : Place Kept) → StandsAt IsHeld device old place → (played : RunsLine IsHeld (Keeps line) device old new place) × (played.effect.texts ≡ [])
 KeepsLine line device old new NoForm = (IsForCard line → ⊥) × (new ≡ old)
 KeepsLine line device old new WriteFault = ⊥
-KeepsLine line device old new FlashFault = (place : Place Kept) → StandsAt device old place → BreaksLine (FailsCommand line) device old new place
+KeepsLine line device old new FlashFault = (place : Place Kept) → StandsAt IsHeld device old place → BreaksLine (FailsCommand line) device old new place
 
 -- where the code stands in `replay`
 abbrev pub keeping : {F : Type 0} → CardOver F → Kept → ℕ → Bool → Standing F Kept
-keeping card kept done differs = record { card = card; memory = kept; done = done; differs = differs }
+keeping card kept done differs = record { card = card; held = kept; done = done; differs = differs }

@@ -1,10 +1,11 @@
 -- What comes of a line that is given to a card.
-use Rattle.std.specs.Prelude.{◌≡◌, ℕ, ◌+◌, List, [], ◌∷◌}
+use Rattle.std.specs.Prelude.{◌≡◌, ℕ, List, [], ◌∷◌}
 use Rattle.card_core.specs.Card.{CardOver, CardRepresents}
 use Rattle.flash_core.specs.declared.flash.Flash.{Ghosts as Flash}
 use Rattle.policy_rules.specs.Run.{Command, Reset}
 use Rattle.policy_rules.specs.State.{State, powered_on}
 use Rattle.policy_rules.specs.Step.{Outcome, Step}
+use Rattle.gp_tool.specs.Counted.{CountsOn}
 use Rattle.gp_tool.specs.Device.{LeavesOneOf, LeftOneOf}
 use Rattle.gp_tool.specs.Form.{IsForCard, SpellsInputs}
 use Rattle.gp_tool.specs.declared.give.Given.{Given}
@@ -27,7 +28,7 @@ GivesLine line device card card' done done' kept kept' given.Reset =
     SpellsInputs line (Reset ∷ []) × (card'.flash ≡ card.flash) × (done' ≡ done)
     × ((state : State) → CardRepresents device card state → CardRepresents device card' (powered_on state.registry))
 GivesLine line device card card' done done' kept kept' (given.Answered rule) =
-    (done' ≡ done + 1)
+    CountsOn done done' 1
     × ((state : State) → CardRepresents device card state
     → (outcome : Outcome) × Commands line device card.flash card'.flash state outcome
     × CardRepresents device card' outcome.state × (kept' ≡ outcome.reply) × (rule ≡ outcome.rule))

@@ -5,11 +5,13 @@ use Rattle.flash_core.specs.declared.flash.Flash.{Ghosts as Flash}
 use Rattle.io_edge.specs.Lines.{Reading, ahead}
 use Rattle.io_edge.specs.declared.line.TheConstants.{INPUT_LIMIT, LINE_LIMIT}
 use Rattle.policy_rules.specs.State.{State}
+use Rattle.gp_tool.specs.Counted.{counted}
 use Rattle.gp_tool.specs.Device.{LeavesOneOf, registries}
 use Rattle.gp_tool.specs.Effects.{Effect, Place}
 use Rattle.gp_tool.specs.Ends.{ComeFirst, Outside}
 use Rattle.gp_tool.specs.RunsLines.{Memory, RunsLines, start}
 use Rattle.gp_tool.specs.Serve.{Standing, StandsAt}
+use Rattle.gp_tool.specs.Standing.{Held, Means}
 use Rattle.gp_tool.specs.declared.verb.Verb.{Verb}
 
 -- no line is too long
@@ -22,7 +24,7 @@ Reached input given ahead = ComeFirst INPUT_LIMIT input given ahead
 
 -- The lines that were given have their texts written, and the reading and the card stand behind them. `from` is the device before
 -- the first line.
-pub record Going {F : Type 0} (verb : Verb) (device : Flash F) (reads writes : Type 0) (first : State) (from : F) (at : Standing F (Memory verb)) (before now : Outside) (reading : Reading) : Type 0 where
+pub record Going {F : Type 0} (verb : Verb) (device : Flash F) (reads writes : Type 0) (first : State) (from : F) (at : Standing F (Held verb)) (before now : Outside) (reading : Reading) : Type 0 where
   pub given : List (List ℕ)
   pub effect : Effect
   pub place : Place (Memory verb)
@@ -31,8 +33,8 @@ pub record Going {F : Type 0} (verb : Verb) (device : Flash F) (reads writes : T
   pub fits : AreShort given
   pub plays : RunsLines verb 1 given (start verb first) effect place
   pub reached : reads → Reached before.source.left given (ahead reading now.source.left)
-  pub stands : StandsAt device at place
+  pub stands : StandsAt (Means verb) device at place
   pub leaves : LeavesOneOf device from at.card.flash (registries first effect.outcomes)
-  pub done : at.done ≡ length effect.outcomes
+  pub done : at.done ≡ counted (length effect.outcomes)
   pub differs : at.differs ≡ effect.differs
   pub written : writes → now.sink.written ≡ before.sink.written ++ concat effect.texts

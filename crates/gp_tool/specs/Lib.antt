@@ -1,4 +1,7 @@
+pub mod AtMost
+pub mod CardEnd
 pub mod Compare
+pub mod Counted
 pub mod Device
 pub mod Effects
 pub mod Ends
@@ -7,6 +10,7 @@ pub mod Form
 pub mod Formatted
 pub mod Give
 pub mod Going
+pub mod Kinds
 pub mod Laws
 pub mod Listing
 pub mod Read
@@ -14,10 +18,12 @@ pub mod Replay
 pub mod Replies
 pub mod RunCause
 pub mod RunsLines
+pub mod Script
 pub mod Serve
 pub mod Show
 pub mod Shown
 pub mod Standing
+pub mod StepsCard
 pub mod Turn
 pub mod Verbs
 pub mod Words

@@ -3,21 +3,25 @@ use Rattle.std.specs.Prelude.{◌≡◌, ℕ, ◌+◌, ◌≤◌, true, false, L
 use Rattle.io_edge.specs.declared.line.TheConstants.{LINE_LIMIT}
 use Rattle.policy_rules.specs.State.{State}
 use Rattle.policy_rules.specs.Step.{Outcome}
+use Rattle.script_tool.specs.Host.{Host, first_host}
 use Rattle.gp_tool.specs.Effects.{Effect, Place, joined, nothing}
 use Rattle.gp_tool.specs.Form.{FailsCommand, IsForCard}
 use Rattle.gp_tool.specs.Replay.{IsForReplay, Kept, Replays}
 use Rattle.gp_tool.specs.Replies.{Replies}
+use Rattle.gp_tool.specs.Script.{BreaksScript, IsScript, PlaysScript}
 use Rattle.gp_tool.specs.declared.verb.Verb.{Verb}
-use Rattle.gp_tool.specs.declared.verb.Verb.TheVariants.{Run, Why, Replay}
+use Rattle.gp_tool.specs.declared.verb.Verb.TheVariants.{Run, Why, Replay, Play}
 
 -- what a verb keeps of the lines before
 abbrev pub Memory : Verb → Type 0
 Memory Replay = Kept
+Memory Play = Host
 Memory verb = Unit {0}
 
--- nothing is kept at the start
+-- at the start no reply is kept, and the host is a new one
 abbrev pub no_memory : (verb : Verb) → Memory verb
 no_memory Replay = None
+no_memory Play = first_host
 no_memory verb = tt
 
 abbrev pub start : (verb : Verb) → State → Place (Memory verb)
@@ -28,14 +32,17 @@ abbrev pub PlaysLine : (verb : Verb) → ℕ → List ℕ → Place (Memory verb
 PlaysLine Run number line at effect next = Replies false line at effect next
 PlaysLine Why number line at effect next = Replies true line at effect next
 PlaysLine Replay number line at effect next = Replays number line at effect next
+PlaysLine Play number line at effect next = PlaysScript line at effect next
 
 -- a line has a form
 abbrev pub HasForm : (verb : Verb) → List ℕ → Memory verb → Type 0
 HasForm Replay line memory = IsForReplay line memory
+HasForm Play line memory = IsScript line
 HasForm verb line memory = IsForCard line
 
 -- The device failed in a command of a line, behind the outcomes of those before it in the line.
 abbrev pub FailsLine : (verb : Verb) → List ℕ → Place (Memory verb) → List Outcome → State → Outcome → Type 0
+FailsLine Play line at begun mid next = BreaksScript line at begun mid next
 FailsLine verb line at begun mid next = FailsCommand line at begun mid next
 
 -- From one place lines, the first of which has this number, lead to another.

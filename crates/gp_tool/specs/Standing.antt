@@ -1,13 +1,14 @@
 -- Where the code stands between two lines.
 use Rattle.std.specs.Prelude.{ℕ, Bool, true, false, List, None, Some}
-use Rattle.card_core.specs.Card.{CardOver}
+use Rattle.script_tool.specs.Kept.{RepresentsHost}
+use Rattle.script_tool.specs.declared.host_state.HostState.{HostState}
 use Rattle.gp_tool.specs.Replay.{Kept}
 use Rattle.gp_tool.specs.RunsLines.{Memory}
-use Rattle.gp_tool.specs.Serve.{Standing}
-use Rattle.gp_tool.specs.declared.tally.Tally.{Tally}
+use Rattle.gp_tool.specs.Serve.{IsHeld, Standing}
+use Rattle.gp_tool.specs.declared.card_end.CardEnd.{CardEnd}
 use Rattle.gp_tool.specs.declared.workspace.Workspace.{Workspace}
 use Rattle.gp_tool.specs.declared.verb.Verb.{Verb}
-use Rattle.gp_tool.specs.declared.verb.Verb.TheVariants.{Run, Why, Replay}
+use Rattle.gp_tool.specs.declared.verb.Verb.TheVariants.{Run, Why, Replay, Play}
 
 -- the reply in the workspace, where it is there to be compared
 abbrev pub kept_if : Bool → List ℕ → Kept
@@ -17,15 +18,29 @@ kept_if true reply = Some reply
 abbrev pub kept_in : Workspace → Kept
 kept_in space = kept_if space.has_reply space.reply.items
 
--- what a verb keeps there
-abbrev pub memory_in : (verb : Verb) → Workspace → Memory verb
-memory_in Run space = tt
-memory_in Why space = tt
-memory_in Replay space = kept_in space
+-- what the code holds for a verb
+abbrev pub Held : Verb → Type 0
+Held Run = Unit {0}
+Held Why = Unit {0}
+Held Replay = Kept
+Held Play = HostState
 
-abbrev pub standing : {F M : Type 0} → CardOver F → M → Tally → Standing F M
-standing card memory tally = record { card = card; memory = memory; done = tally.done; differs = tally.differs }
+abbrev pub held_in : (verb : Verb) → Workspace → Held verb
+held_in Run space = tt
+held_in Why space = tt
+held_in Replay space = kept_in space
+held_in Play space = space.player
+
+-- what is held means what the verb keeps
+abbrev pub Means : (verb : Verb) → Held verb → Memory verb → Type 0
+Means Run held memory = IsHeld held memory
+Means Why held memory = IsHeld held memory
+Means Replay held memory = IsHeld held memory
+Means Play held memory = RepresentsHost held memory
+
+abbrev pub standing : {F H : Type 0} → CardEnd F → H → Bool → Standing F H
+standing end held differs = record { card = end.card; held = held; done = end.done; differs = differs }
 
 -- the same by the workspace
-abbrev pub standing_in : {F : Type 0} (verb : Verb) → CardOver F → Workspace → Tally → Standing F (Memory verb)
-standing_in verb card space tally = standing card (memory_in verb space) tally
+abbrev pub standing_in : {F : Type 0} (verb : Verb) → CardEnd F → Workspace → Bool → Standing F (Held verb)
+standing_in verb end space differs = standing end (held_in verb space) differs

@@ -17,7 +17,7 @@ use Rattle.gp_tool.specs.RunsLines.{AreServable, start}
 use Rattle.gp_tool.specs.Shown.{HasShown, ShowEnds}
 use Rattle.gp_tool.specs.declared.ending.Ending.{Ending}
 use Rattle.gp_tool.specs.declared.verb.Verb.{Verb}
-use Rattle.gp_tool.specs.declared.verb.Verb.TheVariants.{Replay}
+use Rattle.gp_tool.specs.declared.verb.Verb.TheVariants.{Replay, Play}
 
 -- what a run is given
 pub record Around (S K F : Type 0) : Type 0 where
@@ -46,7 +46,7 @@ pub record HasEnded {K F : Type 0} (sink : Sink K) (device : Flash F) (ending : 
 -- device failed.
 abbrev pub RunEnds : {S K F : Type 0} → Verb → Source S → Sink K → Flash F → (State → Type 0) → State → Ending → ℕ → Around S K F → Around S K F → Type 0
 RunEnds verb source sink device Stands first ending count old new =
-    Ends verb source.tells sink.tells (λ outcomes last. HasRun device old.flash new.flash first count outcomes last × Stands last) (HasFailed device old.flash new.flash first count) first ending
+    Ends verb source.tells sink.tells (λ outcomes last. HasRun verb device old.flash new.flash first count outcomes last × Stands last) (HasFailed verb device old.flash new.flash first count) first ending
     (outside (source.state old.source) (sink.state old.sink)) (outside (source.state new.source) (sink.state new.sink))
 
 -- A card was served from a first state, up to an ending.
@@ -79,6 +79,7 @@ IsGoodInput verb input = ((first : State) → AreServable verb 1 (lines input) (
 -- the statuses of a verb where all is done
 abbrev pub IsDone : Verb → ℕ → Type 0
 IsDone Replay status = (status ≡ 0) ⊎ (status ≡ 8)
+IsDone Play status = (status ≡ 0) ⊎ (status ≡ 8)
 IsDone verb status = status ≡ 0
 
 -- What is done where nothing can stop a run, but for want of memory.

@@ -6,7 +6,7 @@ use Rattle.io_edge.specs.Streams.{SinkState}
 use Rattle.gp_tool.specs.Flush.{FlushesLast, IsHandedOn}
 use Rattle.gp_tool.specs.declared.task.Task.{Task}
 use Rattle.gp_tool.specs.declared.task.Task.TheVariants.{Format, Serve, Show}
-use Rattle.gp_tool.specs.declared.verb.Verb.TheVariants.{Run, Why, Replay}
+use Rattle.gp_tool.specs.declared.verb.Verb.TheVariants.{Run, Why, Replay, Play}
 
 -- the word of a task
 abbrev pub word_of : Task → List ℕ
@@ -14,6 +14,7 @@ word_of Format = codes "format"
 word_of (Serve Run) = codes "run"
 word_of (Serve Why) = codes "why"
 word_of (Serve Replay) = codes "replay"
+word_of (Serve Play) = codes "play"
 word_of Show = codes "show"
 
 -- the words are the task's alone
@@ -26,7 +27,7 @@ HaveForm words = (task : Task) × AreOf task words
 
 -- what is written where the words have no form
 abbrev pub usage_line : List ℕ
-usage_line = codes "usage: gp format | run | why | replay | show" ++ 10 ∷ []
+usage_line = codes "usage: gp format | run | why | replay | play | show" ++ 10 ∷ []
 
 -- it was written and handed on, and nothing failed
 pub record HasUsage (writes : Type 0) (old new : SinkState) : Type 0 where

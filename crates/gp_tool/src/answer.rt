@@ -1,19 +1,17 @@
 //! A line of the verbs `run` and `why`.
 
-ghost use Rattle.std.specs.Prelude.{◌≡◌, ◌≢◌, ◌≤◌, ◌<◌, ◌+◌, true, length};
-ghost use Rattle.io_edge.specs.declared.line.TheConstants.{INPUT_LIMIT};
+ghost use Rattle.std.specs.Prelude.{◌≡◌, ◌≢◌, ◌≤◌, ◌+◌, Bool, true, length};
 ghost use Rattle.gp_tool.specs.Form.{FailsCommand, IsForCard};
 ghost use Rattle.gp_tool.specs.Replies.{Replies};
-ghost use Rattle.gp_tool.specs.Serve.{ServesLine, ServeCause};
+ghost use Rattle.gp_tool.specs.Serve.{IsHeld, ServesLine, ServeCause};
 ghost use Rattle.gp_tool.specs.Standing.{standing};
 ghost use Rattle.gp_tool.specs.declared.line.LineEnd.TheVariants.{FlashFault};
 
+use crate::card_end::CardEnd;
 use crate::give::{Given, give_line};
 use crate::line::LineEnd;
 use crate::reply::write_reply;
-use crate::tally::Tally;
 use crate::workspace::Workspace;
-use card_core::Card;
 use flash_core::Flash;
 use io_edge::{LINE_LIMIT, Sink};
 
@@ -21,23 +19,21 @@ use io_edge::{LINE_LIMIT, Sink};
 pub fn answer_line<K: Sink, F: Flash>(
     explains: bool,
     line: &[u8],
-    card: &mut Card<F>,
-    tally: &mut Tally,
+    end: &mut CardEnd<F>,
     space: &mut Workspace,
     sink: &mut K,
 ) -> LineEnd
     requires line { length line.now ≤ LINE_LIMIT }
-    requires live { card.old.live ≡ true }
-    requires few { tally.old.done < INPUT_LIMIT }
-    ensures served { ServesLine (Replies explains line.now) (λ memory. IsForCard line.now) (FailsCommand line.now) F.Flash K.tells
-        (standing card.old tt tally.old) (standing card.new tt tally.new) (K.state sink.old).written (K.state sink.new).written result }
-    ensures live { result ≢ FlashFault → card.new.live ≡ true }
-    ensures few { tally.new.done ≤ tally.old.done + 1 }
+    requires live { end.old.card.live ≡ true }
+    ensures served { (differs : Bool) → ServesLine IsHeld (Replies explains line.now) (λ memory. IsForCard line.now) (FailsCommand line.now) F.Flash K.tells
+        (standing end.old tt differs) (standing end.new tt differs) (K.state sink.old).written (K.state sink.new).written result }
+    ensures live { result ≢ FlashFault → end.new.card.live ≡ true }
+    ensures few { end.new.done ≤ end.old.done + 1 }
     ensures flushes { (K.state sink.new).flushes ≡ (K.state sink.old).flushes }
-    ensures later { F.faults card.old.flash ≤ F.faults card.new.flash }
-    ensures cause { ServeCause (K.state sink.old).faults (K.state sink.new).faults (F.faults card.old.flash) (F.faults card.new.flash) result }
+    ensures later { F.faults end.old.card.flash ≤ F.faults end.new.card.flash }
+    ensures cause { ServeCause (K.state sink.old).faults (K.state sink.new).faults (F.faults end.old.card.flash) (F.faults end.new.card.flash) result }
 {
-    match give_line(line, card, &mut tally.done, space) {
+    match give_line(line, &mut end.card, &mut end.done, space) {
         Given::NoForm => LineEnd::NoForm,
         Given::Nothing => LineEnd::Done,
         Given::Reset => LineEnd::Done,

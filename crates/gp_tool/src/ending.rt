@@ -8,7 +8,7 @@ ghost use Rattle.gp_tool.specs.Ends.{exit_status};
 pub enum Ending {
     /// The input was read to its end, and all was written: 0.
     Finished,
-    /// The input was read to its end, all was written, and some reply differed from the one that a line wants: 8.
+    /// The input was read to its end, all was written, and some reply or status differed from the one that a line wants: 8.
     Differs,
     /// A line has no form or is too long, and its number was written: 2.
     BadLine,

@@ -1,7 +1,6 @@
 //! A line that is given to a card.
 
-ghost use Rattle.std.specs.Prelude.{◌≡◌, ◌≢◌, ◌≤◌, ◌<◌, ◌+◌, true, length};
-ghost use Rattle.io_edge.specs.declared.line.TheConstants.{INPUT_LIMIT};
+ghost use Rattle.std.specs.Prelude.{◌≡◌, ◌≢◌, ◌≤◌, ◌+◌, true, length};
 ghost use Rattle.faults.specs.Faults.{Rose};
 ghost use Rattle.gp_tool.specs.Give.{GivesLine};
 ghost use Rattle.gp_tool.specs.declared.give.Given.TheVariants.{FlashFault};
@@ -28,7 +27,7 @@ pub enum Given {
     FlashFault,
 }
 
-/// Gives a line to the card. `done` counts the commands that the card has answered.
+/// Gives a line to the card. `done` counts the commands that the card has answered, up to the greatest number that it holds.
 pub fn give_line<F: Flash>(
     line: &[u8],
     card: &mut Card<F>,
@@ -37,7 +36,6 @@ pub fn give_line<F: Flash>(
 ) -> Given
     requires line { length line.now ≤ LINE_LIMIT }
     requires live { card.old.live ≡ true }
-    requires few { done.old < INPUT_LIMIT }
     ensures given { GivesLine line.now F.Flash card.old card.new done.old done.new space.old.reply.items space.new.reply.items result }
     ensures has_reply { space.new.has_reply ≡ space.old.has_reply }
     ensures live { result ≢ FlashFault → card.new.live ≡ true }
@@ -55,7 +53,7 @@ pub fn give_line<F: Flash>(
         Some(Form::Command(count)) => {
             match card.process(&space.command[..count], &mut space.reply) {
                 Ok(rule) => {
-                    *done += 1;
+                    *done = done.saturating_add(1);
                     Given::Answered(rule)
                 }
                 Err(FlashFailed) => Given::FlashFault,

@@ -6,7 +6,8 @@
 //! nothing. `reset` takes the card's power away and gives it back, and writes nothing. The word `why` does the same, and
 //! writes behind each reply the name of the rule that refused the command, or `-`: `80F28002024F00` gives `6982 G6`.
 //! The word `replay` compares each reply with the line behind its command that begins with `=`, if there is one, and writes
-//! differences alone: `00700000` and `= 029000` give `line 2 want 029000 got 019000`.
+//! differences alone: `00700000` and `= 029000` give `line 2 want 029000 got 019000`. The word `play` takes the lines for those of a
+//! script: a host sends the commands, opens sessions and protects what it sends, and what each line prints is written.
 //!
 //! Other words are refused by the usage line. Where there is no memory for the card, the device fails or it holds no
 //! card, nothing is read. A line of no other form, or of more than 522 bytes, ends the run by its number, as in `line 3`.
@@ -15,6 +16,7 @@
 #![tactic(auto)]
 
 mod answer;
+mod card_end;
 mod difference;
 mod ended;
 mod ending;
@@ -24,6 +26,7 @@ mod give;
 mod laws;
 mod line;
 mod literals;
+mod play;
 mod push;
 mod replay;
 mod reply;
@@ -32,7 +35,7 @@ mod run_verb;
 mod serving;
 mod show;
 mod show_verb;
-mod tally;
+mod step_card;
 mod task;
 mod top;
 mod verb;

@@ -1,20 +1,19 @@
 //! A line of the verb `replay`.
 
-ghost use Rattle.std.specs.Prelude.{◌≡◌, ◌≢◌, ◌≤◌, ◌<◌, ◌+◌, ◌++◌, ◌∷◌, ℕ, Bool, List, true, take, length, IfSome, IsTrue, MatchOption, ◌↔◌};
-ghost use Rattle.io_edge.specs.declared.line.TheConstants.{INPUT_LIMIT};
+ghost use Rattle.std.specs.Prelude.{◌≡◌, ◌≢◌, ◌≤◌, ◌+◌, ◌++◌, ◌∷◌, ℕ, Bool, List, true, take, length, IfSome, IsTrue, MatchOption, ◌↔◌};
 ghost use Rattle.gp_tool.specs.Compare.{ComparesLine, KeepsLine, SkipsSpaces, keeping};
 ghost use Rattle.gp_tool.specs.Form.{FailsCommand};
 ghost use Rattle.gp_tool.specs.Replay.{IsForReplay, Replays, Wants};
-ghost use Rattle.gp_tool.specs.Serve.{ServesLine, ServeCause};
+ghost use Rattle.gp_tool.specs.Serve.{IsHeld, ServesLine, ServeCause};
 ghost use Rattle.gp_tool.specs.Standing.{kept_in, standing};
 ghost use Rattle.gp_tool.specs.declared.form.TheConstants.{COMMAND_LIMIT};
 ghost use Rattle.gp_tool.specs.declared.line.LineEnd.TheVariants.{FlashFault};
 
+use crate::card_end::CardEnd;
 use crate::difference::write_difference;
 use crate::form::{COMMAND_LIMIT, decode};
 use crate::give::{Given, give_line};
 use crate::line::LineEnd;
-use crate::tally::Tally;
 use crate::workspace::Workspace;
 use card_core::Card;
 use flash_core::Flash;
@@ -109,7 +108,6 @@ fn keep_reply<F: Flash>(
 ) -> LineEnd
     requires line { length line.now ≤ LINE_LIMIT }
     requires live { card.old.live ≡ true }
-    requires few { done.old < INPUT_LIMIT }
     ensures kept { (differs : Bool) → KeepsLine line.now F.Flash (keeping card.old (kept_in space.old) done.old differs) (keeping card.new (kept_in space.new) done.new differs) result }
     ensures live { result ≢ FlashFault → card.new.live ≡ true }
     ensures few { done.new ≤ done.old + 1 }
@@ -135,26 +133,25 @@ fn keep_reply<F: Flash>(
 pub fn replay_line<K: Sink, F: Flash>(
     number: u32,
     line: &[u8],
-    card: &mut Card<F>,
-    tally: &mut Tally,
+    end: &mut CardEnd<F>,
+    differs: &mut bool,
     space: &mut Workspace,
     sink: &mut K,
 ) -> LineEnd
     requires line { length line.now ≤ LINE_LIMIT }
-    requires live { card.old.live ≡ true }
-    requires few { tally.old.done < INPUT_LIMIT }
-    ensures served { ServesLine (Replays number line.now) (IsForReplay line.now) (FailsCommand line.now) F.Flash K.tells
-        (standing card.old (kept_in space.old) tally.old) (standing card.new (kept_in space.new) tally.new)
+    requires live { end.old.card.live ≡ true }
+    ensures served { ServesLine IsHeld (Replays number line.now) (IsForReplay line.now) (FailsCommand line.now) F.Flash K.tells
+        (standing end.old (kept_in space.old) differs.old) (standing end.new (kept_in space.new) differs.new)
         (K.state sink.old).written (K.state sink.new).written result }
-    ensures live { result ≢ FlashFault → card.new.live ≡ true }
-    ensures few { tally.new.done ≤ tally.old.done + 1 }
+    ensures live { result ≢ FlashFault → end.new.card.live ≡ true }
+    ensures few { end.new.done ≤ end.old.done + 1 }
     ensures flushes { (K.state sink.new).flushes ≡ (K.state sink.old).flushes }
-    ensures later { F.faults card.old.flash ≤ F.faults card.new.flash }
-    ensures cause { ServeCause (K.state sink.old).faults (K.state sink.new).faults (F.faults card.old.flash) (F.faults card.new.flash) result }
+    ensures later { F.faults end.old.card.flash ≤ F.faults end.new.card.flash }
+    ensures cause { ServeCause (K.state sink.old).faults (K.state sink.new).faults (F.faults end.old.card.flash) (F.faults end.new.card.flash) result }
 {
     if wants_reply(line) {
-        compare_line(number, line, &mut tally.differs, space, sink)
+        compare_line(number, line, differs, space, sink)
     } else {
-        keep_reply(line, card, &mut tally.done, space)
+        keep_reply(line, &mut end.card, &mut end.done, space)
     }
 }

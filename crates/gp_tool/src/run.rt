@@ -3,6 +3,7 @@
 ghost use Rattle.std.specs.Prelude.{◌≡◌, ◌≢◌, ◌≤◌, ◌+◌, ℕ, None, true, IfNone, IfSome};
 ghost use Rattle.card_core.specs.Card.{CardRepresents};
 ghost use Rattle.policy_rules.specs.State.{State};
+ghost use Rattle.gp_tool.specs.AtMost.{IsAtMost};
 ghost use Rattle.gp_tool.specs.Ends.{EndCause, Faults, Flushes, faults_of, outside};
 ghost use Rattle.gp_tool.specs.Flush.{AfterFlush};
 ghost use Rattle.gp_tool.specs.declared.ending.Ending.TheVariants.{FlashFault};
@@ -11,23 +12,14 @@ ghost use Rattle.gp_tool.specs.Standing.{standing_in};
 ghost use Rattle.gp_tool.specs.Turn.{EndsWith, GoesOn, Refuses, ending_of};
 ghost use Rattle.gp_tool.specs.Verbs.{RunEnds, around};
 
+use crate::card_end::CardEnd;
 use crate::ending::Ending;
 use crate::line::{LineEnd, serve_line};
 use crate::reply::write_bad_line;
-use crate::tally::Tally;
 use crate::verb::Verb;
 use crate::workspace::Workspace;
-use card_core::Card;
 use flash_core::Flash;
 use io_edge::{LineStop, Lines, Sink, Source};
-
-/// How a run has ended.
-#[derive(Clone, Copy)]
-pub struct RunEnd {
-    pub ending: Ending,
-    /// How many commands the card has answered.
-    pub done: u32,
-}
 
 // Writes the number of a line that has no form or is too long.
 fn refuse_line<K: Sink>(number: u32, sink: &mut K) -> Ending
@@ -58,37 +50,36 @@ fn take_turn<S: Source, K: Sink, F: Flash>(
     verb: Verb,
     lines: &mut Lines,
     source: &mut S,
-    card: &mut Card<F>,
-    tally: &mut Tally,
+    end: &mut CardEnd<F>,
+    differs: &mut bool,
     space: &mut Workspace,
     sink: &mut K,
 ) -> Option<Ending>
     requires stop { lines.old.stop ≡ None }
-    requires live { card.old.live ≡ true }
-    requires few { tally.old.done ≤ lines.old.passed }
+    requires live { end.old.card.live ≡ true }
     ensures goes_on { IfNone result (GoesOn verb F.Flash S.tells K.tells
-        (standing_in verb card.old space.old tally.old) (standing_in verb card.new space.new tally.new) lines.old lines.new
+        (standing_in verb end.old space.old differs.old) (standing_in verb end.new space.new differs.new) lines.old lines.new
         (outside (S.state source.old) (K.state sink.old)) (outside (S.state source.new) (K.state sink.new))) }
     ensures ends { IfSome result (EndsWith verb F.Flash S.tells K.tells
-        (standing_in verb card.old space.old tally.old) (standing_in verb card.new space.new tally.new) lines.old
+        (standing_in verb end.old space.old differs.old) (standing_in verb end.new space.new differs.new) lines.old
         (outside (S.state source.old) (K.state sink.old)) (outside (S.state source.new) (K.state sink.new))) }
-    ensures live { IfNone result (card.new.live ≡ true) }
-    ensures ends_live { IfSome result (λ ending. ending ≢ FlashFault → card.new.live ≡ true) }
-    ensures few { tally.new.done ≤ tally.old.done + 1 }
+    ensures live { IfNone result (end.new.card.live ≡ true) }
+    ensures ends_live { IfSome result (λ ending. ending ≢ FlashFault → end.new.card.live ≡ true) }
+    ensures few { IsAtMost verb end.new.done (end.old.done + 1) }
     ensures flushes { (K.state sink.new).flushes ≡ (K.state sink.old).flushes }
     ensures quiet { IfNone result (((S.state source.new).faults ≡ (S.state source.old).faults) × ((K.state sink.new).faults ≡ (K.state sink.old).faults)) }
-    ensures later { F.faults card.old.flash ≤ F.faults card.new.flash }
+    ensures later { F.faults end.old.card.flash ≤ F.faults end.new.card.flash }
     ensures cause { IfSome result (λ ending. EndCause ending
-        (faults_of (S.state source.old) (K.state sink.old) (F.faults card.old.flash)) (faults_of (S.state source.new) (K.state sink.new) (F.faults card.new.flash))) }
+        (faults_of (S.state source.old) (K.state sink.old) (F.faults end.old.card.flash)) (faults_of (S.state source.new) (K.state sink.new) (F.faults end.new.card.flash))) }
 {
     match lines.next_line(source) {
-        Ok(line) => match serve_line(verb, line.number, line.text, card, tally, space, sink) {
+        Ok(line) => match serve_line(verb, line.number, line.text, end, differs, space, sink) {
             LineEnd::Done => None,
             LineEnd::NoForm => Some(refuse_line(line.number, sink)),
             LineEnd::WriteFault => Some(Ending::WriteFault),
             LineEnd::FlashFault => Some(Ending::FlashFault),
         },
-        Err(LineStop::End) => Some(end_of_input(tally.differs)),
+        Err(LineStop::End) => Some(end_of_input(*differs)),
         Err(LineStop::ReadFailed) => Some(Ending::ReadFault),
         Err(LineStop::TooLong(number)) => Some(refuse_line(number, sink)),
         Err(LineStop::InputTooLong) => Some(Ending::InputTooLong),
@@ -98,33 +89,34 @@ fn take_turn<S: Source, K: Sink, F: Flash>(
 // Takes lines until the run ends.
 fn take_lines<S: Source, K: Sink, F: Flash>(
     verb: Verb,
-    card: &mut Card<F>,
+    end: &mut CardEnd<F>,
     source: &mut S,
     sink: &mut K,
-) -> RunEnd
-    requires live { card.old.live ≡ true }
+) -> Ending
+    requires live { end.old.card.live ≡ true }
+    requires none { end.old.done ≡ 0 }
     ensures flushes { (K.state sink.new).flushes ≡ (K.state sink.old).flushes }
-    ensures ends { (first : State) → CardRepresents F.Flash card.old first
-        → RunEnds verb S.Source K.Sink F.Flash (CardRepresents F.Flash card.new) first result.ending result.done
-        (around source.old sink.old card.old.flash) (around source.new sink.new card.new.flash) }
-    ensures live { result.ending ≢ FlashFault → card.new.live ≡ true }
-    ensures later { F.faults card.old.flash ≤ F.faults card.new.flash }
-    ensures cause { RunCause S.Source K.Sink F.Flash result.ending (around source.old sink.old card.old.flash) (around source.new sink.new card.new.flash) }
+    ensures ends { (first : State) → CardRepresents F.Flash end.old.card first
+        → RunEnds verb S.Source K.Sink F.Flash (CardRepresents F.Flash end.new.card) first result end.new.done
+        (around source.old sink.old end.old.card.flash) (around source.new sink.new end.new.card.flash) }
+    ensures live { result ≢ FlashFault → end.new.card.live ≡ true }
+    ensures later { F.faults end.old.card.flash ≤ F.faults end.new.card.flash }
+    ensures cause { RunCause S.Source K.Sink F.Flash result (around source.old sink.old end.old.card.flash) (around source.new sink.new end.new.card.flash) }
 {
     let mut lines = Lines::new();
-    let mut tally = Tally {
-        done: 0,
-        differs: false,
-    };
+    let mut differs = false;
     let mut space = Workspace::new();
     loop {
         if let Some(ending) = take_turn(
-            verb, &mut lines, source, card, &mut tally, &mut space, sink,
+            verb,
+            &mut lines,
+            source,
+            end,
+            &mut differs,
+            &mut space,
+            sink,
         ) {
-            return RunEnd {
-                ending,
-                done: tally.done,
-            };
+            return ending;
         }
     }
 }
@@ -149,25 +141,24 @@ pub fn flush_at_end<K: Sink>(ending: Ending, sink: &mut K) -> Ending
     }
 }
 
-/// Gives the lines of a source to a card, and writes each reply before the next line is taken.
+/// Gives the lines of a source to a card, and writes what comes of each before the next line is taken. The card's count becomes
+/// that of the commands that it answered.
 pub fn run<S: Source, K: Sink, F: Flash>(
     verb: Verb,
-    card: &mut Card<F>,
+    end: &mut CardEnd<F>,
     source: &mut S,
     sink: &mut K,
-) -> RunEnd
-    requires live { card.old.live ≡ true }
-    ensures flushes { Flushes K.tells result.ending (K.state sink.old) (K.state sink.new) }
-    ensures ends { (first : State) → CardRepresents F.Flash card.old first
-        → RunEnds verb S.Source K.Sink F.Flash (CardRepresents F.Flash card.new) first result.ending result.done
-        (around source.old sink.old card.old.flash) (around source.new sink.new card.new.flash) }
-    ensures live { result.ending ≢ FlashFault → card.new.live ≡ true }
-    ensures later { F.faults card.old.flash ≤ F.faults card.new.flash }
-    ensures cause { RunCause S.Source K.Sink F.Flash result.ending (around source.old sink.old card.old.flash) (around source.new sink.new card.new.flash) }
+) -> Ending
+    requires live { end.old.card.live ≡ true }
+    requires none { end.old.done ≡ 0 }
+    ensures flushes { Flushes K.tells result (K.state sink.old) (K.state sink.new) }
+    ensures ends { (first : State) → CardRepresents F.Flash end.old.card first
+        → RunEnds verb S.Source K.Sink F.Flash (CardRepresents F.Flash end.new.card) first result end.new.done
+        (around source.old sink.old end.old.card.flash) (around source.new sink.new end.new.card.flash) }
+    ensures live { result ≢ FlashFault → end.new.card.live ≡ true }
+    ensures later { F.faults end.old.card.flash ≤ F.faults end.new.card.flash }
+    ensures cause { RunCause S.Source K.Sink F.Flash result (around source.old sink.old end.old.card.flash) (around source.new sink.new end.new.card.flash) }
 {
-    let end = take_lines(verb, card, source, sink);
-    RunEnd {
-        ending: flush_at_end(end.ending, sink),
-        done: end.done,
-    }
+    let ending = take_lines(verb, end, source, sink);
+    flush_at_end(ending, sink)
 }

@@ -5,6 +5,7 @@ ghost use Rattle.card_core.specs.Card.{CardRepresents};
 ghost use Rattle.policy_rules.specs.State.{State, powered_on};
 ghost use Rattle.gp_tool.specs.Verbs.{IsDone, IsGoodInput, NoFault, Serves, around};
 
+use crate::card_end::CardEnd;
 use crate::run::run;
 use crate::verb::Verb;
 use card_core::Card;
@@ -17,7 +18,7 @@ pub struct Served<F: Flash> {
     /// The status of a program that ends so.
     pub status: u8,
 
-    /// How many commands the card has answered.
+    /// How many commands the card has answered, at most 4,294,967,295.
     pub done: u32,
     pub card: Card<F>,
 }
@@ -51,10 +52,12 @@ pub fn serve<S: Source, K: Sink, F: Flash>(
     ensures later { F.faults card.flash ≤ F.faults result.card.flash }
 {
     card.reset();
-    let end = run(verb, &mut card, source, sink);
+    let mut end = CardEnd { card, done: 0 };
+    let ending = run(verb, &mut end, source, sink);
+    let CardEnd { card, done } = end;
     Served {
-        status: end.ending.status(),
-        done: end.done,
+        status: ending.status(),
+        done,
         card,
     }
 }

@@ -11,7 +11,7 @@ pub enum Task {
     /// `format`
     Format,
 
-    /// `run`, `why` or `replay`: the lines of the source are given to the card.
+    /// `run`, `why`, `replay` or `play`: the lines of the source are given to the card.
     Serve(Verb),
 
     /// `show`
@@ -33,6 +33,7 @@ pub fn read_task(words: &[String]) -> Option<Task>
         [word] if is_word(word, b"run") => Some(Task::Serve(Verb::Run)),
         [word] if is_word(word, b"why") => Some(Task::Serve(Verb::Why)),
         [word] if is_word(word, b"replay") => Some(Task::Serve(Verb::Replay)),
+        [word] if is_word(word, b"play") => Some(Task::Serve(Verb::Play)),
         [word] if is_word(word, b"show") => Some(Task::Show),
         _ => None,
     }

@@ -18,7 +18,7 @@ use flash_core::Flash;
 use io_edge::{Sink, Source, WriteFailed};
 use std::alloc::Global;
 
-const USAGE: &[u8] = b"usage: gp format | run | why | replay | show\n";
+const USAGE: &[u8] = b"usage: gp format | run | why | replay | play | show\n";
 
 // Writes the usage line, and hands it on.
 fn write_usage<K: Sink>(sink: &mut K) -> Result<(), WriteFailed>
@@ -44,10 +44,9 @@ fn refuse_words<K: Sink>(sink: &mut K) -> u8
 
 /// Does what the words say, and answers the status of the program, how many commands the card has answered, and the device.
 ///
-/// 0: all was done, and the input of `run`, `why` or `replay` was read to its end. 1: words that have no form. 2: a line that has no form or is too long. 3: the device
+/// 0: all was done, and the input of `run`, `why`, `replay` or `play` was read to its end. 1: words that have no form. 2: a line that has no form or is too long. 3: the device
 /// failed. 4: the device holds no card. 5: the source refused a read. 6: the sink refused a write or its flush. 7: want of
-/// memory for the card. 8: all was done in
-/// `replay`, and some reply differed from the one wanted. 9: the input is too long.
+/// memory for the card. 8: all was done in `replay` or `play`, and some reply or status differed from the one wanted. 9: the input is too long.
 pub fn gp<S: Source, K: Sink, F: Flash>(
     alloc: Global,
     words: &[String],
@@ -62,7 +61,7 @@ pub fn gp<S: Source, K: Sink, F: Flash>(
     // Want of memory for the card: nothing is read or written, and no call is made on the device.
     ensures memory { HaveForm words.now → result.status ≡ 7 → (source.new ≡ source.old) × (sink.new ≡ sink.old) × (result.flash ≡ flash) × (result.done ≡ 0) }
 
-    // `run`, `why` and `replay`: the card was not powered on, and nothing is read or written. Or the status is that of an ending, which says what
+    // `run`, `why`, `replay` and `play`: the card was not powered on, and nothing is read or written. Or the status is that of an ending, which says what
     // was read, written and handed on, and what the device holds.
     ensures run { (verb : Verb) → AreOf (Serve verb) words.now → result.status ≢ 7 → EndsRun verb S.Source K.Sink F.Flash result.status result.done
         (around source.old sink.old flash) (around source.new sink.new result.flash) }
@@ -77,11 +76,11 @@ pub fn gp<S: Source, K: Sink, F: Flash>(
     ensures show { AreOf Show words.now → result.status ≢ 7
         → (source.new ≡ source.old) × EndsShow K.Sink F.Flash result.status result.done (beside sink.old flash) (beside sink.new result.flash) }
 
-    // Where the device holds no card, `run`, `why`, `replay` and `show` answer 4, but for want of memory and a device that failed.
+    // Where the device holds no card, `run`, `why`, `replay`, `play` and `show` answer 4, but for want of memory and a device that failed.
     ensures no_card { F.tells → ((verb : Verb) × AreOf (Serve verb) words.now) ⊎ AreOf Show words.now → (HoldsCard F.Flash flash → ⊥)
         → (result.status ≡ 3) ⊎ (result.status ≡ 4) ⊎ (result.status ≡ 7) }
 
-    // `run`, `why` and `replay`: where each line has a form, the input is short enough and nothing fails, all is done. Only want of memory comes
+    // `run`, `why`, `replay` and `play`: where each line has a form, the input is short enough and nothing fails, all is done. Only want of memory comes
     // then besides.
     ensures complete { (verb : Verb) → AreOf (Serve verb) words.now
         → Completes verb S.Source K.Sink F.Flash result.status (around source.old sink.old flash) (around source.new sink.new result.flash) }

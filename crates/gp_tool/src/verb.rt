@@ -11,4 +11,7 @@ pub enum Verb {
 
     /// It is compared with the one that a line wants, and a difference is written.
     Replay,
+
+    /// The lines are those of a script: a host sends the commands, and what each line prints is written.
+    Play,
 }

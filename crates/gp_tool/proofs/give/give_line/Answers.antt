@@ -1,10 +1,11 @@
 use Rattle.std.proofs.Common.{[], ◌∷◌, refl}
+use Rattle.gp_tool.proofs.Counting.{few_more}
 use Rattle.gp_tool.proofs.Moments.{left_now, one_of_two}
 use Rattle.gp_tool.proofs.give.give_line.Goals as goal
 
 pub returns-in-Ok-clause-given : goal.returns-in-Ok-clause-given
 returns-in-Ok-clause-given g c = (
-  refl,
+  few_more c.args.done.now _ c.saturating_add.ensures,
   λ state stands.
       (let F = g.F.Flash in
       let step = c.in-Ok.ensures.step state stands in

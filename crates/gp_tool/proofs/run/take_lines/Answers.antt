@@ -1,8 +1,9 @@
 use Rattle.std.proofs.Common.{refl, arith, ◌∙◌}
 use Rattle.gp_tool.proofs.RunSoFar.{going_first, going_further, going_ends}
 use Rattle.gp_tool.proofs.Moments.{nothing_done}
-use Rattle.gp_tool.proofs.Kept.{none_kept}
-use Rattle.gp_tool.specs.Standing.{memory_in, standing}
+use Rattle.gp_tool.proofs.Counting.{few_first, few_further, few_last}
+use Rattle.gp_tool.proofs.Kept.{means_first}
+use Rattle.gp_tool.specs.Standing.{held_in, standing_in}
 use Rattle.gp_tool.proofs.run.take_lines.Goals as goal
 
 pub loop-ending-init : goal.loop-ending-init
@@ -12,26 +13,28 @@ loop-ending-init g c =
       stop = refl;
       within = omega arith;
       live = c.requires.live;
-      few = omega arith;
+      few = few_first c.args.verb c.args.end.now.done c.requires.none;
       reads = refl;
       writes = refl;
       later = omega arith;
       flushes = refl;
       going = λ first stands.
-          rw (none_kept c.args.verb c.new-space.result c.new-space.ensures)
-          (going_first c.args.verb F g.S.Source.tells g.K.Sink.tells first c.args.card.now.flash _ c.args.card.now stands
-          (nothing_done F g.met.F.Flash.only_now c.args.card.now first stands));
+          going_first c.args.verb F g.S.Source.tells g.K.Sink.tells first c.args.end.now.card.flash _ c.args.end.now.card
+          (held_in c.args.verb c.new-space.result) c.args.end.now.done c.requires.none stands
+          (means_first c.args.verb c.new-space.result c.new-space.ensures.none c.new-space.ensures.player)
+          (nothing_done F g.met.F.Flash.only_now c.args.end.now.card first stands);
     })
 
 pub returns-in-Some-clause-ends : goal.returns-in-Some-clause-ends
 returns-in-Some-clause-ends g c first stands =
     let F = g.F.Flash in
-    let from = c.args.card.now.flash in
+    let from = c.args.end.now.card.flash in
     let verb = c.args.verb in
     going_ends verb F g.S.Source.tells g.K.Sink.tells first from _
-    (standing c.loop-ending.card (memory_in verb c.loop-ending.space) c.loop-ending.tally)
-    (standing c.take_turn.new.card (memory_in verb c.take_turn.new.space) c.take_turn.new.tally)
+    (standing_in verb c.loop-ending.end c.loop-ending.space c.loop-ending.differs)
+    (standing_in verb c.take_turn.new.end c.take_turn.new.space c.take_turn.new.differs)
     _ _ c.loop-ending.lines (c.loop-ending.invariant.going first stands)
+    (few_last verb c.loop-ending.end.done c.take_turn.new.end.done c.loop-ending.lines.passed _ c.loop-ending.invariant.few c.in-Some.ensures.few c.loop-ending.invariant.within)
     c.in-Some.ending c.in-Some.ensures.ends (c.in-Some.ensures.flushes ∙ c.loop-ending.invariant.flushes)
 
 pub loop-ending-preserved : goal.loop-ending-preserved
@@ -45,14 +48,14 @@ loop-ending-preserved g c =
       stop = on.stop;
       within = on.within;
       live = c.in_default.ensures.live;
-      few = omega (arith, kept.few, on.further, c.in_default.ensures.few);
+      few = few_further verb c.loop-ending.end.done c.take_turn.new.end.done c.loop-ending.lines.passed c.take_turn.new.lines.passed kept.few c.in_default.ensures.few on.further;
       reads = quiet.0 ∙ kept.reads;
       writes = quiet.1 ∙ kept.writes;
       later = omega (arith, kept.later, c.in_default.ensures.later);
       flushes = c.in_default.ensures.flushes ∙ kept.flushes;
       going = λ first stands.
-          going_further verb F g.S.Source.tells g.K.Sink.tells first c.args.card.now.flash _
-          (standing c.loop-ending.card (memory_in verb c.loop-ending.space) c.loop-ending.tally)
-          (standing c.take_turn.new.card (memory_in verb c.take_turn.new.space) c.take_turn.new.tally)
+          going_further verb F g.S.Source.tells g.K.Sink.tells first c.args.end.now.card.flash _
+          (standing_in verb c.loop-ending.end c.loop-ending.space c.loop-ending.differs)
+          (standing_in verb c.take_turn.new.end c.take_turn.new.space c.take_turn.new.differs)
           _ _ c.loop-ending.lines (kept.going first stands) _ on;
     }

@@ -1,6 +1,6 @@
 use Rattle.std.proofs.Common.{refl, sym, ◌∙◌, inl, inr}
 use Rattle.gp_tool.specs.Ends.{outside}
-use Rattle.gp_tool.specs.Standing.{memory_in}
+use Rattle.gp_tool.specs.Standing.{held_in}
 use Rattle.gp_tool.proofs.Turns.{given_line, bad_form, failing_line, line_leaves, line_takes, refusal_ends, refuses_from, stop_takes}
 use Rattle.gp_tool.proofs.run.take_turn.Goals as goal
 
@@ -28,7 +28,7 @@ returns-in-NoForm-clause-ends g c =
     (outside (g.S.Source.state c.next_line.new.source) (g.K.Sink.state c.refuse_line.new.sink))
     c.refuse_line.result
     served.1
-    (bad_form c.args.verb (memory_in c.args.verb c.args.space.now) g.S.Source.tells _ _ _ _ c.in-Ok.line gives served.0)
+    (bad_form c.args.verb (held_in c.args.verb c.args.space.now) g.S.Source.tells _ _ _ _ c.in-Ok.line gives served.0)
     (refuses_from g.K.Sink.tells _ _ _ _ c.refuse_line.result served.2 (rw (← c.in-Ok.ensures.number) c.refuse_line.ensures.refused))
     (line_takes g.S.Source.tells _ _ _ _ c.in-Ok.line gives)
 
@@ -56,7 +56,7 @@ returns-in-Err-TooLong-clause-ends g c =
     (outside (g.S.Source.state c.next_line.new.source) (g.K.Sink.state c.refuse_line-in-Err-TooLong.new.sink))
     c.refuse_line-in-Err-TooLong.result
     refl
-    (λ told. (let stop = rw c.in-Err-TooLong.field-0-is at (c.in-Err-TooLong.ensures.stop told c.requires.stop) in (stop.1.0, inr (stop.1.1, stop.1.2))))
+    (λ memory means told. (let stop = rw c.in-Err-TooLong.field-0-is at (c.in-Err-TooLong.ensures.stop told c.requires.stop) in (stop.1.0, inr (stop.1.1, stop.1.2))))
     (let number = rw c.in-Err-TooLong.field-0-is at (c.in-Err-TooLong.ensures.numbered c.requires.stop) in
     rw (← number) (rw c.in-Err-TooLong.field-0-is at c.refuse_line-in-Err-TooLong.ensures.refused))
     (stop_takes g.S.Source.tells _ _ _ _ _ (rw c.in-Err-TooLong.is at c.next_line.follows.holds-at-none))

@@ -9,20 +9,19 @@ pub returns-clause-run : goal.returns-clause-run
 returns-clause-run g c state stands =
     let again = c.reset.ensures.stands state stands in
     rw (← c.reset.ensures.same.0) (record {
-      ending = c.run-end.result.ending;
-      ended = record { status_is = c.status.ensures; cause = c.run-end.ensures.cause; flushes = c.run-end.ensures.flushes };
-      ends = c.run-end.ensures.ends (powered_on state.registry) again;
+      ending = c.run-ending.result;
+      ended = record { status_is = c.status.ensures; cause = c.run-ending.ensures.cause; flushes = c.run-ending.ensures.flushes };
+      ends = c.run-ending.ensures.ends (powered_on state.registry) again;
     })
 
 pub returns-clause-never : goal.returns-clause-never
-returns-clause-never g c = rw c.status.ensures (never_others c.run-end.result.ending)
+returns-clause-never g c = rw c.status.ensures (never_others c.run-ending.result)
 
 pub returns-clause-complete : goal.returns-clause-complete
 returns-clause-complete g c state stands told good none =
     let again = c.reset.ensures.stands state stands in
-    let end = c.run-end.result in
-    rw c.status.ensures (is_done c.args.verb g.S.Source.tells g.K.Sink.tells _ _ (powered_on state.registry) _ _ _ _ end.ending c.run-end.ensures.cause
-    (c.run-end.ensures.ends (powered_on state.registry) again) told (good.0 (powered_on state.registry)) good.1 none.reads none.writes (rw (← c.reset.ensures.same.0) at none.flash))
+    rw c.status.ensures (is_done c.args.verb g.S.Source.tells g.K.Sink.tells _ _ (powered_on state.registry) _ _ _ _ c.run-ending.result c.run-ending.ensures.cause
+    (c.run-ending.ensures.ends (powered_on state.registry) again) told (good.0 (powered_on state.registry)) good.1 none.reads none.writes (rw (← c.reset.ensures.same.0) at none.flash))
 
 pub returns-clause-live : goal.returns-clause-live
-returns-clause-live g c other = c.run-end.ensures.live (λ is. other (c.status.ensures ∙ ap exit_status is))
+returns-clause-live g c other = c.run-ending.ensures.live (λ is. other (c.status.ensures ∙ ap exit_status is))
