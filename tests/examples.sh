@@ -1,0 +1,97 @@
+#!/usr/bin/env bash
+# Plays the scripts of examples/ by `gp play`, each on a card that `gp format` has just made, and compares what is printed, to
+# the byte. It is no part of `rt ci`.
+#
+#   tests/examples.sh
+#
+# Receipts, check values and the token of a script are compared with those of OpenSSL (tests/receipt.py). cut.script is ended by
+# tests/power_cut.py at the write that it names, and then at each write in turn, and recovery.script is played behind it. That is
+# skipped where ptrace is refused.
+#
+# It says what differs, then 'N passed, M failed', and ends with 0 where nothing failed.
+set -euo pipefail
+
+top=$(dirname "$(dirname "$(readlink -f "${BASH_SOURCE[0]}")")")
+gp=$top/crates/gp/out/gp
+examples=$top/examples
+readonly cut_at=24 writes=38 skipped=77
+
+if [[ ! -x $gp ]]; then
+    echo "examples: $gp is not built: ./gp builds it" >&2
+    exit 1
+fi
+
+tmp=$(mktemp -d "${TMPDIR:-/tmp}/examples.XXXXXX")
+trap 'rm -rf "$tmp"' EXIT
+cd "$tmp"
+
+passed=0
+failed=0
+
+# Counts a check: its name, what was wanted, what came.
+wants() {
+    if [[ $2 == "$3" ]]; then
+        passed=$((passed + 1))
+    else
+        failed=$((failed + 1))
+        echo "FAIL $1: wanted '$2', got '$3'"
+    fi
+}
+
+# Counts the comparison of what was printed with the text of an example.
+wants_text() {
+    local difference
+    difference=$(diff "$examples/$1.text" printed) || true
+    wants "$1: the text" "" "$difference"
+}
+
+# Makes a card.
+make_card() {
+    rm -f card.img
+    "$gp" format
+}
+
+# Plays an example on the card that is there.
+play() {
+    local status=0
+    "$gp" play <"$examples/$1.script" >printed 2>errors || status=$?
+    wants "$1: the status" 0 "$status"
+    wants "$1: standard error" "" "$(<errors)"
+    wants_text "$1"
+}
+
+# Compares receipts, check values and tokens with those of OpenSSL.
+compare_macs() {
+    local status=0
+    python3 "$top/tests/receipt.py" "$examples/$1.script" "$examples/$1.text" >computed || status=$?
+    wants "$1: receipts ($(tail -n 1 computed))" 0 "$status"
+    sed '$d' computed
+}
+
+for example in issuer provider auditor; do
+    make_card
+    play "$example"
+    compare_macs "$example"
+done
+
+# Power goes within cut.script, and recovery.script goes on.
+make_card
+status=0
+python3 "$top/tests/power_cut.py" "$cut_at" "$gp" play <"$examples/cut.script" >printed || status=$?
+if [[ $status == "$skipped" ]]; then
+    echo "examples: cut and recovery are skipped"
+else
+    wants "cut: the status" 0 "$status"
+    wants_text cut
+    play recovery
+
+    # At each write in turn, to the end.
+    status=0
+    python3 "$top/tests/power_cut.py" --each "$gp" "$examples/"{cut,recovery}.script >each || status=$?
+    wants "cut at each write" 0 "$status"
+    wants "cut at each write: how many" "$((writes + 1)) passed, 0 failed: $writes writes" "$(tail -n 1 each)"
+    sed '$d' each
+fi
+
+echo "$passed passed, $failed failed"
+((failed == 0))
