@@ -3,8 +3,9 @@
 # printed, to the byte, and the status. It is no part of `rt ci`.
 #
 # An example is a block ```script, and behind it a block ```text with what it prints; ```text 8 wants the status 8, and
-# ```text alone 0. Each heading of the page that begins with a code span is that of a verb: it has an example with this
-# verb, and the verbs are those of crates/script_tool/src.
+# ```text alone 0. In a block ```console the lines that begin with `$ ` are given to a shell, and the others are what they
+# write. Each heading of the page that begins with a code span is that of a verb: it has an example with this verb, and the
+# verbs are those of crates/script_tool/src.
 #
 # It says what differs, then 'N passed, M failed', and ends with 0 where nothing failed.
 set -euo pipefail
@@ -40,6 +41,15 @@ def judge(good, text):
         print(f"FAIL {text}")
 
 
+def try_console(number, block):
+    with tempfile.TemporaryDirectory() as folder:
+        (Path(folder) / "gp").symlink_to(GP)
+        commands = "".join(line[2:] for line in block if line.startswith("$ "))
+        wanted = "".join(line for line in block if not line.startswith("$ "))
+        done = subprocess.run(["bash", "-c", commands], cwd=folder, stdout=subprocess.PIPE, stderr=subprocess.STDOUT)
+        judge(done.stdout.decode() == wanted, f"line {number}: wanted\n{wanted}got\n{done.stdout.decode()}")
+
+
 def read_page():
     """The verbs of the headings, and the examples: the number of the line, the verb that it stands under, the script, and
     what it prints with its status."""
@@ -66,6 +76,8 @@ def read_page():
         elif fence[1] == "text" and script:
             examples.append((script[0], verb, script[1], "".join(block), int(fence[2] or 0)))
             script = None
+        elif fence[1] == "console":
+            try_console(number, block)
     judge(script is None, "the last example has no text")
     return verbs, examples
 
