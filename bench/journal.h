@@ -1,4 +1,4 @@
-/* What commit.c and session.c make of a commit: the writes and fdatasyncs of page_journal. The copies and the
+/* What commit.c, session.c and mill.c make of a commit: the writes and fdatasyncs of page_journal. The copies and the
  * descriptor, the gate opened, the pages in place, the gate closed, each followed by fdatasync. */
 #include <fcntl.h>
 #include <stdio.h>
@@ -9,6 +9,9 @@
 enum { SIZE = 256, GATE = 45, DESCRIPTOR = 46, COPIES = 47 };
 
 static int file;
+
+/* How many calls were made. */
+static unsigned long writes, syncs;
 
 static void stop(const char *what) {
     perror(what);
@@ -21,10 +24,12 @@ static void open_device(const char *path) {
 }
 
 static void put(int page, const unsigned char *bytes) {
+    writes++;
     if (pwrite(file, bytes, SIZE, (off_t)page * SIZE) != SIZE) stop("pwrite");
 }
 
 static void sync_file(void) {
+    syncs++;
     if (fdatasync(file) < 0) stop("fdatasync");
 }
 
