@@ -1,6 +1,7 @@
 pub mod ComeFirst
 pub mod CardEnds
 pub mod Complete
+pub mod CounterText
 pub mod Counting
 pub mod RunSoFar
 pub mod Exclusive
@@ -12,6 +13,8 @@ pub mod Given
 pub mod Kept
 pub mod Listed
 pub mod ListedSlots
+pub mod MillEnding
+pub mod MilledLines
 pub mod One
 pub mod Spaces
 pub mod Spelled
@@ -30,4 +33,5 @@ pub mod Scripts
 pub mod Statuses
 pub mod StepsOver
 pub mod Turns
+pub mod WorkloadWords
 pub mod Written

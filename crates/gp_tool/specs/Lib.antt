@@ -13,6 +13,8 @@ pub mod Going
 pub mod Kinds
 pub mod Laws
 pub mod Listing
+pub mod Mill
+pub mod Milling
 pub mod Read
 pub mod Replay
 pub mod Replies

@@ -13,9 +13,11 @@ use Rattle.rec_store.specs.Reopens.{Reopens}
 use Rattle.gp_tool.specs.Device.{HasFailed, HasRun, HoldsCard, IsNotPowered}
 use Rattle.gp_tool.specs.Ends.{EndCause, Ends, Flushes, exit_status, faults_of, outside}
 use Rattle.gp_tool.specs.Formatted.{FormatEnds}
+use Rattle.gp_tool.specs.Mill.{IsNotMilled, MillEnds}
 use Rattle.gp_tool.specs.RunsLines.{AreServable, start}
 use Rattle.gp_tool.specs.Shown.{HasShown, ShowEnds}
 use Rattle.gp_tool.specs.declared.ending.Ending.{Ending}
+use Rattle.gp_tool.specs.declared.workload.Workload.{Workload}
 use Rattle.gp_tool.specs.declared.verb.Verb.{Verb}
 use Rattle.gp_tool.specs.declared.verb.Verb.TheVariants.{Replay, Play}
 
@@ -111,3 +113,14 @@ pub record ShowsCard {K F : Type 0} (sink : Sink K) (device : Flash F) (status :
 abbrev pub EndsShow : {K F : Type 0} → Sink K → Flash F → ℕ → ℕ → Beside K F → Beside K F → Type 0
 EndsShow sink device status count old new =
     (count ≡ 0) × ((IsNotPowered device status count old.flash new.flash × (new.sink ≡ old.sink)) ⊎ ShowsCard sink device status old new)
+
+-- The factory card was powered on, and a workload was played on it, up to an ending.
+pub record MillsCard {K F : Type 0} (work : Workload) (sink : Sink K) (device : Flash F) (status count : ℕ) (old new : Beside K F) : Type 0 where
+  pub ending : Ending
+  pub ended : HasEnded sink device ending status unread unread old new
+  pub ends : MillEnds device sink.tells work ending new.flash count (sink.state old.sink) (sink.state new.sink)
+
+-- It was, or it was not powered on, and nothing is written.
+abbrev pub EndsMill : {K F : Type 0} → Workload → Sink K → Flash F → ℕ → ℕ → Beside K F → Beside K F → Type 0
+EndsMill work sink device status count old new =
+    (IsNotMilled device status count old.flash new.flash × (new.sink ≡ old.sink)) ⊎ MillsCard work sink device status count old new

@@ -4,21 +4,25 @@ use Rattle.std.specs.declared.alloc.Global.{Global}
 use Rattle.faults.specs.Faults.{Rose}
 use Rattle.io_edge.specs.Streams.{SinkState}
 use Rattle.gp_tool.specs.Flush.{FlushesLast, IsHandedOn}
+use Rattle.gp_tool.specs.Mill.{NameWorkload}
 use Rattle.gp_tool.specs.declared.task.Task.{Task}
-use Rattle.gp_tool.specs.declared.task.Task.TheVariants.{Format, Serve, Show}
+use Rattle.gp_tool.specs.declared.task.Task.TheVariants.{Format, Mill, Serve, Show}
 use Rattle.gp_tool.specs.declared.verb.Verb.TheVariants.{Run, Why, Replay, Play}
 
--- the word of a task
+-- the first word of a task
 abbrev pub word_of : Task → List ℕ
 word_of Format = codes "format"
 word_of (Serve Run) = codes "run"
 word_of (Serve Why) = codes "why"
 word_of (Serve Replay) = codes "replay"
 word_of (Serve Play) = codes "play"
+word_of (Mill work) = codes "mill"
 word_of Show = codes "show"
 
--- the words are the task's alone
+-- the words are the task's alone; `mill` has a seed and a number of rounds behind it
 abbrev pub AreOf : Task → List (String Global) → Type 0
+AreOf (Mill work) words =
+    (seed rounds : List ℕ) × (map string_bytes words ≡ word_of (Mill work) ∷ seed ∷ rounds ∷ []) × NameWorkload seed rounds work
 AreOf task words = map string_bytes words ≡ word_of task ∷ []
 
 -- the words have a form
@@ -27,7 +31,7 @@ HaveForm words = (task : Task) × AreOf task words
 
 -- what is written where the words have no form
 abbrev pub usage_line : List ℕ
-usage_line = codes "usage: gp format | run | why | replay | play | show" ++ 10 ∷ []
+usage_line = codes "usage: gp format | run | why | replay | play | mill SEED COUNT | show" ++ 10 ∷ []
 
 -- it was written and handed on, and nothing failed
 pub record HasUsage (writes : Type 0) (old new : SinkState) : Type 0 where

@@ -9,6 +9,9 @@
 //! differences alone: `00700000` and `= 029000` give `line 2 want 029000 got 019000`. The word `play` takes the lines for those of a
 //! script: a host sends the commands, opens sessions and protects what it sends, and what each line prints is written.
 //!
+//! `mill SEED COUNT` makes the device the factory card, plays COUNT rounds of lines that SEED chooses, the same each time, and
+//! writes five lines of summary.
+//!
 //! Other words are refused by the usage line. Where there is no memory for the card, the device fails or it holds no
 //! card, nothing is read. A line of no other form, or of more than 522 bytes, ends the run by its number, as in `line 3`.
 //! A read or a write that fails ends it too, and so does a device that fails in a command, and an input of which
@@ -26,6 +29,8 @@ mod give;
 mod laws;
 mod line;
 mod literals;
+mod mill;
+mod mill_verb;
 mod play;
 mod push;
 mod replay;
@@ -36,9 +41,12 @@ mod serving;
 mod show;
 mod show_verb;
 mod step_card;
+mod summary;
+mod tally;
 mod task;
 mod top;
 mod verb;
+mod workload;
 mod workspace;
 
 pub use ended::Ended;

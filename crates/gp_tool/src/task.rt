@@ -4,6 +4,7 @@ ghost use Rattle.std.specs.Prelude.{◌≡◌, ◌↔◌, IsTrue, MatchOption, s
 ghost use Rattle.gp_tool.specs.Words.{AreOf, HaveForm};
 
 use crate::verb::Verb;
+use crate::workload::{Workload, read_workload};
 
 /// What the program is to do.
 #[derive(Clone, Copy)]
@@ -13,6 +14,9 @@ pub enum Task {
 
     /// `run`, `why`, `replay` or `play`: the lines of the source are given to the card.
     Serve(Verb),
+
+    /// `mill`: a workload is played on the factory card.
+    Mill(Workload),
 
     /// `show`
     Show,
@@ -24,7 +28,7 @@ fn is_word(word: &String, wanted: &[u8]) -> bool
     word.as_bytes() == wanted
 }
 
-/// The task whose word they are, alone.
+/// The task whose words they are, alone.
 pub fn read_task(words: &[String]) -> Option<Task>
     ensures { MatchOption result (HaveForm words.now → ⊥) (λ task. AreOf task words.now) }
 {
@@ -34,6 +38,9 @@ pub fn read_task(words: &[String]) -> Option<Task>
         [word] if is_word(word, b"why") => Some(Task::Serve(Verb::Why)),
         [word] if is_word(word, b"replay") => Some(Task::Serve(Verb::Replay)),
         [word] if is_word(word, b"play") => Some(Task::Serve(Verb::Play)),
+        [word, seed, rounds] if is_word(word, b"mill") => {
+            Some(Task::Mill(read_workload(seed, rounds)?))
+        }
         [word] if is_word(word, b"show") => Some(Task::Show),
         _ => None,
     }

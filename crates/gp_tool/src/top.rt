@@ -4,13 +4,16 @@ ghost use Rattle.std.specs.Prelude.{◌≡◌, ◌≢◌, ◌⊎◌, ◌≤◌, 
 ghost use Rattle.faults.specs.Faults.{HasCause, Rose};
 ghost use Rattle.gp_tool.specs.Device.{HoldsCard};
 ghost use Rattle.gp_tool.specs.Flush.{FlushesLast, IsHandedOn};
-ghost use Rattle.gp_tool.specs.Verbs.{Completes, EndsFormat, EndsRun, EndsShow, around, beside};
+ghost use Rattle.gp_tool.specs.Formatted.{IsFactoryCard};
+ghost use Rattle.gp_tool.specs.Verbs.{Completes, EndsFormat, EndsMill, EndsRun, EndsShow, around, beside};
 ghost use Rattle.gp_tool.specs.Words.{AreOf, EndsInUsage, HaveForm, usage_line};
-ghost use Rattle.gp_tool.specs.declared.task.Task.TheVariants.{Format, Serve, Show};
+ghost use Rattle.gp_tool.specs.declared.task.Task.TheVariants.{Format, Mill, Serve, Show};
 ghost use Rattle.gp_tool.specs.declared.verb.Verb.{Verb};
+ghost use Rattle.gp_tool.specs.declared.workload.Workload.{Workload};
 
 use crate::ended::Ended;
 use crate::format_verb::format_verb;
+use crate::mill_verb::mill_verb;
 use crate::run_verb::run_verb;
 use crate::show_verb::show_verb;
 use crate::task::{Task, read_task};
@@ -18,7 +21,7 @@ use flash_core::Flash;
 use io_edge::{Sink, Source, WriteFailed};
 use std::alloc::Global;
 
-const USAGE: &[u8] = b"usage: gp format | run | why | replay | play | show\n";
+const USAGE: &[u8] = b"usage: gp format | run | why | replay | play | mill SEED COUNT | show\n";
 
 // Writes the usage line, and hands it on.
 fn write_usage<K: Sink>(sink: &mut K) -> Result<(), WriteFailed>
@@ -58,8 +61,8 @@ pub fn gp<S: Source, K: Sink, F: Flash>(
     ensures usage { (HaveForm words.now → ⊥)
         → EndsInUsage K.tells result.status (K.state sink.old) (K.state sink.new) × (source.new ≡ source.old) × (result.done ≡ 0) × (result.flash ≡ flash) }
 
-    // Want of memory for the card: nothing is read or written, and no call is made on the device.
-    ensures memory { HaveForm words.now → result.status ≡ 7 → (source.new ≡ source.old) × (sink.new ≡ sink.old) × (result.flash ≡ flash) × (result.done ≡ 0) }
+    // Want of memory for the card: nothing is read or written, and no call is made on the device, but by `mill`.
+    ensures memory { HaveForm words.now → ((work : Workload) → AreOf (Mill work) words.now → ⊥) → result.status ≡ 7 → (source.new ≡ source.old) × (sink.new ≡ sink.old) × (result.flash ≡ flash) × (result.done ≡ 0) }
 
     // `run`, `why`, `replay` and `play`: the card was not powered on, and nothing is read or written. Or the status is that of an ending, which says what
     // was read, written and handed on, and what the device holds.
@@ -76,6 +79,15 @@ pub fn gp<S: Source, K: Sink, F: Flash>(
     ensures show { AreOf Show words.now → result.status ≢ 7
         → (source.new ≡ source.old) × EndsShow K.Sink F.Flash result.status result.done (beside sink.old flash) (beside sink.new result.flash) }
 
+    // `mill`: nothing is read. The device became the factory card, but for one that failed, and a workload was played on it. The
+    // status is that of an ending, which says what was written and handed on, and what the device holds.
+    ensures mill { (work : Workload) → AreOf (Mill work) words.now → result.status ≢ 7
+        → (source.new ≡ source.old) × EndsMill work K.Sink F.Flash result.status result.done (beside sink.old flash) (beside sink.new result.flash) }
+
+    // Want of memory for the card then: nothing is read or written, and the device is the factory card.
+    ensures mill_memory { (work : Workload) → AreOf (Mill work) words.now → result.status ≡ 7
+        → (source.new ≡ source.old) × (sink.new ≡ sink.old) × (result.done ≡ 0) × IsFactoryCard F.Flash result.flash }
+
     // Where the device holds no card, `run`, `why`, `replay`, `play` and `show` answer 4, but for want of memory and a device that failed.
     ensures no_card { F.tells → ((verb : Verb) × AreOf (Serve verb) words.now) ⊎ AreOf Show words.now → (HoldsCard F.Flash flash → ⊥)
         → (result.status ≡ 3) ⊎ (result.status ≡ 4) ⊎ (result.status ≡ 7) }
@@ -85,6 +97,9 @@ pub fn gp<S: Source, K: Sink, F: Flash>(
     ensures complete { (verb : Verb) → AreOf (Serve verb) words.now
         → Completes verb S.Source K.Sink F.Flash result.status (around source.old sink.old flash) (around source.new sink.new result.flash) }
     ensures show_complete { AreOf Show words.now → F.tells → HoldsCard F.Flash flash
+        → (Rose (K.state sink.old).faults (K.state sink.new).faults → ⊥) → (Rose (F.faults flash) (F.faults result.flash) → ⊥)
+        → (result.status ≡ 0) ⊎ (result.status ≡ 7) }
+    ensures mill_complete { (work : Workload) → AreOf (Mill work) words.now → F.tells
         → (Rose (K.state sink.old).faults (K.state sink.new).faults → ⊥) → (Rose (F.faults flash) (F.faults result.flash) → ⊥)
         → (result.status ≡ 0) ⊎ (result.status ≡ 7) }
     ensures later { F.faults flash ≤ F.faults result.flash }
@@ -97,6 +112,7 @@ pub fn gp<S: Source, K: Sink, F: Flash>(
         },
         Some(Task::Format) => format_verb(sink, flash),
         Some(Task::Serve(verb)) => run_verb(alloc, verb, source, sink, flash),
+        Some(Task::Mill(work)) => mill_verb(alloc, work, sink, flash),
         Some(Task::Show) => show_verb(alloc, sink, flash),
     }
 }

@@ -3,13 +3,13 @@ use Rattle.gp_tool.proofs.Statuses.{never_others}
 use Rattle.gp_tool.specs.Verbs.{Completes, around}
 use Rattle.gp_tool.specs.Words.{AreOf, word_of}
 use Rattle.gp_tool.specs.declared.task.Task.{Task}
-use Rattle.gp_tool.specs.declared.task.Task.TheVariants.{Serve, Show}
+use Rattle.gp_tool.specs.declared.task.Task.TheVariants.{Mill, Serve, Show}
 use Rattle.gp_tool.specs.declared.verb.Verb.{Verb}
 use Rattle.gp_tool.specs.declared.verb.Verb.TheVariants.{Run, Why, Replay, Play}
 use Rattle.gp_tool.proofs.top.gp.Goals as goal
 
 pub returns-in-Some-Format-clause-memory : goal.returns-in-Some-Format-clause-memory
-returns-in-Some-Format-clause-memory g c form is =
+returns-in-Some-Format-clause-memory g c form other is =
     let made = c.format_verb.ensures.format in
     let never = never_others made.ending in
     absurd (never.2 (sym made.ended.status_is ∙ is))
@@ -26,6 +26,20 @@ returns-in-None-clause-no_card g c told named = elim named [
 
 pub returns-in-None-clause-complete : goal.returns-in-None-clause-complete
 returns-in-None-clause-complete g c verb named = absurd (c.in-None.ensures (Serve verb, named))
+
+pub returns-in-None-clause-mill : goal.returns-in-None-clause-mill
+returns-in-None-clause-mill g c work named = absurd (c.in-None.ensures (Mill work, named))
+
+pub returns-in-None-clause-mill_memory : goal.returns-in-None-clause-mill_memory
+returns-in-None-clause-mill_memory g c work named = absurd (c.in-None.ensures (Mill work, named))
+
+pub returns-in-None-clause-mill_complete : goal.returns-in-None-clause-mill_complete
+returns-in-None-clause-mill_complete g c work named = absurd (c.in-None.ensures (Mill work, named))
+
+pub returns-in-Some-Mill-clause-memory : goal.returns-in-Some-Mill-clause-memory
+returns-in-Some-Mill-clause-memory g c form other is =
+    let read : AreOf (Mill c.in-Some-Mill.work) c.args.words.now = subst (λ (task : Task). AreOf task c.args.words.now) c.in-Some-Mill.field-0-is c.in-Some-Mill.ensures in
+    absurd (other c.in-Some-Mill.work read)
 
 -- words are of one verb
 one_verb : (a b : Verb) → word_of (Serve a) ≡ word_of (Serve b) → a ≡ b

@@ -1,0 +1,20 @@
+-- The sequence counter of the Issuer Security Domain as text.
+use Rattle.std.proofs.Common.{◌≡◌, ℕ, List, None, Option, Some, refl, sym, ap, subst, ◌∙◌, inl, inr}
+use Rattle.std.specs.Prelude.{MatchOption}
+use Rattle.card_check.specs.IsCard.{HasPages}
+use Rattle.card_core.specs.Kept.{AreCards}
+use Rattle.card_types.specs.Layout.{HasIssuer}
+use Rattle.card_types.specs.Represents.{domain_aid}
+use Rattle.card_types.specs.Slots.{held}
+use Rattle.card_types.specs.declared.factory.TheConstants.{ISSUER}
+use Rattle.card_types.specs.declared.tables.Entry.{Entry}
+use Rattle.card_types.specs.declared.tables.Tables.{Tables}
+use Rattle.card_types.specs.declared.tables.TheConstants.{ISSUER_SLOT}
+
+-- its entry
+pub issuer_held : (entries : List (Option Entry)) → HasIssuer entries → (entry : Entry) × (held entries ISSUER_SLOT ≡ Some entry) × (domain_aid entries ISSUER_SLOT ≡ ISSUER)
+issuer_held entries has = by (held entries ISSUER_SLOT) refl has where
+  by : (slot : Option Entry) → held entries ISSUER_SLOT ≡ slot → MatchOption slot ⊥ (λ entry. entry.aid ≡ ISSUER)
+      → (entry : Entry) × (held entries ISSUER_SLOT ≡ Some entry) × (domain_aid entries ISSUER_SLOT ≡ ISSUER)
+  by None is none = absurd none
+  by (Some entry) is own = (entry, is, rw is own)

@@ -1,0 +1,84 @@
+-- A workload that is played line by line.
+use Rattle.std.proofs.Common.{◌≡◌, ℕ, zero, suc, ◌+◌, ◌*◌, List, [], ◌∷◌, ◌++◌, length, refl, sym, ap, subst, ◌∙◌, arith, append_assoc}
+use Rattle.std.specs.Prelude.{flat_map}
+use Rattle.std.proofs.lemmas.List.{append-nil}
+use Rattle.card_core.specs.Card.{CardRepresents}
+use Rattle.flash_core.specs.declared.flash.Flash.{Ghosts as Flash}
+use Rattle.policy_rules.specs.State.{State}
+use Rattle.rand_chacha.specs.ChaCha.{ChaCha}
+use Rattle.script_tool.specs.Host.{first_host}
+use Rattle.script_tool.specs.Kept.{RepresentsHost}
+use Rattle.script_tool.specs.Mill.{after_round, generator, rounds, workload}
+use Rattle.script_tool.specs.Round.{lines_of}
+use Rattle.script_tool.specs.declared.host_state.HostState.{HostState}
+use Rattle.gp_tool.proofs.Counting.{count_more}
+use Rattle.gp_tool.proofs.RunsMore.{runs_more}
+use Rattle.gp_tool.specs.Effects.{Effect, joined, nothing}
+use Rattle.gp_tool.specs.Mill.{tally_of, with_text, with_texts}
+use Rattle.gp_tool.specs.Milling.{Milled, Milling, MillsLine}
+use Rattle.gp_tool.specs.RunsLines.{RunsLines, start}
+use Rattle.gp_tool.specs.declared.card_end.CardEnd as the_end
+use Rattle.gp_tool.specs.declared.tally.Tally.{Tally}
+use Rattle.gp_tool.specs.declared.verb.Verb.TheVariants.{Play}
+use Rattle.gp_tool.specs.declared.workload.Workload.{Workload}
+
+-- ten lines a round
+ten_lines : (n : ℕ) (g : ChaCha) → length (flat_map lines_of (rounds n g)) ≡ 10 * n
+unfolding rounds
+ten_lines zero g = refl
+ten_lines (suc n) g = (let rest = ten_lines n (after_round g) in omega (arith, rest))
+
+pub workload_long : (seed count : ℕ) → length (workload seed count) ≡ 10 * count
+workload_long seed count = ten_lines count (generator seed)
+
+-- texts behind texts
+counts_all : (some more : List (List ℕ)) (tally : Tally) → with_texts more (with_texts some tally) ≡ with_texts (some ++ more) tally
+counts_all [] more tally = refl
+counts_all (text ∷ some) more tally = counts_all some more (with_text text tally)
+
+module _ {F : Type 0} (device : Flash F) (work : Workload) (first : State) where
+  pub milling_first : (end : the_end.CardEnd F) (player : HostState) (tally : Tally) (left : List (List ℕ)) → CardRepresents device end.card first → RepresentsHost player first_host
+      → end.done ≡ 0 → tally ≡ record { success = 0; other = 0 } → left ≡ workload work.seed work.rounds → Milling device work first end player tally left
+  milling_first end player tally left stands host none zero_tally all = record {
+    given = [];
+    effect = nothing;
+    place = start Play first;
+    all = all;
+    plays = (refl, refl);
+    stands = stands;
+    host = host;
+    done = omega (arith, none);
+    tally_is = zero_tally;
+  }
+
+  -- one line more
+  pub milling_more : (old new : the_end.CardEnd F) (player player' : HostState) (tally tally' : Tally) (line : List ℕ) (left left' : List (List ℕ)) → left ≡ line ∷ left'
+      → (milling : Milling device work first old player tally left) → MillsLine device line old new player player' tally tally' milling.place
+      → Milling device work first new player' tally' left'
+  milling_more old new player player' tally tally' line left left' is milling mills =
+      let run = mills.runs in
+      let stands = run.stands in
+      record {
+        given = milling.given ++ line ∷ [];
+        effect = joined milling.effect run.effect;
+        place = run.next;
+        all = append_assoc milling.given (line ∷ []) left' ∙ ap (λ l. milling.given ++ l) (sym is) ∙ milling.all;
+        plays = runs_more Play 1 (1 + length milling.given) milling.given line (start Play first) milling.place run.next milling.effect run.effect refl milling.plays run.plays;
+        stands = stands.0;
+        host = stands.1;
+        done = count_more old.done new.done milling.effect.outcomes run.effect.outcomes milling.done run.done;
+        tally_is = mills.tally_is ∙ ap (with_texts run.effect.texts) milling.tally_is ∙ counts_all milling.effect.texts run.effect.texts (record { success = 0; other = 0 });
+      }
+
+  -- none is left
+  pub milled : (end : the_end.CardEnd F) (player : HostState) (tally : Tally) (left : List (List ℕ)) → left ≡ [] → Milling device work first end player tally left → Milled device work first end tally
+  milled end player tally left none milling =
+      let all : milling.given ≡ workload work.seed work.rounds = sym (append-nil milling.given) ∙ ap (λ l. milling.given ++ l) (sym none) ∙ milling.all in
+      record {
+        effect = milling.effect;
+        last = milling.place;
+        plays = subst (λ (lines : List (List ℕ)). RunsLines Play 1 lines (start Play first) milling.effect milling.place) all milling.plays;
+        stands = milling.stands;
+        done = milling.done;
+        tally_is = milling.tally_is;
+      }
