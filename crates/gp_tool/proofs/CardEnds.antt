@@ -1,6 +1,6 @@
 -- A card at the end of a link, one input further.
-use Rattle.std.proofs.Common.{◌≡◌, ◌≤◌, ℕ, Bool, true, false, List, [], ◌∷◌, ◌++◌, length, refl, sym, ap, subst, ◌∙◌}
-use Rattle.card_core.specs.Card.{CardOver, CardRepresents, LeavesEither}
+use Rattle.std.proofs.Common.{◌≡◌, ◌≤◌, ℕ, Bool, true, false, List, [], ◌∷◌, ◌++◌, length, refl, sym, ap, subst}
+use Rattle.card_core.specs.Card.{CardRepresents, LeavesEither}
 use Rattle.flash_core.specs.declared.flash.Flash.{Ghosts as Flash}
 use Rattle.flash_core.specs.declared.page.Page.{Page}
 use Rattle.policy_rules.specs.Run.{Command, Input, Reset, Run}
@@ -10,7 +10,7 @@ use Rattle.gp_tool.proofs.Counting.{count_further, few_none}
 use Rattle.gp_tool.proofs.Moments.{among_first, among_more, joins, left_now, nothing_done, one_of_two, run_ends}
 use Rattle.gp_tool.specs.CardEnd.{Comes, Counting, HasCome, HasStopped}
 use Rattle.gp_tool.specs.Counted.{CountsOn}
-use Rattle.gp_tool.specs.Device.{LeavesOneOf, LeftOneOf, registries}
+use Rattle.gp_tool.specs.Device.{LeavesOneOf, registries}
 
 -- a run that goes on
 run_command : (first : State) (inputs : List Input) (outcomes : List Outcome) (last : State) (bytes : List ℕ) (outcome : Outcome)

@@ -1,14 +1,11 @@
 -- The sequence counter of the Issuer Security Domain as text.
-use Rattle.std.proofs.Common.{◌≡◌, ℕ, List, None, Option, Some, refl, sym, ap, subst, ◌∙◌, inl, inr}
+use Rattle.std.proofs.Common.{◌≡◌, List, None, Option, Some, refl}
 use Rattle.std.specs.Prelude.{MatchOption}
-use Rattle.card_check.specs.IsCard.{HasPages}
-use Rattle.card_core.specs.Kept.{AreCards}
 use Rattle.card_types.specs.Layout.{HasIssuer}
 use Rattle.card_types.specs.Represents.{domain_aid}
 use Rattle.card_types.specs.Slots.{held}
 use Rattle.card_types.specs.declared.factory.TheConstants.{ISSUER}
 use Rattle.card_types.specs.declared.tables.Entry.{Entry}
-use Rattle.card_types.specs.declared.tables.Tables.{Tables}
 use Rattle.card_types.specs.declared.tables.TheConstants.{ISSUER_SLOT}
 
 -- its entry

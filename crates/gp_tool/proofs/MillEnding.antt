@@ -1,7 +1,7 @@
 -- How the verb `mill` ends.
-use Rattle.std.proofs.Common.{◌≡◌, ◌≢◌, ◌≤◌, ◌++◌, ℕ, List, length, take, refl, sym, ap, subst, ◌∙◌, inl, inr, arith}
+use Rattle.std.proofs.Common.{◌≡◌, ◌≢◌, ◌++◌, ℕ, List, length, take, refl, sym, ap, subst, ◌∙◌, inl, inr}
 use Rattle.std.proofs.Math.Seq.{take-length}
-use Rattle.card_core.specs.Card.{CardOver, CardRepresents}
+use Rattle.card_core.specs.Card.{CardRepresents}
 use Rattle.card_core.specs.PowerOn.{PowerFails}
 use Rattle.card_core.specs.declared.power.PowerCause.{PowerCause}
 use Rattle.card_core.specs.declared.power.PowerCause.TheVariants.{Memory, FlashFailed, NotACard}
@@ -10,18 +10,15 @@ use Rattle.card_types.specs.Registry.{Registry}
 use Rattle.faults.specs.Faults.{Rose}
 use Rattle.flash_core.specs.declared.flash.Flash.{Ghosts as Flash}
 use Rattle.io_edge.specs.Streams.{SinkState}
-use Rattle.io_edge.specs.declared.sink.Sink.{Ghosts as Sink}
 use Rattle.policy_rules.specs.State.{powered_on}
 use Rattle.rec_store.proofs.OneRegistry.{one_registry}
 use Rattle.rec_store.specs.Reopens.{Reopens, load_page, store_page}
-use Rattle.gp_tool.proofs.Powered.{cause_since, rose_since}
 use Rattle.gp_tool.specs.Device.{refusal_status}
 use Rattle.gp_tool.specs.Ends.{EndCause, Faults, exit_status}
 use Rattle.gp_tool.specs.Flush.{AfterFlush}
 use Rattle.gp_tool.specs.Formatted.{IsFactoryCard}
-use Rattle.gp_tool.specs.Mill.{IsCounterText, IsNotMilled, MillEnds, PlaysAll, summary, tally_of}
+use Rattle.gp_tool.specs.Mill.{IsCounterText, IsNotMilled, MillEnds, PlaysAll, summary}
 use Rattle.gp_tool.specs.Milling.{Milled}
-use Rattle.gp_tool.specs.Verbs.{MillsCard, beside}
 use Rattle.gp_tool.specs.declared.card_end.CardEnd as the_end
 use Rattle.gp_tool.specs.declared.ending.Ending.{Ending}
 use Rattle.gp_tool.specs.declared.ending.Ending.TheVariants.{Finished, Differs, BadLine, FlashFault, ReadFault, WriteFault, InputTooLong}

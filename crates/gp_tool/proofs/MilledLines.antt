@@ -13,8 +13,8 @@ use Rattle.script_tool.specs.Round.{lines_of}
 use Rattle.script_tool.specs.declared.host_state.HostState.{HostState}
 use Rattle.gp_tool.proofs.Counting.{count_more}
 use Rattle.gp_tool.proofs.RunsMore.{runs_more}
-use Rattle.gp_tool.specs.Effects.{Effect, joined, nothing}
-use Rattle.gp_tool.specs.Mill.{tally_of, with_text, with_texts}
+use Rattle.gp_tool.specs.Effects.{joined, nothing}
+use Rattle.gp_tool.specs.Mill.{with_text, with_texts}
 use Rattle.gp_tool.specs.Milling.{Milled, Milling, MillsLine}
 use Rattle.gp_tool.specs.RunsLines.{RunsLines, start}
 use Rattle.gp_tool.specs.declared.card_end.CardEnd as the_end

@@ -1,9 +1,7 @@
 -- What comes of one line in `play`.
-use Rattle.std.proofs.Common.{◌≡◌, ◌⊎◌, ℕ, Bool, true, false, ◌||◌, List, [], ◌∷◌, ◌++◌, refl, sym, ap, subst, ◌∙◌, inl, inr}
-use Rattle.std.specs.Prelude.{◌↔◌, Result, Ok, Err}
-use Rattle.card_core.specs.Card.{CardRepresents}
+use Rattle.std.proofs.Common.{◌≡◌, ◌⊎◌, ℕ, Bool, true, false, ◌||◌, List, [], ◌∷◌, ◌++◌, refl, sym, ap, ◌∙◌, inl, inr}
+use Rattle.std.specs.Prelude.{◌↔◌, Result, Err}
 use Rattle.flash_core.specs.declared.flash.Flash.{Ghosts as Flash}
-use Rattle.policy_rules.specs.State.{State}
 use Rattle.script_tool.specs.Host.{Host}
 use Rattle.script_tool.specs.Kept.{RepresentsHost}
 use Rattle.script_tool.specs.Kind.{kind_of}
@@ -15,12 +13,12 @@ use Rattle.script_tool.specs.declared.host_state.HostState.{HostState}
 use Rattle.script_tool.specs.declared.line.ScriptLine.{ScriptLine}
 use Rattle.script_tool.specs.declared.played.Played as the_played
 use Rattle.script_tool.specs.declared.played.StepStop.{StepStop}
-use Rattle.script_tool.specs.declared.played.StepStop.TheVariants.{Form, LinkFailed}
+use Rattle.script_tool.specs.declared.played.StepStop.TheVariants.{Form}
 use Rattle.gp_tool.specs.CardEnd.{Counting}
 use Rattle.gp_tool.specs.Effects.{Place}
 use Rattle.gp_tool.specs.Kinds.{is_difference_kind, prints_kind}
-use Rattle.gp_tool.specs.Script.{BreaksScript, IsScript, PlaysScript, is_difference, texts_of}
-use Rattle.gp_tool.specs.Serve.{BreaksLine, RunsLine, Standing, StandsAt}
+use Rattle.gp_tool.specs.Script.{BreaksScript, PlaysScript, is_difference, texts_of}
+use Rattle.gp_tool.specs.Serve.{BreaksLine, RunsLine, Standing}
 use Rattle.gp_tool.specs.StepsCard.{StepsOver, StopsCard}
 
 -- a difference is of the kind of one

@@ -12,7 +12,7 @@ use Rattle.script_tool.proofs.OneTalk.{one_talk}
 use Rattle.script_tool.specs.Host.{Host}
 use Rattle.script_tool.specs.Link.{LeadOn, given_in}
 use Rattle.script_tool.specs.Play.{playing, remembering}
-use Rattle.script_tool.specs.Printed.{Printed, status_printed}
+use Rattle.script_tool.specs.Printed.{status_printed}
 use Rattle.script_tool.specs.Quiet.{is_quiet}
 use Rattle.script_tool.specs.Talk.{Answered, Ends, Event, Goes, Reset}
 use Rattle.script_tool.specs.declared.line.ScriptLine.{ScriptLine}

@@ -1,8 +1,6 @@
 -- What a host plays over a link is what comes of a card at its end.
-use Rattle.std.proofs.Common.{◌≡◌, ℕ, Bool, true, false, List, [], ◌∷◌, ◌++◌, length, refl, sym, ap, subst, ◌∙◌, arith, length-append}
+use Rattle.std.proofs.Common.{◌≡◌, ℕ, true, false, List, [], ◌∷◌, ◌++◌, length, refl, sym, ap, subst, arith, length-append}
 use Rattle.std.specs.Prelude.{map, Result, Ok, Err, OnOk}
-use Rattle.std.proofs.lemmas.List.{append_cancel_left}
-use Rattle.card_core.specs.Card.{CardRepresents}
 use Rattle.flash_core.specs.declared.flash.Flash.{Ghosts as Flash}
 use Rattle.policy_rules.specs.Run.{Command, Input, Reset, Run}
 use Rattle.policy_rules.specs.State.{State}
@@ -11,7 +9,7 @@ use Rattle.script_tool.specs.Link.{given_in}
 use Rattle.script_tool.specs.Play.{playing}
 use Rattle.script_tool.specs.Played.{IsBroken, Leads}
 use Rattle.script_tool.specs.Step.{StepPlays}
-use Rattle.script_tool.specs.Talk.{Event, Talk}
+use Rattle.script_tool.specs.Talk.{Talk}
 use Rattle.script_tool.specs.declared.host_state.HostState.{HostState}
 use Rattle.script_tool.specs.declared.line.ScriptLine.{ScriptLine}
 use Rattle.script_tool.specs.declared.link.CardLink.{Ghosts as CardLink}

@@ -1,5 +1,5 @@
-use Rattle.std.proofs.Common.{[], ◌∷◌, ◌++◌, Err, false, refl, sym, ap, ◌∙◌}
-use Rattle.gp_tool.proofs.PlayedLines.{runs_printing, runs_silently, says_some}
+use Rattle.std.proofs.Common.{Err, false, refl, sym, ap, ◌∙◌}
+use Rattle.gp_tool.proofs.PlayedLines.{runs_printing, runs_silently}
 use Rattle.gp_tool.specs.Kinds.{is_difference_kind}
 use Rattle.gp_tool.specs.Mill.{with_text, with_texts}
 use Rattle.gp_tool.specs.Standing.{standing}

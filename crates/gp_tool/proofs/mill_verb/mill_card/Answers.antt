@@ -1,5 +1,4 @@
-use Rattle.std.proofs.Common.{refl, ap, ◌∙◌}
-use Rattle.card_core.specs.Card.{CardRepresents}
+use Rattle.std.proofs.Common.{refl}
 use Rattle.policy_rules.specs.State.{powered_on}
 use Rattle.gp_tool.proofs.MillEnding.{mill_failed, mill_refused, mill_whole, plays_all}
 use Rattle.gp_tool.proofs.RepresentsSoundly.{says_seen}

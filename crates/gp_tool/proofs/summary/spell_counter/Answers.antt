@@ -1,5 +1,4 @@
-use Rattle.std.proofs.Common.{◌++◌, ℕ, List, refl, sym, ap, subst, ◌∙◌, inl, inr, arith}
-use Rattle.std.specs.Prelude.{codes}
+use Rattle.std.proofs.Common.{ℕ, List, sym, ap, subst, ◌∙◌, inl, inr, arith}
 use Rattle.hex.specs.Hex.{encode_lower}
 use Rattle.card_types.specs.Represents.{domain_aid}
 use Rattle.policy_rules.proofs.DataFound.{counter_data}

@@ -1,7 +1,6 @@
 use Rattle.std.proofs.Common.{refl}
 use Rattle.gp_tool.proofs.CardEnds.{come_answered, come_stopped, has_come}
 use Rattle.gp_tool.proofs.Counting.{few_more}
-use Rattle.gp_tool.specs.CardEnd.{Counting}
 use Rattle.gp_tool.proofs.card_end.CardEndCardLink.send.Goals as goal
 
 pub returns-in-Ok-clause-answered : goal.returns-in-Ok-clause-answered
