@@ -114,13 +114,14 @@ abbrev pub EndsShow : {K F : Type 0} → Sink K → Flash F → ℕ → ℕ → 
 EndsShow sink device status count old new =
     (count ≡ 0) × ((IsNotPowered device status count old.flash new.flash × (new.sink ≡ old.sink)) ⊎ ShowsCard sink device status old new)
 
--- The factory card was powered on, and a workload was played on it, up to an ending.
+-- The device was made the factory card, and a workload was played on it, up to an ending. At that of a device that failed, in
+-- making the card too, nothing is written.
 pub record MillsCard {K F : Type 0} (work : Workload) (sink : Sink K) (device : Flash F) (status count : ℕ) (old new : Beside K F) : Type 0 where
   pub ending : Ending
   pub ended : HasEnded sink device ending status unread unread old new
   pub ends : MillEnds device sink.tells work ending new.flash count (sink.state old.sink) (sink.state new.sink)
 
--- It was, or it was not powered on, and nothing is written.
+-- It was, or the card was not powered on, and the sink is what it was.
 abbrev pub EndsMill : {K F : Type 0} → Workload → Sink K → Flash F → ℕ → ℕ → Beside K F → Beside K F → Type 0
 EndsMill work sink device status count old new =
     (IsNotMilled device status count old.flash new.flash × (new.sink ≡ old.sink)) ⊎ MillsCard work sink device status count old new
