@@ -1,11 +1,13 @@
 -- Where the code stands between two lines.
 use Rattle.std.specs.Prelude.{ℕ, Bool, true, false, List, None, Some}
+use Rattle.flash_core.specs.declared.flash.Flash.{Ghosts as Flash}
 use Rattle.script_tool.specs.Kept.{RepresentsHost}
 use Rattle.script_tool.specs.declared.host_state.HostState.{HostState}
 use Rattle.gp_tool.specs.Replay.{Kept}
-use Rattle.gp_tool.specs.RunsLines.{Memory}
-use Rattle.gp_tool.specs.Serve.{IsHeld, Standing}
+use Rattle.gp_tool.specs.RunsLines.{FailsLine, HasForm, Memory, PlaysLine}
+use Rattle.gp_tool.specs.Serve.{IsHeld, ServesLine, Standing}
 use Rattle.gp_tool.specs.declared.card_end.CardEnd.{CardEnd}
+use Rattle.gp_tool.specs.declared.line.LineEnd.{LineEnd}
 use Rattle.gp_tool.specs.declared.workspace.Workspace.{Workspace}
 use Rattle.gp_tool.specs.declared.verb.Verb.{Verb}
 use Rattle.gp_tool.specs.declared.verb.Verb.TheVariants.{Run, Why, Replay, Play}
@@ -44,3 +46,8 @@ standing end held differs = record { card = end.card; held = held; done = end.do
 -- the same by the workspace
 abbrev pub standing_in : {F : Type 0} (verb : Verb) → CardEnd F → Workspace → Bool → Standing F (Held verb)
 standing_in verb end space differs = standing end (held_in verb space) differs
+
+-- what comes of the line of this number, as the verb has it
+abbrev pub ServesVerb : {F : Type 0} (verb : Verb) → ℕ → List ℕ → Flash F → Type 0 → Standing F (Held verb) → Standing F (Held verb) → List ℕ → List ℕ → LineEnd → Type 0
+ServesVerb verb number line device writes old new text text' end =
+    ServesLine (Means verb) (PlaysLine verb number line) (HasForm verb line) (FailsLine verb line) device writes old new text text' end

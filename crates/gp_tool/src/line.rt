@@ -2,9 +2,8 @@
 
 ghost use Rattle.std.specs.Prelude.{◌≡◌, ◌≢◌, ◌≤◌, ◌+◌, true, length};
 ghost use Rattle.gp_tool.specs.AtMost.{IsAtMost};
-ghost use Rattle.gp_tool.specs.RunsLines.{FailsLine, HasForm, PlaysLine};
-ghost use Rattle.gp_tool.specs.Serve.{ServesLine, ServeCause};
-ghost use Rattle.gp_tool.specs.Standing.{Means, standing_in};
+ghost use Rattle.gp_tool.specs.Serve.{ServeCause};
+ghost use Rattle.gp_tool.specs.Standing.{ServesVerb, standing_in};
 ghost use Rattle.gp_tool.specs.declared.line.LineEnd.TheVariants.{FlashFault};
 
 use crate::answer::answer_line;
@@ -41,7 +40,7 @@ pub fn serve_line<K: Sink, F: Flash>(
 ) -> LineEnd
     requires line { length line.now ≤ LINE_LIMIT }
     requires live { end.old.card.live ≡ true }
-    ensures served { ServesLine (Means verb) (PlaysLine verb number line.now) (HasForm verb line.now) (FailsLine verb line.now) F.Flash K.tells
+    ensures served { ServesVerb verb number line.now F.Flash K.tells
         (standing_in verb end.old space.old differs.old) (standing_in verb end.new space.new differs.new)
         (K.state sink.old).written (K.state sink.new).written result }
     ensures live { result ≢ FlashFault → end.new.card.live ≡ true }
@@ -54,6 +53,6 @@ pub fn serve_line<K: Sink, F: Flash>(
         Verb::Run => answer_line(false, line, end, space, sink),
         Verb::Why => answer_line(true, line, end, space, sink),
         Verb::Replay => replay_line(number, line, end, differs, space, sink),
-        Verb::Play => play_line(number, line, end, differs, space, sink),
+        Verb::Play => play_line(line, end, differs, space, sink),
     }
 }

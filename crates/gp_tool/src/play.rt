@@ -57,9 +57,8 @@ fn write_printed<K: Sink>(printed: &Text, sink: &mut K) -> Result<(), WriteFaile
     sink.write_all(&printed_line(printed))
 }
 
-/// Plays the line of this number over the card, and writes what it prints.
+/// Plays a line over the card, and writes what it prints.
 pub fn play_line<K: Sink, F: Flash>(
-    number: u32,
     line: &[u8],
     end: &mut CardEnd<F>,
     differs: &mut bool,
@@ -75,7 +74,10 @@ pub fn play_line<K: Sink, F: Flash>(
     ensures later { F.faults end.old.card.flash ≤ F.faults end.new.card.flash }
     ensures cause { ServeCause (K.state sink.old).faults (K.state sink.new).faults (F.faults end.old.card.flash) (F.faults end.new.card.flash) result }
 {
-    let line = Line { number, text: line };
+    let line = Line {
+        number: 1,
+        text: line,
+    };
     match step_card(&line, end, &mut space.player, &mut space.printed) {
         Ok(played) => {
             note_difference(differs, played);

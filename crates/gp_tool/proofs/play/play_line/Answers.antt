@@ -8,7 +8,7 @@ use Rattle.gp_tool.proofs.play.play_line.Goals as goal
 pub returns-in-Ok-write_printed-clause-served : goal.returns-in-Ok-write_printed-clause-served
 returns-in-Ok-write_printed-clause-served g c place stands =
     let step = c.step_card.ensures in
-    let said = says_some c.step_card.result c.args.number c.args.line.now step.form step.said (λ is. cc (c.in-Ok.is, is)) in
+    let said = says_some c.step_card.result 1 c.args.line.now step.form step.said (λ is. cc (c.in-Ok.is, is)) in
     let over = c.in-Ok.ensures.played place.memory place.state said.0 stands.1 stands.0 said.1 in
     let run = runs_printing g.F.Flash c.args.line.now _ _ (counting c.args.end.now) (counting c.step_card.new.end) refl refl refl refl place said.0 said.1
     _ _ c.note_difference.ensures over (sym c.has_printed.ensures ∙ c.if-has_printed.true) in
@@ -17,7 +17,7 @@ returns-in-Ok-write_printed-clause-served g c place stands =
 pub returns-in-Err-clause-served : goal.returns-in-Err-clause-served
 returns-in-Err-clause-served g c place stands =
     let step = c.step_card.ensures in
-    let said = says_some c.step_card.result c.args.number c.args.line.now step.form step.said (λ is. cc (c.in-Ok.is, is)) in
+    let said = says_some c.step_card.result 1 c.args.line.now step.form step.said (λ is. cc (c.in-Ok.is, is)) in
     let over = c.in-Ok.ensures.played place.memory place.state said.0 stands.1 stands.0 said.1 in
     let run = runs_printing g.F.Flash c.args.line.now _ _ (counting c.args.end.now) (counting c.step_card.new.end) refl refl refl refl place said.0 said.1
     _ _ c.note_difference.ensures over (sym c.has_printed.ensures ∙ c.if-has_printed.true) in
@@ -26,7 +26,7 @@ returns-in-Err-clause-served g c place stands =
 pub returns-else-has_printed-clause-served : goal.returns-else-has_printed-clause-served
 returns-else-has_printed-clause-served g c place stands =
     let step = c.step_card.ensures in
-    let said = says_some c.step_card.result c.args.number c.args.line.now step.form step.said (λ is. cc (c.in-Ok.is, is)) in
+    let said = says_some c.step_card.result 1 c.args.line.now step.form step.said (λ is. cc (c.in-Ok.is, is)) in
     let over = c.in-Ok.ensures.played place.memory place.state said.0 stands.1 stands.0 said.1 in
     then_nothing g.K.Sink.tells _ _
     (runs_silently g.F.Flash c.args.line.now _ _ (counting c.args.end.now) (counting c.step_card.new.end) refl refl refl refl place said.0 said.1
@@ -51,7 +51,7 @@ returns-in-Err-LinkFailed-clause-served g c = (
   λ told. refl,
   λ place stands.
       (let step = c.step_card.ensures in
-      let said = says_some c.step_card.result c.args.number c.args.line.now step.form step.said (λ is. cc (c.in-Err-LinkFailed.is, c.in-Err-LinkFailed.field-0-is, is)) in
+      let said = says_some c.step_card.result 1 c.args.line.now step.form step.said (λ is. cc (c.in-Err-LinkFailed.is, c.in-Err-LinkFailed.field-0-is, is)) in
       line_breaks g.F.Flash c.args.line.now _ _ (counting c.args.end.now) (counting c.step_card.new.end) refl refl refl refl place said.0 said.1
       (rw c.in-Err-LinkFailed.field-0-is at (c.in-Err-LinkFailed.ensures.played place.memory place.state said.0 stands.1 stands.0 said.1))),
 )
