@@ -97,16 +97,13 @@ SessionEnds state bytes left = Of bytes (λ command. left ≡ without_session (c
 -- what a refusal by a general rule leaves: nothing changes up to G4, at G5 any offer is dropped, and from G6 on a session ends,
 -- unless there is none
 abbrev pub GeneralRefusalLeaves : State → List ℕ → RuleG → Volatile → Type 0
-GeneralRefusalLeaves state bytes G1 left = left ≡ state.volatile
-GeneralRefusalLeaves state bytes G2 left = left ≡ state.volatile
-GeneralRefusalLeaves state bytes G3 left = left ≡ state.volatile
-GeneralRefusalLeaves state bytes G4 left = left ≡ state.volatile
 GeneralRefusalLeaves state bytes G5 left = Of bytes (λ command. left ≡ without_place state.volatile (channel_of command.class) false)
 GeneralRefusalLeaves state bytes G6 left = Of bytes (λ command.
     (IsPlainManagement command × (left ≡ without_session (class_passed state.volatile command) (channel_of command.class)))
     ⊎ ((IsPlainManagement command → ⊥) × (left ≡ class_passed state.volatile command)))
 GeneralRefusalLeaves state bytes G7 left = SessionEnds state bytes left
 GeneralRefusalLeaves state bytes G8 left = SessionEnds state bytes left
+GeneralRefusalLeaves state bytes rule left = left ≡ state.volatile
 
 -- a command that has passed: the card before it and the card as its own rules judge it, the channel, the command in plain, and
 -- the session that protects its reply, with its message, where it is protected

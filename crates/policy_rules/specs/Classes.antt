@@ -36,9 +36,8 @@ IsKnown byte ins = MatchOption (class_of byte) ⊥ (λ class. Contains (instruct
 
 -- with secure messaging
 abbrev pub is_secure : Class → Bool
-is_secure Interindustry = false
-is_secure Plain = false
 is_secure Secure = true
+is_secure class = false
 
 -- DELETE, INSTALL, LOAD, PUT KEY, STORE DATA, SET STATUS and GET STATUS: the instructions of card content management
 abbrev pub management : List ℕ

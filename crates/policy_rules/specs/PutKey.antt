@@ -85,9 +85,8 @@ pub record IsKeySent (dek : List ℕ) (sent : SentKey) (key : List ℕ) : Type 0
 
 abbrev pub AreKeysSent : List ℕ → List SentKey → List (List ℕ) → Type 0
 AreKeysSent dek [] [] = Unit {0}
-AreKeysSent dek [] (key ∷ keys) = ⊥
-AreKeysSent dek (one ∷ sent) [] = ⊥
 AreKeysSent dek (one ∷ sent) (key ∷ keys) = IsKeySent dek one key × AreKeysSent dek sent keys
+AreKeysSent dek sent keys = ⊥
 
 -- the check value of a key: the first three bytes of the cipher of sixteen bytes 01 (GlobalPlatform Card Specification, B.6)
 abbrev pub check_value : List ℕ → List ℕ

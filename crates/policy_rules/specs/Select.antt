@@ -30,15 +30,11 @@ SelectField body = length body ≤ 16
 
 abbrev pub is_installed : Life → Bool
 is_installed life.Installed = true
-is_installed life.Selectable = false
-is_installed life.Personalized = false
+is_installed other = false
 
 abbrev pub is_card_locked : CardLife → Bool
-is_card_locked card.OpReady = false
-is_card_locked card.Initialized = false
-is_card_locked card.Secured = false
 is_card_locked card.Locked = true
-is_card_locked card.Terminated = false
+is_card_locked other = false
 
 -- An entry with this AID and life cycle state fits: for an empty field the Issuer Security Domain alone, and otherwise an
 -- entry whose AID begins with the partial AID, which is neither locked nor merely installed. On a locked card the Issuer

@@ -32,9 +32,8 @@ pub record IsWellChannel (registry : Registry) (channel : Channel) : Type 0 wher
   pub secure_channel : FitsSecureChannel registry channel.selected channel.secure_channel
 
 abbrev pub IsSecured : SecureChannel → Type 0
-IsSecured Nothing = ⊥
-IsSecured (Offered offer) = ⊥
 IsSecured (Secured session) = Unit {0}
+IsSecured secure_channel = ⊥
 
 -- how many bytes were announced: none before the first block
 abbrev pub announced_bytes : Option ℕ → ℕ

@@ -63,14 +63,12 @@ selected_on volatile number = selected_of (channel_at volatile number)
 
 -- the offer and the session that a channel has
 abbrev pub offer_in : SecureChannel → Option Offer
-offer_in Nothing = None
 offer_in (Offered offer) = Some offer
-offer_in (Secured session) = None
+offer_in secure_channel = None
 
 abbrev pub session_in : SecureChannel → Option Session
-session_in Nothing = None
-session_in (Offered offer) = None
 session_in (Secured session) = Some session
+session_in secure_channel = None
 
 abbrev pub secure_channel_of : Option Channel → SecureChannel
 secure_channel_of None = Nothing
@@ -97,9 +95,8 @@ with_secure_channel volatile number secure_channel = with_channel volatile numbe
 
 -- an offer is dropped, and anything else stays
 abbrev pub without_offer : SecureChannel → SecureChannel
-without_offer Nothing = Nothing
 without_offer (Offered offer) = Nothing
-without_offer (Secured session) = Secured session
+without_offer secure_channel = secure_channel
 
 -- the channel's offer is dropped, if it has one
 abbrev pub with_offer_dropped : Volatile → ℕ → Volatile
