@@ -1,15 +1,14 @@
 //! Commands in a session.
 
-ghost use Rattle.std.specs.Prelude.{◌≡◌, ◌≤◌, ℕ, List, None, Some, true, length, OnOk};
+ghost use Rattle.std.specs.Prelude.{◌≡◌, ◌≤◌, None, Some, true, length, OnOk};
 ghost use Rattle.apdu_core.specs.Apdu.{apdu_of};
 ghost use Rattle.faults.specs.Faults.{HasCause};
 ghost use Rattle.scp03_card.specs.Kept.{RepresentsSession};
-ghost use Rattle.scp03_card.specs.Session as model;
+ghost use Rattle.scp03_card.specs.Session.{Session};
 ghost use Rattle.script_tool.specs.Host.{Host, own_session, with_own};
-ghost use Rattle.script_tool.specs.InSession.{awaiting, in_session, protecting, spoiled};
+ghost use Rattle.script_tool.specs.InSession.{Rest, awaiting, in_session, protecting, spoiled};
 ghost use Rattle.script_tool.specs.Kept.{RepresentsHost};
 ghost use Rattle.script_tool.specs.Played.{Continues};
-ghost use Rattle.script_tool.specs.Talk.{Talk};
 
 use crate::aes_session::AesSession;
 use crate::host_state::HostState;
@@ -39,7 +38,7 @@ fn exchange<L: CardLink>(
     session: AesSession,
 ) -> Result<Printout, LinkFailed>
     requires up { L.up link.old ≡ true }
-    ensures goes_on { (whole : Host) (sent : model.Session) (rest : Host → List ℕ → ℕ → Talk)
+    ensures goes_on { (whole : Host) (sent : Session) (rest : Rest)
         → RepresentsHost host.old (with_own None whole) → RepresentsSession session sent
         → Continues L.CardLink link.old link.new (awaiting whole sent wire.old.sent.items rest) rest host.new result }
     ensures up { OnOk result (L.up link.new ≡ true) }
@@ -67,7 +66,7 @@ pub fn protect<L: CardLink>(
     command: &Command<'_>,
 ) -> Result<Printout, LinkFailed>
     requires up { L.up link.old ≡ true }
-    ensures goes_on { (whole : Host) (kept : model.Session) (rest : Host → List ℕ → ℕ → Talk) → own_session whole ≡ Some kept
+    ensures goes_on { (whole : Host) (kept : Session) (rest : Rest) → own_session whole ≡ Some kept
         → RepresentsHost host.old (with_own None whole) → RepresentsSession session kept
         → Continues L.CardLink link.old link.new (protecting whole kept bad (apdu_of command.now) rest) rest host.new result }
     ensures up { OnOk result (L.up link.new ≡ true) }
@@ -95,7 +94,7 @@ pub fn send<L: CardLink>(
     command: &Command<'_>,
 ) -> Result<Printout, LinkFailed>
     requires up { L.up link.old ≡ true }
-    ensures goes_on { (whole : Host) (rest : Host → List ℕ → ℕ → Talk) → RepresentsHost host.old whole
+    ensures goes_on { (whole : Host) (rest : Rest) → RepresentsHost host.old whole
         → Continues L.CardLink link.old link.new (in_session whole (λ kept. protecting whole kept bad (apdu_of command.now) rest)) rest host.new result }
     ensures up { OnOk result (L.up link.new ≡ true) }
     ensures cause { HasCause (L.faults link.old) (L.faults link.new) result }
