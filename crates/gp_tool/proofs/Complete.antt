@@ -8,8 +8,9 @@ use Rattle.io_edge.specs.declared.line.TheConstants.{INPUT_LIMIT, LINE_LIMIT}
 use Rattle.policy_rules.specs.State.{State}
 use Rattle.policy_rules.specs.Step.{Outcome}
 use Rattle.gp_tool.proofs.ComeFirst.{lines_come, shrinks}
+use Rattle.gp_tool.specs.Around.{Around}
 use Rattle.gp_tool.specs.Effects.{Effect, Place}
-use Rattle.gp_tool.specs.Ends.{Outside, Ends, EndCause, Faults, IsBad, exit_status, room_ahead}
+use Rattle.gp_tool.specs.Ends.{Outside, Ends, EndCause, IsBad, exit_status, room_ahead}
 use Rattle.gp_tool.specs.Going.{Reached}
 use Rattle.gp_tool.specs.RunsLines.{AreServable, HasForm, Memory, RunsLines, start}
 use Rattle.gp_tool.specs.Verbs.{IsDone}
@@ -81,10 +82,10 @@ done_differs verb.Why lines at last effect runs differs = (let never = why_never
 done_differs verb.Replay lines at last effect runs differs = inr refl
 done_differs verb.Play lines at last effect runs differs = inr refl
 
-module _ (v : Verb) (reads writes : Type 0) (Rests : List Outcome → State → Type 0) (Fails : List Outcome → State → Outcome → Type 0) (first : State) (before later : Outside) (old new : Faults) where
+module _ (v : Verb) (reads writes : Type 0) (Rests : List Outcome → State → Type 0) (Fails : List Outcome → State → Outcome → Type 0) (first : State) (before later : Outside) (old new : Around ℕ ℕ ℕ) where
   pub is_done : (ending : Ending) → EndCause ending old new → Ends v reads writes Rests Fails first ending before later → reads
       → AreServable v 1 (lines before.source.left) (start v first) → length before.source.left < INPUT_LIMIT
-      → (Rose old.source new.source → ⊥) → (Rose old.sink new.sink → ⊥) → (Rose old.device new.device → ⊥) → IsDone v (exit_status ending)
+      → (Rose old.source new.source → ⊥) → (Rose old.sink new.sink → ⊥) → (Rose old.flash new.flash → ⊥) → IsDone v (exit_status ending)
   is_done Finished cause ends told good short no_read no_write no_flash = done_finished v
   is_done Differs cause ends told good short no_read no_write no_flash =
       let course = ends.course in

@@ -13,8 +13,9 @@ use Rattle.io_edge.specs.Streams.{SinkState}
 use Rattle.policy_rules.specs.State.{powered_on}
 use Rattle.rec_store.proofs.OneRegistry.{one_registry}
 use Rattle.rec_store.specs.Reopens.{Reopens, load_page, store_page}
+use Rattle.gp_tool.specs.Around.{Around}
 use Rattle.gp_tool.specs.Device.{refusal_status}
-use Rattle.gp_tool.specs.Ends.{EndCause, Faults, exit_status}
+use Rattle.gp_tool.specs.Ends.{EndCause, exit_status}
 use Rattle.gp_tool.specs.Flush.{AfterFlush}
 use Rattle.gp_tool.specs.Formatted.{IsFactoryCard}
 use Rattle.gp_tool.specs.Mill.{IsCounterText, IsNotMilled, MillEnds, PlaysAll, summary}
@@ -56,14 +57,16 @@ module _ {F : Type 0} (device : Flash F) (work : Workload) where
         subst Ended (sym refused.0) (
           text,
           plays,
-          (λ told. (length text, same told ∙ wrote told ∙ ap (λ t. old.written ++ t) (sym (take-length text)))),
-          inr (rw none at refused.1, λ told. same told ∙ wrote told),
+          (
+            (λ told. (length text, same told ∙ wrote told ∙ ap (λ t. old.written ++ t) (sym (take-length text)))),
+            inr (rw none at refused.1, λ told. same told ∙ wrote told),
+          ),
         )
 
     -- a part of it
     pub mill_refused : (text : List ℕ) → PlaysAll device work new count text → (writes → (n : ℕ) × (mid.written ≡ old.written ++ take n text)) → (result : Ending) → AfterFlush writes WriteFault mid last result → Ended result
     mill_refused text plays part result behind =
-        subst Ended (sym behind.0) (text, plays, (λ told. let some = part told in (some.0, same told ∙ some.1)), inl (behind.1 ∙ none))
+        subst Ended (sym behind.0) (text, plays, ((λ told. let some = part told in (some.0, same told ∙ some.1)), inl (behind.1 ∙ none)))
 
     -- nothing
     pub mill_failed : (writes → mid.written ≡ old.written) → (result : Ending) → AfterFlush writes FlashFault mid last result → Ended result
@@ -89,12 +92,12 @@ not_milled device old new NotACard status factory fails is other = record {
 }
 
 -- where nothing fails all is done
-pub mills_all : {F : Type 0} (device : Flash F) (writes : Type 0) (work : Workload) (ending : Ending) (new : F) (count : ℕ) (old last : SinkState) (before after : Faults)
-    → MillEnds device writes work ending new count old last → EndCause ending before after → (Rose before.sink after.sink → ⊥) → (Rose before.device after.device → ⊥) → exit_status ending ≡ 0
+pub mills_all : {F : Type 0} (device : Flash F) (writes : Type 0) (work : Workload) (ending : Ending) (new : F) (count : ℕ) (old last : SinkState) (before after : Around ℕ ℕ ℕ)
+    → MillEnds device writes work ending new count old last → EndCause ending before after → (Rose before.sink after.sink → ⊥) → (Rose before.flash after.flash → ⊥) → exit_status ending ≡ 0
 mills_all device writes work Finished new count old last before after ends cause no_sink no_device = refl
-mills_all device writes work Differs new count old last before after ends cause no_sink no_device = absurd ends
-mills_all device writes work BadLine new count old last before after ends cause no_sink no_device = absurd ends
+mills_all device writes work Differs new count old last before after ends cause no_sink no_device = absurd ends.2
+mills_all device writes work BadLine new count old last before after ends cause no_sink no_device = absurd ends.2
 mills_all device writes work FlashFault new count old last before after ends cause no_sink no_device = absurd (no_device cause.2)
-mills_all device writes work ReadFault new count old last before after ends cause no_sink no_device = absurd ends
+mills_all device writes work ReadFault new count old last before after ends cause no_sink no_device = absurd ends.2
 mills_all device writes work WriteFault new count old last before after ends cause no_sink no_device = absurd (no_sink cause.1)
-mills_all device writes work InputTooLong new count old last before after ends cause no_sink no_device = absurd ends
+mills_all device writes work InputTooLong new count old last before after ends cause no_sink no_device = absurd ends.2

@@ -17,15 +17,16 @@ use Rattle.gp_tool.specs.Device.{HasFailed, HasRun, IsNotPowered, refusal_status
 use Rattle.io_edge.specs.declared.sink.Sink.{Ghosts as Sink}
 use Rattle.io_edge.specs.declared.source.Source.{Ghosts as Source}
 use Rattle.gp_tool.proofs.SaidElse.{said_else}
-use Rattle.gp_tool.specs.Ends.{EndCause, Faults}
-use Rattle.gp_tool.specs.Verbs.{Serves, around}
+use Rattle.gp_tool.specs.Around.{Around, around}
+use Rattle.gp_tool.specs.Ends.{EndCause}
+use Rattle.gp_tool.specs.Verbs.{Serves}
 use Rattle.gp_tool.specs.declared.verb.Verb.{Verb}
 use Rattle.gp_tool.specs.declared.ending.Ending.{Ending}
 use Rattle.gp_tool.specs.declared.ending.Ending.TheVariants.{Finished, Differs, BadLine, FlashFault, ReadFault, WriteFault, InputTooLong}
 
 -- the device's count was no greater before
-pub cause_since : (ending : Ending) (source sink before device : ℕ) (new : Faults) → before ≤ device
-    → EndCause ending (record { source = source; sink = sink; device = device }) new → EndCause ending (record { source = source; sink = sink; device = before }) new
+pub cause_since : (ending : Ending) (source sink before device : ℕ) (new : Around ℕ ℕ ℕ) → before ≤ device
+    → EndCause ending (around source sink device) new → EndCause ending (around source sink before) new
 cause_since Finished source sink before device new less cause = cause
 cause_since Differs source sink before device new less cause = cause
 cause_since BadLine source sink before device new less cause = cause

@@ -12,7 +12,8 @@ use Rattle.page_journal.specs.Moments.{Always, LeavesOnly}
 use Rattle.policy_rules.specs.State.{State}
 use Rattle.rec_store.specs.Reopens.{Reopens, ReopensAsOne}
 use Rattle.rec_store.proofs.Leaving.{joined, weaker}
-use Rattle.gp_tool.specs.Ends.{EndCause, Faults, exit_status}
+use Rattle.gp_tool.specs.Around.{Around}
+use Rattle.gp_tool.specs.Ends.{EndCause, exit_status}
 use Rattle.gp_tool.specs.Flush.{AfterFlush}
 use Rattle.gp_tool.specs.Show.{shown}
 use Rattle.gp_tool.specs.Shown.{HasShown, ShowEnds}
@@ -74,8 +75,8 @@ has_shown device counts old new card state stands powered shows same =
     }
 
 -- where nothing fails all is shown
-pub shows_all : (told : Type 0) (registry : Registry) (old new : SinkState) (before after : Faults) (ending : Ending) → ShowEnds told registry ending old new → EndCause ending before after
-    → (Rose before.sink after.sink → ⊥) → (Rose before.device after.device → ⊥) → exit_status ending ≡ 0
+pub shows_all : (told : Type 0) (registry : Registry) (old new : SinkState) (before after : Around ℕ ℕ ℕ) (ending : Ending) → ShowEnds told registry ending old new → EndCause ending before after
+    → (Rose before.sink after.sink → ⊥) → (Rose before.flash after.flash → ⊥) → exit_status ending ≡ 0
 shows_all told registry old new before after Finished ends cause no_sink no_device = refl
 shows_all told registry old new before after Differs ends cause no_sink no_device = absurd ends
 shows_all told registry old new before after BadLine ends cause no_sink no_device = absurd ends

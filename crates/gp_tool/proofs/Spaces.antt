@@ -2,7 +2,8 @@
 use Rattle.std.proofs.Common.{◌≡◌, ℕ, List, [], ◌-◌, ◌*◌, ◌<◌, ◌≤◌, ◌∷◌, ◌++◌, length, take, refl, sym, ap, subst, ◌∙◌, arith, append_assoc}
 use Rattle.std.proofs.lemmas.List.Elements.{All-append, All-cons, All-nil}
 use Rattle.gp_tool.specs.Compare.{SkipsSpaces}
-use Rattle.gp_tool.specs.Form.{IsBlank, IsHex}
+use Rattle.script_tool.specs.Line.{IsBlank}
+use Rattle.gp_tool.specs.Form.{IsHex}
 use Rattle.gp_tool.specs.Replay.{Wants}
 use Rattle.gp_tool.proofs.Spelled.{digits_behind}
 use Rattle.hex.proofs.HexLemmas.{decode_of-ok}

@@ -4,7 +4,8 @@ use Rattle.std.specs.List.{concat}
 use Rattle.card_core.specs.Card.{CardOver}
 use Rattle.flash_core.specs.declared.flash.Flash.{Ghosts as Flash}
 use Rattle.gp_tool.specs.Effects.{Effect, Place}
-use Rattle.gp_tool.specs.Form.{FailsCommand, IsBlank, IsForCard}
+use Rattle.script_tool.specs.Line.{IsBlank}
+use Rattle.gp_tool.specs.Form.{FailsCommand, IsForCard}
 use Rattle.gp_tool.specs.Replay.{Compares, Keeps, Kept, Meets}
 use Rattle.gp_tool.specs.Serve.{BreaksLine, IsHeld, RunsLine, Standing, StandsAt}
 use Rattle.gp_tool.specs.declared.line.LineEnd.{LineEnd}

@@ -8,6 +8,7 @@ use Rattle.io_edge.specs.Streams.{SinkState, SourceState}
 use Rattle.io_edge.specs.declared.line.TheConstants.{HELD_LIMIT, INPUT_LIMIT, LINE_LIMIT}
 use Rattle.policy_rules.specs.State.{State}
 use Rattle.policy_rules.specs.Step.{Outcome}
+use Rattle.gp_tool.specs.Around.{Around}
 use Rattle.gp_tool.specs.Effects.{Effect, Place}
 use Rattle.gp_tool.specs.Flush.{FlushesLast, IsHandedOn}
 use Rattle.gp_tool.specs.RunsLines.{FailsLine, HasForm, Memory, RunsLines, bad_line, start}
@@ -123,18 +124,9 @@ Flushes writes ReadFault old new = new.flushes ≡ next_count old.flushes
 Flushes writes WriteFault old new = Unit {0}
 Flushes writes ending old new = IsHandedOn writes old new
 
--- The counts of faults of a source, a sink and a device.
-pub record Faults : Type 0 where
-  pub source : ℕ
-  pub sink : ℕ
-  pub device : ℕ
-
-abbrev pub faults_of : SourceState → SinkState → ℕ → Faults
-faults_of source sink device = record { source = source.faults; sink = sink.faults; device = device }
-
 -- Whose count has risen at an ending, or that those of source and sink are as they were. A flush that is refused behind a failed device raises the sink's too.
-abbrev pub EndCause : Ending → Faults → Faults → Type 0
-EndCause FlashFault old new = (new.source ≡ old.source) × ((new.sink ≡ old.sink) ⊎ Rose old.sink new.sink) × Rose old.device new.device
+abbrev pub EndCause : Ending → Around ℕ ℕ ℕ → Around ℕ ℕ ℕ → Type 0
+EndCause FlashFault old new = (new.source ≡ old.source) × ((new.sink ≡ old.sink) ⊎ Rose old.sink new.sink) × Rose old.flash new.flash
 EndCause ReadFault old new = Rose old.source new.source
 EndCause WriteFault old new = (new.source ≡ old.source) × Rose old.sink new.sink
 EndCause ending old new = (new.source ≡ old.source) × (new.sink ≡ old.sink)

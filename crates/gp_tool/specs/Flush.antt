@@ -1,9 +1,9 @@
--- The flush at the end of a run.
-use Rattle.std.specs.Prelude.{◌≡◌, ◌⊎◌, List, ℕ, ◌++◌}
+-- What is written and flushed at the end of a run.
+use Rattle.std.specs.Prelude.{◌≡◌, ◌⊎◌, List, ℕ, ◌++◌, take}
 use Rattle.faults.specs.Faults.{next_count}
 use Rattle.io_edge.specs.Streams.{SinkState}
 use Rattle.gp_tool.specs.declared.ending.Ending.{Ending}
-use Rattle.gp_tool.specs.declared.ending.Ending.TheVariants.{FlashFault, ReadFault, WriteFault}
+use Rattle.gp_tool.specs.declared.ending.Ending.TheVariants.{Finished, FlashFault, ReadFault, WriteFault}
 
 -- A sink was flushed once, and all that was written is handed on.
 pub record IsHandedOn (writes : Type 0) (old new : SinkState) : Type 0 where
@@ -14,6 +14,12 @@ pub record IsHandedOn (writes : Type 0) (old new : SinkState) : Type 0 where
 abbrev pub FlushesLast : Type 0 → SinkState → List ℕ → SinkState → Type 0
 FlushesLast writes old text new =
     (new.flushes ≡ old.flushes) ⊎ ((new.flushes ≡ next_count old.flushes) × (writes → new.written ≡ old.written ++ text))
+
+-- A text was written, or a prefix of it where a write or the flush was refused.
+abbrev pub WritesText : Type 0 → List ℕ → Ending → SinkState → SinkState → Type 0
+WritesText writes text Finished old new = writes → new.written ≡ old.written ++ text
+WritesText writes text WriteFault old new = (writes → (n : ℕ) × (new.written ≡ old.written ++ take n text)) × FlushesLast writes old text new
+WritesText writes text ending old new = ⊥
 
 -- the ending stays as the flush is answered, and a refused one makes it a write fault
 abbrev pub IsFlushed : Type 0 → Ending → SinkState → SinkState → Ending → Type 0

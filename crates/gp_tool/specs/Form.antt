@@ -1,18 +1,11 @@
 -- The forms of a line, and what a card is given by it.
-use Rattle.std.specs.Prelude.{◌≡◌, ◌⊎◌, ℕ, ◌<◌, List, [], ◌∷◌, length, codes, Ok, All}
+use Rattle.std.specs.Prelude.{◌≡◌, ◌⊎◌, ℕ, ◌<◌, List, [], ◌∷◌, length, codes, Ok}
 use Rattle.hex.specs.Hex.{decode_of}
 use Rattle.policy_rules.specs.Run.{Input, Command, Reset}
 use Rattle.policy_rules.specs.State.{State}
 use Rattle.policy_rules.specs.Step.{Outcome, Step}
+use Rattle.script_tool.specs.Line.{IsBlank, IsComment}
 use Rattle.gp_tool.specs.Effects.{Place}
-
--- empty, or spaces alone
-abbrev pub IsBlank : List ℕ → Type 0
-IsBlank line = All (λ byte. byte ≡ 32) line
-
--- a comment begins with '#'
-abbrev pub IsComment : List ℕ → Type 0
-IsComment line = (rest : List ℕ) × (line ≡ 35 ∷ rest)
 
 -- the line is the bytes in hexadecimal digits, in either case, of one byte at least
 abbrev pub IsHex : List ℕ → List ℕ → Type 0

@@ -1,5 +1,5 @@
 -- The verb `mill`: a workload that is the same each time is played, and its summary is written.
-use Rattle.std.specs.Prelude.{◌≡◌, ◌⊎◌, ℕ, ◌+◌, ◌<◌, ◌≤◌, ◌^◌, ◌==◌, Bool, List, [], ◌∷◌, ◌++◌, length, take, cond, codes, decimal}
+use Rattle.std.specs.Prelude.{◌≡◌, ◌⊎◌, ℕ, ◌+◌, ◌<◌, ◌≤◌, ◌^◌, ◌==◌, Bool, List, [], ◌∷◌, ◌++◌, length, cond, codes, decimal}
 use Rattle.std.specs.List.{ends_with}
 use Rattle.std.specs.Str.Parse.{IsNumeral, digits_value}
 use Rattle.hex.specs.Hex.{encode_lower}
@@ -16,10 +16,10 @@ use Rattle.script_tool.specs.Host.{Host}
 use Rattle.script_tool.specs.Mill.{workload}
 use Rattle.gp_tool.specs.Counted.{Counts}
 use Rattle.gp_tool.specs.Effects.{Effect, Place}
-use Rattle.gp_tool.specs.Flush.{FlushesLast}
+use Rattle.gp_tool.specs.Flush.{WritesText}
 use Rattle.gp_tool.specs.RunsLines.{RunsLines, start}
 use Rattle.gp_tool.specs.declared.ending.Ending.{Ending}
-use Rattle.gp_tool.specs.declared.ending.Ending.TheVariants.{Finished, FlashFault, WriteFault}
+use Rattle.gp_tool.specs.declared.ending.Ending.TheVariants.{FlashFault}
 use Rattle.gp_tool.specs.declared.tally.Tally.{Tally}
 use Rattle.gp_tool.specs.declared.verb.Verb.TheVariants.{Play}
 use Rattle.gp_tool.specs.declared.workload.Workload.{Workload}
@@ -85,12 +85,8 @@ pub record PlaysAll {F : Type 0} (device : Flash F) (work : Workload) (new : F) 
 
 -- what is written at each ending
 abbrev pub MillEnds : {F : Type 0} → Flash F → Type 0 → Workload → Ending → F → ℕ → SinkState → SinkState → Type 0
-MillEnds device writes work Finished new count old new' =
-    (text : List ℕ) × PlaysAll device work new count text × (writes → new'.written ≡ old.written ++ text)
-MillEnds device writes work WriteFault new count old new' =
-    (text : List ℕ) × PlaysAll device work new count text × (writes → (n : ℕ) × (new'.written ≡ old.written ++ take n text)) × FlushesLast writes old text new'
 MillEnds device writes work FlashFault new count old new' = writes → new'.written ≡ old.written
-MillEnds device writes work ending new count old new' = ⊥
+MillEnds device writes work ending new count old new' = (text : List ℕ) × PlaysAll device work new count text × WritesText writes text ending old new'
 
 -- The card was not powered on behind `format`: the device failed, or it does not tell what it holds.
 pub record IsNotMilled {F : Type 0} (device : Flash F) (status count : ℕ) (old new : F) : Type 0 where

@@ -4,7 +4,8 @@ use Rattle.hex.specs.Hex.{decode_of, encode_lower}
 use Rattle.policy_rules.specs.Run.{Input, Run}
 use Rattle.policy_rules.specs.Step.{Outcome}
 use Rattle.gp_tool.specs.Effects.{Effect, Place, nothing}
-use Rattle.gp_tool.specs.Form.{IsBlank, IsForCard, SpellsInputs}
+use Rattle.gp_tool.specs.Form.{IsForCard, SpellsInputs}
+use Rattle.script_tool.specs.Line.{IsBlank}
 
 -- the reply to the last command, where one is there to be compared
 abbrev pub Kept : Type 0

@@ -2,8 +2,8 @@
 use Rattle.flash_core.specs.declared.flash.Flash.{Ghosts as Flash}
 use Rattle.io_edge.specs.declared.sink.Sink.{Ghosts as Sink}
 use Rattle.io_edge.specs.declared.source.Source.{Ghosts as Source}
-use Rattle.gp_tool.specs.Ends.{EndCause, faults_of}
-use Rattle.gp_tool.specs.Verbs.{Around}
+use Rattle.gp_tool.specs.Around.{Around, faults_of}
+use Rattle.gp_tool.specs.Ends.{EndCause}
 use Rattle.gp_tool.specs.declared.ending.Ending.{Ending}
 
 abbrev pub RunCause : {S K F : Type 0} → Source S → Sink K → Flash F → Ending → Around S K F → Around S K F → Type 0

@@ -10,8 +10,9 @@ use Rattle.io_edge.specs.declared.sink.Sink.{Ghosts as Sink}
 use Rattle.io_edge.specs.declared.source.Source.{Ghosts as Source}
 use Rattle.policy_rules.specs.State.{State, powered_on}
 use Rattle.rec_store.specs.Reopens.{Reopens}
+use Rattle.gp_tool.specs.Around.{Around, faults_of}
 use Rattle.gp_tool.specs.Device.{HasFailed, HasRun, HoldsCard, IsNotPowered}
-use Rattle.gp_tool.specs.Ends.{EndCause, Ends, Flushes, exit_status, faults_of, outside}
+use Rattle.gp_tool.specs.Ends.{EndCause, Ends, Flushes, exit_status, outside}
 use Rattle.gp_tool.specs.Formatted.{FormatEnds}
 use Rattle.gp_tool.specs.Mill.{IsNotMilled, MillEnds}
 use Rattle.gp_tool.specs.RunsLines.{AreServable, start}
@@ -21,25 +22,8 @@ use Rattle.gp_tool.specs.declared.workload.Workload.{Workload}
 use Rattle.gp_tool.specs.declared.verb.Verb.{Verb}
 use Rattle.gp_tool.specs.declared.verb.Verb.TheVariants.{Replay, Play}
 
--- what a run is given
-pub record Around (S K F : Type 0) : Type 0 where
-  pub source : S
-  pub sink : K
-  pub flash : F
-
-abbrev pub around : {S K F : Type 0} → S → K → F → Around S K F
-around source sink flash = record { source = source; sink = sink; flash = flash }
-
--- The same without the source: `format` and `show` read nothing.
-pub record Beside (K F : Type 0) : Type 0 where
-  pub sink : K
-  pub flash : F
-
-abbrev pub beside : {K F : Type 0} → K → F → Beside K F
-beside sink flash = record { sink = sink; flash = flash }
-
 -- The status is that of an ending, with its cause and its flush.
-pub record HasEnded {K F : Type 0} (sink : Sink K) (device : Flash F) (ending : Ending) (status : ℕ) (read read' : SourceState) (old new : Beside K F) : Type 0 where
+pub record HasEnded {S K F : Type 0} (sink : Sink K) (device : Flash F) (ending : Ending) (status : ℕ) (read read' : SourceState) (old new : Around S K F) : Type 0 where
   pub status_is : status ≡ exit_status ending
   pub cause : EndCause ending (faults_of read (sink.state old.sink) (device.faults old.flash)) (faults_of read' (sink.state new.sink) (device.faults new.flash))
   pub flushes : Flushes sink.tells ending (sink.state old.sink) (sink.state new.sink)
@@ -54,7 +38,7 @@ RunEnds verb source sink device Stands first ending count old new =
 -- A card was served from a first state, up to an ending.
 pub record Serves {S K F : Type 0} (verb : Verb) (source : Source S) (sink : Sink K) (device : Flash F) (Stands : State → Type 0) (first : State) (status count : ℕ) (old new : Around S K F) : Type 0 where
   pub ending : Ending
-  pub ended : HasEnded sink device ending status (source.state old.source) (source.state new.source) (beside old.sink old.flash) (beside new.sink new.flash)
+  pub ended : HasEnded sink device ending status (source.state old.source) (source.state new.source) old new
   pub ends : RunEnds verb source sink device Stands first ending count old new
 
 -- The card was powered on with a registry, and served.
@@ -94,14 +78,14 @@ abbrev pub unread : SourceState
 unread = record { left = []; faults = 0 }
 
 -- no command is processed, and the device is the card as it leaves the factory unless it failed
-pub record EndsFormat {K F : Type 0} (sink : Sink K) (device : Flash F) (status count : ℕ) (old new : Beside K F) : Type 0 where
+pub record EndsFormat {K F : Type 0} (sink : Sink K) (device : Flash F) (status count : ℕ) (old new : Around (Unit {0}) K F) : Type 0 where
   pub none : count ≡ 0
   pub ending : Ending
   pub ended : HasEnded sink device ending status unread unread old new
   pub ends : FormatEnds device sink.tells ending new.flash (sink.state old.sink) (sink.state new.sink)
 
 -- The card was powered on with a registry, which was written, and the device keeps it.
-pub record ShowsCard {K F : Type 0} (sink : Sink K) (device : Flash F) (status : ℕ) (old new : Beside K F) : Type 0 where
+pub record ShowsCard {K F : Type 0} (sink : Sink K) (device : Flash F) (status : ℕ) (old new : Around (Unit {0}) K F) : Type 0 where
   pub registry : Registry
   pub reopens : device.tells → Reopens (device.pages old.flash) registry
   pub ending : Ending
@@ -110,18 +94,18 @@ pub record ShowsCard {K F : Type 0} (sink : Sink K) (device : Flash F) (status :
   pub shown : HasShown device old.flash new.flash registry
 
 -- It was, or it was not powered on, and nothing is written. No command is processed.
-abbrev pub EndsShow : {K F : Type 0} → Sink K → Flash F → ℕ → ℕ → Beside K F → Beside K F → Type 0
+abbrev pub EndsShow : {K F : Type 0} → Sink K → Flash F → ℕ → ℕ → Around (Unit {0}) K F → Around (Unit {0}) K F → Type 0
 EndsShow sink device status count old new =
     (count ≡ 0) × ((IsNotPowered device status count old.flash new.flash × (new.sink ≡ old.sink)) ⊎ ShowsCard sink device status old new)
 
 -- The device was made the factory card, and a workload was played on it, up to an ending. At that of a device that failed, in
 -- making the card too, nothing is written.
-pub record MillsCard {K F : Type 0} (work : Workload) (sink : Sink K) (device : Flash F) (status count : ℕ) (old new : Beside K F) : Type 0 where
+pub record MillsCard {K F : Type 0} (work : Workload) (sink : Sink K) (device : Flash F) (status count : ℕ) (old new : Around (Unit {0}) K F) : Type 0 where
   pub ending : Ending
   pub ended : HasEnded sink device ending status unread unread old new
   pub ends : MillEnds device sink.tells work ending new.flash count (sink.state old.sink) (sink.state new.sink)
 
 -- It was, or the card was not powered on, and the sink is what it was.
-abbrev pub EndsMill : {K F : Type 0} → Workload → Sink K → Flash F → ℕ → ℕ → Beside K F → Beside K F → Type 0
+abbrev pub EndsMill : {K F : Type 0} → Workload → Sink K → Flash F → ℕ → ℕ → Around (Unit {0}) K F → Around (Unit {0}) K F → Type 0
 EndsMill work sink device status count old new =
     (IsNotMilled device status count old.flash new.flash × (new.sink ≡ old.sink)) ⊎ MillsCard work sink device status count old new

@@ -1,10 +1,11 @@
 -- The words of the command line.
-use Rattle.std.specs.Prelude.{◌≡◌, ◌⊎◌, ℕ, List, [], ◌∷◌, ◌++◌, codes, map, take, String, string_bytes}
+use Rattle.std.specs.Prelude.{◌≡◌, ◌⊎◌, ℕ, List, [], ◌∷◌, ◌++◌, codes, map, String, string_bytes}
 use Rattle.std.specs.declared.alloc.Global.{Global}
 use Rattle.faults.specs.Faults.{Rose}
 use Rattle.io_edge.specs.Streams.{SinkState}
-use Rattle.gp_tool.specs.Flush.{FlushesLast, IsHandedOn}
+use Rattle.gp_tool.specs.Flush.{IsHandedOn, WritesText}
 use Rattle.gp_tool.specs.Mill.{NameWorkload}
+use Rattle.gp_tool.specs.declared.ending.Ending.TheVariants.{Finished, WriteFault}
 use Rattle.gp_tool.specs.declared.task.Task.{Task}
 use Rattle.gp_tool.specs.declared.task.Task.TheVariants.{Format, Mill, Serve, Show}
 use Rattle.gp_tool.specs.declared.verb.Verb.TheVariants.{Run, Why, Replay, Play}
@@ -33,18 +34,8 @@ HaveForm words = (task : Task) × AreOf task words
 abbrev pub usage_line : List ℕ
 usage_line = codes "usage: gp format | run | why | replay | play | mill SEED COUNT | show" ++ 10 ∷ []
 
--- it was written and handed on, and nothing failed
-pub record HasUsage (writes : Type 0) (old new : SinkState) : Type 0 where
-  pub written : writes → new.written ≡ old.written ++ usage_line
-  pub handed_on : IsHandedOn writes old new
-  pub quiet : new.faults ≡ old.faults
-
--- a write or the flush was refused, and a prefix of it was written
-pub record CutsUsage (writes : Type 0) (old new : SinkState) : Type 0 where
-  pub written : writes → (n : ℕ) × (new.written ≡ old.written ++ take n usage_line)
-  pub flushes : FlushesLast writes old usage_line new
-  pub cause : Rose old.faults new.faults
-
--- the status of a program whose words have no form
+-- The words have no form: the line was written and handed on, and nothing failed, or a write or the flush was refused.
 abbrev pub EndsInUsage : Type 0 → ℕ → SinkState → SinkState → Type 0
-EndsInUsage writes status old new = ((status ≡ 1) × HasUsage writes old new) ⊎ ((status ≡ 6) × CutsUsage writes old new)
+EndsInUsage writes status old new =
+    ((status ≡ 1) × WritesText writes usage_line Finished old new × IsHandedOn writes old new × (new.faults ≡ old.faults))
+    ⊎ ((status ≡ 6) × WritesText writes usage_line WriteFault old new × Rose old.faults new.faults)

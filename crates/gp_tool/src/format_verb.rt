@@ -1,7 +1,8 @@
 //! The verb `format`.
 
 ghost use Rattle.std.specs.Prelude.{◌≤◌};
-ghost use Rattle.gp_tool.specs.Verbs.{EndsFormat, beside};
+ghost use Rattle.gp_tool.specs.Around.{around};
+ghost use Rattle.gp_tool.specs.Verbs.{EndsFormat};
 
 use crate::ended::Ended;
 use crate::ending::Ending;
@@ -12,7 +13,7 @@ use io_edge::Sink;
 
 /// Makes the device the card as it leaves the factory, and writes nothing.
 pub fn format_verb<K: Sink, F: Flash>(sink: &mut K, mut flash: F) -> Ended<F>
-    ensures format { EndsFormat K.Sink F.Flash result.status result.done (beside sink.old flash) (beside sink.new result.flash) }
+    ensures format { EndsFormat K.Sink F.Flash result.status result.done (around tt sink.old flash) (around tt sink.new result.flash) }
     ensures later { F.faults flash ≤ F.faults result.flash }
 {
     let ending = match format(&mut flash) {

@@ -6,10 +6,11 @@ ghost use Rattle.card_types.specs.Factory.{factory_registry};
 ghost use Rattle.card_types.specs.Registry.{Registry};
 ghost use Rattle.faults.specs.Faults.{Rose};
 ghost use Rattle.policy_rules.specs.State.{powered_on};
-ghost use Rattle.gp_tool.specs.Ends.{EndCause, Flushes, faults_of};
+ghost use Rattle.gp_tool.specs.Around.{around, faults_of};
+ghost use Rattle.gp_tool.specs.Ends.{EndCause, Flushes};
 ghost use Rattle.gp_tool.specs.Formatted.{IsFactoryCard};
 ghost use Rattle.gp_tool.specs.Mill.{MillEnds};
-ghost use Rattle.gp_tool.specs.Verbs.{EndsMill, beside, unread};
+ghost use Rattle.gp_tool.specs.Verbs.{EndsMill, unread};
 
 use crate::card_end::CardEnd;
 use crate::ended::Ended;
@@ -58,7 +59,7 @@ fn mill_factory_card<K: Sink, F: Flash>(
     requires factory { IsFactoryCard F.Flash flash }
     requires few { work.rounds ≤ 10_000 }
     ensures memory { result.status ≡ 7 → (sink.new ≡ sink.old) × (result.done ≡ 0) × (result.flash ≡ flash) }
-    ensures mill { result.status ≢ 7 → EndsMill work K.Sink F.Flash result.status result.done (beside sink.old flash) (beside sink.new result.flash) }
+    ensures mill { result.status ≢ 7 → EndsMill work K.Sink F.Flash result.status result.done (around tt sink.old flash) (around tt sink.new result.flash) }
     ensures complete { F.tells → (Rose (K.state sink.old).faults (K.state sink.new).faults → ⊥) → (Rose (F.faults flash) (F.faults result.flash) → ⊥)
         → (result.status ≡ 0) ⊎ (result.status ≡ 7) }
     ensures later { F.faults flash ≤ F.faults result.flash }
@@ -91,7 +92,7 @@ pub fn mill_verb<K: Sink, F: Flash>(
 ) -> Ended<F>
     requires few { work.rounds ≤ 10_000 }
     ensures memory { result.status ≡ 7 → (sink.new ≡ sink.old) × (result.done ≡ 0) × IsFactoryCard F.Flash result.flash }
-    ensures mill { result.status ≢ 7 → EndsMill work K.Sink F.Flash result.status result.done (beside sink.old flash) (beside sink.new result.flash) }
+    ensures mill { result.status ≢ 7 → EndsMill work K.Sink F.Flash result.status result.done (around tt sink.old flash) (around tt sink.new result.flash) }
     ensures complete { F.tells → (Rose (K.state sink.old).faults (K.state sink.new).faults → ⊥) → (Rose (F.faults flash) (F.faults result.flash) → ⊥)
         → (result.status ≡ 0) ⊎ (result.status ≡ 7) }
     ensures later { F.faults flash ≤ F.faults result.flash }

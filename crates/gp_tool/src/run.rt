@@ -3,14 +3,15 @@
 ghost use Rattle.std.specs.Prelude.{◌≡◌, ◌≢◌, ◌≤◌, ◌+◌, ℕ, None, true, IfNone, IfSome};
 ghost use Rattle.card_core.specs.Card.{CardRepresents};
 ghost use Rattle.policy_rules.specs.State.{State};
+ghost use Rattle.gp_tool.specs.Around.{Around, around, faults_of};
 ghost use Rattle.gp_tool.specs.AtMost.{IsAtMost};
-ghost use Rattle.gp_tool.specs.Ends.{EndCause, Faults, Flushes, faults_of, outside};
+ghost use Rattle.gp_tool.specs.Ends.{EndCause, Flushes, outside};
 ghost use Rattle.gp_tool.specs.Flush.{AfterFlush};
 ghost use Rattle.gp_tool.specs.declared.ending.Ending.TheVariants.{FlashFault};
 ghost use Rattle.gp_tool.specs.RunCause.{RunCause};
 ghost use Rattle.gp_tool.specs.Standing.{standing_in};
 ghost use Rattle.gp_tool.specs.Turn.{EndsWith, GoesOn, Refuses, ending_of};
-ghost use Rattle.gp_tool.specs.Verbs.{RunEnds, around};
+ghost use Rattle.gp_tool.specs.Verbs.{RunEnds};
 
 use crate::card_end::CardEnd;
 use crate::ending::Ending;
@@ -26,7 +27,7 @@ fn refuse_line<K: Sink>(number: u32, sink: &mut K) -> Ending
     ensures refused { Refuses K.tells number (K.state sink.old).written (K.state sink.new).written result }
     ensures flushes { (K.state sink.new).flushes ≡ (K.state sink.old).flushes }
     ensures cause { (reads device device' : ℕ) → EndCause result
-        (record { source = reads; sink = (K.state sink.old).faults; device = device }) (record { source = reads; sink = (K.state sink.new).faults; device = device' }) }
+        (around reads (K.state sink.old).faults device) (around reads (K.state sink.new).faults device') }
 {
     match write_bad_line(number, sink) {
         Ok(()) => Ending::BadLine,
@@ -125,8 +126,8 @@ fn take_lines<S: Source, K: Sink, F: Flash>(
 pub fn flush_at_end<K: Sink>(ending: Ending, sink: &mut K) -> Ending
     ensures same { K.tells → (K.state sink.new).written ≡ (K.state sink.old).written }
     ensures ending { AfterFlush K.tells ending (K.state sink.old) (K.state sink.new) result }
-    ensures cause { (old : Faults) (reads device : ℕ) → EndCause ending old (record { source = reads; sink = (K.state sink.old).faults; device = device })
-        → EndCause result old (record { source = reads; sink = (K.state sink.new).faults; device = device }) }
+    ensures cause { (old : Around ℕ ℕ ℕ) (reads device : ℕ) → EndCause ending old (around reads (K.state sink.old).faults device)
+        → EndCause result old (around reads (K.state sink.new).faults device) }
 {
     match ending {
         Ending::WriteFault => ending,

@@ -1,8 +1,9 @@
 //! The verbs over lines.
 
 ghost use Rattle.std.specs.Prelude.{◌≡◌, ◌≢◌, ◌⊎◌, ◌≤◌};
+ghost use Rattle.gp_tool.specs.Around.{around};
 ghost use Rattle.gp_tool.specs.Device.{HoldsCard, refusal_status};
-ghost use Rattle.gp_tool.specs.Verbs.{Completes, EndsRun, around};
+ghost use Rattle.gp_tool.specs.Verbs.{Completes, EndsRun};
 
 use crate::ended::Ended;
 use crate::serving::serve;

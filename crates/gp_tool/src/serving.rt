@@ -3,7 +3,8 @@
 ghost use Rattle.std.specs.Prelude.{◌≡◌, ◌≢◌, ◌≤◌, true};
 ghost use Rattle.card_core.specs.Card.{CardRepresents};
 ghost use Rattle.policy_rules.specs.State.{State, powered_on};
-ghost use Rattle.gp_tool.specs.Verbs.{IsDone, IsGoodInput, NoFault, Serves, around};
+ghost use Rattle.gp_tool.specs.Around.{around};
+ghost use Rattle.gp_tool.specs.Verbs.{IsDone, IsGoodInput, NoFault, Serves};
 
 use crate::card_end::CardEnd;
 use crate::run::run;

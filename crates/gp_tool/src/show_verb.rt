@@ -6,10 +6,11 @@ ghost use Rattle.faults.specs.Faults.{Rose};
 ghost use Rattle.page_journal.specs.Moments.{LeavesOnly};
 ghost use Rattle.policy_rules.specs.State.{State};
 ghost use Rattle.rec_store.specs.Reopens.{Reopens};
+ghost use Rattle.gp_tool.specs.Around.{around, faults_of};
 ghost use Rattle.gp_tool.specs.Device.{HoldsCard};
-ghost use Rattle.gp_tool.specs.Ends.{EndCause, Flushes, faults_of};
+ghost use Rattle.gp_tool.specs.Ends.{EndCause, Flushes};
 ghost use Rattle.gp_tool.specs.Shown.{ShowEnds};
-ghost use Rattle.gp_tool.specs.Verbs.{EndsShow, beside, unread};
+ghost use Rattle.gp_tool.specs.Verbs.{EndsShow, unread};
 
 use crate::ended::Ended;
 use crate::ending::Ending;
@@ -44,7 +45,7 @@ fn show_card<K: Sink, F: Flash>(card: &mut Card<F>, sink: &mut K) -> Ending
 /// Powers the card on, and writes its registry.
 pub fn show_verb<K: Sink, F: Flash>(alloc: Global, sink: &mut K, flash: F) -> Ended<F>
     ensures memory { result.status ≡ 7 → (sink.new ≡ sink.old) × (result.flash ≡ flash) × (result.done ≡ 0) }
-    ensures show { result.status ≢ 7 → EndsShow K.Sink F.Flash result.status result.done (beside sink.old flash) (beside sink.new result.flash) }
+    ensures show { result.status ≢ 7 → EndsShow K.Sink F.Flash result.status result.done (around tt sink.old flash) (around tt sink.new result.flash) }
     ensures no_card { F.tells → (HoldsCard F.Flash flash → ⊥) → (result.status ≡ 3) ⊎ (result.status ≡ 4) ⊎ (result.status ≡ 7) }
     ensures complete { F.tells → HoldsCard F.Flash flash
         → (Rose (K.state sink.old).faults (K.state sink.new).faults → ⊥) → (Rose (F.faults flash) (F.faults result.flash) → ⊥) → (result.status ≡ 0) ⊎ (result.status ≡ 7) }

@@ -2,10 +2,11 @@
 
 ghost use Rattle.std.specs.Prelude.{◌≡◌, ◌≢◌, ◌⊎◌, ◌≤◌, ◌++◌, ℕ, take, OnOk, OnErr};
 ghost use Rattle.faults.specs.Faults.{HasCause, Rose};
+ghost use Rattle.gp_tool.specs.Around.{around};
 ghost use Rattle.gp_tool.specs.Device.{HoldsCard};
 ghost use Rattle.gp_tool.specs.Flush.{FlushesLast, IsHandedOn};
 ghost use Rattle.gp_tool.specs.Formatted.{IsFactoryCard};
-ghost use Rattle.gp_tool.specs.Verbs.{Completes, EndsFormat, EndsMill, EndsRun, EndsShow, around, beside};
+ghost use Rattle.gp_tool.specs.Verbs.{Completes, EndsFormat, EndsMill, EndsRun, EndsShow};
 ghost use Rattle.gp_tool.specs.Words.{AreOf, EndsInUsage, HaveForm, usage_line};
 ghost use Rattle.gp_tool.specs.declared.task.Task.TheVariants.{Format, Mill, Serve, Show};
 ghost use Rattle.gp_tool.specs.declared.verb.Verb.{Verb};
@@ -72,17 +73,17 @@ pub fn gp<S: Source, K: Sink, F: Flash>(
     // `format`: nothing is read or written, no command is processed, and the device is the card as it leaves the factory
     // unless it failed.
     ensures format { AreOf Format words.now
-        → (source.new ≡ source.old) × EndsFormat K.Sink F.Flash result.status result.done (beside sink.old flash) (beside sink.new result.flash) }
+        → (source.new ≡ source.old) × EndsFormat K.Sink F.Flash result.status result.done (around tt sink.old flash) (around tt sink.new result.flash) }
 
     // `show`: nothing is read, and no command is processed. The card was not powered on, and nothing is written. Or the status
     // is that of an ending, which says what was written and handed on, and the device keeps its registry.
     ensures show { AreOf Show words.now → result.status ≢ 7
-        → (source.new ≡ source.old) × EndsShow K.Sink F.Flash result.status result.done (beside sink.old flash) (beside sink.new result.flash) }
+        → (source.new ≡ source.old) × EndsShow K.Sink F.Flash result.status result.done (around tt sink.old flash) (around tt sink.new result.flash) }
 
     // `mill`: nothing is read. The device became the factory card, but for one that failed, and a workload was played on it. The
     // status is that of an ending, which says what was written and handed on, and what the device holds.
     ensures mill { (work : Workload) → AreOf (Mill work) words.now → result.status ≢ 7
-        → (source.new ≡ source.old) × EndsMill work K.Sink F.Flash result.status result.done (beside sink.old flash) (beside sink.new result.flash) }
+        → (source.new ≡ source.old) × EndsMill work K.Sink F.Flash result.status result.done (around tt sink.old flash) (around tt sink.new result.flash) }
 
     // Want of memory for the card then: nothing is read or written, and the device is the factory card.
     ensures mill_memory { (work : Workload) → AreOf (Mill work) words.now → result.status ≡ 7

@@ -1,7 +1,7 @@
 use Rattle.std.proofs.Common.{refl, inl}
 use Rattle.gp_tool.proofs.Flush.{flushed}
 use Rattle.gp_tool.proofs.FormatEnding.{format_done, format_failed}
-use Rattle.gp_tool.specs.Ends.{faults_of}
+use Rattle.gp_tool.specs.Around.{faults_of}
 use Rattle.gp_tool.specs.Verbs.{unread}
 use Rattle.gp_tool.proofs.format_verb.format_verb.Goals as goal
 use Rattle.gp_tool.proofs.format_verb.format_verb.Goals.{in-Ok, in-Err}

@@ -1,6 +1,7 @@
 use Rattle.std.proofs.Common.{◌≡◌, arith, length, slice_index, inl, inr, refl, sym, ap, subst, ◌∙◌}
 use Rattle.gp_tool.proofs.Statuses.{never_others}
-use Rattle.gp_tool.specs.Verbs.{Completes, around}
+use Rattle.gp_tool.specs.Around.{around}
+use Rattle.gp_tool.specs.Verbs.{Completes}
 use Rattle.gp_tool.specs.Words.{AreOf, word_of}
 use Rattle.gp_tool.specs.declared.task.Task.{Task}
 use Rattle.gp_tool.specs.declared.task.Task.TheVariants.{Mill, Serve, Show}
