@@ -21,9 +21,8 @@ IsAesKeyLength n = (n ≡ 16) ⊎ (n ≡ 24) ⊎ (n ≡ 32)
 
 -- the sum of two lists of bytes, byte by byte (4.1); of lists of two lengths it is as long as the shorter
 unfoldable pub xor_bytes : List ℕ → List ℕ → List ℕ
-xor_bytes [] bs = []
-xor_bytes (a ∷ as_) [] = []
 xor_bytes (a ∷ as_) (b ∷ bs) = bit_xor a b ∷ xor_bytes as_ bs
+xor_bytes as_ bs = []
 
 -- SubBytes (5.1.1)
 unfoldable pub sub_bytes : List ℕ → List ℕ

@@ -11,10 +11,9 @@ EndsTag second = (0x1F ≤ second) × (second ≤ 0x7F)
 
 -- the field spells the tag: one byte other than 00, or two, the second from 1F to 7F
 abbrev pub TagBytes : ℕ → List ℕ → Type 0
-TagBytes tag [] = ⊥
 TagBytes tag (b ∷ []) = (tag ≡ b) × (b < 256) × (b ≢ 0) × ¬ TagGoesOn b
 TagBytes tag (b ∷ c ∷ []) = (tag ≡ 256 * b + c) × (b < 256) × TagGoesOn b × EndsTag c
-TagBytes tag (b ∷ c ∷ d ∷ more) = ⊥
+TagBytes tag field = ⊥
 
 -- the number is a tag: the field of its one byte spells it, or that of its two
 abbrev pub IsTag : ℕ → Type 0
