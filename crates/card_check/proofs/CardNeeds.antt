@@ -32,6 +32,7 @@ use Rattle.card_types.proofs.FileNames.{file_in_slot, one_file_slot}
 use Rattle.card_types.proofs.KeyNames.{counters_shown, keys_shown, one_key_slot}
 use Rattle.card_types.proofs.ObjectNames.{objects_shown, one_object_slot}
 use Rattle.card_types.proofs.SameAid.{same_aid_decides}
+use Rattle.card_types.proofs.SetMembers.{counter_there}
 use Rattle.card_types.proofs.SetNames.{set_of_counter}
 use Rattle.card_types.proofs.Shows.{shows_used}
 use Rattle.card_check.specs.CardSlots.{HasCardSlots, IsAlone, IsCardEntry, IsCardFile, IsCardKey, IsCardObject, IsDomainSlot, IsFactoryLoadFile, IsIssuerEntry, is_key_of}
@@ -196,7 +197,7 @@ module _ (page : ℕ → List ℕ) (tables : Tables) (card : IsCard page tables)
             (let another = in_used (IsKeyOf key.owner key.version key.identifier) (held tables.keys.items other) has in
             one_key_slot page tables said says other slot another.0 key another.1 at another.2.same_owner another.2.same_version another.2.same_identifier);
         whole = λ low.
-            (let counter = (is.whole low).counter in
+            (let counter = counter_there said (domain_aid entries key.owner) key.version (is.whole low).counter in
             let set = set_of_counter page tables said says well key.owner owner.0 counter.counter owner.1 counter.is_there counter.owner_is in
             subst (λ (version : ℕ). (slots : List ℕ) × HasKeys tables.keys.items key.owner version slots) counter.version_is set.1);
         counter = λ keeps.

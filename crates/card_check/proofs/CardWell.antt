@@ -16,7 +16,7 @@ use Rattle.card_types.specs.Registry as registry
 use Rattle.card_types.specs.Registry.{domain_of, entry_named, file_named, is_domain, keys_of}
 use Rattle.card_types.specs.Represents.{Represents, counter_of, domain_aid, entry_of, file_aid, file_of, keeps_counter, key_of, object_of, used}
 use Rattle.card_types.specs.Slots.{held}
-use Rattle.card_types.specs.Well.{HasKeyNamed, IsDomainNamed, IsFactoryFile, IsIssuerDomain, IsWellCounter, IsWellEntry, IsWellFile, IsWellKey, IsWellObject, IsWholeSet, LeadsToRoot, Well, pages_of}
+use Rattle.card_types.specs.Well.{IsDomainNamed, IsFactoryFile, IsIssuerDomain, IsWellCounter, IsWellEntry, IsWellFile, IsWellKey, IsWellObject, IsWholeSet, LeadsToRoot, Well, pages_of}
 use Rattle.card_types.specs.declared.factory.TheConstants.{ISSUER, FACTORY_FILE}
 use Rattle.card_types.specs.declared.limits.TheConstants.{DOMAIN_KEYS, ENTRIES, FILES, FILE_LIMIT, KEYS, OBJECTS}
 use Rattle.card_types.specs.declared.tables.Entry.{Entry}
@@ -27,6 +27,7 @@ use Rattle.card_types.specs.declared.tables.Tables.{Tables}
 use Rattle.card_types.proofs.DomainLines.{line_named}
 use Rattle.card_types.proofs.Domains.{domain_aid_is}
 use Rattle.card_types.proofs.EntryNames.{entry_in_slot, entry_unnamed}
+use Rattle.card_types.proofs.SetMembers.{HasKeyNamed, whole_of}
 use Rattle.card_types.proofs.FileNames.{file_in_slot}
 use Rattle.card_types.proofs.KeyNames.{counters_shown, keys_shown}
 use Rattle.card_types.proofs.Members.{contains_first, filtered}
@@ -151,18 +152,15 @@ module _ (page : ℕ → List ℕ) (whole : HasPages page) (tables : Tables) (ca
   whole_set : (owner version : ℕ) (slots : List ℕ) → version < 0x70 → HasKeys tables.keys.items owner version slots → IsWholeSet said (domain_aid entries owner) version
   whole_set owner version slots low has =
       let first = in_used (IsKeyOf owner version 1) (held tables.keys.items has.first) has.first_key in
-      record {
-        first = has_key_named owner version 1 has.first has.first_key;
-        second = has_key_named owner version 2 has.second has.second_key;
-        third = has_key_named owner version 3 has.third has.third_key;
-        counter = record {
-          counter = counter_of entries first.0;
-          is_there = (counters_shown page tables said says).there has.first first.0 first.1
-              (and_from (first.0.identifier == 1) (nat_lt first.0.version 0x70) (eq-eqb first.0.identifier 1 first.2.same_identifier) (lt-ltb first.0.version 0x70 (omega (arith, first.2.same_version, low))));
-          owner_is = ap (domain_aid entries) first.2.same_owner;
-          version_is = first.2.same_version;
-        };
-      }
+      whole_of said (domain_aid entries owner) version
+      (has_key_named owner version 1 has.first has.first_key) (has_key_named owner version 2 has.second has.second_key) (has_key_named owner version 3 has.third has.third_key)
+      (record {
+        counter = counter_of entries first.0;
+        is_there = (counters_shown page tables said says).there has.first first.0 first.1
+            (and_from (first.0.identifier == 1) (nat_lt first.0.version 0x70) (eq-eqb first.0.identifier 1 first.2.same_identifier) (lt-ltb first.0.version 0x70 (omega (arith, first.2.same_version, low))));
+        owner_is = ap (domain_aid entries) first.2.same_owner;
+        version_is = first.2.same_version;
+      })
 
   well_key : (slot : ℕ) (key : KeyRec) → held tables.keys.items slot ≡ Some key → IsWellKey said (key_of entries key)
   well_key slot key at =

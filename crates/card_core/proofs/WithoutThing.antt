@@ -3,6 +3,7 @@ use Rattle.std.proofs.Common.{◌≡◌, ◌≢◌, ℕ, true, not, List, Option
 use Rattle.std.specs.Prelude.{Contains, IsSome, MatchOption, filter}
 use Rattle.std.proofs.lemmas.List.Elements.{All-contains}
 use Rattle.card_types.proofs.LeastOfList.{found_fits, none_found}
+use Rattle.card_types.proofs.SetMembers.{key_there}
 use Rattle.card_types.proofs.NamedThings.{unfound_kept}
 use Rattle.card_types.proofs.SameAid.{same_aid_decides}
 use Rattle.card_types.specs.AidOrder.{same_aid}
@@ -62,7 +63,7 @@ module _ (said : Registry) (well : Well said) (aid : List ℕ) where
 
     counter_owner : (counter : Counter) → Contains said.counters counter → IsDomainNamed said counter.owner
     counter_owner counter there =
-        let first = (All-contains (IsWellCounter said) said.counters counter well.counters there).set.first in
+        let first = key_there said counter.owner counter.version 1 (All-contains (IsWellCounter said) said.counters counter well.counters there).set.first in
         subst (IsDomainNamed said) first.owner_is (key_owner first.key first.is_there)
 
     object_owner : (object : Object) → Contains said.objects object → IsDomainNamed said object.owner

@@ -1,37 +1,18 @@
 -- The registry of the factory card is as a registry always is.
 use Rattle.std.proofs.Common.{◌≡◌, inl, ℕ, ◌≤◌, Bool, List, [], ◌∷◌, length, refl, arith}
-use Rattle.std.specs.Prelude.{All, Contains, filter}
+use Rattle.std.specs.Prelude.{All, filter}
 use Rattle.std.proofs.lemmas.List.Elements.{All-contains, All-from_recursion}
 use Rattle.std.proofs.lemmas.Bool.{cond_both}
 use Rattle.card_types.specs.AidOrder.{same_aid}
 use Rattle.card_types.specs.Factory.{factory_registry, issuer_of_factory, key_of_factory}
 use Rattle.card_types.specs.Registry as registry
 use Rattle.card_types.specs.Registry.{keys_of}
-use Rattle.card_types.specs.Well.{HasKeyNamed, IsWellCounter, IsWellEntry, IsWellFile, IsWellKey, IsWellObject, IsWholeSet, Well}
+use Rattle.card_types.specs.Well.{IsWellCounter, IsWellEntry, IsWellFile, IsWellKey, IsWellObject, IsWholeSet, Well}
 use Rattle.card_types.specs.declared.factory.TheConstants.{ISSUER, FACTORY_FILE, FACTORY_VERSION}
 use Rattle.card_types.specs.declared.limits.TheConstants.{DOMAIN_KEYS}
 
-has_key : (identifier : ℕ) → Contains factory_registry.keys (key_of_factory identifier) → HasKeyNamed factory_registry ISSUER FACTORY_VERSION identifier
-has_key identifier there = record {
-  key = key_of_factory identifier;
-  is_there = there;
-  owner_is = refl;
-  version_is = refl;
-  identifier_is = refl;
-}
-
 whole_set : IsWholeSet factory_registry ISSUER FACTORY_VERSION
-whole_set = record {
-  first = has_key 1 (0, omega arith, refl);
-  second = has_key 2 (1, omega arith, refl);
-  third = has_key 3 (2, omega arith, refl);
-  counter = record {
-    counter = record { owner = ISSUER; version = FACTORY_VERSION; number = 0 };
-    is_there = (0, omega arith, refl);
-    owner_is = refl;
-    version_is = refl;
-  };
-}
+whole_set = record { first = refl; second = refl; third = refl; counter = refl }
 
 well_issuer : IsWellEntry factory_registry issuer_of_factory
 well_issuer = record {

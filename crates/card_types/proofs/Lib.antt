@@ -37,5 +37,6 @@ pub mod RaisedCounter
 pub mod RemovedThing
 pub mod Room
 pub mod SameAid
+pub mod SetMembers
 pub mod SetNames
 pub mod Shows

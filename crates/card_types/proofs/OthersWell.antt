@@ -2,8 +2,9 @@
 use Rattle.std.proofs.Common.{◌≡◌, ℕ, List, sym, subst}
 use Rattle.std.specs.Prelude.{All, Contains}
 use Rattle.std.proofs.lemmas.List.Elements.{All-contains, All-contains_itself, All-weaker}
+use Rattle.card_types.proofs.SetMembers.{HasCounterOf, HasKeyNamed, whole_still}
 use Rattle.card_types.specs.Registry.{Counter, Key, Object, Registry}
-use Rattle.card_types.specs.Well.{HasCounterOf, HasKeyNamed, IsDomainNamed, IsWellCounter, IsWellKey, IsWellObject, IsWholeSet, Well}
+use Rattle.card_types.specs.Well.{IsDomainNamed, IsWellCounter, IsWellKey, IsWellObject, IsWholeSet, Well}
 
 -- the things of these owners are in both, and their owners are domains in both
 pub record KeepsOwned (stays : List ℕ → Type 0) (before after : Registry) : Type 0 where
@@ -33,13 +34,8 @@ module _ (stays : List ℕ → Type 0) (before after : Registry) (keeps : KeepsO
       version_is = has.version_is;
     }
 
-    whole_still : IsWholeSet before owner version → IsWholeSet after owner version
-    whole_still set = record {
-      first = key_still 1 set.first;
-      second = key_still 2 set.second;
-      third = key_still 3 set.third;
-      counter = counter_still set.counter;
-    }
+    set_still : IsWholeSet before owner version → IsWholeSet after owner version
+    set_still set = whole_still before after owner version key_still counter_still set
 
   module _ (well : Well before) where
     pub keys_well : All (IsWellKey after) after.keys
@@ -51,14 +47,14 @@ module _ (stays : List ℕ → Type 0) (before after : Registry) (keeps : KeepsO
           size = is.size;
           size_of_set = λ other among owned versioned. is.size_of_set other (keeps.keys_from other among).0 owned versioned;
           name = is.name;
-          whole = λ below. whole_still key.owner key.version from.1 (is.whole below);
+          whole = λ below. set_still key.owner key.version from.1 (is.whole below);
         })) after.keys (All-contains_itself after.keys)
 
     pub counters_well : All (IsWellCounter after) after.counters
     counters_well = All-weaker (Contains after.counters) (IsWellCounter after) (λ counter there.
         (let from = keeps.counters_from counter there in
         let is = All-contains (IsWellCounter before) before.counters counter well.counters from.0 in
-        record { set = whole_still counter.owner counter.version from.1 is.set; version = is.version; number = is.number })) after.counters (All-contains_itself after.counters)
+        record { set = set_still counter.owner counter.version from.1 is.set; version = is.version; number = is.number })) after.counters (All-contains_itself after.counters)
 
     pub objects_well : All (IsWellObject after) after.objects
     objects_well = All-weaker (Contains after.objects) (IsWellObject after) (λ object there.

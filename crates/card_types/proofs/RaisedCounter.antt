@@ -14,12 +14,13 @@ use Rattle.card_types.specs.Ascending.{counter_order}
 use Rattle.card_types.specs.Changed.{IsReplaced}
 use Rattle.card_types.specs.Counters.{raised, raised_counter}
 use Rattle.card_types.specs.Registry.{Counter, Entry, Key, LoadFile, Object, Registry, counter_named}
-use Rattle.card_types.specs.Well.{HasCounterOf, HasKeyNamed, IsWellCounter, IsWellEntry, IsWellFile, IsWellKey, IsWellObject, IsWholeSet, Well}
+use Rattle.card_types.specs.Well.{IsWellCounter, IsWellEntry, IsWellFile, IsWellKey, IsWellObject, IsWholeSet, Well}
 use Rattle.card_types.specs.declared.limits.TheConstants.{COUNTER_LIMIT}
 use Rattle.card_types.proofs.KeyNames.{counter_order_total}
 use Rattle.card_types.proofs.LeastOfList.{first_below, least_found, names_sorted, others_sorted}
 use Rattle.card_types.proofs.Members.{contains_cases, contains_first, contains_later, contains_map, mapped}
 use Rattle.card_types.proofs.SameAid.{aid_same_equal, same_aid_decides}
+use Rattle.card_types.proofs.SetMembers.{HasCounterOf, counter_is_named, counter_there}
 use Rattle.card_types.proofs.SetNames.{same_number}
 
 -- A list in which one thing alone is changed.
@@ -100,10 +101,6 @@ module _ (registry : Registry) (owner : List ℕ) (version : ℕ) where
         (set_ties counter owned versioned) sorted there);
   }
 
-  has_key_still : (domain : List ℕ) (number identifier : ℕ) → HasKeyNamed registry domain number identifier → HasKeyNamed (raised registry owner version) domain number identifier
-  has_key_still domain number identifier has =
-      record { key = has.key; is_there = has.is_there; owner_is = has.owner_is; version_is = has.version_is; identifier_is = has.identifier_is }
-
   has_counter_still : (domain : List ℕ) (number : ℕ) → HasCounterOf registry domain number → HasCounterOf (raised registry owner version) domain number
   has_counter_still domain number has = record {
     counter = raised_counter owner version has.counter;
@@ -112,12 +109,12 @@ module _ (registry : Registry) (owner : List ℕ) (version : ℕ) where
     version_is = has.version_is;
   }
 
-  whole_still : (domain : List ℕ) (number : ℕ) → IsWholeSet registry domain number → IsWholeSet (raised registry owner version) domain number
-  whole_still domain number set = record {
-    first = has_key_still domain number 1 set.first;
-    second = has_key_still domain number 2 set.second;
-    third = has_key_still domain number 3 set.third;
-    counter = has_counter_still domain number set.counter;
+  set_still : (domain : List ℕ) (number : ℕ) → IsWholeSet registry domain number → IsWholeSet (raised registry owner version) domain number
+  set_still domain number set = record {
+    first = set.first;
+    second = set.second;
+    third = set.third;
+    counter = counter_is_named (raised registry owner version) domain number (has_counter_still domain number (counter_there registry domain number set.counter));
   }
 
   still_well_entry : (entry : Entry) → IsWellEntry registry entry → IsWellEntry (raised registry owner version) entry
@@ -127,7 +124,7 @@ module _ (registry : Registry) (owner : List ℕ) (version : ℕ) where
   still_well_file file is = record { aid = is.aid; apart = is.apart; domain = is.domain; size = is.size }
 
   still_well_key : (key : Key) → IsWellKey registry key → IsWellKey (raised registry owner version) key
-  still_well_key key is = record { owner = is.owner; size = is.size; size_of_set = is.size_of_set; name = is.name; whole = λ below. whole_still key.owner key.version (is.whole below) }
+  still_well_key key is = record { owner = is.owner; size = is.size; size_of_set = is.size_of_set; name = is.name; whole = λ below. set_still key.owner key.version (is.whole below) }
 
   still_well_object : (object : Object) → IsWellObject registry object → IsWellObject (raised registry owner version) object
   still_well_object object is = record { owner = is.owner; form = is.form }
@@ -137,7 +134,7 @@ module _ (registry : Registry) (owner : List ℕ) (version : ℕ) where
     still_well_counter : (counter : Counter) → Contains registry.counters counter → IsWellCounter registry counter
         → IsWellCounter (raised registry owner version) (raised_counter owner version counter)
     still_well_counter counter there is = record {
-      set = whole_still counter.owner counter.version is.set;
+      set = set_still counter.owner counter.version is.set;
       version = is.version;
       number = cond_both (is_of_set owner version counter) (counter.number + 1) counter.number (λ n. n ≤ COUNTER_LIMIT)
           (λ fits. (let names = names_of owner version counter fits in omega (arith, next counter there names.0 names.1)))

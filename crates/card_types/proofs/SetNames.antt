@@ -1,6 +1,6 @@
 -- The keys and the counter of a key set, in slots and by names.
 use Rattle.std.proofs.Common.{◌≡◌, inl, inr, ℕ, ◌≤◌, true, ◌==◌, ◌&&◌, List, ◌∷◌, [], Option, Some, refl, ap, sym, subst, ◌∙◌, arith}
-use Rattle.std.specs.Prelude.{Contains, MatchOption, length, nat_lt, slice_index_or}
+use Rattle.std.specs.Prelude.{Contains, IsSome, MatchOption, length, nat_lt, slice_index_or}
 use Rattle.std.specs.Ordering.{nat_cmp}
 use Rattle.std.specs.declared.cmp.Ordering.TheVariants.{Equal}
 use Rattle.std.proofs.lemmas.Bool.{and_from, and_parts, eq-eqb, eqb-true, lt-ltb}
@@ -14,12 +14,13 @@ use Rattle.card_types.specs.Registry as registry
 use Rattle.card_types.specs.Registry.{counter_named, key_named}
 use Rattle.card_types.specs.Represents.{Represents, counter_of, domain_aid, keeps_counter, key_of}
 use Rattle.card_types.specs.Slots.{held}
-use Rattle.card_types.specs.Well.{HasKeyNamed, IsKeyLength, IsWellCounter, IsWellKey, Well}
+use Rattle.card_types.specs.Well.{IsKeyLength, IsWellCounter, IsWellKey, Well}
 use Rattle.card_types.specs.declared.tables.Entry.{Entry}
 use Rattle.card_types.specs.declared.tables.KeyRec.{KeyRec}
 use Rattle.card_types.specs.declared.tables.Tables.{Tables}
 use Rattle.card_types.proofs.Domains.{key_owner_is_used, same_domain}
 use Rattle.card_types.proofs.KeyNames.{counter_order_total, counters_shown, key_order_total, keys_shown}
+use Rattle.card_types.proofs.SetMembers.{HasKeyNamed, key_there}
 use Rattle.card_types.proofs.SameAid.{aid_same_equal, aid_same_itself, same_aid_decides}
 use Rattle.card_types.proofs.Shows.{only_shown}
 
@@ -138,9 +139,9 @@ module _ (page : ℕ → List ℕ) (tables : Tables) (said : registry.Registry) 
         → (counter.version ≤ 0x6F) × ((slots : List ℕ) × HasKeys tables.keys.items owner counter.version slots)
     set_of_counter owner entry counter at there owned =
         let is : IsWellCounter said counter = All-contains (IsWellCounter said) said.counters counter well.counters there in
-        let first = slot_of_key owner entry counter.version 1 at (subst (λ (o : List ℕ). HasKeyNamed said o counter.version 1) owned is.set.first) in
-        let second = slot_of_key owner entry counter.version 2 at (subst (λ (o : List ℕ). HasKeyNamed said o counter.version 2) owned is.set.second) in
-        let third = slot_of_key owner entry counter.version 3 at (subst (λ (o : List ℕ). HasKeyNamed said o counter.version 3) owned is.set.third) in (
+        let first = slot_of_key owner entry counter.version 1 at (key_there said (domain_aid tables.entries.items owner) counter.version 1 (subst (λ (o : List ℕ). IsSome (key_named said o counter.version 1)) owned is.set.first)) in
+        let second = slot_of_key owner entry counter.version 2 at (key_there said (domain_aid tables.entries.items owner) counter.version 2 (subst (λ (o : List ℕ). IsSome (key_named said o counter.version 2)) owned is.set.second)) in
+        let third = slot_of_key owner entry counter.version 3 at (key_there said (domain_aid tables.entries.items owner) counter.version 3 (subst (λ (o : List ℕ). IsSome (key_named said o counter.version 3)) owned is.set.third)) in (
           omega (arith, is.version),
           (
             first.0 ∷ second.0 ∷ third.0 ∷ [],

@@ -6,10 +6,10 @@ use Rattle.card_types.specs.Aid.{IsAid}
 use Rattle.card_types.specs.AidOrder.{same_aid}
 use Rattle.card_types.specs.Hierarchy.{IsLine}
 use Rattle.card_types.specs.Privileges.{IsNamed, authorized_management, delegated_management, has, receipt_generation, token_verification}
-use Rattle.card_types.specs.Registry.{Registry, Entry, LoadFile, Key, Counter, Object, domain_of, entry_named, file_named, is_domain, keys_of}
+use Rattle.card_types.specs.Registry.{Registry, Entry, LoadFile, Key, Counter, Object, counter_named, domain_of, entry_named, file_named, is_domain, key_named, keys_of}
 use Rattle.card_types.specs.declared.factory.TheConstants.{ISSUER, FACTORY_FILE, FACTORY_MODULE}
 use Rattle.card_types.specs.declared.life.Life.{Life}
-use Rattle.card_types.specs.declared.life.Life.TheVariants.{Installed, Selectable, Personalized}
+use Rattle.card_types.specs.declared.life.Life.TheVariants.{Personalized}
 use Rattle.card_types.specs.declared.limits.TheConstants.{COUNTER_LIMIT, DOMAIN_KEYS, ENTRIES, FILES, FILE_LIMIT, KEYS, LOAD_PAGES, OBJECTS, RECEIPT_LIMIT}
 
 -- the AID is that of a security domain
@@ -40,9 +40,8 @@ pub record IsFactoryFile (file : LoadFile) : Type 0 where
 
 -- a domain alone is personalized
 abbrev pub has_life : Bool → Life → Bool
-has_life domain Installed = true
-has_life domain Selectable = true
 has_life domain Personalized = domain
+has_life domain life = true
 
 abbrev pub has_domain_privilege : Entry → Bool
 has_domain_privilege entry =
@@ -68,26 +67,12 @@ IsKeyName version identifier =
     ((0x01 ≤ version) × (version ≤ 0x6F) × (0x01 ≤ identifier) × (identifier ≤ 0x03))
     ⊎ (((version ≡ 0x70) ⊎ (version ≡ 0x71)) × (identifier ≡ 0x01))
 
--- the domain has a key of this key version number and key identifier, and a counter of this key version number
-pub record HasKeyNamed (registry : Registry) (owner : List ℕ) (version identifier : ℕ) : Type 0 where
-  pub key : Key
-  pub is_there : Contains registry.keys key
-  pub owner_is : key.owner ≡ owner
-  pub version_is : key.version ≡ version
-  pub identifier_is : key.identifier ≡ identifier
-
-pub record HasCounterOf (registry : Registry) (owner : List ℕ) (version : ℕ) : Type 0 where
-  pub counter : Counter
-  pub is_there : Contains registry.counters counter
-  pub owner_is : counter.owner ≡ owner
-  pub version_is : counter.version ≡ version
-
 -- the key set of this key version number is whole: its three keys and its counter
 pub record IsWholeSet (registry : Registry) (owner : List ℕ) (version : ℕ) : Type 0 where
-  pub first : HasKeyNamed registry owner version 1
-  pub second : HasKeyNamed registry owner version 2
-  pub third : HasKeyNamed registry owner version 3
-  pub counter : HasCounterOf registry owner version
+  pub first : IsSome (key_named registry owner version 1)
+  pub second : IsSome (key_named registry owner version 2)
+  pub third : IsSome (key_named registry owner version 3)
+  pub counter : IsSome (counter_named registry owner version)
 
 -- The data objects that a domain may have: Issuer Identification Number and Card Image Number (42, 45), key
 -- diversification data (CF), card data and card-specific data (66, 5F50).

@@ -3,7 +3,7 @@ use Rattle.std.proofs.Common.{ℕ, ◌≤◌, List, length}
 use Rattle.std.specs.Prelude.{All}
 use Rattle.std.proofs.lemmas.List.Elements.{All-weaker}
 use Rattle.card_types.specs.Registry.{Counter, Entry, Key, LoadFile, Object, Registry}
-use Rattle.card_types.specs.Well.{HasCounterOf, HasKeyNamed, IsWellCounter, IsWellEntry, IsWellFile, IsWellKey, IsWellObject, IsWholeSet, Well}
+use Rattle.card_types.specs.Well.{IsWellCounter, IsWellEntry, IsWellFile, IsWellKey, IsWellObject, IsWholeSet, Well}
 use Rattle.card_types.specs.declared.limits.TheConstants.{OBJECTS}
 use Rattle.policy_rules.specs.DataObjects.{with_data}
 
@@ -15,25 +15,8 @@ module _ (registry : Registry) (objects : List Object) where
   file_stays : (file : LoadFile) → IsWellFile registry file → IsWellFile (with_data registry objects) file
   file_stays file well = record { aid = well.aid; apart = well.apart; domain = well.domain; size = well.size }
 
-  named_stays : (owner : List ℕ) (version identifier : ℕ) → HasKeyNamed registry owner version identifier → HasKeyNamed (with_data registry objects) owner version identifier
-  named_stays owner version identifier has = record {
-    key = has.key;
-    is_there = has.is_there;
-    owner_is = has.owner_is;
-    version_is = has.version_is;
-    identifier_is = has.identifier_is;
-  }
-
-  counter_of_stays : (owner : List ℕ) (version : ℕ) → HasCounterOf registry owner version → HasCounterOf (with_data registry objects) owner version
-  counter_of_stays owner version has = record { counter = has.counter; is_there = has.is_there; owner_is = has.owner_is; version_is = has.version_is }
-
   set_stays : (owner : List ℕ) (version : ℕ) → IsWholeSet registry owner version → IsWholeSet (with_data registry objects) owner version
-  set_stays owner version whole = record {
-    first = named_stays owner version 1 whole.first;
-    second = named_stays owner version 2 whole.second;
-    third = named_stays owner version 3 whole.third;
-    counter = counter_of_stays owner version whole.counter;
-  }
+  set_stays owner version whole = record { first = whole.first; second = whole.second; third = whole.third; counter = whole.counter }
 
   key_stays : (key : Key) → IsWellKey registry key → IsWellKey (with_data registry objects) key
   key_stays key well = record {

@@ -15,6 +15,7 @@ use Rattle.card_types.proofs.KeyNames.{counter_order_total, key_order_total}
 use Rattle.card_types.proofs.Members.{contains_cases, filtered}
 use Rattle.card_types.proofs.NotAbove.{then_equal}
 use Rattle.card_types.proofs.SameAid.{aid_equal_same, same_aid_decides}
+use Rattle.card_types.proofs.SetMembers.{key_there}
 use Rattle.card_types.specs.AidOrder.{aid_order, same_aid}
 use Rattle.card_types.specs.Ascending.{IsAscending, counter_order, key_order}
 use Rattle.card_types.specs.Registry.{Counter, Key, Registry}
@@ -89,7 +90,7 @@ module _ (registry : Registry) (well : Well registry) (ascending : IsAscending r
             let clash : is_counter_numbered owner replaced counter ≡ true = subst (λ (v : ℕ). is_counter_numbered owner v counter ≡ true) same is in cc)
         | inr differs ↦
             (let none = free differs in
-            let first = (All-contains (IsWellCounter registry) registry.counters counter well.counters kept.0).set.first in
+            let first = key_there registry counter.owner counter.version 1 (All-contains (IsWellCounter registry) registry.counters counter well.counters kept.0).set.first in
             let key_is : is_key_numbered owner version first.key ≡ true = subst (λ (o : List ℕ). (same_aid o owner && first.key.version == version) ≡ true) (sym first.owner_is)
             (subst (λ (v : ℕ). (same_aid counter.owner owner && v == version) ≡ true) (sym first.version_is) is) in
             let some = any_there (is_key_numbered owner version) registry.keys first.key first.is_there key_is in cc)

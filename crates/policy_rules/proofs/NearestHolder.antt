@@ -5,17 +5,15 @@ use Rattle.std.specs.List.{list_any}
 use Rattle.std.proofs.lemmas.Bool.{and_parts, eq-eqb, eqb-true}
 use Rattle.card_types.proofs.Domains.{domain_aid_is}
 use Rattle.card_types.proofs.EntryNames.{entry_in_slot}
-use Rattle.card_types.proofs.LeastOfList.{found_fits}
-use Rattle.card_types.proofs.SameAid.{same_aid_decides}
+use Rattle.card_types.proofs.SetMembers.{key_found}
 use Rattle.card_types.proofs.SetNames.{has_from_held, has_key_named, slot_of_key}
-use Rattle.card_types.specs.AidOrder.{same_aid}
 use Rattle.card_types.specs.KeySets.{HasKey, IsKeyOf, is_key}
 use Rattle.card_types.specs.Privileges.{bits_of}
 use Rattle.card_types.specs.Registry as registry
 use Rattle.card_types.specs.Registry.{domain_of, entry_named, key_named}
 use Rattle.card_types.specs.Represents.{Represents, domain_aid, domain_slot, entry_of, key_of}
 use Rattle.card_types.specs.Slots.{held}
-use Rattle.card_types.specs.Well.{HasKeyNamed, Well}
+use Rattle.card_types.specs.Well.{Well}
 use Rattle.card_types.specs.declared.privileges.Privileges.{Privileges}
 use Rattle.card_types.specs.declared.tables.Entry.{Entry}
 use Rattle.card_types.specs.declared.tables.KeyRec.{KeyRec}
@@ -42,21 +40,6 @@ key_tested owner version identifier key is =
 key_of_name : (owner version identifier : ℕ) (key : KeyRec) → IsKeyOf owner version identifier key → is_key owner version identifier key ≡ true
 key_of_name owner version identifier key is =
     rw (eq-eqb key.owner owner is.same_owner, eq-eqb key.version version is.same_version, eq-eqb key.identifier identifier is.same_identifier) refl
-
--- a key that is found has its name
-name_found : (said : registry.Registry) (owner : List ℕ) (version identifier : ℕ) (key : registry.Key) → key_named said owner version identifier ≡ Some key
-    → HasKeyNamed said owner version identifier
-name_found said owner version identifier key named =
-    let found = found_fits (λ (k : registry.Key). same_aid k.owner owner && k.version == version && k.identifier == identifier) said.keys key named in
-    let outer = and_parts (same_aid key.owner owner && key.version == version) (key.identifier == identifier) found.1 in
-    let inner = and_parts (same_aid key.owner owner) (key.version == version) outer.0 in
-    record {
-      key = key;
-      is_there = found.0;
-      owner_is = (same_aid_decides key.owner owner).0 inner.0;
-      version_is = eqb-true key.version version inner.1;
-      identifier_is = eqb-true key.identifier identifier outer.1;
-    }
 
 -- a slot with a key of this name holds one
 held_key : (keys : List (Option KeyRec)) (owner version identifier slot : ℕ) → HasKey keys owner version identifier slot
@@ -108,7 +91,7 @@ module _ (page : ℕ → List ℕ) (tables : Tables) (said : registry.Registry) 
         by : (o : Option registry.Key) → key_named said (aid owner) version 1 ≡ o → is_some (key_named said (aid owner) version 1) ≡ false
         by None is = ap is_some is
         by (Some key) is =
-            (let named = name_found said (aid owner) version 1 key is in
+            (let named = key_found said (aid owner) version 1 key is in
             let there = slot_of_key page tables said says well owner entry version 1 at named in
             let held_there = held_key tables.keys.items owner version 1 there.0 there.1 in
             let passes = slot_passes (holds_lone_key owner version) tables.keys.items there.0 held_there.0 held_there.1 (key_of_name owner version 1 held_there.0 held_there.2) in

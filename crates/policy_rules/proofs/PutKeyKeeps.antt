@@ -5,10 +5,11 @@ use Rattle.std.proofs.lemmas.Bool.{and_from, cases_eq, cases_lt, eq-eqb, false�
 use Rattle.std.proofs.lemmas.List.Elements.{All-head, All-nil, All-cons, All-tail}
 use Rattle.card_types.proofs.Members.{contains_cases, contains_first, contains_later}
 use Rattle.card_types.proofs.SameAid.{same_aid_decides}
+use Rattle.card_types.proofs.SetMembers.{HasKeyNamed, whole_of}
 use Rattle.card_types.specs.AidOrder.{same_aid}
 use Rattle.card_types.specs.Ascending.{IsAscending, counter_order, key_order}
 use Rattle.card_types.specs.Registry.{Counter, Key, Registry}
-use Rattle.card_types.specs.Well.{HasKeyNamed, IsDomainNamed, IsKeyLength, IsKeyName, IsWellCounter, IsWellKey, IsWholeSet, Well}
+use Rattle.card_types.specs.Well.{IsDomainNamed, IsKeyLength, IsKeyName, IsWellCounter, IsWellKey, IsWholeSet, Well}
 use Rattle.card_types.specs.declared.limits.TheConstants.{DOMAIN_KEYS, KEYS}
 use Rattle.policy_rules.specs.Admission.{Admitted}
 use Rattle.policy_rules.specs.Arranged.{IsArranged}
@@ -141,17 +142,14 @@ module _ (registry : Registry) (well : Well registry) (owner : List ℕ) (domain
   whole : version < 0x70 → IsWholeSet after owner version
   whole below =
       let count = set_count version new versioned below in
-      record {
-        first = has_key 1 (omega arith) (omega arith);
-        second = has_key 2 (omega arith) (omega arith);
-        third = has_key 3 (omega arith) (omega arith);
-        counter = record {
-          counter = record { owner = owner; version = version; number = 0 };
-          is_there = counter_begun registry owner replaced added new_counters keys counters keys_put.same counters_put.same _ (begun_counter owner version below);
-          owner_is = refl;
-          version_is = refl;
-        };
-      }
+      whole_of after owner version
+      (has_key 1 (omega arith) (omega arith)) (has_key 2 (omega arith) (omega arith)) (has_key 3 (omega arith) (omega arith))
+      (record {
+        counter = record { owner = owner; version = version; number = 0 };
+        is_there = counter_begun registry owner replaced added new_counters keys counters keys_put.same counters_put.same _ (begun_counter owner version below);
+        owner_is = refl;
+        version_is = refl;
+      })
 
   added_is : (key : Key) → Contains added key → IsNewKey owner version 1 sizes.size new key
   added_is = new_key owner version 1 sizes.size new sizes.each

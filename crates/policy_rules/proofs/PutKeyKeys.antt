@@ -7,9 +7,10 @@ use Rattle.std.proofs.lemmas.List.Elements.{All-contains, All-contains_itself, A
 use Rattle.std.proofs.lemmas.List.Sorted.{Contains-permutation, IsPermutation-sym, length_permutation}
 use Rattle.card_types.proofs.Members.{contains_filter, filtered}
 use Rattle.card_types.proofs.SameAid.{same_aid_decides}
+use Rattle.card_types.proofs.SetMembers.{HasCounterOf, HasKeyNamed, whole_still}
 use Rattle.card_types.specs.AidOrder.{same_aid}
 use Rattle.card_types.specs.Registry.{Counter, Entry, Key, LoadFile, Object, Registry, keys_of}
-use Rattle.card_types.specs.Well.{HasCounterOf, HasKeyNamed, HasLengthOfSet, IsWellCounter, IsWellEntry, IsWellFile, IsWellKey, IsWellObject, IsWholeSet, Well}
+use Rattle.card_types.specs.Well.{HasLengthOfSet, IsWellCounter, IsWellEntry, IsWellFile, IsWellKey, IsWellObject, IsWholeSet, Well}
 use Rattle.card_types.specs.declared.limits.TheConstants.{DOMAIN_KEYS, KEYS}
 use Rattle.policy_rules.specs.KeyVersions.{counters_but, is_counter_numbered, is_key_numbered, keys_but, with_keys}
 use Rattle.policy_rules.proofs.Filtered.{as_many_pass, fewer_pass, most_pass, none_pass}
@@ -95,13 +96,8 @@ module _ (registry : Registry) (owner : List ℕ) (replaced : ℕ) (added : List
       version_is = has.version_is;
     }
 
-    whole_still : IsWholeSet registry domain version → IsWholeSet after domain version
-    whole_still set = record {
-      first = has_key_still 1 set.first;
-      second = has_key_still 2 set.second;
-      third = has_key_still 3 set.third;
-      counter = has_counter_still set.counter;
-    }
+    set_still : IsWholeSet registry domain version → IsWholeSet after domain version
+    set_still set = whole_still registry after domain version has_key_still has_counter_still set
 
   still_well_entry : (entry : Entry) → IsWellEntry registry entry → IsWellEntry after entry
   still_well_entry entry is = record { proper = is.proper; domain = is.domain; line = is.line; loaded = is.loaded }
@@ -121,11 +117,11 @@ module _ (registry : Registry) (owner : List ℕ) (replaced : ℕ) (added : List
       | inr kept ↦ is.size_of_set other kept.0 owned versioned
     ];
     name = is.name;
-    whole = λ below. whole_still key.owner key.version stays (is.whole below);
+    whole = λ below. set_still key.owner key.version stays (is.whole below);
   }
 
   still_well_counter : (counter : Counter) → is_counter_numbered owner replaced counter ≡ false → IsWellCounter registry counter → IsWellCounter after counter
-  still_well_counter counter other is = record { set = whole_still counter.owner counter.version other is.set; version = is.version; number = is.number }
+  still_well_counter counter other is = record { set = set_still counter.owner counter.version other is.set; version = is.version; number = is.number }
 
   -- with room for well keys of the domain, and for its well counters
   module _ (well : Well registry) (apart : AreApart) (keys_well : (key : Key) → Contains added key → IsWellKey after key)
