@@ -1,6 +1,4 @@
 -- What is around a card.
-use Rattle.std.specs.Prelude.{ℕ}
-use Rattle.io_edge.specs.Streams.{SinkState, SourceState}
 
 -- A source, a sink and a device, or one thing of each. `format`, `show` and `mill` read nothing, and have `tt` for a source.
 pub record Around (S K F : Type 0) : Type 0 where
@@ -10,7 +8,3 @@ pub record Around (S K F : Type 0) : Type 0 where
 
 abbrev pub around : {S K F : Type 0} → S → K → F → Around S K F
 around source sink flash = record { source = source; sink = sink; flash = flash }
-
--- The counts of faults of a source, a sink and a device.
-abbrev pub faults_of : SourceState → SinkState → ℕ → Around ℕ ℕ ℕ
-faults_of source sink device = around source.faults sink.faults device

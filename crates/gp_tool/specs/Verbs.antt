@@ -1,16 +1,15 @@
 -- How each verb ends. `source`, `sink` and `device` are what contracts see of a source, a sink and a device.
-use Rattle.std.specs.Prelude.{◌≡◌, ◌⊎◌, ℕ, ◌<◌, List, [], length}
+use Rattle.std.specs.Prelude.{◌≡◌, ◌⊎◌, ℕ, ◌<◌, List, length}
 use Rattle.std.specs.Str.Lines.{lines}
 use Rattle.card_types.specs.Registry.{Registry}
 use Rattle.faults.specs.Faults.{Rose}
 use Rattle.flash_core.specs.declared.flash.Flash.{Ghosts as Flash}
-use Rattle.io_edge.specs.Streams.{SourceState}
 use Rattle.io_edge.specs.declared.line.TheConstants.{INPUT_LIMIT}
 use Rattle.io_edge.specs.declared.sink.Sink.{Ghosts as Sink}
 use Rattle.io_edge.specs.declared.source.Source.{Ghosts as Source}
 use Rattle.policy_rules.specs.State.{State, powered_on}
 use Rattle.rec_store.specs.Reopens.{Reopens}
-use Rattle.gp_tool.specs.Around.{Around, faults_of}
+use Rattle.gp_tool.specs.Around.{Around, around}
 use Rattle.gp_tool.specs.Device.{HasFailed, HasRun, HoldsCard, IsNotPowered}
 use Rattle.gp_tool.specs.Ends.{EndCause, Ends, Flushes, exit_status, outside}
 use Rattle.gp_tool.specs.Formatted.{FormatEnds}
@@ -22,10 +21,10 @@ use Rattle.gp_tool.specs.declared.workload.Workload.{Workload}
 use Rattle.gp_tool.specs.declared.verb.Verb.{Verb}
 use Rattle.gp_tool.specs.declared.verb.Verb.TheVariants.{Replay, Play}
 
--- The status is that of an ending, with its cause and its flush.
-pub record HasEnded {S K F : Type 0} (sink : Sink K) (device : Flash F) (ending : Ending) (status : ℕ) (read read' : SourceState) (old new : Around S K F) : Type 0 where
+-- The status is that of an ending, with its cause and its flush. `reads` counts the faults of a source; where nothing is read it is 0.
+pub record HasEnded {S K F : Type 0} (sink : Sink K) (device : Flash F) (ending : Ending) (status : ℕ) (reads reads' : ℕ) (old new : Around S K F) : Type 0 where
   pub status_is : status ≡ exit_status ending
-  pub cause : EndCause ending (faults_of read (sink.state old.sink) (device.faults old.flash)) (faults_of read' (sink.state new.sink) (device.faults new.flash))
+  pub cause : EndCause ending (around reads (sink.state old.sink).faults (device.faults old.flash)) (around reads' (sink.state new.sink).faults (device.faults new.flash))
   pub flushes : Flushes sink.tells ending (sink.state old.sink) (sink.state new.sink)
 
 -- How a run from a first state ends that has processed so many commands. `Stands` holds of the state behind it, unless the
@@ -38,7 +37,7 @@ RunEnds verb source sink device Stands first ending count old new =
 -- A card was served from a first state, up to an ending.
 pub record Serves {S K F : Type 0} (verb : Verb) (source : Source S) (sink : Sink K) (device : Flash F) (Stands : State → Type 0) (first : State) (status count : ℕ) (old new : Around S K F) : Type 0 where
   pub ending : Ending
-  pub ended : HasEnded sink device ending status (source.state old.source) (source.state new.source) old new
+  pub ended : HasEnded sink device ending status (source.state old.source).faults (source.state new.source).faults old new
   pub ends : RunEnds verb source sink device Stands first ending count old new
 
 -- The card was powered on with a registry, and served.
@@ -73,15 +72,11 @@ abbrev pub Completes : {S K F : Type 0} → Verb → Source S → Sink K → Fla
 Completes verb source sink device status old new =
     source.tells → device.tells → HoldsCard device old.flash → IsGoodInput verb (source.state old.source).left → NoFault source sink device old new → IsDone verb status ⊎ (status ≡ 7)
 
--- a source that nothing is read from
-abbrev pub unread : SourceState
-unread = record { left = []; faults = 0 }
-
 -- no command is processed, and the device is the card as it leaves the factory unless it failed
 pub record EndsFormat {K F : Type 0} (sink : Sink K) (device : Flash F) (status count : ℕ) (old new : Around (Unit {0}) K F) : Type 0 where
   pub none : count ≡ 0
   pub ending : Ending
-  pub ended : HasEnded sink device ending status unread unread old new
+  pub ended : HasEnded sink device ending status 0 0 old new
   pub ends : FormatEnds device sink.tells ending new.flash (sink.state old.sink) (sink.state new.sink)
 
 -- The card was powered on with a registry, which was written, and the device keeps it.
@@ -89,7 +84,7 @@ pub record ShowsCard {K F : Type 0} (sink : Sink K) (device : Flash F) (status :
   pub registry : Registry
   pub reopens : device.tells → Reopens (device.pages old.flash) registry
   pub ending : Ending
-  pub ended : HasEnded sink device ending status unread unread old new
+  pub ended : HasEnded sink device ending status 0 0 old new
   pub ends : ShowEnds (device.tells × sink.tells) registry ending (sink.state old.sink) (sink.state new.sink)
   pub shown : HasShown device old.flash new.flash registry
 
@@ -102,7 +97,7 @@ EndsShow sink device status count old new =
 -- making the card too, nothing is written.
 pub record MillsCard {K F : Type 0} (work : Workload) (sink : Sink K) (device : Flash F) (status count : ℕ) (old new : Around (Unit {0}) K F) : Type 0 where
   pub ending : Ending
-  pub ended : HasEnded sink device ending status unread unread old new
+  pub ended : HasEnded sink device ending status 0 0 old new
   pub ends : MillEnds device sink.tells work ending new.flash count (sink.state old.sink) (sink.state new.sink)
 
 -- It was, or the card was not powered on, and the sink is what it was.

@@ -6,11 +6,11 @@ ghost use Rattle.card_types.specs.Factory.{factory_registry};
 ghost use Rattle.card_types.specs.Registry.{Registry};
 ghost use Rattle.faults.specs.Faults.{Rose};
 ghost use Rattle.policy_rules.specs.State.{powered_on};
-ghost use Rattle.gp_tool.specs.Around.{around, faults_of};
+ghost use Rattle.gp_tool.specs.Around.{around};
 ghost use Rattle.gp_tool.specs.Ends.{EndCause, Flushes};
 ghost use Rattle.gp_tool.specs.Formatted.{IsFactoryCard};
 ghost use Rattle.gp_tool.specs.Mill.{MillEnds};
-ghost use Rattle.gp_tool.specs.Verbs.{EndsMill, unread};
+ghost use Rattle.gp_tool.specs.Verbs.{EndsMill};
 
 use crate::card_end::CardEnd;
 use crate::ended::Ended;
@@ -33,7 +33,7 @@ fn mill_card<K: Sink, F: Flash>(work: Workload, end: &mut CardEnd<F>, sink: &mut
     ensures ends { (registry : Registry) → CardRepresents F.Flash end.old.card (powered_on registry) → (F.tells → registry ≡ factory_registry)
         → MillEnds F.Flash K.tells work result end.new.card.flash end.new.done (K.state sink.old) (K.state sink.new) }
     ensures flushes { Flushes K.tells result (K.state sink.old) (K.state sink.new) }
-    ensures cause { EndCause result (faults_of unread (K.state sink.old) (F.faults end.old.card.flash)) (faults_of unread (K.state sink.new) (F.faults end.new.card.flash)) }
+    ensures cause { EndCause result (around 0 (K.state sink.old).faults (F.faults end.old.card.flash)) (around 0 (K.state sink.new).faults (F.faults end.new.card.flash)) }
     ensures later { F.faults end.old.card.flash ≤ F.faults end.new.card.flash }
 {
     let ending = match mill_lines(work, end) {

@@ -3,7 +3,7 @@
 ghost use Rattle.std.specs.Prelude.{◌≡◌, ◌≢◌, ◌≤◌, ◌+◌, ℕ, None, true, IfNone, IfSome};
 ghost use Rattle.card_core.specs.Card.{CardRepresents};
 ghost use Rattle.policy_rules.specs.State.{State};
-ghost use Rattle.gp_tool.specs.Around.{Around, around, faults_of};
+ghost use Rattle.gp_tool.specs.Around.{Around, around};
 ghost use Rattle.gp_tool.specs.AtMost.{IsAtMost};
 ghost use Rattle.gp_tool.specs.Ends.{EndCause, Flushes, outside};
 ghost use Rattle.gp_tool.specs.Flush.{AfterFlush};
@@ -70,8 +70,8 @@ fn take_turn<S: Source, K: Sink, F: Flash>(
     ensures flushes { (K.state sink.new).flushes ≡ (K.state sink.old).flushes }
     ensures quiet { IfNone result (((S.state source.new).faults ≡ (S.state source.old).faults) × ((K.state sink.new).faults ≡ (K.state sink.old).faults)) }
     ensures later { F.faults end.old.card.flash ≤ F.faults end.new.card.flash }
-    ensures cause { IfSome result (λ ending. EndCause ending
-        (faults_of (S.state source.old) (K.state sink.old) (F.faults end.old.card.flash)) (faults_of (S.state source.new) (K.state sink.new) (F.faults end.new.card.flash))) }
+    ensures cause { IfSome result (λ ending. RunCause S.Source K.Sink F.Flash ending
+        (around source.old sink.old end.old.card.flash) (around source.new sink.new end.new.card.flash)) }
 {
     match lines.next_line(source) {
         Ok(line) => match serve_line(verb, line.number, line.text, end, differs, space, sink) {

@@ -6,11 +6,11 @@ ghost use Rattle.faults.specs.Faults.{Rose};
 ghost use Rattle.page_journal.specs.Moments.{LeavesOnly};
 ghost use Rattle.policy_rules.specs.State.{State};
 ghost use Rattle.rec_store.specs.Reopens.{Reopens};
-ghost use Rattle.gp_tool.specs.Around.{around, faults_of};
+ghost use Rattle.gp_tool.specs.Around.{around};
 ghost use Rattle.gp_tool.specs.Device.{HoldsCard};
 ghost use Rattle.gp_tool.specs.Ends.{EndCause, Flushes};
 ghost use Rattle.gp_tool.specs.Shown.{ShowEnds};
-ghost use Rattle.gp_tool.specs.Verbs.{EndsShow, unread};
+ghost use Rattle.gp_tool.specs.Verbs.{EndsShow};
 
 use crate::ended::Ended;
 use crate::ending::Ending;
@@ -25,7 +25,7 @@ use std::alloc::Global;
 // Writes the registry of a card, and hands it on.
 fn show_card<K: Sink, F: Flash>(card: &mut Card<F>, sink: &mut K) -> Ending
     requires live { card.old.live ≡ true }
-    ensures cause { EndCause result (faults_of unread (K.state sink.old) (F.faults card.old.flash)) (faults_of unread (K.state sink.new) (F.faults card.new.flash)) }
+    ensures cause { EndCause result (around 0 (K.state sink.old).faults (F.faults card.old.flash)) (around 0 (K.state sink.new).faults (F.faults card.new.flash)) }
     ensures flushes { Flushes K.tells result (K.state sink.old) (K.state sink.new) }
     ensures ends { (state : State) → CardRepresents F.Flash card.old state
         → ShowEnds (F.tells × K.tells) state.registry result (K.state sink.old) (K.state sink.new) }

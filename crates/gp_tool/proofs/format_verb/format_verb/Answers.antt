@@ -1,8 +1,7 @@
 use Rattle.std.proofs.Common.{refl, inl}
 use Rattle.gp_tool.proofs.Flush.{flushed}
 use Rattle.gp_tool.proofs.FormatEnding.{format_done, format_failed}
-use Rattle.gp_tool.specs.Around.{faults_of}
-use Rattle.gp_tool.specs.Verbs.{unread}
+use Rattle.gp_tool.specs.Around.{around}
 use Rattle.gp_tool.proofs.format_verb.format_verb.Goals as goal
 use Rattle.gp_tool.proofs.format_verb.format_verb.Goals.{in-Ok, in-Err}
 
@@ -12,7 +11,7 @@ returns-clause-format g c =
     let K = g.K.Sink in
     let end = c.flush_at_end in
     let before = K.state c.args.sink.now in
-    let faults = faults_of unread before (F.faults c.args.flash) in
+    let faults = around 0 before.faults (F.faults c.args.flash) in
     let cause = end.ensures.cause faults 0 (F.faults c.format.new.flash) in
     let flushes = flushed K.tells c.match-format.ending end.result before (K.state end.new.sink) end.ensures.ending in
     elim c.match-format.branch [
