@@ -58,6 +58,7 @@ pub fn judge(
         → IsRequestOf request.now passed.command → passed.command.ins ≡ LOAD → IsFirst (LoadFails passed) front_rules result }
     ensures elsewhere { (command : Apdu) → IsRequestOf request.now command → command.ins ≡ EXTERNAL_AUTHENTICATE → result ≡ None }
 {
+    let domain = live.selected[usize::from(channel)].unwrap();
     match request {
         Request::Select { partial } => match judge_select(tables, partial) {
             Ok(_) => None,
@@ -68,15 +69,11 @@ pub fn judge(
             Err(rule) => Some(Rule::MC(rule)),
         },
         Request::LessChannel { .. } => None,
-        Request::Get { tag } => {
-            let domain = live.selected[usize::from(channel)].unwrap();
-            match judge_get_data(tables, domain, *tag) {
-                Ok(_) => None,
-                Err(rule) => Some(Rule::GD(rule)),
-            }
-        }
+        Request::Get { tag } => match judge_get_data(tables, domain, *tag) {
+            Ok(_) => None,
+            Err(rule) => Some(Rule::GD(rule)),
+        },
         Request::Initialize { version, .. } => {
-            let domain = live.selected[usize::from(channel)].unwrap();
             match judge_initialize_update(tables, domain, *version) {
                 Ok(_) => None,
                 Err(rule) => Some(rule),
@@ -87,55 +84,21 @@ pub fn judge(
             replaced,
             version,
             keys,
-        } => {
-            let domain = live.selected[usize::from(channel)].unwrap();
-            judge_put_key(tables, domain, *replaced, *version, keys, checks_fit).err()
-        }
-        Request::Store { objects } => {
-            let domain = live.selected[usize::from(channel)].unwrap();
-            judge_store_data(tables, domain, objects).err()
-        }
+        } => judge_put_key(tables, domain, *replaced, *version, keys, checks_fit).err(),
+        Request::Store { objects } => judge_store_data(tables, domain, objects).err(),
         Request::DeleteKey {
             version,
             identifier,
-        } => {
-            let domain = live.selected[usize::from(channel)].unwrap();
-            judge_delete_key(tables, domain, *version, *identifier).err()
-        }
-        Request::DeleteObject(request) => {
-            let domain = live.selected[usize::from(channel)].unwrap();
-            judge_deletion(tables, live, domain, request).err()
-        }
-        Request::Install(request) => {
-            let domain = live.selected[usize::from(channel)].unwrap();
-            judge_install(tables, live, domain, request).err()
-        }
-        Request::MakeSelectable(request) => {
-            let domain = live.selected[usize::from(channel)].unwrap();
-            judge_selectable(tables, domain, request).err()
-        }
-        Request::Extradite(request) => {
-            let domain = live.selected[usize::from(channel)].unwrap();
-            judge_extradition(tables, domain, request).err()
-        }
-        Request::BeginLoad(request) => {
-            let domain = live.selected[usize::from(channel)].unwrap();
-            judge_load_install(tables, live, domain, request).err()
-        }
-        Request::CardStatus { code } => {
-            let domain = live.selected[usize::from(channel)].unwrap();
-            judge_card_status(tables, domain, *code).err()
-        }
-        Request::EntryStatus(request) => {
-            let domain = live.selected[usize::from(channel)].unwrap();
-            judge_entry_status(tables, domain, request).err()
-        }
-        Request::Load(request) => {
-            let domain = live.selected[usize::from(channel)].unwrap();
-            judge_load(tables, live, channel, domain, request).err()
-        }
+        } => judge_delete_key(tables, domain, *version, *identifier).err(),
+        Request::DeleteObject(request) => judge_deletion(tables, live, domain, request).err(),
+        Request::Install(request) => judge_install(tables, live, domain, request).err(),
+        Request::MakeSelectable(request) => judge_selectable(tables, domain, request).err(),
+        Request::Extradite(request) => judge_extradition(tables, domain, request).err(),
+        Request::BeginLoad(request) => judge_load_install(tables, live, domain, request).err(),
+        Request::CardStatus { code } => judge_card_status(tables, domain, *code).err(),
+        Request::EntryStatus(request) => judge_entry_status(tables, domain, request).err(),
+        Request::Load(request) => judge_load(tables, live, channel, domain, request).err(),
         Request::ListStatus(request) => {
-            let domain = live.selected[usize::from(channel)].unwrap();
             let place = live.places[usize::from(channel)].as_ref();
             judge_status(tables, place, domain, request).err()
         }

@@ -79,16 +79,16 @@ returns-in-Err-judge_get_data-clause-judged c page admitted says sound here requ
 pub returns-in-Ok-judge_initialize_update-clause-judged : goal.returns-in-Ok-judge_initialize_update-clause-judged
 returns-in-Ok-judge_initialize_update-clause-judged c page admitted says sound here request behind checks =
     let asked = rw c.in-Initialize.is at request in
-    let is : slice_index_or c.args.live.now.selected c.args.channel None ≡ Some c.unwrap-domain-in-Initialize.result = search rules in
-    let acts = selected_acts page c.args.tables.now c.args.live.now admitted c.args.channel c.unwrap-domain-in-Initialize.result says sound c.requires.channel is here in
+    let is : slice_index_or c.args.live.now.selected c.args.channel None ≡ Some c.unwrap-domain.result = search rules in
+    let acts = selected_acts page c.args.tables.now c.args.live.now admitted c.args.channel c.unwrap-domain.result says sound c.requires.channel is here in
     offer_judged admitted None asked.form
     (c.in-Ok-judge_initialize_update.ensures.passed page admitted acts asked.means.0)
 
 pub returns-in-Err-judge_initialize_update-clause-judged : goal.returns-in-Err-judge_initialize_update-clause-judged
 returns-in-Err-judge_initialize_update-clause-judged c page admitted says sound here request behind checks =
     let asked = rw c.in-Initialize.is at request in
-    let is : slice_index_or c.args.live.now.selected c.args.channel None ≡ Some c.unwrap-domain-in-Initialize.result = search rules in
-    let acts = selected_acts page c.args.tables.now c.args.live.now admitted c.args.channel c.unwrap-domain-in-Initialize.result says sound c.requires.channel is here in
+    let is : slice_index_or c.args.live.now.selected c.args.channel None ≡ Some c.unwrap-domain.result = search rules in
+    let acts = selected_acts page c.args.tables.now c.args.live.now admitted c.args.channel c.unwrap-domain.result says sound c.requires.channel is here in
     offer_judged admitted (Some c.in-Err-judge_initialize_update.rule) asked.form
     (c.in-Err-judge_initialize_update.ensures.refused page admitted acts asked.means.0)
 
@@ -100,8 +100,8 @@ returns-in-Authenticate-clause-judged c page admitted says sound here request be
 pub returns-in-PutKey-clause-judged : goal.returns-in-PutKey-clause-judged
 returns-in-PutKey-clause-judged c page admitted says sound here request behind checks =
     let asked = rw c.in-PutKey.is at request in
-    let is : slice_index_or c.args.live.now.selected c.args.channel None ≡ Some c.unwrap-domain-in-PutKey.result = search rules in
-    let acts = selected_acts page c.args.tables.now c.args.live.now admitted c.args.channel c.unwrap-domain-in-PutKey.result says sound c.requires.channel is here in
+    let is : slice_index_or c.args.live.now.selected c.args.channel None ≡ Some c.unwrap-domain.result = search rules in
+    let acts = selected_acts page c.args.tables.now c.args.live.now admitted c.args.channel c.unwrap-domain.result says sound c.requires.channel is here in
     put_judged admitted _ asked.form
     (rw c.err.ensures.value (by_err (λ found. IsFirst (PutKeyFails admitted) put_rules found) c.judge_put_key.result
     (c.judge_put_key.ensures.passed page admitted acts asked (checks asked.form.0)) (c.judge_put_key.ensures.refused page admitted acts asked (checks asked.form.0))))
@@ -109,16 +109,16 @@ returns-in-PutKey-clause-judged c page admitted says sound here request behind c
 pub returns-in-Store-clause-judged : goal.returns-in-Store-clause-judged
 returns-in-Store-clause-judged c page admitted says sound here request behind checks =
     let asked = rw c.in-Store.is at request in
-    let is : slice_index_or c.args.live.now.selected c.args.channel None ≡ Some c.unwrap-domain-in-Store.result = search rules in
-    let acts = selected_acts page c.args.tables.now c.args.live.now admitted c.args.channel c.unwrap-domain-in-Store.result says sound c.requires.channel is here in
+    let is : slice_index_or c.args.live.now.selected c.args.channel None ≡ Some c.unwrap-domain.result = search rules in
+    let acts = selected_acts page c.args.tables.now c.args.live.now admitted c.args.channel c.unwrap-domain.result says sound c.requires.channel is here in
     rw c.err-in-Store.ensures.value (by_err (Judges admitted) c.judge_store_data.result
     (c.judge_store_data.ensures.passed page admitted acts asked) (c.judge_store_data.ensures.refused page admitted acts asked))
 
 pub returns-in-DeleteKey-clause-judged : goal.returns-in-DeleteKey-clause-judged
 returns-in-DeleteKey-clause-judged c page admitted says sound here request behind checks =
     let asked = rw c.in-DeleteKey.is at request in
-    let is : slice_index_or c.args.live.now.selected c.args.channel None ≡ Some c.unwrap-domain-in-DeleteKey.result = search rules in
-    let acts = selected_acts page c.args.tables.now c.args.live.now admitted c.args.channel c.unwrap-domain-in-DeleteKey.result says sound c.requires.channel is here in
+    let is : slice_index_or c.args.live.now.selected c.args.channel None ≡ Some c.unwrap-domain.result = search rules in
+    let acts = selected_acts page c.args.tables.now c.args.live.now admitted c.args.channel c.unwrap-domain.result says sound c.requires.channel is here in
     rw c.err-in-DeleteKey.ensures.value (by_err (Judges admitted) c.judge_delete_key.result
     (c.judge_delete_key.ensures.passed page admitted acts asked) (c.judge_delete_key.ensures.refused page admitted acts asked))
 
@@ -130,8 +130,8 @@ judge_deletion-requires-clause-short c =
 pub returns-in-DeleteObject-clause-judged : goal.returns-in-DeleteObject-clause-judged
 returns-in-DeleteObject-clause-judged c page admitted says sound here request behind checks =
     let asked = rw c.in-DeleteObject.is at request in
-    let is : slice_index_or c.args.live.now.selected c.args.channel None ≡ Some c.unwrap-domain-in-DeleteObject.result = search rules in
-    let acts = selected_acts page c.args.tables.now c.args.live.now admitted c.args.channel c.unwrap-domain-in-DeleteObject.result says sound c.requires.channel is here in
+    let is : slice_index_or c.args.live.now.selected c.args.channel None ≡ Some c.unwrap-domain.result = search rules in
+    let acts = selected_acts page c.args.tables.now c.args.live.now admitted c.args.channel c.unwrap-domain.result says sound c.requires.channel is here in
     judged delete_object (λ holds here. inr (inl here)) admitted asked.form refl _
     (rw c.err-in-DeleteObject.ensures.value (by_err (λ found. IsFirst (DeleteObjectFails admitted) delete_object_rules found) c.judge_deletion.result
     (c.judge_deletion.ensures.passed page admitted acts says sound.fits.channels asked.means)
@@ -145,8 +145,8 @@ judge_install-requires-clause-short c =
 pub returns-in-Install-clause-judged : goal.returns-in-Install-clause-judged
 returns-in-Install-clause-judged c page admitted says sound here request behind checks =
     let asked = rw c.in-Install.is at request in
-    let is : slice_index_or c.args.live.now.selected c.args.channel None ≡ Some c.unwrap-domain-in-Install.result = search rules in
-    let acts = selected_acts page c.args.tables.now c.args.live.now admitted c.args.channel c.unwrap-domain-in-Install.result says sound c.requires.channel is here in
+    let is : slice_index_or c.args.live.now.selected c.args.channel None ≡ Some c.unwrap-domain.result = search rules in
+    let acts = selected_acts page c.args.tables.now c.args.live.now admitted c.args.channel c.unwrap-domain.result says sound c.requires.channel is here in
     judged install_application (λ holds here. inl here) admitted asked.form refl _
     (rw c.err-in-Install.ensures.value (by_err (λ found. IsFirst (InstallFails admitted) install_rules found) c.judge_install.result
     (c.judge_install.ensures.passed page admitted acts says.load asked.means) (c.judge_install.ensures.refused page admitted acts says.load asked.means)))
@@ -159,8 +159,8 @@ judge_selectable-requires-clause-short c =
 pub returns-in-MakeSelectable-clause-judged : goal.returns-in-MakeSelectable-clause-judged
 returns-in-MakeSelectable-clause-judged c page admitted says sound here request behind checks =
     let asked = rw c.in-MakeSelectable.is at request in
-    let is : slice_index_or c.args.live.now.selected c.args.channel None ≡ Some c.unwrap-domain-in-MakeSelectable.result = search rules in
-    let acts = selected_acts page c.args.tables.now c.args.live.now admitted c.args.channel c.unwrap-domain-in-MakeSelectable.result says sound c.requires.channel is here in
+    let is : slice_index_or c.args.live.now.selected c.args.channel None ≡ Some c.unwrap-domain.result = search rules in
+    let acts = selected_acts page c.args.tables.now c.args.live.now admitted c.args.channel c.unwrap-domain.result says sound c.requires.channel is here in
     judged make_selectable (λ holds here. inr (inl here)) admitted asked.form refl _
     (rw c.err-in-MakeSelectable.ensures.value (by_err (λ found. IsFirst (MakeSelectableFails admitted) selectable_rules found) c.judge_selectable.result
     (c.judge_selectable.ensures.passed page admitted acts asked.means) (c.judge_selectable.ensures.refused page admitted acts asked.means)))
@@ -173,8 +173,8 @@ judge_extradition-requires-clause-short c =
 pub returns-in-Extradite-clause-judged : goal.returns-in-Extradite-clause-judged
 returns-in-Extradite-clause-judged c page admitted says sound here request behind checks =
     let asked = rw c.in-Extradite.is at request in
-    let is : slice_index_or c.args.live.now.selected c.args.channel None ≡ Some c.unwrap-domain-in-Extradite.result = search rules in
-    let acts = selected_acts page c.args.tables.now c.args.live.now admitted c.args.channel c.unwrap-domain-in-Extradite.result says sound c.requires.channel is here in
+    let is : slice_index_or c.args.live.now.selected c.args.channel None ≡ Some c.unwrap-domain.result = search rules in
+    let acts = selected_acts page c.args.tables.now c.args.live.now admitted c.args.channel c.unwrap-domain.result says sound c.requires.channel is here in
     judged extradition (λ holds here. inr (inr (inl here))) admitted asked.form refl _
     (rw c.err-in-Extradite.ensures.value (by_err (λ found. IsFirst (ExtraditionFails admitted) extradition_rules found) c.judge_extradition.result
     (c.judge_extradition.ensures.passed page admitted acts asked.means) (c.judge_extradition.ensures.refused page admitted acts asked.means)))
@@ -187,8 +187,8 @@ judge_load_install-requires-clause-short c =
 pub returns-in-BeginLoad-clause-judged : goal.returns-in-BeginLoad-clause-judged
 returns-in-BeginLoad-clause-judged c page admitted says sound here request behind checks =
     let asked = rw c.in-BeginLoad.is at request in
-    let is : slice_index_or c.args.live.now.selected c.args.channel None ≡ Some c.unwrap-domain-in-BeginLoad.result = search rules in
-    let acts = selected_acts page c.args.tables.now c.args.live.now admitted c.args.channel c.unwrap-domain-in-BeginLoad.result says sound c.requires.channel is here in
+    let is : slice_index_or c.args.live.now.selected c.args.channel None ≡ Some c.unwrap-domain.result = search rules in
+    let acts = selected_acts page c.args.tables.now c.args.live.now admitted c.args.channel c.unwrap-domain.result says sound c.requires.channel is here in
     load_install_judged admitted _ asked.form
     (rw c.err-in-BeginLoad.ensures.value (by_err (λ found. IsFirst (InstallLoadFails admitted) install_load_rules found) c.judge_load_install.result
     (c.judge_load_install.ensures.passed page admitted acts says.load asked.means) (c.judge_load_install.ensures.refused page admitted acts says.load asked.means)))
@@ -196,8 +196,8 @@ returns-in-BeginLoad-clause-judged c page admitted says sound here request behin
 pub returns-in-CardStatus-clause-judged : goal.returns-in-CardStatus-clause-judged
 returns-in-CardStatus-clause-judged c page admitted says sound here request behind checks =
     let asked = rw c.in-CardStatus.is at request in
-    let is : slice_index_or c.args.live.now.selected c.args.channel None ≡ Some c.unwrap-domain-in-CardStatus.result = search rules in
-    let acts = selected_acts page c.args.tables.now c.args.live.now admitted c.args.channel c.unwrap-domain-in-CardStatus.result says sound c.requires.channel is here in
+    let is : slice_index_or c.args.live.now.selected c.args.channel None ≡ Some c.unwrap-domain.result = search rules in
+    let acts = selected_acts page c.args.tables.now c.args.live.now admitted c.args.channel c.unwrap-domain.result says sound c.requires.channel is here in
     let means : IsCardStatusOf c.in-CardStatus.code admitted.command = record { parameters = asked.form.1; code_is = asked.means } in
     judged card_status (λ holds here. inl here) admitted asked.form refl _
     (rw c.err-in-CardStatus.ensures.value (by_err (λ found. IsFirst (CardStatusFails admitted) card_status_rules found) c.judge_card_status.result
@@ -206,8 +206,8 @@ returns-in-CardStatus-clause-judged c page admitted says sound here request behi
 pub returns-in-EntryStatus-clause-judged : goal.returns-in-EntryStatus-clause-judged
 returns-in-EntryStatus-clause-judged c page admitted says sound here request behind checks =
     let asked = rw c.in-EntryStatus.is at request in
-    let is : slice_index_or c.args.live.now.selected c.args.channel None ≡ Some c.unwrap-domain-in-EntryStatus.result = search rules in
-    let acts = selected_acts page c.args.tables.now c.args.live.now admitted c.args.channel c.unwrap-domain-in-EntryStatus.result says sound c.requires.channel is here in
+    let is : slice_index_or c.args.live.now.selected c.args.channel None ≡ Some c.unwrap-domain.result = search rules in
+    let acts = selected_acts page c.args.tables.now c.args.live.now admitted c.args.channel c.unwrap-domain.result says sound c.requires.channel is here in
     judged entry_status (λ holds here. inr (inl here)) admitted asked.form refl _
     (rw c.err-in-EntryStatus.ensures.value (by_err (λ found. IsFirst (EntryStatusFails admitted) entry_status_rules found) c.judge_entry_status.result
     (c.judge_entry_status.ensures.passed page admitted acts asked.means) (c.judge_entry_status.ensures.refused page admitted acts asked.means)))
@@ -221,7 +221,7 @@ pub returns-in-ListStatus-clause-listed : goal.returns-in-ListStatus-clause-list
 returns-in-ListStatus-clause-listed c page admitted says sound here before request ins =
     let asked = rw c.in-ListStatus.is at request in
     let tables = c.args.tables.now in
-    let slot = c.unwrap-domain-in-ListStatus.result in
+    let slot = c.unwrap-domain.result in
     let at : slice_index_or c.args.live.now.selected c.args.channel None ≡ Some slot = search rules in
     let on = selected_entry page tables c.args.live.now admitted.before c.args.channel slot says c.requires.channel at in
     let acts : ActsIn page tables slot admitted = record {
@@ -233,7 +233,7 @@ returns-in-ListStatus-clause-listed c page admitted says sound here before reque
     } in
     let four : length c.args.live.now.places ≡ CHANNELS = search rules in
     let copied : option_copied c.as_ref-place.result ≡ slice_index_or c.args.live.now.places c.args.channel None =
-    c.as_ref-place.ensures.value ∙ ap (λ (n : ℕ). slice_index_or c.args.live.now.places n c.index-live-from.result) c.from-in-ListStatus-2.ensures
+    c.as_ref-place.ensures.value ∙ ap (λ (n : ℕ). slice_index_or c.args.live.now.places n c.index-live-from.result) c.from-in-ListStatus.ensures
     ∙ get_or_default c.args.live.now.places c.args.channel c.index-live-from.result None (subst (λ (n : ℕ). c.args.channel < n) (sym four) c.requires.channel) in
     let place : IsPlaceBefore (option_copied c.as_ref-place.result) admitted =
     ap (option_map place_of) copied ∙ says.places c.args.channel c.requires.channel ∙ ap (λ (n : ℕ). place_in (channel_at admitted.before.volatile n)) here in
@@ -249,8 +249,8 @@ returns-in-Load-clause-judged c page admitted says sound here request behind che
 pub returns-in-Load-clause-numbered : goal.returns-in-Load-clause-numbered
 returns-in-Load-clause-numbered c page admitted says sound here request ins =
     let asked = rw c.in-Load.is at request in
-    let is : slice_index_or c.args.live.now.selected c.args.channel None ≡ Some c.unwrap-domain-in-Load.result = search rules in
-    let acts = selected_acts page c.args.tables.now c.args.live.now admitted c.args.channel c.unwrap-domain-in-Load.result says sound c.requires.channel is here in
+    let is : slice_index_or c.args.live.now.selected c.args.channel None ≡ Some c.unwrap-domain.result = search rules in
+    let acts = selected_acts page c.args.tables.now c.args.live.now admitted c.args.channel c.unwrap-domain.result says sound c.requires.channel is here in
     let is_for : IsForLoad c.args.tables.now c.args.live.now.load c.args.channel admitted = record { named = says.load; on = here } in
     rw c.err-in-Load.ensures.value (by_err (λ found. IsFirst (LoadFails admitted) front_rules found) c.judge_load.result
     (c.judge_load.ensures.passed page admitted acts is_for asked.means) (c.judge_load.ensures.refused page admitted acts is_for asked.means))
