@@ -5,6 +5,7 @@ use Rattle.card_types.specs.Aid.{IsAid}
 use Rattle.card_types.specs.Found.{aid_of}
 use Rattle.card_types.specs.Hierarchy.{IsLine}
 use Rattle.card_types.specs.KeySets.{HasKey, HasKeys}
+use Rattle.card_types.specs.Layout.{HasSlots}
 use Rattle.card_types.specs.Privileges.{IsNamed, authorized_management, delegated_management, has, receipt_generation, security_domain, token_verification}
 use Rattle.card_types.specs.Represents.{domain_slot, keeps_counter}
 use Rattle.card_types.specs.Slots.{held}
@@ -13,7 +14,7 @@ use Rattle.card_types.specs.declared.factory.TheConstants.{ISSUER, FACTORY_FILE,
 use Rattle.card_types.specs.declared.found.Found.{Found}
 use Rattle.card_types.specs.declared.found.Found.TheVariants as found
 use Rattle.card_types.specs.declared.life.Life.TheVariants.{Personalized}
-use Rattle.card_types.specs.declared.limits.TheConstants.{COUNTER_LIMIT, DOMAIN_KEYS, ENTRIES, FILES, KEYS, OBJECTS, RECEIPT_LIMIT}
+use Rattle.card_types.specs.declared.limits.TheConstants.{COUNTER_LIMIT, DOMAIN_KEYS, RECEIPT_LIMIT}
 use Rattle.card_types.specs.declared.privileges.Privileges.{Privileges}
 use Rattle.card_types.specs.declared.tables.Entry.{Entry}
 use Rattle.card_types.specs.declared.tables.KeyRec.{KeyRec}
@@ -22,13 +23,6 @@ use Rattle.card_types.specs.declared.tables.Object.{Object}
 use Rattle.card_types.specs.declared.tables.Tables.{Tables}
 use Rattle.card_check.specs.EachSlot.{EachSlot}
 use Rattle.card_check.specs.LoadPages.{HaveLoadPages}
-
--- there are as many slots as a card has
-pub record HasRoom (tables : Tables) : Type 0 where
-  pub entries : length tables.entries.items ≡ ENTRIES
-  pub files : length tables.files.items ≡ FILES
-  pub keys : length tables.keys.items ≡ KEYS
-  pub objects : length tables.objects.items ≡ OBJECTS
 
 -- the slot holds a security domain
 abbrev pub IsDomainSlot : List (Option Entry) → ℕ → Type 0
@@ -133,7 +127,7 @@ pub record IsFactoryLoadFile (file : LoadFile) : Type 0 where
 
 -- the slots are those of a card
 pub record HasCardSlots (tables : Tables) : Type 0 where
-  pub room : HasRoom tables
+  pub room : HasSlots tables
   pub issuer : MatchOption (held tables.entries.items 0) ⊥ IsIssuerEntry
   pub factory_file : MatchOption (held tables.files.items 0) ⊥ IsFactoryLoadFile
   pub entries : EachSlot tables.entries.items (IsCardEntry tables)

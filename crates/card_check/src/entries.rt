@@ -1,7 +1,8 @@
 //! What is asked of an application or a security domain.
 
 ghost use Rattle.std.specs.Prelude.{◌≡◌, ◌↔◌, IsTrue};
-ghost use Rattle.card_check.specs.CardSlots.{HasKind, HasRights, HasRoom, IsCardEntry, has_domain_right as has_domain_right_of};
+ghost use Rattle.card_check.specs.CardSlots.{HasKind, HasRights, IsCardEntry, has_domain_right as has_domain_right_of};
+ghost use Rattle.card_types.specs.Layout.{HasSlots};
 ghost use Rattle.card_check.specs.EachSlot.{EachSlot};
 ghost use Rattle.card_types.specs.Privileges.{IsNamed};
 
@@ -14,14 +15,14 @@ use card_types::{Entry, FACTORY_MODULE, Found, Life, Privileges, RECEIPT_LIMIT, 
 
 /// Whether every entry is one that a card may have.
 pub fn has_card_entries(tables: &Tables) -> bool
-    requires { HasRoom tables.now }
+    requires { HasSlots tables.now }
     ensures { IsTrue result ↔ EachSlot tables.now.entries.items (IsCardEntry tables.now) }
 {
     all_admitted(&tables.entries, tables)
 }
 
 impl Asks<Entry> for Tables {
-    ghost ready = { HasRoom };
+    ghost ready = { HasSlots };
 
     ghost admits = { IsCardEntry };
 

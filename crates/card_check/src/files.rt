@@ -1,7 +1,8 @@
 //! What is asked of an Executable Load File.
 
 ghost use Rattle.std.specs.Prelude.{◌↔◌, IsTrue};
-ghost use Rattle.card_check.specs.CardSlots.{HasRoom, IsCardFile};
+ghost use Rattle.card_check.specs.CardSlots.{IsCardFile};
+ghost use Rattle.card_types.specs.Layout.{HasSlots};
 ghost use Rattle.card_check.specs.EachSlot.{EachSlot};
 
 use crate::domains::is_domain;
@@ -12,14 +13,14 @@ use card_types::{Found, LoadFile, Tables};
 
 /// Whether every Executable Load File is one that a card may have, but for the pages that it names.
 pub fn has_card_files(tables: &Tables) -> bool
-    requires { HasRoom tables.now }
+    requires { HasSlots tables.now }
     ensures { IsTrue result ↔ EachSlot tables.now.files.items (IsCardFile tables.now) }
 {
     all_admitted(&tables.files, tables)
 }
 
 impl Asks<LoadFile> for Tables {
-    ghost ready = { HasRoom };
+    ghost ready = { HasSlots };
 
     ghost admits = { IsCardFile };
 

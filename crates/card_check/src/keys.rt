@@ -2,7 +2,8 @@
 
 ghost use Rattle.std.specs.Prelude.{◌≡◌, ◌↔◌, ℕ, ◌<◌, ◌≤◌, List, IsTrue, true, length};
 ghost use Rattle.std.specs.List.{count_by};
-ghost use Rattle.card_check.specs.CardSlots.{HasOtherLength, HasRoom, HaveLength, IsCardKey, is_key_of as is_key_by};
+ghost use Rattle.card_check.specs.CardSlots.{HasOtherLength, HaveLength, IsCardKey, is_key_of as is_key_by};
+ghost use Rattle.card_types.specs.Layout.{HasSlots};
 ghost use Rattle.card_check.specs.EachSlot.{EachSlot};
 ghost use Rattle.card_types.specs.KeySets.{HasKey, HasKeys};
 ghost use Rattle.card_types.specs.Slots.{held};
@@ -25,14 +26,14 @@ const RECEIPT_KEY: u8 = 0x71;
 
 /// Whether every key is one that a card may have.
 pub fn has_card_keys(tables: &Tables) -> bool
-    requires { HasRoom tables.now }
+    requires { HasSlots tables.now }
     ensures { IsTrue result ↔ EachSlot tables.now.keys.items (IsCardKey tables.now) }
 {
     all_admitted(&tables.keys, tables)
 }
 
 impl Asks<KeyRec> for Tables {
-    ghost ready = { HasRoom };
+    ghost ready = { HasSlots };
 
     ghost admits = { IsCardKey };
 

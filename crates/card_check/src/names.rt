@@ -1,14 +1,15 @@
 //! AIDs, of which no two are the same.
 
 ghost use Rattle.std.specs.Prelude.{◌≡◌, ◌≢◌, ◌↔◌, IsTrue, Some};
-ghost use Rattle.card_check.specs.CardSlots.{HasRoom, IsAlone};
+ghost use Rattle.card_check.specs.CardSlots.{IsAlone};
+ghost use Rattle.card_types.specs.Layout.{HasSlots};
 ghost use Rattle.card_types.specs.Found.{aid_of};
 
 use card_types::{ENTRIES, FILES, Found, Tables, in_slot};
 
 /// Whether nothing in another slot than this one has the AID with these bytes.
 pub fn is_alone(tables: &Tables, this: Found, aid: &[u8]) -> bool
-    requires { HasRoom tables.now }
+    requires { HasSlots tables.now }
     ensures { IsTrue result ↔ IsAlone tables.now this aid.now }
 {
     for slot in 0..ENTRIES as u8 {

@@ -1,7 +1,8 @@
 //! What is asked of a data object.
 
 ghost use Rattle.std.specs.Prelude.{◌≡◌, ◌↔◌, ℕ, IsTrue, length};
-ghost use Rattle.card_check.specs.CardSlots.{HasObject, HasRoom, IsCardObject};
+ghost use Rattle.card_check.specs.CardSlots.{HasObject, IsCardObject};
+ghost use Rattle.card_types.specs.Layout.{HasSlots};
 ghost use Rattle.card_check.specs.EachSlot.{EachSlot};
 ghost use Rattle.card_types.specs.Well.{IsObject};
 ghost use Rattle.card_types.specs.declared.limits.TheConstants.{OBJECTS};
@@ -27,14 +28,14 @@ const CARD_SPECIFIC: u16 = 0x5F50;
 
 /// Whether every data object is one that a card may have.
 pub fn has_card_objects(tables: &Tables) -> bool
-    requires { HasRoom tables.now }
+    requires { HasSlots tables.now }
     ensures { IsTrue result ↔ EachSlot tables.now.objects.items (IsCardObject tables.now) }
 {
     all_admitted(&tables.objects, tables)
 }
 
 impl Asks<Object> for Tables {
-    ghost ready = { HasRoom };
+    ghost ready = { HasSlots };
 
     ghost admits = { IsCardObject };
 

@@ -1,7 +1,8 @@
 //! The slots that there are, and what is in the first ones.
 
 ghost use Rattle.std.specs.Prelude.{◌↔◌, IsTrue, MatchOption};
-ghost use Rattle.card_check.specs.CardSlots.{HasRoom, IsFactoryLoadFile, IsIssuerEntry};
+ghost use Rattle.card_check.specs.CardSlots.{IsFactoryLoadFile, IsIssuerEntry};
+ghost use Rattle.card_types.specs.Layout.{HasSlots};
 ghost use Rattle.card_types.specs.Slots.{held};
 
 use card_types::{
@@ -14,7 +15,7 @@ pub const FACTORY_SLOT: u8 = 0;
 
 /// Whether there are as many slots as a card has.
 pub fn has_room(tables: &Tables) -> bool
-    ensures { IsTrue result ↔ HasRoom tables.now }
+    ensures { IsTrue result ↔ HasSlots tables.now }
 {
     tables.entries.len() == ENTRIES
         && tables.files.len() == FILES

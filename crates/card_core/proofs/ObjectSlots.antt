@@ -1,12 +1,11 @@
 -- The slots of data objects, before and after one is put.
-use Rattle.std.proofs.Common.{◌≡◌, inl, inr, ℕ, suc, ◌+◌, ◌/◌, ◌<◌, ◌≤◌, Bool, true, false, ◌||◌, ◌&&◌, ◌==◌, List, [], ◌∷◌, length, Option, None, Some, refl, ap, sym, subst, ◌∙◌, arith}
-use Rattle.std.specs.Prelude.{Contains, not, slice_set}
+use Rattle.std.proofs.Common.{◌≡◌, inl, inr, ℕ, suc, ◌+◌, ◌<◌, ◌≤◌, Bool, true, false, ◌||◌, ◌&&◌, ◌==◌, List, [], ◌∷◌, length, Option, None, Some, refl, ap, sym, subst, ◌∙◌, arith}
+use Rattle.std.specs.Prelude.{not, slice_set}
 use Rattle.std.specs.List.{cons_option, list_any}
 use Rattle.std.specs.List.Sorted.{IsPermutation}
 use Rattle.std.proofs.lemmas.Bool.{and_parts, cases_eq, eq-eqb, eqb-true, false_from_ne_true, ne_eqb}
 use Rattle.std.proofs.lemmas.List.{get_or-set_same, length-set}
 use Rattle.std.proofs.lemmas.List.Folds.{list_any_at}
-use Rattle.std.proofs.lemmas.List.FromFn.{get_or-range_with_len}
 use Rattle.std.proofs.lemmas.List.Sorted.{length_permutation, list_any-IsPermutation}
 use Rattle.bertlv.specs.Spelling.{Element}
 use Rattle.card_types.proofs.ChangedSlot.{set_shown}
@@ -18,8 +17,7 @@ use Rattle.card_types.specs.declared.tables.Object.{Object}
 use Rattle.key_sets.proofs.Stays.{any_used}
 use Rattle.policy_rules.proofs.NewTags.{count_if, first_new, with_tag}
 use Rattle.policy_rules.specs.ObjectsFound.{has_object_in, has_tag_in, is_tagged_in, new_tags}
-use Rattle.rec_store.specs.Places.{object_page}
-use Rattle.card_core.specs.ObjectsPut.{IsSlotFor, object_pages, object_with}
+use Rattle.card_core.specs.ObjectsPut.{IsSlotFor, object_with}
 
 -- where no slot has one, there is none
 pub none_tagged : (owner tag : ℕ) (slots : List (Option Object)) → NoneFits (λ object. is_tagged_in owner tag (Some object)) slots → has_object_in slots owner tag ≡ false
@@ -128,9 +126,3 @@ room_first slots owner element elements room new =
     let first = first_new (has_object_in slots owner) element elements in
     let one = ap (λ (b : Bool). count_if (not b)) new in
     omega (arith, first, one, room)
-
--- the page of a slot is one of those with data objects
-pub among_pages : (slot : ℕ) → slot < OBJECTS → Contains object_pages (object_page slot)
-among_pages slot low =
-    let within : slot / 2 < 8 = omega (arith, low) in
-    (slot / 2, within, get_or-range_with_len 37 8 (slot / 2) (object_page slot) within)

@@ -1,16 +1,11 @@
 -- Data objects that are put in slots.
 use Rattle.std.specs.Prelude.{◌≡◌, ◌⊎◌, ℕ, ◌<◌, List, Option, None, Some, true, false}
-use Rattle.std.specs.List.{range_with_len}
 use Rattle.card_types.specs.SlotChange.{SetsObject}
 use Rattle.card_types.specs.Slots.{held}
 use Rattle.card_types.specs.declared.limits.TheConstants.{OBJECTS}
 use Rattle.card_types.specs.declared.tables.Object.{Object}
 use Rattle.card_types.specs.declared.tables.Tables.{Tables}
 use Rattle.policy_rules.specs.ObjectsFound.{has_object_in, is_tagged_in}
-
--- the store pages with the slots of data objects
-abbrev pub object_pages : List ℕ
-object_pages = range_with_len 37 8
 
 -- the slot has the data object of this domain with this tag, or it is free and there is no such object
 pub record IsSlotFor (slots : List (Option Object)) (owner tag slot : ℕ) : Type 0 where

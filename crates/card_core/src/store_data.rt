@@ -4,7 +4,8 @@ ghost use Rattle.std.specs.Prelude.{◌≡◌, ◌<◌, ◌≤◌, ℕ, List, []
 ghost use Rattle.card_core.specs.Domains.{is_domain_in};
 ghost use Rattle.card_core.specs.Kept.{AreCards};
 ghost use Rattle.card_core.specs.Manages.{Manages};
-ghost use Rattle.card_core.specs.ObjectsPut.{IsSlotFor, PutsObject, object_pages, object_with};
+ghost use Rattle.card_core.specs.ObjectsPut.{IsSlotFor, PutsObject, object_with};
+ghost use Rattle.registry.specs.Pages.{object_pages};
 ghost use Rattle.card_types.specs.Represents.{used};
 ghost use Rattle.card_types.specs.declared.limits.TheConstants.{OBJECTS};
 ghost use Rattle.policy_rules.specs.Admission.{Admitted};

@@ -12,6 +12,14 @@ use Rattle.card_types.specs.declared.tables.TheConstants.{ISSUER_SLOT}
 abbrev pub HasIssuer : List (Option Entry) → Type 0
 HasIssuer entries = MatchOption (held entries ISSUER_SLOT) ⊥ (λ entry. entry.aid ≡ ISSUER)
 
+-- there is a slot for each thing that a card has room for
+pub record HasSlots (tables : Tables) : Type 0 where
+  pub entries : length tables.entries.items ≡ ENTRIES
+  pub files : length tables.files.items ≡ FILES
+  pub keys : length tables.keys.items ≡ KEYS
+  pub objects : length tables.objects.items ≡ OBJECTS
+
+-- and the Issuer Security Domain is in its own
 pub record HasLayout (tables : Tables) : Type 0 where
   pub entries : length tables.entries.items ≡ ENTRIES
   pub files : length tables.files.items ≡ FILES

@@ -1,5 +1,6 @@
 -- Things in the first slots of tables.
 use Rattle.std.specs.Prelude.{◌≡◌, ℕ, ◌≤◌, List, Option, length}
+use Rattle.card_types.specs.Layout.{HasSlots}
 use Rattle.card_types.specs.Slots.{held}
 use Rattle.card_types.specs.declared.card_life.CardLife.{CardLife}
 use Rattle.card_types.specs.declared.limits.TheConstants.{ENTRIES, FILES, KEYS, OBJECTS}
@@ -8,7 +9,6 @@ use Rattle.card_types.specs.declared.tables.KeyRec.{KeyRec}
 use Rattle.card_types.specs.declared.tables.LoadFile.{LoadFile}
 use Rattle.card_types.specs.declared.tables.Object.{Object}
 use Rattle.card_types.specs.declared.tables.Tables.{Tables}
-use Rattle.rec_store.specs.StoredTables.{HasSlots}
 
 -- tables have a slot for each of them
 pub record HaveRoom (entry_list : List (Option Entry)) (file_list : List (Option LoadFile)) (key_list : List (Option KeyRec)) (object_list : List (Option Object)) : Type 0 where

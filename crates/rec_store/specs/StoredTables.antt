@@ -1,6 +1,7 @@
 -- The tables that store pages hold.
-use Rattle.std.specs.Prelude.{◌≡◌, ℕ, ◌+◌, ◌*◌, ◌/◌, ◌<◌, List, Option, All, length}
+use Rattle.std.specs.Prelude.{ℕ, ◌+◌, ◌*◌, ◌/◌, ◌<◌, List, Option, All}
 use Rattle.card_check.specs.IsCard.{IsInLoadPages}
+use Rattle.card_types.specs.Layout.{HasSlots}
 use Rattle.card_types.specs.Represents.{used}
 use Rattle.card_types.specs.Slots.{held}
 use Rattle.card_types.specs.declared.limits.TheConstants.{ENTRIES, FILES, KEYS, OBJECTS}
@@ -21,13 +22,6 @@ AreHeld holds slot count things = (i : ℕ) → i < count → holds (slot i) (he
 -- a page holds the things of its slots, as the page with this number of those
 abbrev pub HoldsPage : {T : Type 0} → (List ℕ → Option T → Type 0) → ℕ → List ℕ → ℕ → List (Option T) → Type 0
 HoldsPage holds size page number things = (place : ℕ) → place < 256 / size → holds (slot_at page size place) (held things (number * (256 / size) + place))
-
--- there is a place for each slot
-pub record HasSlots (tables : Tables) : Type 0 where
-  pub entries : length tables.entries.items ≡ ENTRIES
-  pub files : length tables.files.items ≡ FILES
-  pub keys : length tables.keys.items ≡ KEYS
-  pub objects : length tables.objects.items ≡ OBJECTS
 
 -- the store pages hold these tables, in this layout
 pub record HoldsTables (layout : Layout) (store : ℕ → List ℕ) (tables : Tables) : Type 0 where

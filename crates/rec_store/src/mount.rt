@@ -13,7 +13,8 @@ ghost use Rattle.rec_store.specs.Contents.{CardFails, IsUnwritten, OpenFails, Sl
 ghost use Rattle.rec_store.specs.EntrySlot.{HasThreeBytes};
 ghost use Rattle.rec_store.specs.Reopens.{AreSpare, IsAtRest, IsInLayout, Keeps, Reopens, ReopensAsOne, load_page, store_page};
 ghost use Rattle.rec_store.specs.Reading.{IsRead};
-ghost use Rattle.rec_store.specs.StoredTables.{AreRoomy, HasSlots, HoldsTables};
+ghost use Rattle.card_types.specs.Layout.{HasSlots};
+ghost use Rattle.rec_store.specs.StoredTables.{AreRoomy, HoldsTables};
 ghost use Rattle.rec_store.specs.declared.store_layout.Layout.{Layout as LayoutOf};
 ghost use Rattle.rec_store.specs.declared.store_layout.Layout.TheVariants.{Third};
 

@@ -22,7 +22,7 @@ among_key_pages slot low =
     let within : slot / 4 < 12 = omega (arith, low) in
     (slot / 4, within, get_or-range_with_len 25 12 (slot / 4) (key_page slot) within)
 
-among_object_pages : (slot : ℕ) → slot < OBJECTS → Contains object_pages (object_page slot)
+pub among_object_pages : (slot : ℕ) → slot < OBJECTS → Contains object_pages (object_page slot)
 among_object_pages slot low =
     let within : slot / 2 < 8 = omega (arith, low) in
     (slot / 2, within, get_or-range_with_len 37 8 (slot / 2) (object_page slot) within)

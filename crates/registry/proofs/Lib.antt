@@ -1,5 +1,5 @@
 mod Added
-mod Frames
+pub mod Frames
 pub mod Freed
 mod Locked
 mod Marking

@@ -2,7 +2,7 @@
 
 ghost use Rattle.std.specs.Prelude.{◌≤◌, IfOk, IfErr, OnOk, length};
 ghost use Rattle.card_types.specs.First.{IsFirstFree};
-ghost use Rattle.rec_store.specs.StoredTables.{HasSlots};
+ghost use Rattle.card_types.specs.Layout.{HasSlots};
 ghost use Rattle.registry.specs.Adding.{NoneHas, PlaceFails};
 
 use crate::refusal::AddRefusal;

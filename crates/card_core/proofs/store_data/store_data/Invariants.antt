@@ -4,7 +4,7 @@ use Rattle.bertlv.specs.Spelling.{AreElements, Element}
 use Rattle.card_types.specs.Well.{IsObject}
 use Rattle.rec_store.specs.Room.{HasRoomFor}
 use Rattle.card_core.proofs.ObjectsPut.{ArePut, SameButObjects}
-use Rattle.card_core.specs.ObjectsPut.{object_pages}
+use Rattle.registry.specs.Pages.{object_pages}
 use Rattle.card_core.proofs.store_data.store_data.Given as goal
 
 abbrev pub invariant-loop-element : goal.invariant-loop-element
