@@ -1,13 +1,13 @@
 -- In a list in strictly ascending order the first that fits is the least that fits, and no two are alike.
-use Rattle.std.proofs.Common.{◌≡◌, ◌≢◌, inl, inr, ℕ, ◌≤◌, Bool, true, false, cond, List, [], ◌∷◌, None, Some, refl, ap, sym, subst, ◌∙◌, arith}
-use Rattle.std.specs.Prelude.{Contains, map, find}
+use Rattle.std.proofs.Common.{◌≡◌, ◌≢◌, inl, inr, ℕ, ◌≤◌, Bool, true, false, cond, List, [], ◌∷◌, Option, None, Some, refl, ap, sym, subst, ◌∙◌, arith}
+use Rattle.std.specs.Prelude.{Contains, IsSome, map, find}
 use Rattle.std.specs.List.{AllByRecursion, sum_by}
 use Rattle.std.specs.List.Sorted.{IsStrictlySortedBy}
 use Rattle.std.specs.Cmp.{IsTotalOrder}
 use Rattle.std.specs.Ordering.{is_eq, on, ordering_reverse}
 use Rattle.std.specs.declared.cmp.Ordering.{Ordering}
 use Rattle.std.specs.declared.cmp.Ordering.TheVariants.{Less, Equal, Greater}
-use Rattle.std.proofs.lemmas.Bool.{cases_Bool}
+use Rattle.std.proofs.lemmas.Bool.{cases_Bool, false≢true}
 use Rattle.std.proofs.lemmas.Cmp.{tied_back, tied_itself}
 use Rattle.std.proofs.lemmas.List.Elements.{All-from_recursion, All-contains}
 use Rattle.std.proofs.lemmas.List.Sums.{sum_by-cons}
@@ -50,6 +50,21 @@ module _ {X : Type 0} where
       | inr later ↦ none_fits p ys (sym (find_later p z ys misfit) ∙ none) y later fits
     ]
   ]
+
+  -- one that fits is found, and where something is found it is a member that fits
+  pub some_found : (p : X → Bool) (ys : List X) (y : X) → Contains ys y → p y ≡ true → IsSome (find p ys)
+  some_found p ys y there fits = by (find p ys) refl
+    where
+      by : (o : Option X) → find p ys ≡ o → IsSome o
+      by (Some x) found = refl
+      by None none = absurd (none_fits p ys none y there fits)
+
+  pub found_some : (p : X → Bool) (ys : List X) → IsSome (find p ys) → (x : X) × Contains ys x × (p x ≡ true)
+  found_some p ys some = by (find p ys) refl some
+    where
+      by : (o : Option X) → find p ys ≡ o → IsSome o → (x : X) × Contains ys x × (p x ≡ true)
+      by None none is = absurd (false≢true is)
+      by (Some x) found is = (let fits = found_fits p ys x found in (x, fits.0, fits.1))
 
 untied : (o : Ordering) → o ≢ Equal → ◌≡◌ {A = ℕ} (cond (is_eq o) 1 0) 0
 untied Less other = refl

@@ -1,11 +1,11 @@
 -- The keys and the sequence counter of a key set that is whole, as members of the registry.
-use Rattle.std.proofs.Common.{◌≡◌, ℕ, true, ◌==◌, ◌&&◌, List, Option, None, Some, refl}
-use Rattle.std.specs.Prelude.{Contains, IsSome, is_some}
-use Rattle.std.proofs.lemmas.Bool.{and_from, and_parts, eq-eqb, eqb-true, false≢true}
+use Rattle.std.proofs.Common.{◌≡◌, ℕ, Bool, true, ◌==◌, ◌&&◌, List, Some}
+use Rattle.std.specs.Prelude.{Contains, IsSome}
+use Rattle.std.proofs.lemmas.Bool.{and_from, and_parts, eq-eqb, eqb-true}
 use Rattle.card_types.specs.AidOrder.{same_aid}
 use Rattle.card_types.specs.Registry.{Counter, Key, Registry, counter_named, key_named}
 use Rattle.card_types.specs.Well.{IsWholeSet}
-use Rattle.card_types.proofs.LeastOfList.{found_fits, none_fits}
+use Rattle.card_types.proofs.LeastOfList.{found_fits, found_some, some_found}
 use Rattle.card_types.proofs.SameAid.{same_aid_decides}
 
 module _ (registry : Registry) (owner : List ℕ) (version : ℕ) where
@@ -24,60 +24,47 @@ module _ (registry : Registry) (owner : List ℕ) (version : ℕ) where
     pub owner_is : counter.owner ≡ owner
     pub version_is : counter.version ≡ version
 
-  pub key_found : (identifier : ℕ) (key : Key) → key_named registry owner version identifier ≡ Some key → HasKeyNamed identifier
-  key_found identifier key named =
-      let found = found_fits (λ (k : Key). same_aid k.owner owner && k.version == version && k.identifier == identifier) registry.keys key named in
-      let outer = and_parts (same_aid key.owner owner && key.version == version) (key.identifier == identifier) found.1 in
+  abbrev is_key : ℕ → Key → Bool
+  is_key identifier key = same_aid key.owner owner && key.version == version && key.identifier == identifier
+
+  key_of_name : (identifier : ℕ) (key : Key) → Contains registry.keys key → is_key identifier key ≡ true → HasKeyNamed identifier
+  key_of_name identifier key there fits =
+      let outer = and_parts (same_aid key.owner owner && key.version == version) (key.identifier == identifier) fits in
       let inner = and_parts (same_aid key.owner owner) (key.version == version) outer.0 in
       record {
         key = key;
-        is_there = found.0;
+        is_there = there;
         owner_is = (same_aid_decides key.owner owner).0 inner.0;
         version_is = eqb-true key.version version inner.1;
         identifier_is = eqb-true key.identifier identifier outer.1;
       }
 
+  pub key_found : (identifier : ℕ) (key : Key) → key_named registry owner version identifier ≡ Some key → HasKeyNamed identifier
+  key_found identifier key named = (let found = found_fits (is_key identifier) registry.keys key named in key_of_name identifier key found.0 found.1)
+
   pub key_there : (identifier : ℕ) → IsSome (key_named registry owner version identifier) → HasKeyNamed identifier
-  key_there identifier some = by (key_named registry owner version identifier) refl some
-    where
-      by : (o : Option Key) → key_named registry owner version identifier ≡ o → is_some o ≡ true → HasKeyNamed identifier
-      by None none is = absurd (false≢true is)
-      by (Some key) named is = key_found identifier key named
+  key_there identifier some = (let found = found_some (is_key identifier) registry.keys some in key_of_name identifier found.0 found.1 found.2)
 
   pub key_is_named : (identifier : ℕ) → HasKeyNamed identifier → IsSome (key_named registry owner version identifier)
-  key_is_named identifier has = by (key_named registry owner version identifier) refl
-    where
-      by : (o : Option Key) → key_named registry owner version identifier ≡ o → is_some o ≡ true
-      by (Some key) named = refl
-      by None none =
-          absurd (none_fits (λ (k : Key). same_aid k.owner owner && k.version == version && k.identifier == identifier) registry.keys none has.key has.is_there
-          (and_from (same_aid has.key.owner owner && has.key.version == version) (has.key.identifier == identifier)
-          (and_from (same_aid has.key.owner owner) (has.key.version == version) ((same_aid_decides has.key.owner owner).1 has.owner_is) (eq-eqb has.key.version version has.version_is))
-          (eq-eqb has.key.identifier identifier has.identifier_is)))
+  key_is_named identifier has =
+      some_found (is_key identifier) registry.keys has.key has.is_there
+      (and_from (same_aid has.key.owner owner && has.key.version == version) (has.key.identifier == identifier)
+      (and_from (same_aid has.key.owner owner) (has.key.version == version) ((same_aid_decides has.key.owner owner).1 has.owner_is) (eq-eqb has.key.version version has.version_is))
+      (eq-eqb has.key.identifier identifier has.identifier_is))
+
+  abbrev is_counter : Counter → Bool
+  is_counter counter = same_aid counter.owner owner && counter.version == version
 
   pub counter_there : IsSome (counter_named registry owner version) → HasCounterOf
-  counter_there some = by (counter_named registry owner version) refl some
-    where
-      by : (o : Option Counter) → counter_named registry owner version ≡ o → is_some o ≡ true → HasCounterOf
-      by None none is = absurd (false≢true is)
-      by (Some counter) named is =
-          (let found = found_fits (λ (c : Counter). same_aid c.owner owner && c.version == version) registry.counters counter named in
-          let parts = and_parts (same_aid counter.owner owner) (counter.version == version) found.1 in
-          record {
-            counter = counter;
-            is_there = found.0;
-            owner_is = (same_aid_decides counter.owner owner).0 parts.0;
-            version_is = eqb-true counter.version version parts.1;
-          })
+  counter_there some =
+      let found = found_some is_counter registry.counters some in
+      let parts = and_parts (same_aid found.0.owner owner) (found.0.version == version) found.2 in
+      record { counter = found.0; is_there = found.1; owner_is = (same_aid_decides found.0.owner owner).0 parts.0; version_is = eqb-true found.0.version version parts.1 }
 
   pub counter_is_named : HasCounterOf → IsSome (counter_named registry owner version)
-  counter_is_named has = by (counter_named registry owner version) refl
-    where
-      by : (o : Option Counter) → counter_named registry owner version ≡ o → is_some o ≡ true
-      by (Some counter) named = refl
-      by None none =
-          absurd (none_fits (λ (c : Counter). same_aid c.owner owner && c.version == version) registry.counters none has.counter has.is_there
-          (and_from (same_aid has.counter.owner owner) (has.counter.version == version) ((same_aid_decides has.counter.owner owner).1 has.owner_is) (eq-eqb has.counter.version version has.version_is)))
+  counter_is_named has =
+      some_found is_counter registry.counters has.counter has.is_there
+      (and_from (same_aid has.counter.owner owner) (has.counter.version == version) ((same_aid_decides has.counter.owner owner).1 has.owner_is) (eq-eqb has.counter.version version has.version_is))
 
   -- these make a set whole
   pub whole_of : HasKeyNamed 1 → HasKeyNamed 2 → HasKeyNamed 3 → HasCounterOf → IsWholeSet registry owner version
