@@ -1,5 +1,8 @@
 //! The slots of each kind of thing, and their bytes.
 
+ghost use Rattle.std.specs.Prelude.{◌≡◌, ◌+◌, ◌-◌, ◌<◌, ◌++◌, ◌∷◌, [], length, take, OnOk, OnErr};
+ghost use Rattle.cases.specs.declared.layout.slot.TheConstants.{ZEROS};
+
 use crate::case_error::CaseError;
 use crate::things::Name;
 use arrayvec::ArrayVec;
@@ -49,6 +52,8 @@ impl Slots {
     }
 }
 
+const ZEROS: [u8; 256] = [0; 256];
+
 /// The bytes of a slot.
 pub type Slot = ArrayVec<u8, 256>;
 
@@ -61,22 +66,28 @@ pub fn slot_of(names: &[Name], name: &Name) -> Result<u8, CaseError> {
     u8::try_from(slot).map_err(|_| CaseError::NoRegistry)
 }
 
-pub fn push(slot: &mut Slot, bytes: &[u8]) -> Result<(), CaseError> {
+/// Pushes bytes behind those that are there.
+pub fn push(slot: &mut Slot, bytes: &[u8]) -> Result<(), CaseError>
+    ensures ok { OnOk result (slot.new.items ≡ slot.old.items ++ bytes.now) }
+    ensures err { OnErr result ((slot.new ≡ slot.old) × (256 < length slot.old.items + length bytes.now)) }
+{
     slot.try_extend_from_slice(bytes)
         .map_err(|_| CaseError::NoRegistry)
 }
 
 /// Pushes bytes, and zeros up to this count.
-pub fn push_padded(slot: &mut Slot, bytes: &[u8], count: usize) -> Result<(), CaseError> {
+pub fn push_padded(slot: &mut Slot, bytes: &[u8], count: usize) -> Result<(), CaseError>
+    ensures ok { OnOk result (slot.new.items ≡ slot.old.items ++ bytes.now ++ take (count - length bytes.now) ZEROS) }
+{
+    let padding = count.saturating_sub(bytes.len());
     push(slot, bytes)?;
-    for _ in bytes.len()..count {
-        push(slot, &[0])?;
-    }
-    Ok(())
+    push(slot, ZEROS.get(..padding).ok_or(CaseError::NoRegistry)?)
 }
 
 /// Pushes the length of a name, and the name in 16 bytes.
-pub fn push_name(slot: &mut Slot, name: &Name) -> Result<(), CaseError> {
+pub fn push_name(slot: &mut Slot, name: &Name) -> Result<(), CaseError>
+    ensures ok { OnOk result (slot.new.items ≡ (slot.old.items ++ length name.now.items ∷ []) ++ name.now.items ++ take (16 - length name.now.items) ZEROS) }
+{
     push(slot, &[name.len() as u8])?;
     push_padded(slot, name, 16)
 }
