@@ -8,11 +8,11 @@ use crate::page::{PAGES, Page};
 use std::fs::{File, Files, OpenOptions};
 use std::io::{self, ErrorKind};
 use std::marker::Model;
-use std::os::unix::fs::FileExt;
+use std::os::unix::fs::{FileExt, OpenOptionsExt};
 
 /// The pages of a file, one after another. What lies past the file's end reads as zeros. The file is opened at the
-/// first call, or made at the first write, and kept open with an exclusive lock as long as the device lives. Any
-/// refusal of a file call is a counted fault, and so is a lock that another open of the file holds.
+/// first call, or made for its owner alone at the first write, and kept open with an exclusive lock as long as the
+/// device lives. Any refusal of a file call is a counted fault, and so is a lock that another open of the file holds.
 ///
 /// Its content is not known: that the file follows the device model is a premise. A program that writes the same
 /// file and takes no lock is outside it.
@@ -91,12 +91,17 @@ fn open_there<R: Files<File = File>>(rt: &R, path: &str) -> io::Result<Kept> {
     }
 }
 
-// Makes the file that was not there. One that has bytes by now is another program's.
+// Makes the file that was not there, for its owner alone, since a card has keys in plain. One that has bytes by now is
+// another program's.
 fn make<R: Files<File = File>>(rt: &R, path: &str) -> io::Result<File> {
     let made = open_locked(
         rt,
         path,
-        OpenOptions::new().read(true).write(true).create(true),
+        OpenOptions::new()
+            .read(true)
+            .write(true)
+            .create(true)
+            .mode(0o600),
     )?;
     if made.metadata()?.len() > 0 {
         return Err(io::Error::from(ErrorKind::AlreadyExists));

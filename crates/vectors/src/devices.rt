@@ -9,6 +9,7 @@ use flash_core::{FileFlash, Flash, FlashFailed, FuseFlash, MemFlash, OnceFlash, 
 use recorded::{Call, RecordedFlash};
 use std::alloc::Global;
 use std::fs::{self, File, Files};
+use std::os::unix::fs::MetadataExt;
 use std::test::Fail;
 
 fn filled(byte: u8) -> Page {
@@ -139,6 +140,17 @@ fn a_file_keeps_its_pages(rt: HostRuntime) -> Result<(), Fail> {
     let _ = fs::remove_file(&rt, "flash.img");
     assert!(rt; keeps_pages(&rt, "flash.img") == Ok([0, 9, 0]));
     assert!(rt; keeps_pages(&rt, "no/such/folder/flash.img") == Err(FlashFailed));
+    Ok(())
+}
+
+/// Keys stand in a card in plain.
+#[test]
+fn a_file_is_made_for_its_owner_alone(rt: HostRuntime) -> Result<(), Fail> {
+    // An earlier run may have left one.
+    let _ = fs::remove_file(&rt, "owner.img");
+    FileFlash::new(&rt, "owner.img").write(3, &filled(9))?;
+    let mode = fs::metadata(&rt, "owner.img")?.mode();
+    assert!(rt; mode & 0o777 == 0o600, "{mode:o}");
     Ok(())
 }
 
