@@ -17,7 +17,7 @@ use Rattle.card_types.specs.declared.tables.Tables.{Tables}
 use Rattle.card_types.specs.declared.tables.TheConstants.{ISSUER_SLOT}
 use Rattle.policy_rules.proofs.NearestHolder.{slot_named}
 use Rattle.policy_rules.specs.Admission.{Admitted}
-use Rattle.policy_rules.specs.Delegation.{IsAnswered, unique_data, value_of}
+use Rattle.policy_rules.specs.Delegation.{IsAnswered, unique_data, value_of, unconfirmed}
 use Rattle.policy_rules.specs.HoldersFound.{FindsConfirmer, IsReceipterIn}
 use Rattle.policy_rules.specs.ObjectsFound.{is_tagged_in}
 use Rattle.policy_rules.specs.State.{Effect}
@@ -35,7 +35,7 @@ entry_in entries slot P is = by (held entries slot) refl is
 
 -- who confirms a command does so for whichever reason it is delegated
 pub answered_so : (delegated : Type 0) (tables : Tables) (admitted : Admitted) (receipter : Option ℕ) → FindsConfirmer delegated tables admitted receipter
-    → (aids : List (List ℕ)) (changed : Registry) (done : Effect) → IsAnsweredBy receipter admitted aids changed done → IsAnswered delegated admitted aids changed done
+    → (aids : List (List ℕ)) (changed : Registry) (done : Effect) → IsAnsweredBy receipter admitted aids changed done → IsAnswered delegated admitted aids changed unconfirmed done
 answered_so delegated tables admitted None (inl (holds, none)) aids changed done is = inr (λ _. none, is)
 answered_so delegated tables admitted None (inr (lacks, none)) aids changed done is = inr (λ holds. absurd (lacks holds), is)
 answered_so delegated tables admitted (Some slot) (inl (holds, found)) aids changed done is = inl (holds, is)

@@ -22,7 +22,7 @@ use Rattle.card_types.specs.declared.tables.Tables.{Tables}
 use Rattle.card_types.specs.declared.tables.TheConstants.{ISSUER_SLOT}
 use Rattle.policy_rules.proofs.ReceipterKept.{receipter_has_others}
 use Rattle.policy_rules.specs.Admission.{Admitted}
-use Rattle.policy_rules.specs.DeletionFound.{IsAlone, IsRemovable, IsToGoIn, IsUnselected}
+use Rattle.policy_rules.specs.DeleteObjectFound.{IsAlone, IsRemovable, IsToGoIn, IsUnselected}
 use Rattle.policy_rules.specs.HoldersFound.{IsReceipterIn, MayReceipt}
 use Rattle.policy_rules.specs.Requests.{ActsIn}
 use Rattle.policy_rules.specs.declared.live.Live.{Live}

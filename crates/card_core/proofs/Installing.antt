@@ -7,7 +7,7 @@ use Rattle.card_types.specs.declared.found.Found.TheVariants.{File}
 use Rattle.card_types.specs.declared.tables.Tables.{Tables}
 use Rattle.policy_rules.specs.Admission.{Admitted}
 use Rattle.policy_rules.specs.InstallApplication.{entry_made}
-use Rattle.policy_rules.specs.InstallRequests.{IsInstallOf}
+use Rattle.policy_rules.specs.InstallApplicationRequests.{IsInstallOf}
 use Rattle.policy_rules.specs.Requests.{ActsIn}
 use Rattle.policy_rules.specs.declared.install_application.InstallRequest.{InstallRequest}
 use Rattle.card_core.specs.Installs.{slot_made}

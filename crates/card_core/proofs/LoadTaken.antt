@@ -20,7 +20,7 @@ use Rattle.policy_rules.proofs.Judging.{IsListed, does_so, judged}
 use Rattle.policy_rules.proofs.LoadNamed.{counted_named}
 use Rattle.policy_rules.specs.Admission.{Admitted}
 use Rattle.policy_rules.specs.Commands.{TakesCommand}
-use Rattle.policy_rules.specs.Delegation.{Holds, IsAnswered}
+use Rattle.policy_rules.specs.Delegation.{Holds, IsAnswered, unconfirmed}
 use Rattle.policy_rules.specs.FirstFailing.{IsFirst}
 use Rattle.policy_rules.specs.HoldersFound.{FindsConfirmer}
 use Rattle.policy_rules.specs.LiveEnds.{live_with_block, live_without_load}
@@ -154,7 +154,7 @@ module _ (page : ℕ → List ℕ) (tables : Tables) (live : Live) (kept : Kept)
         let state : State = record { registry = left; volatile = volatile } in
         let done : Effect = record { state = state; body = body; status = 0x9000 } in
         let delegated = Holds admitted delegated_management in
-        let answered : IsAnswered delegated admitted things added.0 done =
+        let answered : IsAnswered delegated admitted things added.0 unconfirmed done =
         answered_so delegated tables admitted receipter finds things added.0 done (answered_with receipter admitted things added.0 left body volatile added.2.2) in
         let still = says_kept page_then tables tables' live admitted.at (aids_selected live tables.entries.items tables'.entries.items aids) left admitted.at.volatile is_for.sound
         added.2.1 refl says_then in

@@ -20,7 +20,6 @@ use Rattle.load_session.specs.declared.session.LoadSession.{LoadSession as Kept}
 use Rattle.policy_rules.proofs.LoadsLeft.{loads_left}
 use Rattle.policy_rules.specs.Admission.{Admitted, admitted_as, class_passed, message_joined, session_passed}
 use Rattle.policy_rules.specs.Classes.{channel_of}
-use Rattle.policy_rules.specs.Laws.{IsLoading, LoadStays}
 use Rattle.policy_rules.specs.Requests.{IsLoadNamed, RepresentsState}
 use Rattle.policy_rules.specs.Sound.{IsSound, IsWellLoad}
 use Rattle.policy_rules.specs.State.{State}
@@ -37,6 +36,7 @@ use Rattle.policy_rules.specs.Commands.{Judges}
 use Rattle.std.specs.Result.{IsErrAnd}
 use Rattle.card_core.specs.Manages.{KeepsAid, KeepsFree, KeepsSelected}
 use Rattle.card_core.specs.Serves.{LoadsBy}
+use Rattle.policy_rules.proofs.Lawful.{IsLoading, LoadStays}
 
 module _ (page : ℕ → List ℕ) (tables : Tables) (loading : Option Kept) where
   -- the load session of a channel has ended

@@ -15,7 +15,7 @@ use Rattle.policy_rules.specs.Classes.{IsKnown, IsPlainManagement, channel_of, c
 use Rattle.policy_rules.specs.FirstFailing.{IsFirst}
 use Rattle.policy_rules.specs.LiveEnds.{live_without_load, live_without_place}
 use Rattle.policy_rules.specs.KeptPlaces.{place_of}
-use Rattle.policy_rules.specs.StatusRequests.{IsPlaceBefore}
+use Rattle.policy_rules.specs.GetStatusRequests.{IsPlaceBefore}
 use Rattle.policy_rules.specs.declared.live.Place.{Place}
 use Rattle.std.specs.Option.{option_map}
 use Rattle.policy_rules.specs.Rules.{status_of}
@@ -54,6 +54,16 @@ read_at all place number other four low is =
 pub written_at : (all : List ChannelSession) (place number : ℕ) (now other : ChannelSession) → length all ≡ CHANNELS → number < CHANNELS → place ≡ number
     → slice_index_or (slice_set all place now) place other ≡ now
 written_at all place number now other four low is = get_or-set_same all place now other (subst (λ (n : ℕ). n < length all) (sym is) (within all number four low))
+
+-- a session that opened a command is held still where the command keeps what the channels hold
+pub opened_kept : (all after : List ChannelSession) (place number : ℕ) (checked opened other : ChannelSession) → length all ≡ CHANNELS → number < CHANNELS → place ≡ number → IsInSession opened
+    → (IsInSession (slice_index_or (slice_set (slice_set all place checked) place opened) number held.Nothing) → after ≡ slice_set (slice_set all place checked) place opened)
+    → slice_index_or after place other ≡ opened
+opened_kept all after place number checked opened other four low is secured keeps =
+    let old = slice_set all place checked in
+    let still = length-set all place checked ∙ four in
+    let there = subst (λ (n : ℕ). slice_index_or (slice_set old n opened) number held.Nothing ≡ opened) (sym is) (written_at old number number opened held.Nothing still low refl) in
+    ap (λ (l : List ChannelSession). slice_index_or l place other) (keeps (subst IsInSession (sym there) secured)) ∙ written_at old place number opened other still low is
 
 session_stays : (now : ChannelSession) → IsInSession now → without_offer_held now ≡ now
 session_stays held.Nothing secured = absurd secured

@@ -3,11 +3,11 @@ use Rattle.std.proofs.Common.{◌≡◌, ◌⊎◌, inl, inr, ℕ, ◌≤◌, Bo
 use Rattle.std.specs.Prelude.{◌↔◌, IsTrue, MatchOption}
 use Rattle.std.proofs.lemmas.List.Elements.{All-cons, All-head, All-nil, All-tail}
 use Rattle.policy_rules.proofs.PutKeyKeeps.{HaveLengths}
-use Rattle.policy_rules.proofs.PutKeyOnce.{brings_once}
 use Rattle.policy_rules.specs.Admission.{Admitted}
 use Rattle.policy_rules.specs.Requests.{IsRequestOf, IsWellFormed, sent_key, sent_keys}
-use Rattle.policy_rules.specs.PutKey.{AreKeysSent, Brings, ChecksFit, HasFieldLengths, IsNewVersion, PutKeyParameters, SaysChecks, SentKey, key_count}
-use Rattle.policy_rules.specs.Volatile.{Nothing, Offered, Secured, SecureChannel, session_in}
+use Rattle.policy_rules.proofs.PutKeyOnce.{one_sent, opened_once, put_fails}
+use Rattle.policy_rules.specs.PutKey.{AreKeysSent, ChecksFit, HasFieldLengths, IsNewVersion, PutKeyParameters, SaysChecks, SentKey, key_count, AreOpened}
+use Rattle.policy_rules.specs.Volatile.{Nothing, Offered, Secured, SecureChannel, session_in, session_on}
 use Rattle.policy_rules.specs.declared.put_key.PutKeys.{PutKeys}
 use Rattle.policy_rules.specs.declared.put_key.PutKeys.TheVariants.{One, Three}
 use Rattle.policy_rules.specs.declared.put_key.SealedKey.{SealedKey}
@@ -17,6 +17,7 @@ use Rattle.scp03_card.specs.Session.{Session}
 use Rattle.card_core.specs.SecureChannels.{RepresentsSecureChannel}
 use Rattle.card_core.specs.Offers.{secure_channel_for}
 use Rattle.card_core.specs.declared.channel_session.ChannelSession.TheVariants as held
+use Rattle.policy_rules.specs.declared.put_key.RulePK.TheVariants.{PK3}
 
 -- what is so of the fields of a token or receipt key, and of a key set
 pub record IsFormedOne (replaced version : ℕ) (sent : SealedKey) : Type 0 where
@@ -112,12 +113,20 @@ in_session kept (Secured session) holds sent bytes are = are session holds
 module _ (admitted : Admitted) (replaced version : ℕ) (keys : PutKeys) (request : IsRequestOf (PutKey replaced version keys) admitted.command)
     (kept : KeptSession) (holds : RepresentsSecureChannel (held.Secured kept) (secure_channel_for admitted)) (bytes : List (List ℕ))
     (are : (session : Session) → RepresentsSession kept session → AreKeysSent session.offer.dek (sent_keys keys) bytes) where
-  pub brought : Brings admitted version (sent_keys keys) bytes
-  brought = record { has = request.means.1; opened = in_session kept (secure_channel_for admitted) holds (sent_keys keys) bytes are }
+  pub brought : AreOpened admitted (sent_keys keys) bytes
+  brought = in_session kept (secure_channel_for admitted) holds (sent_keys keys) bytes are
 
   -- whether the check values fit
   pub checks_said : (fit : Bool) → IsTrue fit ↔ ChecksFit (sent_keys keys) bytes → SaysChecks fit admitted
   checks_said true tells = λ fails.
-      (let same = brings_once admitted version fails.0 (sent_keys keys) fails.1 bytes fails.2 brought fails.3 in
-      fails.4 (subst (λ (s : List SentKey). ChecksFit s fails.2) same.1 (subst (λ (b : List (List ℕ)). ChecksFit (sent_keys keys) b) same.2 (tells.0 refl))))
-  checks_said false tells = (version, sent_keys keys, bytes, brought, λ fits. (let clash = tells.1 fits in cc))
+      (let command = admitted.command in
+      let wrong = put_fails admitted PK3 fails in
+      let sent = one_sent command.p2 command.body version fails.0.version (sent_keys keys) fails.0.sent request.means.1 fails.1 in
+      let opened = subst (λ (s : List SentKey). AreOpened admitted s wrong.0) (sym sent) wrong.1 in
+      let same = opened_once (session_on admitted.at.volatile admitted.channel) (sent_keys keys) bytes wrong.0 brought opened in
+      wrong.2 (subst (λ (s : List SentKey). ChecksFit s wrong.0) sent (subst (λ (b : List (List ℕ)). ChecksFit (sent_keys keys) b) same (tells.0 refl))))
+  checks_said false tells = (
+    record { version = version; sent = sent_keys keys },
+    request.means.1,
+    (PK3, refl, (bytes, brought, λ fits. (let clash = tells.1 fits in cc))),
+  )

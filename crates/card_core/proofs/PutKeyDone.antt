@@ -6,28 +6,29 @@ use Rattle.std.proofs.lemmas.Bool.{and_from, and_parts}
 use Rattle.std.proofs.lemmas.List.{append-nil}
 use Rattle.apdu_core.specs.declared.reply.Status.{Status}
 use Rattle.card_types.specs.Ascending.{counter_order, key_order}
-use Rattle.card_types.specs.Registry.{Counter, Key}
+use Rattle.card_types.specs.Registry.{Counter, Key, is_domain}
 use Rattle.card_types.specs.Represents.{domain_aid}
 use Rattle.card_types.specs.declared.tables.Tables.{Tables}
 use Rattle.key_sets.specs.PutFails.{NoneHolds, PutFails}
 use Rattle.key_sets.specs.Puts.{Puts}
 use Rattle.key_sets.specs.declared.refusal.PutRefusal.TheVariants.{Unknown, Taken, Full}
+use Rattle.policy_rules.proofs.ManagedLawful.{replied}
 use Rattle.policy_rules.proofs.PutKeyJudging.{none_holds}
 use Rattle.policy_rules.proofs.PutKeyKeeps.{AreOfVersion, HaveLengths}
 use Rattle.policy_rules.specs.Admission.{Admitted}
 use Rattle.policy_rules.specs.Arranged.{IsArranged}
 use Rattle.policy_rules.specs.Commands.{Judges}
 use Rattle.policy_rules.proofs.Judging.{does_so}
-use Rattle.policy_rules.specs.PutKey.{put_key}
+use Rattle.policy_rules.specs.PutKey.{AreKeysPut, AreOpened, ChecksFit, SentKey, check_value, counters_from, keys_from, managed_put_key}
 use Rattle.policy_rules.specs.KeyVersions.{counters_but, keys_but, with_keys}
 use Rattle.policy_rules.specs.Requests.{ActsIn, IsRequestOf, sent_keys}
-use Rattle.policy_rules.specs.PutKey.{Brings, ChecksFit, PutKeyEffect, SentKey, check_value, counters_from, keys_from}
 use Rattle.policy_rules.specs.State.{Effect}
 use Rattle.policy_rules.specs.declared.put_key.PutKeys.{PutKeys}
 use Rattle.policy_rules.specs.declared.request.Request.TheVariants.{PutKey}
 use Rattle.card_core.proofs.PutKeyTables.{put_counters, put_keys, says_after, slot_keys}
 use Rattle.card_core.specs.Domains.{is_domain_in}
 use Rattle.card_core.specs.Manages.{IsManaged}
+use Rattle.policy_rules.specs.ManagedForm.{ManagedEffect, command_form}
 
 -- one check value fits, or three do
 pub fits_one : (fit : Bool) (sent : SentKey) (key : List ℕ) → IsTrue fit ↔ (check_value key ≡ sent.check) → IsTrue fit ↔ ChecksFit (sent ∷ []) (key ∷ [])
@@ -77,7 +78,7 @@ module _ (old new : Tables) (life : new.life ≡ old.life) (entries : new.entrie
     (puts : Puts domain replaced (slot_keys domain version 1 bytes) old.keys.items new.keys.items) (sizes : HaveLengths bytes) (versioned : AreOfVersion version bytes)
     (none : NoneHolds (PutFails domain replaced version (length bytes) old.keys.items)) (is_domain : is_domain_in old.entries.items domain ≡ true)
     (page : ℕ → List ℕ) (admitted : Admitted) (acts : ActsIn page old domain admitted) (keys : PutKeys)
-    (request : IsRequestOf (PutKey replaced version keys) admitted.command) (brings : Brings admitted version (sent_keys keys) bytes) where
+    (request : IsRequestOf (PutKey replaced version keys) admitted.command) (opened : AreOpened admitted (sent_keys keys) bytes) where
   abbrev keys_after : (ks : List Key) × IsArranged key_order (keys_from (domain_aid old.entries.items domain) version 1 bytes ++ keys_but (domain_aid old.entries.items domain) replaced admitted.at.registry.keys) ks
   keys_after = put_keys old new life entries files objects domain replaced version bytes puts sizes versioned none is_domain page admitted.at.registry acts.says acts.well
 
@@ -91,12 +92,10 @@ module _ (old new : Tables) (life : new.life ≡ old.life) (entries : new.entrie
     status = 0x9000;
   }
 
-  does : PutKeyEffect admitted done
-  does = record {
-    version = version;
-    sent = sent_keys keys;
+  put : AreKeysPut admitted (record { version = version; sent = sent_keys keys }) (with_keys admitted.at.registry keys_after.0 counters_after.0)
+  put = record {
     bytes = bytes;
-    brings = brings;
+    opened = opened;
     keys = keys_after.0;
     counters = counters_after.0;
     keys_put = subst (λ (things : List Key). IsArranged key_order things keys_after.0)
@@ -104,17 +103,17 @@ module _ (old new : Tables) (life : new.life ≡ old.life) (entries : new.entrie
     counters_put = subst (λ (things : List Counter). IsArranged counter_order things counters_after.0)
         (λ i. counters_from (sym acts.on i) version ++ counters_but (sym acts.on i) (request.means.0 i) admitted.at.registry.counters) counters_after.1;
     registry = refl;
-    volatile = refl;
-    body = refl;
-    status = refl;
   }
+
+  does : ManagedEffect managed_put_key admitted done
+  does = replied managed_put_key admitted (record { version = version; sent = sent_keys keys }) (with_keys admitted.at.registry keys_after.0 counters_after.0) request.means.1 put (λ no. no)
 
   pub put_managed : (body : List ℕ) (status : Status) → Judges admitted None → body ≡ version ∷ concat (map (λ one. one.check) (sent_keys keys))
       → status.0 ≡ 0x9000 → IsManaged admitted page new body status
   put_managed body status judges written word = record {
     judges = judges;
     done = done;
-    does = does_so put_key (λ holds here. inl here) admitted request.form done does;
+    does = does_so (command_form managed_put_key) (λ holds here. inl here) admitted request.form done does;
     volatile = refl;
     says = says_after old new life entries files objects domain replaced version bytes puts sizes versioned none is_domain page admitted.at.registry acts.says acts.well;
     body_is = written;

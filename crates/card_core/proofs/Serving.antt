@@ -12,9 +12,9 @@ use Rattle.scp03_card.specs.Opens.{Gives, IsAuthentic, Opens, accepting, field_o
 use Rattle.scp03_card.specs.Session.{Session}
 use Rattle.policy_rules.proofs.KeepsSound.{steps_keep_sound}
 use Rattle.policy_rules.proofs.OneOutcome.{of_one}
-use Rattle.policy_rules.proofs.Opened.{is_management, managed_protected}
+use Rattle.policy_rules.proofs.Opened.{managed_protected}
 use Rattle.policy_rules.specs.Admission.{Admits, Admitted, GeneralFails, InSession, GeneralRefusalLeaves, Of, admitted_as, command_rules, general_rules, session_for}
-use Rattle.policy_rules.specs.Classes.{IsKnown, IsPlainGetData, IsPlainManagement, class_of, instructions_of, is_protected, is_secure, management, managing, protects}
+use Rattle.policy_rules.specs.Classes.{IsKnown, IsPlainGetData, IsPlainManagement, class_of, instructions_of, is_protected, is_secure, managing, protects}
 use Rattle.policy_rules.specs.FirstFailing.{IsFirst}
 use Rattle.policy_rules.specs.Commands.{IsBuilt}
 use Rattle.policy_rules.proofs.FirstUnique.{behind}
@@ -116,12 +116,12 @@ protected_unmanaged command protected (plain, managed) = (let clash = subst (λ 
 pub unprotected_unmanaged : (command : Apdu) → IsKnown command.class command.ins → (IsPlainManagement command → ⊥) → is_protected command ≡ false
     → Contains managing command.ins → ⊥
 unprotected_unmanaged command known unmanaged plain managed =
-    let protected = managed_protected (class_of command.class) command.ins known (λ class. unmanaged (class, is_management command.ins managed)) managed in
+    let protected = managed_protected (class_of command.class) command.ins known (λ class. unmanaged (class, managed)) managed in
     true≢false (sym protected ∙ plain)
 
 -- whether it is card content management in plain, as the code answers it
 module _ (command : Apdu) (class : Class) (answer : Bool) (is_class : class_of command.class ≡ Some class)
-    (answers : IsTrue answer ↔ ((class ≡ Plain) × Contains management command.ins)) where
+    (answers : IsTrue answer ↔ ((class ≡ Plain) × Contains managing command.ins)) where
   pub is_managed : answer ≡ true → IsPlainManagement command
   is_managed it_is = (is_class ∙ ap Some (answers.0 it_is).0, (answers.0 it_is).1)
 

@@ -21,7 +21,7 @@ use Rattle.domain_tree.specs.Above.{Above}
 use Rattle.domain_tree.specs.AboveLaws.{IsAboveIn, IsTreeOf}
 use Rattle.policy_rules.specs.Admission.{Admitted}
 use Rattle.policy_rules.specs.EntryStatus.{IsEntryStep, OneIsSet, TreeIsSet}
-use Rattle.policy_rules.specs.StatusSetRequests.{IsChangeFor, slot_of}
+use Rattle.policy_rules.specs.SetStatusRequests.{IsChangeFor, slot_of}
 use Rattle.policy_rules.specs.declared.entry_status.StatusChange.{StatusChange}
 use Rattle.policy_rules.specs.declared.entry_status.StatusChange.TheVariants.{One, Tree}
 use Rattle.rec_store.specs.Places.{entry_page}

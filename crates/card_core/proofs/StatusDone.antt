@@ -16,7 +16,7 @@ use Rattle.policy_rules.specs.declared.get_status.ListRequest.{ListRequest}
 use Rattle.policy_rules.specs.declared.live.Live.{Live}
 use Rattle.policy_rules.specs.declared.live.Place.{Place}
 use Rattle.policy_rules.specs.declared.live.TheConstants.{CHANNELS}
-use Rattle.policy_rules.specs.declared.request.Request.TheVariants.{ListStatus}
+use Rattle.policy_rules.specs.declared.request.Request.TheVariants.{List as ListStatus}
 use Rattle.policy_rules.specs.declared.rule.Rule.{Rule}
 use Rattle.card_core.proofs.PlaceSet.{placed_shows}
 use Rattle.card_core.specs.Lists.{IsShown}

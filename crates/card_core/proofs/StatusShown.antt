@@ -5,12 +5,12 @@ use Rattle.card_types.specs.Found.{aid_of}
 use Rattle.card_types.specs.Registry.{Registry}
 use Rattle.card_types.specs.declared.found.Found.{Found}
 use Rattle.card_types.specs.declared.tables.Tables.{Tables}
-use Rattle.policy_rules.proofs.StatusListed.{aid_named}
-use Rattle.policy_rules.proofs.StatusWhole.{IsShownTo, all_shown, last_of, more_shown, next_left, none_shown}
+use Rattle.policy_rules.proofs.GetStatusListed.{aid_named}
+use Rattle.policy_rules.proofs.GetStatusWhole.{IsShownTo, all_shown, last_of, more_shown, next_left, none_shown}
 use Rattle.policy_rules.specs.Admission.{Admitted}
 use Rattle.policy_rules.specs.GetStatus.{AreTemplates, BeginsAbove, IsTemplate, Thing, aid_in, last_aid, part_limit}
 use Rattle.policy_rules.specs.Requests.{ActsIn}
-use Rattle.policy_rules.specs.StatusRequests.{IsFirstShown, IsListOf, IsNextListed, IsThingAt, NoneListed}
+use Rattle.policy_rules.specs.GetStatusRequests.{IsFirstShown, IsListOf, IsNextListed, IsThingAt, NoneListed}
 use Rattle.policy_rules.specs.declared.get_status.ListRequest.{ListRequest}
 use Rattle.card_core.specs.ShownParts.{IsPart}
 
@@ -32,7 +32,7 @@ pub record HasShown (page : ℕ → List ℕ) (tables : Tables) (domain : ℕ) (
   pub after : Option (List ℕ)
   pub begins : BeginsAbove admitted after
   pub shown : List Thing
-  pub so : IsShownTo admitted acts.well acts.says.ascending request.kind request.partial.now after shown (Some last)
+  pub so : IsShownTo admitted acts.well acts.says.ascending request.kind request.prefix.now after shown (Some last)
   pub body : AreTemplates admitted.at.registry request.kind shown bytes
   pub ends : last_aid [] shown ≡ last
 
@@ -48,13 +48,13 @@ module _ (page : ℕ → List ℕ) (tables : Tables) (domain : ℕ) (admitted : 
   pub first_shown : (found : Found) (first : IsFirstShown page tables admitted request found) (aid bytes template new : List ℕ) → aid_of tables found ≡ Some aid
       → bytes ≡ [] → IsTemplate admitted.at.registry request.kind first.next.thing template → new ≡ bytes ++ template → Shown aid new
   first_shown found first aid bytes template new named empty is joined =
-      let begun = none_shown admitted acts.well acts.says.ascending request.kind request.partial.now first.after in
+      let begun = none_shown admitted acts.well acts.says.ascending request.kind request.prefix.now first.after in
       let same = is_named found first.next.thing aid first.next.at named in record {
         after = first.after;
         begins = first.begins;
         shown = first.next.thing ∷ [];
-        so = subst (λ (last : List ℕ). IsShownTo admitted acts.well acts.says.ascending request.kind request.partial.now first.after (first.next.thing ∷ []) (Some last)) same
-            (more_shown admitted acts.well acts.says.ascending request.kind request.partial.now first.after [] first.after begun page tables found first.next);
+        so = subst (λ (last : List ℕ). IsShownTo admitted acts.well acts.says.ascending request.kind request.prefix.now first.after (first.next.thing ∷ []) (Some last)) same
+            (more_shown admitted acts.well acts.says.ascending request.kind request.prefix.now first.after [] first.after begun page tables found first.next);
         body = subst (AreTemplates admitted.at.registry request.kind (first.next.thing ∷ [])) (sym joined)
             (templates_more admitted.at.registry request.kind [] first.next.thing bytes template empty is);
         ends = same;
@@ -62,15 +62,15 @@ module _ (page : ℕ → List ℕ) (tables : Tables) (domain : ℕ) (admitted : 
 
   module _ (last bytes : List ℕ) (has : Shown last bytes) where
     -- and with each further one
-    pub next_shown : (found : Found) (next : IsNextListed page tables admitted request.kind request.partial.now (Some last) found) (aid template new : List ℕ)
+    pub next_shown : (found : Found) (next : IsNextListed page tables admitted request.kind request.prefix.now (Some last) found) (aid template new : List ℕ)
         → aid_of tables found ≡ Some aid → IsTemplate admitted.at.registry request.kind next.thing template → new ≡ bytes ++ template → Shown aid new
     next_shown found next aid template new named is joined =
         let same = is_named found next.thing aid next.at named in record {
           after = has.after;
           begins = has.begins;
           shown = has.shown ++ next.thing ∷ [];
-          so = subst (λ (l : List ℕ). IsShownTo admitted acts.well acts.says.ascending request.kind request.partial.now has.after (has.shown ++ next.thing ∷ []) (Some l)) same
-              (more_shown admitted acts.well acts.says.ascending request.kind request.partial.now has.after has.shown (Some last) has.so page tables found next);
+          so = subst (λ (l : List ℕ). IsShownTo admitted acts.well acts.says.ascending request.kind request.prefix.now has.after (has.shown ++ next.thing ∷ []) (Some l)) same
+              (more_shown admitted acts.well acts.says.ascending request.kind request.prefix.now has.after has.shown (Some last) has.so page tables found next);
           body = subst (AreTemplates admitted.at.registry request.kind (has.shown ++ next.thing ∷ [])) (sym joined)
               (templates_more admitted.at.registry request.kind has.shown next.thing bytes template has.body is);
           ends = last_of [] has.shown next.thing ∙ same;
@@ -80,21 +80,21 @@ module _ (page : ℕ → List ℕ) (tables : Tables) (domain : ℕ) (admitted : 
     said = subst (λ (p1 : ℕ). AreTemplates admitted.at.registry p1 has.shown bytes) of.kind has.body
 
     -- nothing is left
-    pub whole_part : NoneListed admitted request.kind request.partial.now (Some last) → IsPart admitted bytes None
+    pub whole_part : NoneListed admitted request.kind request.prefix.now (Some last) → IsPart admitted bytes None
     whole_part none = record {
       shown = has.shown;
       left = [];
-      listing = all_shown admitted acts.well acts.says.ascending request.kind request.partial.now has.after has.shown (Some last) has.so of.kind of.search has.begins none;
+      listing = all_shown admitted acts.well acts.says.ascending request.kind request.prefix.now has.after has.shown (Some last) has.so of.kind of.search has.begins none;
       body = said;
       full = tt;
       ends = tt;
     }
 
     -- the next has no room
-    pub full_part : (found : Found) (next : IsNextListed page tables admitted request.kind request.partial.now (Some last) found) (template : List ℕ)
+    pub full_part : (found : Found) (next : IsNextListed page tables admitted request.kind request.prefix.now (Some last) found) (template : List ℕ)
         → IsTemplate admitted.at.registry request.kind next.thing template → part_limit < length bytes + length template → IsPart admitted bytes (Some last)
     full_part found next template is above =
-        let rest = next_left admitted acts.well acts.says.ascending request.kind request.partial.now has.after has.shown (Some last) has.so of.kind of.search has.begins
+        let rest = next_left admitted acts.well acts.says.ascending request.kind request.prefix.now has.after has.shown (Some last) has.so of.kind of.search has.begins
         page tables found next in record {
           shown = has.shown;
           left = next.thing ∷ rest.0;

@@ -12,7 +12,7 @@ use Rattle.card_types.specs.declared.tables.Object.{Object}
 use Rattle.card_types.specs.declared.tables.Tables.{Tables}
 use Rattle.card_types.specs.declared.tables.TheConstants.{ISSUER_SLOT}
 use Rattle.policy_rules.specs.Admission.{Admitted}
-use Rattle.policy_rules.specs.Delegation.{IsConfirmed, IsUnconfirmed}
+use Rattle.policy_rules.specs.Delegation.{IsConfirmed, IsUnconfirmed, unconfirmed}
 use Rattle.policy_rules.specs.HoldersFound.{IsReceipterIn}
 use Rattle.policy_rules.specs.ObjectsFound.{is_tagged_in}
 use Rattle.policy_rules.specs.Requests.{ActsIn}
@@ -47,7 +47,7 @@ leaves admitted registry body = record { state = record { registry = registry; v
 
 -- the domain in the slot confirms a command that was about these things, or nobody does
 abbrev pub IsAnsweredBy : Option ℕ → Admitted → List (List ℕ) → Registry → Effect → Type 0
-IsAnsweredBy None admitted aids changed done = IsUnconfirmed changed done
+IsAnsweredBy None admitted aids changed done = IsUnconfirmed changed unconfirmed done
 IsAnsweredBy (Some slot) admitted aids changed done = IsConfirmed admitted aids changed done
 
 -- so it is answered, and the tables say the registry that it leaves then

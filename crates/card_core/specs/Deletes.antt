@@ -4,8 +4,8 @@ use Rattle.apdu_core.specs.Apdu.{Apdu}
 use Rattle.card_types.specs.Slots.{held}
 use Rattle.card_types.specs.declared.found.Found.{Found}
 use Rattle.card_types.specs.declared.tables.Tables.{Tables}
-use Rattle.policy_rules.specs.DeletionFound.{IsToGoIn}
-use Rattle.policy_rules.specs.DeletionRequests.{IsDeletionOf}
+use Rattle.policy_rules.specs.DeleteObjectFound.{IsToGoIn}
+use Rattle.policy_rules.specs.DeleteObjectRequests.{IsDeletionOf}
 use Rattle.policy_rules.specs.declared.delete_object.DeletionRequest.{DeletionRequest}
 use Rattle.registry.specs.Removing.{entry_file, freed, key_owner, object_owner}
 

@@ -12,7 +12,7 @@ use Rattle.policy_rules.specs.Commands.{HasEffect, Judges}
 use Rattle.policy_rules.specs.Rules.{status_of}
 use Rattle.policy_rules.specs.State.{Effect, State}
 use Rattle.policy_rules.specs.LiveEnds.{live_without_load}
-use Rattle.policy_rules.specs.StatusRequests.{IsPlaceBefore}
+use Rattle.policy_rules.specs.GetStatusRequests.{IsPlaceBefore}
 use Rattle.policy_rules.specs.declared.live.Place.{Place}
 use Rattle.policy_rules.specs.Step.{Step, keeps_load, refusal_leaves}
 use Rattle.policy_rules.specs.declared.class.Class.{Class}
@@ -20,7 +20,7 @@ use Rattle.policy_rules.specs.declared.instruction.TheConstants.{GET_DATA, GET_S
 use Rattle.policy_rules.specs.declared.live.Live.{Live}
 use Rattle.policy_rules.specs.Requests.{IsRequestOf, form_in}
 use Rattle.policy_rules.specs.declared.request.Request.{Request}
-use Rattle.policy_rules.specs.declared.request.Request.TheVariants.{BeginLoad, Load}
+use Rattle.policy_rules.specs.declared.request.Request.TheVariants.{InstallLoad, Load}
 use Rattle.policy_rules.specs.declared.rule.Rule.{Rule}
 use Rattle.card_core.specs.SecureChannels.{held_on, without_offer_held}
 use Rattle.card_core.specs.Kept.{Kept, KeptRepresents, RepresentsSoundly}
@@ -56,7 +56,7 @@ ForAsked channel request place card So =
 
 -- INSTALL [for load] or LOAD is asked for
 abbrev pub AsksForLoad : Request → Type 0
-AsksForLoad (BeginLoad request) = Unit {0}
+AsksForLoad (InstallLoad request) = Unit {0}
 AsksForLoad (Load request) = Unit {0}
 AsksForLoad request = ⊥
 

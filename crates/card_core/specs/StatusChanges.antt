@@ -7,7 +7,7 @@ use Rattle.card_types.specs.Represents.{Represents, domain_aid}
 use Rattle.card_types.specs.declared.tables.Entry.{Entry}
 use Rattle.card_types.specs.declared.tables.Tables.{Tables}
 use Rattle.domain_tree.specs.AboveLaws.{IsTreeOf}
-use Rattle.policy_rules.specs.StatusSetRequests.{IsEntryStatusOf}
+use Rattle.policy_rules.specs.SetStatusRequests.{IsEntryStatusOf}
 use Rattle.policy_rules.specs.declared.entry_status.EntryStatusRequest.{EntryStatusRequest}
 use Rattle.policy_rules.specs.declared.entry_status.StatusChange.{StatusChange}
 use Rattle.policy_rules.specs.declared.entry_status.StatusChange.TheVariants.{One, Tree}

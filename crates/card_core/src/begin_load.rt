@@ -4,7 +4,7 @@ ghost use Rattle.std.specs.Prelude.{◌≡◌, ◌≤◌, [], OnErr, length};
 ghost use Rattle.card_core.specs.Loads.{LoadsAs};
 ghost use Rattle.card_types.specs.InOrder.{IsInOrder};
 ghost use Rattle.policy_rules.specs.Requests.{ForActingLive, IsRequestOf, IsWellFormed};
-ghost use Rattle.policy_rules.specs.declared.request.Request.TheVariants.{BeginLoad};
+ghost use Rattle.policy_rules.specs.declared.request.Request.TheVariants.{InstallLoad};
 
 use crate::loading::Loading;
 use crate::reply::REPLY_LIMIT;
@@ -26,9 +26,9 @@ pub fn begin_load(
     reply: &mut ArrayVec<u8, REPLY_LIMIT>,
 ) -> Result<Status, Rule>
     requires in_order { IsInOrder tables.now }
-    requires formed { IsWellFormed (BeginLoad request.now) }
+    requires formed { IsWellFormed (InstallLoad request.now) }
     requires empty { reply.old.items ≡ [] }
-    ensures done { ForActingLive tables.now live.old domain (λ page admitted. channel ≡ admitted.channel → IsRequestOf (BeginLoad request.now) admitted.command
+    ensures done { ForActingLive tables.now live.old domain (λ page admitted. channel ≡ admitted.channel → IsRequestOf (InstallLoad request.now) admitted.command
         → LoadsAs admitted page tables.now live.new loading.new.session reply.new.items result) }
     ensures writes { loading.new.writes ≡ loading.old.writes }
     ensures refused { OnErr result ((live.new ≡ live.old) × (loading.new ≡ loading.old)) }

@@ -5,9 +5,10 @@ ghost use Rattle.card_core.specs.Domains.{is_domain_in};
 ghost use Rattle.card_core.specs.Kept.{AreCards};
 ghost use Rattle.card_core.specs.ManagesAs.{ManagesAs};
 ghost use Rattle.policy_rules.specs.Admission.{Admitted};
-ghost use Rattle.policy_rules.specs.CardStatus.{card_status};
+ghost use Rattle.policy_rules.specs.CardStatus.{managed_card_status};
 ghost use Rattle.policy_rules.specs.Requests.{ActsIn};
-ghost use Rattle.policy_rules.specs.StatusSetRequests.{IsCardStatusOf};
+ghost use Rattle.policy_rules.specs.SetStatusRequests.{IsCardStatusOf};
+ghost use Rattle.policy_rules.specs.ManagedForm.{command_form};
 
 use apdu_core::Status;
 use flash_core::Flash;
@@ -27,7 +28,7 @@ pub fn set_card_status<F: Flash>(
     requires domain { is_domain_in records.old.tables.entries.items domain ≡ true }
     ensures done { (page : ℕ → List ℕ) (admitted : Admitted) → ActsIn page records.old.tables domain admitted
         → IsCardStatusOf code admitted.command
-        → ManagesAs card_status admitted page records.old.tables records.new.tables [] result }
+        → ManagesAs (command_form managed_card_status) admitted page records.old.tables records.new.tables [] result }
     ensures entries { records.new.tables.entries.items ≡ records.old.tables.entries.items }
     ensures files { records.new.tables.files.items ≡ records.old.tables.files.items }
     ensures cards { AreCards records.new.tables }

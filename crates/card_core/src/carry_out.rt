@@ -67,7 +67,7 @@ pub fn carry_out<F: Flash>(
         Err(rule) => return Err(rule),
     };
     match request {
-        Request::BeginLoad(request) => begin_load(
+        Request::InstallLoad(request) => begin_load(
             records.tables(),
             live,
             loading,

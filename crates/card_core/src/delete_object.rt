@@ -13,12 +13,13 @@ ghost use Rattle.card_types.specs.Represents.{Represents, file_aid};
 ghost use Rattle.card_types.specs.Slots.{held};
 ghost use Rattle.card_types.specs.Well.{Well};
 ghost use Rattle.card_types.specs.declared.factory.TheConstants.{FACTORY_FILE};
-ghost use Rattle.policy_rules.specs.DeleteObject.{delete_object, without_thing};
-ghost use Rattle.policy_rules.specs.DeletionFound.{HasNoneFrom, IsAlone, IsRemovable};
-ghost use Rattle.policy_rules.specs.DeletionRequests.{IsDeletionOf};
+ghost use Rattle.policy_rules.specs.DeleteObject.{managed_delete_object, without_thing};
+ghost use Rattle.policy_rules.specs.DeleteObjectFound.{HasNoneFrom, IsAlone, IsRemovable};
+ghost use Rattle.policy_rules.specs.DeleteObjectRequests.{IsDeletionOf};
 ghost use Rattle.policy_rules.specs.Requests.{ForActingLive};
 ghost use Rattle.rec_store.specs.Room.{HasRoomFor};
 ghost use Rattle.registry.specs.Pages.{entry_pages};
+ghost use Rattle.policy_rules.specs.ManagedForm.{command_form};
 
 use crate::confirm::confirm;
 use crate::reply::REPLY_LIMIT;
@@ -91,7 +92,7 @@ pub fn delete_object<F: Flash>(
     requires formed { IsOfDeletion request.now }
     requires empty { reply.old.items ≡ [] }
     ensures done { ForActingLive records.old.tables live.now domain (λ page admitted. IsDeletionOf request.now admitted.command
-        → ManagesAs delete_object admitted page records.old.tables records.new.tables reply.new.items result) }
+        → ManagesAs (command_form managed_delete_object) admitted page records.old.tables records.new.tables reply.new.items result) }
     ensures selected { KeepsSelected live.now records.old.tables.entries.items records.new.tables.entries.items }
     ensures free { KeepsFree records.old.tables records.new.tables }
     ensures cards { AreCards records.new.tables }

@@ -13,9 +13,10 @@ ghost use Rattle.card_types.specs.Slots.{held};
 ghost use Rattle.card_types.specs.Well.{Well};
 ghost use Rattle.domain_tree.specs.Slots.{IsFreeOfLoops};
 ghost use Rattle.policy_rules.specs.Admission.{Admitted};
-ghost use Rattle.policy_rules.specs.EntryStatus.{entry_status};
+ghost use Rattle.policy_rules.specs.EntryStatus.{managed_entry_status};
 ghost use Rattle.policy_rules.specs.Requests.{ActsIn};
-ghost use Rattle.policy_rules.specs.StatusSetRequests.{IsEntryStatusOf, IsOther, slot_of};
+ghost use Rattle.policy_rules.specs.SetStatusRequests.{IsEntryStatusOf, IsOther, slot_of};
+ghost use Rattle.policy_rules.specs.ManagedForm.{command_form};
 
 use apdu_core::Status;
 use flash_core::Flash;
@@ -57,7 +58,7 @@ pub fn set_entry_status<F: Flash>(
     requires formed { IsOfEntry request.now }
     ensures done { (page : ℕ → List ℕ) (admitted : Admitted) → ActsIn page records.old.tables domain admitted
         → IsEntryStatusOf request.now admitted.command
-        → ManagesAs entry_status admitted page records.old.tables records.new.tables [] result }
+        → ManagesAs (command_form managed_entry_status) admitted page records.old.tables records.new.tables [] result }
     ensures aids { KeepsAids records.old.tables.entries.items records.new.tables.entries.items }
     ensures files { records.new.tables.files.items ≡ records.old.tables.files.items }
     ensures cards { AreCards records.new.tables }

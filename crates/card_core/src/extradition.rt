@@ -50,7 +50,7 @@ pub fn extradite<F: Flash>(
         found.receipter,
         &from,
         Some(&request.aid),
-        Some(&request.domain),
+        Some(&request.to),
         reply,
     );
     Ok(Status(0x9000))

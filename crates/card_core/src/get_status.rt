@@ -10,8 +10,8 @@ ghost use Rattle.card_types.specs.Registry.{Registry};
 ghost use Rattle.policy_rules.specs.Admission.{Admitted};
 ghost use Rattle.policy_rules.specs.GetStatus.{IsTemplate, Thing};
 ghost use Rattle.policy_rules.specs.Requests.{ActsIn, ForActing, IsWellFormed, RepresentsState};
-ghost use Rattle.policy_rules.specs.StatusRequests.{IsFirstShown, IsListOf, IsThingAt};
-ghost use Rattle.policy_rules.specs.declared.request.Request.TheVariants.{ListStatus};
+ghost use Rattle.policy_rules.specs.GetStatusRequests.{IsFirstShown, IsListOf, IsThingAt};
+ghost use Rattle.policy_rules.specs.declared.request.Request.TheVariants.{List as ListStatus};
 
 use crate::reply::REPLY_LIMIT;
 use crate::status_template::{TEMPLATE_ROOM, write_template};
@@ -68,7 +68,7 @@ fn show_part(
     ensures room { length reply.new.items ≤ PART_LIMIT }
 {
     let mut last = show(tables, request.kind, first, reply).unwrap();
-    while let Some(next) = next_shown(tables, domain, request.kind, request.partial, Some(&last)) {
+    while let Some(next) = next_shown(tables, domain, request.kind, request.prefix, Some(&last)) {
         match show(tables, request.kind, next, reply) {
             Some(aid) => last = aid,
             None => return Some(last),

@@ -70,7 +70,7 @@ pub fn manage<F: Flash>(
         Request::Install(request) => install_application(records, live, domain, request, reply),
         Request::MakeSelectable(request) => make_selectable(records, domain, request, reply),
         Request::Extradite(request) => extradite(records, domain, request, reply),
-        Request::CardStatus { code } => set_card_status(records, domain, *code),
+        Request::CardStatus { life } => set_card_status(records, domain, *life),
         Request::EntryStatus(request) => set_entry_status(records, domain, request),
         _ => unreachable!(),
     }

@@ -65,13 +65,13 @@ pub fn perform<F: Flash>(
     let channel = received.channel;
     let at = usize::from(channel);
     match request {
-        Request::Select { partial } => {
+        Request::Select { prefix } => {
             select(
                 records.tables(),
                 live,
                 &mut held[at],
                 channel,
-                partial,
+                prefix,
                 reply,
             )
         }
@@ -96,7 +96,7 @@ pub fn perform<F: Flash>(
         Request::Authenticate { level, proof } => {
             external_authenticate(&mut held[at], *level, proof)
         }
-        Request::ListStatus(request) => get_status(
+        Request::List(request) => get_status(
             records.tables(),
             live,
             place,
@@ -116,6 +116,6 @@ pub fn perform<F: Flash>(
         | Request::EntryStatus(_) => {
             manage(records, live, &held[at], received.selected, request, reply)
         }
-        Request::BeginLoad(_) | Request::Load(_) => unreachable!(),
+        Request::InstallLoad(_) | Request::Load(_) => unreachable!(),
     }
 }

@@ -10,7 +10,7 @@ ghost use Rattle.scp03_card.specs.Protected.{protected};
 ghost use Rattle.scp03_card.specs.Session.{Session};
 
 use crate::channel_session::ChannelSession;
-use crate::reply::{REPLY_LIMIT, write_status};
+use crate::reply::REPLY_LIMIT;
 use apdu_core::{Command, Status};
 use arrayvec::ArrayVec;
 use policy_rules::RuleG;
@@ -44,14 +44,15 @@ pub fn open_command(
     }
 }
 
-/// Closes the reply to a protected command.
+/// Closes the reply to a protected command, in the session of its channel.
 pub fn close_reply(held: &mut ChannelSession, status: Status, reply: &mut ArrayVec<u8, REPLY_LIMIT>)
-    requires { array_vec_len reply.old ≤ 239 }
+    requires secured { IsInSession held.old }
+    requires room { array_vec_len reply.old ≤ 239 }
     ensures closed { (session : Session) → RepresentsSecureChannel held.old (Secured session) → reply.new.items ≡ protected session reply.old.items status.0 }
     ensures same { held.new ≡ held.old }
 {
-    match held {
-        ChannelSession::Secured(session) => session.close_reply(reply, status),
-        _ => write_status(status, reply),
-    }
+    let ChannelSession::Secured(session) = held else {
+        unreachable!()
+    };
+    session.close_reply(reply, status);
 }

@@ -154,7 +154,8 @@ fn close_protected(
     held: &mut ChannelSession,
     reply: &mut ArrayVec<u8, REPLY_LIMIT>,
 ) -> Option<Rule>
-    requires { length reply.old.items ≤ 239 }
+    requires secured { IsInSession held.old }
+    requires room { length reply.old.items ≤ 239 }
     ensures closed { (session : Session) → RepresentsSecureChannel held.old (Secured session) → reply.new.items ≡ protected session reply.old.items (status_word served) }
     ensures rule { result ≡ rule_of served }
     ensures same { held.new ≡ held.old }

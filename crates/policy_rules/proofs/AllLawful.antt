@@ -12,20 +12,21 @@ use Rattle.policy_rules.proofs.GetDataLaws.{get_data_lawful}
 use Rattle.policy_rules.proofs.GetStatusLaws.{get_status_lawful}
 use Rattle.policy_rules.proofs.InitializeUpdateLaws.{initialize_update_lawful}
 use Rattle.policy_rules.proofs.ExternalAuthenticateLaws.{external_authenticate_lawful}
-use Rattle.policy_rules.proofs.PutKeyLaws.{put_key_lawful}
-use Rattle.policy_rules.proofs.StoreDataLaws.{store_data_lawful}
-use Rattle.policy_rules.proofs.DeleteKeyLaws.{delete_key_lawful}
-use Rattle.policy_rules.proofs.DeleteObjectLaws.{delete_object_lawful}
-use Rattle.policy_rules.proofs.DeletionForms.{deletions_apart}
-use Rattle.policy_rules.proofs.InstallApplicationLaws.{install_application_lawful}
+use Rattle.policy_rules.proofs.PutKeyLaws.{managed_put_key_lawful}
+use Rattle.policy_rules.proofs.StoreDataLaws.{managed_store_data_lawful}
+use Rattle.policy_rules.proofs.DeleteKeyLaws.{managed_delete_key_lawful}
+use Rattle.policy_rules.proofs.DeleteObjectLaws.{managed_delete_object_lawful}
+use Rattle.policy_rules.proofs.DeleteForms.{deletions_apart}
+use Rattle.policy_rules.proofs.InstallApplicationLaws.{managed_install_lawful}
 use Rattle.policy_rules.proofs.InstallForms.{AreApart, extradition_apart, install_apart, managed, selectable_apart}
 use Rattle.policy_rules.proofs.InstallLoadLaws.{install_load_lawful}
 use Rattle.policy_rules.proofs.LoadLaws.{load_lawful}
-use Rattle.policy_rules.proofs.MakeSelectableLaws.{make_selectable_lawful}
-use Rattle.policy_rules.proofs.ExtraditionLaws.{extradition_lawful}
-use Rattle.policy_rules.proofs.CardStatusLaws.{card_status_lawful}
-use Rattle.policy_rules.proofs.EntryStatusLaws.{entry_status_lawful}
-use Rattle.policy_rules.proofs.StatusForms.{status_forms_apart}
+use Rattle.policy_rules.proofs.MakeSelectableLaws.{managed_selectable_lawful}
+use Rattle.policy_rules.proofs.ManagedLawful.{managed_lawful}
+use Rattle.policy_rules.proofs.ExtraditionLaws.{managed_extradition_lawful}
+use Rattle.policy_rules.proofs.CardStatusLaws.{managed_card_status_lawful}
+use Rattle.policy_rules.proofs.EntryStatusLaws.{managed_entry_status_lawful}
+use Rattle.policy_rules.proofs.SetStatusForms.{status_forms_apart}
 
 -- it holds of all of these forms
 abbrev pub AllOf : (CommandForm → Type 0) → List CommandForm → Type 0
@@ -56,7 +57,13 @@ either : (test : Bool) (these others : List CommandForm) → AreLawful these →
 either true these others these_are others_are = these_are
 either false these others these_are others_are = others_are
 
--- DELETE, LOAD and SET STATUS manage content
+-- PUT KEY, STORE DATA, DELETE, LOAD and SET STATUS manage content
+putting : Contains managing 0xD8
+putting = (0, omega arith, refl)
+
+storing : Contains managing 0xE2
+storing = (1, omega arith, refl)
+
 deleting : Contains managing 0xE4
 deleting = (2, omega arith, refl)
 
@@ -74,13 +81,13 @@ all_lawful ins =
     (either _ _ _ (alone _ get_data_lawful)
     (either _ _ _ (alone _ initialize_update_lawful)
     (either _ _ _ (alone _ external_authenticate_lawful)
-    (either _ _ _ (alone _ put_key_lawful)
-    (either _ _ _ (alone _ store_data_lawful)
-    (either _ _ _ (beside _ _ delete_key_lawful deletions_apart (alone _ (delete_object_lawful deleting)))
-    (either _ _ _ (beside _ _ (install_application_lawful managed) install_apart
-    (beside _ _ (make_selectable_lawful managed) selectable_apart
-    (beside _ _ (extradition_lawful managed) extradition_apart (alone _ (install_load_lawful managed)))))
-    (either _ _ _ (beside _ _ (card_status_lawful setting) status_forms_apart (alone _ (entry_status_lawful setting)))
+    (either _ _ _ (alone _ (managed_lawful _ managed_put_key_lawful putting))
+    (either _ _ _ (alone _ (managed_lawful _ managed_store_data_lawful storing))
+    (either _ _ _ (beside _ _ (managed_lawful _ managed_delete_key_lawful deleting) deletions_apart (alone _ (managed_lawful _ managed_delete_object_lawful deleting)))
+    (either _ _ _ (beside _ _ (managed_lawful _ managed_install_lawful managed) install_apart
+    (beside _ _ (managed_lawful _ managed_selectable_lawful managed) selectable_apart
+    (beside _ _ (managed_lawful _ managed_extradition_lawful managed) extradition_apart (alone _ (install_load_lawful managed)))))
+    (either _ _ _ (beside _ _ (managed_lawful _ managed_card_status_lawful setting) status_forms_apart (alone _ (managed_lawful _ managed_entry_status_lawful setting)))
     (either _ _ _ (alone _ (load_lawful loading))
     (either _ _ _ (alone _ get_status_lawful) none)))))))))))
 

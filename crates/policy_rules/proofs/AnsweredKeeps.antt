@@ -14,7 +14,7 @@ use Rattle.card_types.specs.Well.{IsWellEntry, Well}
 use Rattle.card_types.specs.declared.limits.TheConstants.{RECEIPT_LIMIT}
 use Rattle.tokens_receipts.specs.Receipt.{receipt}
 use Rattle.policy_rules.proofs.Approved.{one_holder}
-use Rattle.policy_rules.proofs.FitsKept.{KeepsThings, fits_kept}
+use Rattle.policy_rules.proofs.FitsKept.{KeepsThings, fits_kept, load_unnamed}
 use Rattle.policy_rules.specs.Admission.{Admitted}
 use Rattle.policy_rules.specs.Delegation.{IsAnswered, IsConfirmed, ReceiptFails, unique_data}
 use Rattle.policy_rules.specs.Management.{acting}
@@ -59,31 +59,30 @@ next_number admitted aids changed done well passes confirmed =
     )) in
     omega (arith, most, other)
 
-module _ (delegated : Type 0) (admitted : Admitted) (aids : List (List ℕ)) (changed : Registry) (done : Effect) (well : Well admitted.at.registry)
+module _ (delegated : Type 0) (admitted : Admitted) (aids : List (List ℕ)) (changed : Registry) (reply : List ℕ) (done : Effect) (well : Well admitted.at.registry)
     (passes : delegated → ReceiptFails admitted RC1 → ⊥) where
   -- the registry is one that a card may have
-  pub answered_keeps : IsAnswered delegated admitted aids changed done → IsOfCard changed → IsOfCard done.state.registry
+  pub answered_keeps : IsAnswered delegated admitted aids changed reply done → IsOfCard changed → IsOfCard done.state.registry
   answered_keeps (inl (so, confirmed)) of =
       subst IsOfCard (sym confirmed.registry)
       (receipts_keep changed confirmed.receipter (confirmed.entry.receipts + 1) of (next_number admitted aids changed done well (passes so) confirmed))
   answered_keeps (inr (so, unconfirmed)) of = subst IsOfCard (sym unconfirmed.registry) of
 
   -- and what the card holds goes with it
-  pub answered_fits : IsAnswered delegated admitted aids changed done → (volatile : Volatile)
-      → MatchOption volatile.load (Unit {0}) (λ load. entry_named changed load.aid ≡ None) → Fits changed volatile → Fits done.state.registry volatile
-  answered_fits (inl (so, confirmed)) volatile free fits =
+  pub answered_fits : IsAnswered delegated admitted aids changed reply done → (volatile : Volatile) → Fits changed volatile → Fits done.state.registry volatile
+  answered_fits (inl (so, confirmed)) volatile fits =
       subst (λ (r : Registry). Fits r volatile) (sym confirmed.registry)
       (fits_kept changed (with_receipts changed confirmed.receipter (confirmed.entry.receipts + 1)) (receipts_keep_things changed confirmed.receipter (confirmed.entry.receipts + 1))
-      volatile (still_free volatile.load free) fits)
+      volatile (still_free volatile.load (load_unnamed changed volatile volatile.load fits.load)) fits)
     where
       still_free : (load : Option LoadSession) → MatchOption load (Unit {0}) (λ l. entry_named changed l.aid ≡ None)
           → MatchOption load (Unit {0}) (λ l. entry_named (with_receipts changed confirmed.receipter (confirmed.entry.receipts + 1)) l.aid ≡ None)
       still_free None free = tt
       still_free (Some l) free = receipts_leave_free changed confirmed.receipter (confirmed.entry.receipts + 1) l.aid free
-  answered_fits (inr (so, unconfirmed)) volatile free fits = subst (λ (r : Registry). Fits r volatile) (sym unconfirmed.registry) fits
+  answered_fits (inr (so, unconfirmed)) volatile fits = subst (λ (r : Registry). Fits r volatile) (sym unconfirmed.registry) fits
 
 -- there is one receipter at most, so there is one answer
-module _ (delegated : Type 0) (admitted : Admitted) (aids : List (List ℕ)) (changed : Registry) (a b : Effect) where
+module _ (delegated : Type 0) (admitted : Admitted) (aids : List (List ℕ)) (changed : Registry) (reply : List ℕ) (a b : Effect) where
   confirmed_once : IsConfirmed admitted aids changed a → IsConfirmed admitted aids changed b → (a.state.registry ≡ b.state.registry) × (a.body ≡ b.body)
   confirmed_once one other =
       let same = one_holder admitted.at.registry _ _ (acting admitted) one.receipter other.receipter one.key other.key one.is_receipter other.is_receipter in
@@ -95,7 +94,7 @@ module _ (delegated : Type 0) (admitted : Admitted) (aids : List (List ℕ)) (ch
         one.body ∙ (λ i. receipt (key i).bytes ((entry i).receipts + 1) (unique_data admitted.at.registry) aids) ∙ sym other.body,
       )
 
-  pub answered_once : IsAnswered delegated admitted aids changed a → IsAnswered delegated admitted aids changed b
+  pub answered_once : IsAnswered delegated admitted aids changed reply a → IsAnswered delegated admitted aids changed reply b
       → (a.state.registry ≡ b.state.registry) × (a.body ≡ b.body)
   answered_once (inl one) (inl other) = confirmed_once one.1 other.1
   answered_once (inl one) (inr other) = absurd (other.0 one.0 one.1.receipter one.1.is_receipter.above.above one.1.is_receipter.above.fitting)

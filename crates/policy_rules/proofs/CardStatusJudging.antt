@@ -1,5 +1,5 @@
 -- The rules of SET STATUS of the card behind its form, by the step that is asked for.
-use Rattle.std.proofs.Common.{◌≡◌, ◌≢◌, ◌↔◌, ◌⊎◌, ℕ, true, List, [], ◌∷◌, Option, None, Some, refl, sym, subst, ◌∙◌, inl, inr, arith}
+use Rattle.std.proofs.Common.{◌≡◌, ◌≢◌, ◌↔◌, ◌⊎◌, ℕ, true, List, Option, None, Some, refl, sym, subst, ◌∙◌, inl, inr, arith}
 use Rattle.std.specs.Prelude.{IsTrue}
 use Rattle.apdu_core.specs.Apdu.{Apdu}
 use Rattle.card_types.specs.CardLife.{card_life_code}
@@ -8,19 +8,22 @@ use Rattle.card_types.specs.declared.card_life.CardLife.TheVariants.{Initialized
 use Rattle.card_types.specs.declared.factory.TheConstants.{ISSUER}
 use Rattle.card_types.specs.declared.tables.Tables.{Tables}
 use Rattle.policy_rules.specs.Admission.{Admitted}
-use Rattle.policy_rules.specs.CardStatus.{CardStatusFails, IsCardStep, IsLocking, IsPreparing, IsTerminating, card_lock, card_status_rules, card_terminate}
+use Rattle.policy_rules.specs.CardStatus.{IsCardStep, IsLocking, IsPreparing, IsTerminating, card_lock, card_terminate, SettingCardFails, managed_card_status}
 use Rattle.policy_rules.specs.Delegation.{Holds}
-use Rattle.policy_rules.specs.FirstFailing.{IsFirst}
 use Rattle.policy_rules.specs.Management.{ManagementFails, acting}
 use Rattle.policy_rules.specs.Requests.{ActsIn}
-use Rattle.policy_rules.specs.StatusSetRequests.{IsCardStatusOf, IsStepBy, MayStep}
+use Rattle.policy_rules.specs.SetStatusRequests.{IsCardStatusOf, IsStepBy, MayStep}
 use Rattle.policy_rules.specs.declared.card_status.CardStep.{CardStep}
 use Rattle.policy_rules.specs.declared.card_status.CardStep.TheVariants.{Prepare, Lock, Terminate}
 use Rattle.policy_rules.specs.declared.card_status.RuleSC.TheVariants.{SC1, SC2}
 use Rattle.policy_rules.specs.declared.management.RuleM.TheVariants.{M2, M3}
 use Rattle.policy_rules.specs.declared.rule.Rule.{Rule}
 use Rattle.policy_rules.specs.declared.rule.Rule.TheVariants.{SC}
-use Rattle.policy_rules.proofs.ManagementFirst.{behind_setting}
+use Rattle.policy_rules.specs.CommandForm.{FailsFirst}
+use Rattle.policy_rules.specs.declared.card_status.RuleSC.{RuleSC}
+use Rattle.policy_rules.proofs.CardStatusLaws.{card_status_judgeable}
+use Rattle.policy_rules.proofs.ManagedJudging.{own_refuses, two_pass, approval_decides}
+use Rattle.policy_rules.specs.ManagedForm.{OwnFirst, command_form}
 
 -- it is the card's own state that is set
 pub of_card : (code : ℕ) (command : Apdu) → IsCardStatusOf code command → IsTrue true ↔ (command.p1 ≡ 0x80)
@@ -79,17 +82,17 @@ free admitted Terminate life code step may (inr (inr terminates)) = terminates.1
 module _ (page : ℕ → List ℕ) (tables : Tables) (domain : ℕ) (admitted : Admitted) (acts : ActsIn page tables domain admitted) (code : ℕ)
     (is : IsCardStatusOf code admitted.command) (managed : (ManagementFails admitted M2 → ⊥) × (ManagementFails admitted M3 → ⊥)) where
   abbrev First : Option Rule → Type 0
-  First found = IsFirst (CardStatusFails admitted) card_status_rules found
+  First = FailsFirst (command_form managed_card_status) admitted
 
   -- what is so of the tables and the code is so of the registry and P2
   told : (P : CardLife → ℕ → Type 0) → P tables.life code → P admitted.at.registry.life admitted.command.p2
   told P so = subst (P admitted.at.registry.life) is.code_is (subst (λ (life : CardLife). P life code) acts.says.life so)
 
-  behind : (found : Option Rule) → IsFirst (CardStatusFails admitted) (SC SC1 ∷ SC SC2 ∷ []) found → First found
-  behind found rest = behind_setting (CardStatusFails admitted) (SC SC1 ∷ SC SC2 ∷ []) found managed.0 managed.1 rest
+  refuses : (rule : RuleSC) → OwnFirst managed_card_status.judged admitted tt (Some rule) → First (Some (SC rule))
+  refuses = own_refuses managed_card_status.judged card_status_judgeable admitted tt tt (two_pass managed)
 
   stepless : (IsCardStep tables.life code → ⊥) → First (Some (SC SC1))
-  stepless none = behind (Some (SC SC1)) (inl (told (λ life p2. IsCardStep life p2 → ⊥) none, refl))
+  stepless none = refuses SC1 (inl (told (λ life p2. IsCardStep life p2 → ⊥) none, refl))
 
   pub codeless_first : ((life : CardLife) → card_life_code life ≡ code → ⊥) → First (Some (SC SC1))
   codeless_first none = stepless (λ step. (let next = coded tables.life code step in none next.0 next.1))
@@ -102,11 +105,13 @@ module _ (page : ℕ → List ℕ) (tables : Tables) (domain : ℕ) (admitted : 
       here : IsStepBy kind admitted.at.registry.life admitted.command.p2
       here = told (IsStepBy kind) (subst (IsStepBy kind tables.life) coded_so step)
 
-      steps : (CardStatusFails admitted (SC SC1)) → ⊥
+      steps : SettingCardFails admitted SC1 → ⊥
       steps none = none (a_step kind _ _ here)
 
       pub barred_first : (MayStep kind admitted → ⊥) → First (Some (SC SC2))
-      barred_first may_not = behind (Some (SC SC2)) (inr (steps, inl (barred admitted kind _ _ here may_not, refl)))
+      barred_first may_not = refuses SC2 (inr (steps, inl (barred admitted kind _ _ here may_not, refl)))
 
       pub step_passes : MayStep kind admitted → First None
-      step_passes may = behind None (inr (steps, inr (free admitted kind _ _ here may, refl)))
+      step_passes may =
+          approval_decides managed_card_status.judged card_status_judgeable admitted tt tt (two_pass managed) None
+          (inr (steps, inr (free admitted kind _ _ here may, refl))) refl

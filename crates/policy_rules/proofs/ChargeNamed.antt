@@ -23,7 +23,7 @@ use Rattle.domain_tree.specs.AboveLaws.{IsAboveIn}
 use Rattle.domain_tree.specs.Holders.{entry_has}
 use Rattle.policy_rules.specs.Charge.{IsAtOrAbove, IsFileInCharge, IsInCharge, is_privileged}
 use Rattle.policy_rules.specs.Extradition.{domain_of_thing, entry_domain, file_domain}
-use Rattle.policy_rules.proofs.InstallJudging.{entry_no_file}
+use Rattle.policy_rules.proofs.InstallApplicationJudging.{entry_no_file}
 use Rattle.policy_rules.proofs.NearestHolder.{privilege_named}
 use Rattle.policy_rules.proofs.ThingsFound.{IsEntryAt, above_by_aids, above_by_slots, entry_at, file_apart}
 

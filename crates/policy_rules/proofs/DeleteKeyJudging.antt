@@ -1,18 +1,23 @@
 -- The rules of a DELETE of a key behind its form, by its request.
-use Rattle.std.proofs.Common.{◌≡◌, ℕ, Bool, true, false, List, Option, ap, sym, subst, ◌∙◌, inl, inr}
+use Rattle.std.proofs.Common.{◌≡◌, ℕ, Bool, true, List, Option, ap, sym, ◌∙◌, inl, inr, None, Some, refl}
 use Rattle.card_types.specs.declared.tables.KeyRec.{KeyRec}
 use Rattle.card_types.specs.declared.tables.Tables.{Tables}
 use Rattle.key_sets.specs.PutFails as slots
 use Rattle.policy_rules.specs.Admission.{Admitted}
-use Rattle.policy_rules.specs.DeleteKey.{Chooses, DeleteFails, IsLastSet, NamesPart}
+use Rattle.policy_rules.specs.DeleteKey.{NamesPart, DeletingKeyFails, KeyChosen, managed_delete_key}
 use Rattle.policy_rules.specs.KeyVersions.{has_key_version}
-use Rattle.policy_rules.specs.Management.{acting}
+use Rattle.policy_rules.specs.Management.{acting, ManagementFails}
 use Rattle.policy_rules.specs.Requests.{ActsIn, IsRequestOf}
-use Rattle.policy_rules.specs.declared.delete_key.RuleDK.TheVariants.{DK1, DK2}
+use Rattle.policy_rules.specs.declared.delete_key.RuleDK.TheVariants.{DK1}
 use Rattle.policy_rules.specs.declared.request.Request.TheVariants.{DeleteKey}
 use Rattle.policy_rules.specs.declared.rule.Rule.TheVariants.{DK}
-use Rattle.policy_rules.proofs.Chosen.{chosen_once}
 use Rattle.policy_rules.proofs.KeysByName.{has_version_by_name}
+use Rattle.policy_rules.specs.Commands.{Judges}
+use Rattle.policy_rules.specs.declared.management.RuleM.TheVariants.{M1, M2}
+use Rattle.policy_rules.specs.declared.delete_key.RuleDK.{RuleDK}
+use Rattle.policy_rules.proofs.DeleteKeyLaws.{delete_key_judgeable, deletion_judged}
+use Rattle.policy_rules.proofs.ManagedJudging.{own_refuses, approval_decides, two_pass}
+use Rattle.policy_rules.specs.ManagedForm.{OwnFirst}
 
 -- the domain that a command acts for has keys by its slot exactly where it has them by its name
 pub acting_has_version : (page : ℕ → List ℕ) (tables : Tables) (domain : ℕ) (admitted : Admitted) → ActsIn page tables domain admitted
@@ -23,27 +28,24 @@ acting_has_version page tables domain admitted acts version keys has are is =
     ∙ sym (has_version_by_name page tables admitted.at.registry acts.says acts.well domain acts.entry acts.at version)
     ∙ ap (slots.has_version domain version) (sym are) ∙ sym is
 
-module _ (admitted : Admitted) (version : ℕ) (identifier : Option ℕ) (request : IsRequestOf (DeleteKey version identifier) admitted.command) where
-  chosen : Chooses admitted.command.body version identifier
-  chosen = request.means
+-- what its request asks for
+abbrev chosen : ℕ → Option ℕ → KeyChosen
+chosen version identifier = record { version = version; identifier = identifier }
 
-  pub unknown_fails : has_key_version admitted.at.registry (acting admitted) version ≡ false → DeleteFails admitted (DK DK1)
-  unknown_fails none = (version, identifier, chosen, inl none)
+module _ (admitted : Admitted) (version : ℕ) (identifier : Option ℕ) (request : IsRequestOf (DeleteKey version identifier) admitted.command)
+    (managed : (ManagementFails admitted M1 → ⊥) × (ManagementFails admitted M2 → ⊥)) where
+  pub refused_first : (rule : RuleDK) → OwnFirst managed_delete_key.judged admitted (chosen version identifier) (Some rule) → Judges admitted (Some (DK rule))
+  refused_first rule first =
+      deletion_judged admitted (Some (DK rule)) request.form
+      (own_refuses managed_delete_key.judged delete_key_judgeable admitted (chosen version identifier) request.means (two_pass managed) rule first)
 
-  pub part_fails : NamesPart version identifier → DeleteFails admitted (DK DK1)
-  part_fails part = (version, identifier, chosen, inr part)
+  pub none_first : OwnFirst managed_delete_key.judged admitted (chosen version identifier) None → Judges admitted None
+  none_first first =
+      deletion_judged admitted None request.form
+      (approval_decides managed_delete_key.judged delete_key_judgeable admitted (chosen version identifier) request.means (two_pass managed) None first refl)
 
-  pub known_passes : has_key_version admitted.at.registry (acting admitted) version ≡ true → (NamesPart version identifier → ⊥) → DeleteFails admitted (DK DK1) → ⊥
-  known_passes some whole fails =
-      let same = chosen_once admitted.command.body fails.0 version fails.1 identifier fails.2 chosen in
-      elim fails.3 [
-        | inl none ↦ (let here = subst (λ (v : ℕ). has_key_version admitted.at.registry (acting admitted) v ≡ false) same.0 none in let clash = sym here ∙ some in cc)
-        | inr part ↦ whole (subst (λ (i : Option ℕ). NamesPart version i) same.1 (subst (λ (v : ℕ). NamesPart v fails.1) same.0 part))
-      ]
-
-  pub last_fails : IsLastSet admitted version → DeleteFails admitted (DK DK2)
-  last_fails last = (version, identifier, chosen, last)
-
-  pub left_passes : (IsLastSet admitted version → ⊥) → DeleteFails admitted (DK DK2) → ⊥
-  left_passes left fails =
-      left (subst (λ (v : ℕ). IsLastSet admitted v) (chosen_once admitted.command.body fails.0 version fails.1 identifier fails.2 chosen).0 fails.3)
+-- a version that is there, and named whole
+pub known_passes : (admitted : Admitted) (version : ℕ) (identifier : Option ℕ) → has_key_version admitted.at.registry (acting admitted) version ≡ true
+    → (NamesPart version identifier → ⊥) → DeletingKeyFails admitted (chosen version identifier) DK1 → ⊥
+known_passes admitted version identifier some whole (inl none) = (let clash = sym none ∙ some in cc)
+known_passes admitted version identifier some whole (inr part) = whole part

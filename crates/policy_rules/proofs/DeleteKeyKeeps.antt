@@ -1,16 +1,12 @@
 -- A registry without the keys of a domain with one key version number is one that a card may have, in order.
-use Rattle.std.proofs.Common.{ℕ, List, [], sym, subst, arith}
+use Rattle.std.proofs.Common.{ℕ, List, [], arith}
 use Rattle.std.specs.Prelude.{not}
 use Rattle.std.proofs.lemmas.List.Sorted.{IsPermutation-refl}
 use Rattle.card_types.specs.AidOrder.{same_aid}
 use Rattle.card_types.specs.Ascending.{IsAscending, counter_order, key_order}
 use Rattle.card_types.specs.Registry.{Registry}
 use Rattle.card_types.specs.Well.{Well}
-use Rattle.policy_rules.specs.Admission.{Admitted}
-use Rattle.policy_rules.specs.DeleteKey.{DeleteEffect}
 use Rattle.policy_rules.specs.KeyVersions.{counters_but, is_counter_numbered, is_key_numbered, keys_but, with_keys}
-use Rattle.policy_rules.specs.Management.{acting}
-use Rattle.policy_rules.specs.State.{Effect}
 use Rattle.policy_rules.proofs.Filtered.{fewer_pass, filter_sorted, most_pass}
 use Rattle.policy_rules.proofs.PutKeyKeys.{put_well}
 
@@ -35,10 +31,3 @@ module _ (registry : Registry) (owner : List ℕ) (version : ℕ) where
     counters = filter_sorted (λ counter. not (is_counter_numbered owner version counter)) counter_order registry.counters ascending.counters;
     objects = ascending.objects;
   }
-
-pub delete_keeps : (admitted : Admitted) (done : Effect) → Well admitted.at.registry → IsAscending admitted.at.registry → DeleteEffect admitted done
-    → Well done.state.registry × IsAscending done.state.registry
-delete_keeps admitted done well ascending does = (
-  subst Well (sym does.registry) (without_version_well admitted.at.registry (acting admitted) does.version well),
-  subst IsAscending (sym does.registry) (without_version_ascending admitted.at.registry (acting admitted) does.version ascending),
-)

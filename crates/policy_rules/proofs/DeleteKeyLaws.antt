@@ -1,39 +1,45 @@
 -- The laws of DELETE of a key.
-use Rattle.std.proofs.Common.{refl, sym, arith, inl}
+use Rattle.std.proofs.Common.{refl, sym, inl, ◌≡◌, ◌∙◌}
 use Rattle.policy_rules.specs.Admission.{Admitted}
-use Rattle.policy_rules.specs.DeleteKey.{DeleteEffect, delete_key}
+use Rattle.policy_rules.specs.DeleteKey.{managed_delete_key, KeyChosen}
 use Rattle.policy_rules.specs.KeyVersions.{counters_but, keys_but}
 use Rattle.policy_rules.specs.Management.{acting}
-use Rattle.policy_rules.specs.Sound.{IsSound}
-use Rattle.policy_rules.specs.State.{Effect}
-use Rattle.policy_rules.proofs.DeleteKeyKeeps.{delete_keeps}
 use Rattle.policy_rules.proofs.SameThings.{same_fits}
-use Rattle.policy_rules.proofs.DeleteKeyOnce.{delete_one}
-use Rattle.policy_rules.proofs.Lawful.{IsLawful, IsReady, fits_as, load_same, placeless_same}
 use Rattle.policy_rules.proofs.Judging.{judged}
 use Rattle.policy_rules.specs.Commands.{TakesCommand, Judges}
 use Rattle.policy_rules.specs.FirstFailing.{IsFirst}
 use Rattle.policy_rules.specs.declared.rule.Rule.{Rule}
-use Rattle.policy_rules.specs.DeleteKey.{DeleteFails, deletion_rules}
 use Rattle.std.proofs.Common.{Option}
+use Rattle.policy_rules.specs.declared.rule.RulePS.TheVariants.{P}
+use Rattle.card_types.specs.Registry.{Registry}
+use Rattle.policy_rules.proofs.ManagedJudging.{IsJudgeable}
+use Rattle.policy_rules.proofs.ManagedLawful.{IsManagedLawful, IsPassedFor, MayFollow, may_follow}
+use Rattle.policy_rules.proofs.DeleteKeyChosen.{one_choice}
+use Rattle.policy_rules.proofs.DeleteKeyKeeps.{without_version, without_version_ascending, without_version_well}
+use Rattle.policy_rules.specs.ManagedForm.{command_form}
+
+pub delete_key_judgeable : IsJudgeable managed_delete_key.judged
+delete_key_judgeable = record { one_asked = λ p1 p2. one_choice; own = λ rule. tt; one_rule = λ a b same. cc; approving = tt }
 
 -- keys and counters go
-deletion_keeps : (admitted : Admitted) (done : Effect) → IsReady admitted → DeleteEffect admitted done → IsSound done.state
-deletion_keeps admitted done ready does =
+deletion_keeps : (admitted : Admitted) (chosen : KeyChosen) (changed : Registry) → IsPassedFor managed_delete_key.judged admitted chosen
+    → changed ≡ without_version admitted.at.registry (acting admitted) chosen.version → MayFollow admitted changed
+deletion_keeps admitted chosen changed passed becomes =
     let registry = admitted.at.registry in
-    let kept = delete_keeps admitted done ready.sound.well ready.sound.ascending does in
-    let fits = same_fits registry registry.life (keys_but (acting admitted) does.version registry.keys) (counters_but (acting admitted) does.version registry.counters)
-    registry.objects admitted.at.volatile ready.sound.fits in
-    record { well = kept.0; ascending = kept.1; fits = fits_as (sym does.registry) (sym does.volatile) fits }
+    let owner = acting admitted in
+    let version = chosen.version in
+    may_follow admitted (without_version registry owner version) changed becomes
+    (record { well = without_version_well registry owner version passed.sound.well; ascending = without_version_ascending registry owner version passed.sound.ascending })
+    (same_fits registry registry.life (keys_but owner version registry.keys) (counters_but owner version registry.counters) registry.objects admitted.at.volatile passed.sound.fits)
 
-pub delete_key_lawful : IsLawful delete_key
-delete_key_lawful = record {
-  keeps = λ admitted done ready judges does. deletion_keeps admitted done ready does;
-  one = delete_one;
-  quiet = λ unmanaged. absurd (unmanaged (2, omega arith, refl));
-  without_place = λ other admitted done none does. placeless_same admitted.at.volatile done.state.volatile admitted.channel does.volatile none;
-  loads_stay = λ admitted done takes other does. load_same admitted.at.volatile done.state.volatile does.volatile;
+pub managed_delete_key_lawful : IsManagedLawful managed_delete_key
+managed_delete_key_lawful = record {
+  judgeable = delete_key_judgeable;
+  receipted = λ admitted delegated. absurd delegated;
+  keeps = deletion_keeps;
+  one = λ admitted chosen a b asks one other. one ∙ sym other;
 }
 
-pub deletion_judged : (admitted : Admitted) (found : Option Rule) → TakesCommand delete_key admitted.command → IsFirst (DeleteFails admitted) deletion_rules found → Judges admitted found
-deletion_judged admitted found takes first = judged delete_key (λ P is. inl is) admitted takes refl found first
+pub deletion_judged : (admitted : Admitted) (found : Option Rule) → TakesCommand (command_form managed_delete_key) admitted.command
+    → IsFirst ((command_form managed_delete_key).fails admitted) (command_form managed_delete_key).rules found → Judges admitted found
+deletion_judged admitted found takes first = judged (command_form managed_delete_key) (λ P is. inl is) admitted takes refl found first

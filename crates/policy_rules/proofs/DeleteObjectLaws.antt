@@ -1,5 +1,5 @@
 -- The laws of DELETE of an object.
-use Rattle.std.proofs.Common.{◌≡◌, ◌≢◌, ◌⊎◌, inl, inr, ℕ, Bool, List, [], ◌∷◌, Option, None, Some, length, refl, sym, subst, ◌∙◌, arith}
+use Rattle.std.proofs.Common.{◌≡◌, ◌≢◌, ◌⊎◌, inl, inr, ℕ, Bool, List, Option, None, Some, length, refl, sym, subst, ◌∙◌, arith}
 use Rattle.std.specs.Prelude.{Contains, IsSome, MatchOption, not}
 use Rattle.std.proofs.lemmas.Bool.{not-true, not_from_false}
 use Rattle.std.proofs.lemmas.List.Filters.{sum_by-filter_both}
@@ -15,46 +15,35 @@ use Rattle.card_types.specs.RegistryChange.{without_applications, without_entry}
 use Rattle.card_types.specs.Well.{pages_of}
 use Rattle.card_types.specs.declared.factory.TheConstants.{FACTORY_FILE, ISSUER}
 use Rattle.policy_rules.specs.Admission.{Admitted}
-use Rattle.policy_rules.specs.Classes.{managing}
-use Rattle.policy_rules.specs.Commands.{JudgesAs}
-use Rattle.policy_rules.specs.Delegation.{IsAnswered, ReceiptFails}
 use Rattle.policy_rules.specs.DeleteKey.{DeleteParameters}
-use Rattle.policy_rules.specs.DeleteObject.{AsksToDelete, ComesFrom, DeleteObjectEffect, DeleteObjectFails, DeletingFails, DeletionAsked, IsDelegated, IsInUse, IsLoadedInto, IsSelected, delete_object, delete_object_rules, without_thing}
+use Rattle.policy_rules.specs.DeleteObject.{AsksToDelete, ComesFrom, DeletingFails, DeletionAsked, IsInUse, IsLoadedInto, IsSelected, managed_delete_object, without_thing}
 use Rattle.policy_rules.specs.FirstFailing.{IsFirst}
-use Rattle.policy_rules.specs.Sound.{IsSound}
-use Rattle.policy_rules.specs.State.{Effect}
-use Rattle.policy_rules.specs.declared.delegation.RuleRC.TheVariants.{RC1}
-use Rattle.policy_rules.specs.declared.delete_object.RuleDO.{RuleDO}
 use Rattle.policy_rules.specs.declared.delete_object.RuleDO.TheVariants.{DO2, DO4}
-use Rattle.policy_rules.specs.declared.rule.Rule.TheVariants.{DO, RC}
-use Rattle.policy_rules.proofs.AnsweredKeeps.{answered_fits, answered_keeps, answered_once}
-use Rattle.policy_rules.proofs.DeletionAsking.{one_deletion}
-use Rattle.policy_rules.proofs.FirstUnique.{none_fails}
-use Rattle.policy_rules.proofs.FitsKept.{load_unnamed}
-use Rattle.policy_rules.proofs.Lawful.{IsLawful, IsReady, fits_as, load_same, placeless_same}
+use Rattle.policy_rules.proofs.DeleteObjectAsking.{one_deletion}
 use Rattle.policy_rules.proofs.RemovedFits.{KeepsHeld, removed_fits}
-use Rattle.policy_rules.proofs.SameEffect.{effect_same, state_same}
-use Rattle.policy_rules.specs.Volatile.{LoadSession}
+use Rattle.policy_rules.proofs.ManagedJudging.{own_pass, IsJudgeable, delegation_asked}
+use Rattle.policy_rules.proofs.ManagedLawful.{IsManagedLawful, IsPassedFor, MayFollow, receipt_judged, may_follow}
+use Rattle.policy_rules.specs.ManagedForm.{command_form}
 
 module _ (admitted : Admitted) (asked : DeletionAsked) (parameters : DeleteParameters admitted.command.p1 admitted.command.p2)
-    (passes : (rule : RuleDO) → (rule ≡ DO2) ⊎ (rule ≡ DO4) → DeletingFails admitted asked rule → ⊥) where
+    (removable : DeletingFails admitted asked DO2 → ⊥) (unused_so : DeletingFails admitted asked DO4 → ⊥) where
   abbrev before : Registry
   before = admitted.at.registry
 
   not_issuer : asked.aid ≢ ISSUER
-  not_issuer same = passes DO2 (inl refl) (inl same)
+  not_issuer same = removable (inl same)
 
   not_factory : asked.aid ≢ FACTORY_FILE
-  not_factory same = passes DO2 (inl refl) (inr same)
+  not_factory same = removable (inr same)
 
   -- the thing is not in use, and what is in use does not come from it
   unused : IsInUse admitted asked.aid → ⊥
-  unused used = passes DO4 (inr refl) (inl (asked.aid, inl refl, used))
+  unused used = unused_so (inl (asked.aid, inl refl, used))
 
   none_comes : (aid : List ℕ) → IsSelected admitted.at.volatile aid ⊎ IsLoadedInto admitted.at.volatile aid → ComesFrom before asked.aid aid → ⊥
   none_comes aid here comes = elim parameters.1 [
-    | inl zero ↦ passes DO4 (inr refl) (inr (zero, (aid, comes)))
-    | inr related ↦ passes DO4 (inr refl) (inl (aid, inr (related, comes), in_use here))
+    | inl zero ↦ unused_so (inr (zero, (aid, comes)))
+    | inr related ↦ unused_so (inl (aid, inr (related, comes), in_use here))
   ]
     where
       in_use : IsSelected admitted.at.volatile aid ⊎ IsLoadedInto admitted.at.volatile aid → IsInUse admitted aid
@@ -128,60 +117,35 @@ module _ (admitted : Admitted) (asked : DeletionAsked) (parameters : DeleteParam
         smaller = omega (arith, sum_by-filter_both keep (λ (f : LoadFile). not (keep f)) (λ _. refl) (λ (f : LoadFile). pages_of (length f.bytes)) before.files);
       }
 
--- its rules pass
-own_pass : (admitted : Admitted) (asked : DeletionAsked) → AsksToDelete admitted.command.body asked → IsFirst (DeleteObjectFails admitted) delete_object_rules None
-    → (rule : RuleDO) → (rule ≡ DO2) ⊎ (rule ≡ DO4) → DeletingFails admitted asked rule → ⊥
-own_pass admitted asked asks first rule which fails =
-    let passes = none_fails (DeleteObjectFails admitted) delete_object_rules in
-    elim which [
-      | inl two ↦ passes (DO DO2) (3, omega arith, refl) first (asked, asks, subst (DeletingFails admitted asked) two fails)
-      | inr four ↦ passes (DO DO4) (5, omega arith, refl) first (asked, asks, subst (DeletingFails admitted asked) four fails)
-    ]
+pub deletion_judgeable : IsJudgeable managed_delete_object.judged
+deletion_judgeable = record {
+  one_asked = λ p1 p2 body a b one other. one_deletion a b body one other;
+  own = λ rule. tt;
+  one_rule = λ a b same. cc;
+  approving = delegation_asked;
+}
 
 -- the registry without what is to go is one that a card may have
 pub deleted_of_card : (admitted : Admitted) (asked : DeletionAsked) → AsksToDelete admitted.command.body asked
     → DeleteParameters admitted.command.p1 admitted.command.p2
-    → IsOfCard admitted.at.registry → IsFirst (DeleteObjectFails admitted) delete_object_rules None → IsOfCard (without_thing admitted.at.registry asked.aid)
-deleted_of_card admitted asked asks parameters of first = removed_of_card admitted asked parameters (own_pass admitted asked asks first) of
+    → IsOfCard admitted.at.registry → IsFirst ((command_form managed_delete_object).fails admitted) (command_form managed_delete_object).rules None → IsOfCard (without_thing admitted.at.registry asked.aid)
+deleted_of_card admitted asked asks parameters of first =
+    let own = own_pass managed_delete_object.judged deletion_judgeable admitted asked asks first in
+    removed_of_card admitted asked parameters (own DO2 (1, omega arith, refl)) (own DO4 (3, omega arith, refl)) of
 
-deleting_keeps : (admitted : Admitted) (done : Effect) → IsReady admitted → JudgesAs delete_object admitted None → DeleteObjectEffect admitted done → IsSound done.state
-deleting_keeps admitted done ready (takes, first) does =
-    let registry = admitted.at.registry in
-    let volatile = admitted.at.volatile in
-    let asked = does.asked in
-    let of : IsOfCard registry = record { well = ready.sound.well; ascending = ready.sound.ascending } in
-    let own = own_pass admitted asked does.asks first in
-    let changed = without_thing registry asked.aid in
-    let receipt : IsDelegated admitted → ReceiptFails admitted RC1 → ⊥
-    = (λ delegated fails. none_fails (DeleteObjectFails admitted) delete_object_rules (RC RC1) (9, omega arith, refl) first (asked, does.asks, (delegated, fails))) in
-    let free = still_free volatile.load (load_unnamed registry volatile volatile.load ready.sound.fits.load) in
-    let kept = answered_keeps (IsDelegated admitted) admitted (asked.aid ∷ []) changed done ready.sound.well receipt does.answered
-    (removed_of_card admitted asked takes.1 own of) in
-    let fits = answered_fits (IsDelegated admitted) admitted (asked.aid ∷ []) changed done ready.sound.well receipt does.answered volatile free
-    (removed_fits registry changed volatile (keeps_held admitted asked takes.1 own) ready.sound.fits) in
-    record { well = kept.well; ascending = kept.ascending; fits = fits_as refl (sym does.volatile) fits }
-  where
-    still_free : (load : Option LoadSession) → MatchOption load (Unit {0}) (λ l. entry_named admitted.at.registry l.aid ≡ None)
-        → MatchOption load (Unit {0}) (λ l. entry_named (without_thing admitted.at.registry does.asked.aid) l.aid ≡ None)
-    still_free None free = tt
-    still_free (Some l) free = no_entry admitted does.asked takes.1 (own_pass admitted does.asked does.asks first) l.aid free
+deleting_keeps : (admitted : Admitted) (asked : DeletionAsked) (changed : Registry) → IsPassedFor managed_delete_object.judged admitted asked
+    → changed ≡ without_thing admitted.at.registry asked.aid → MayFollow admitted changed
+deleting_keeps admitted asked changed passed becomes =
+    let removable = passed.own DO2 (1, omega arith, refl) in
+    let unused = passed.own DO4 (3, omega arith, refl) in
+    may_follow admitted _ changed becomes
+    (removed_of_card admitted asked passed.takes removable unused (record { well = passed.sound.well; ascending = passed.sound.ascending }))
+    (removed_fits admitted.at.registry (without_thing admitted.at.registry asked.aid) admitted.at.volatile (keeps_held admitted asked passed.takes removable unused) passed.sound.fits)
 
-abbrev AnsweredFor : Admitted → DeletionAsked → Effect → Type 0
-AnsweredFor admitted asked done = IsAnswered (IsDelegated admitted) admitted (asked.aid ∷ []) (without_thing admitted.at.registry asked.aid) done
-
-deleting_one : (admitted : Admitted) (a b : Effect) → DeleteObjectEffect admitted a → DeleteObjectEffect admitted b → a ≡ b
-deleting_one admitted a b one other =
-    let asked = one_deletion one.asked other.asked admitted.command.body one.asks other.asks in
-    let here = subst (λ (d : DeletionAsked). AnsweredFor admitted d a) asked one.answered in
-    let same = answered_once (IsDelegated admitted) admitted (other.asked.aid ∷ []) (without_thing admitted.at.registry other.asked.aid) a b here other.answered in
-    effect_same a b (state_same a.state b.state same.0 (one.volatile ∙ sym other.volatile)) same.1 (one.status ∙ sym other.status)
-
--- once its instruction is one of those that manage content
-pub delete_object_lawful : Contains managing delete_object.instruction → IsLawful delete_object
-delete_object_lawful managed = record {
+pub managed_delete_object_lawful : IsManagedLawful managed_delete_object
+managed_delete_object_lawful = record {
+  judgeable = deletion_judgeable;
+  receipted = λ admitted delegated. receipt_judged;
   keeps = deleting_keeps;
-  one = deleting_one;
-  quiet = λ unmanaged. absurd (unmanaged managed);
-  without_place = λ other admitted done none does. placeless_same admitted.at.volatile done.state.volatile admitted.channel does.volatile none;
-  loads_stay = λ admitted done takes other does. load_same admitted.at.volatile done.state.volatile does.volatile;
+  one = λ admitted asked a b asks one other. one ∙ sym other;
 }

@@ -1,13 +1,13 @@
 -- The rules of SET STATUS of an entry behind its form, by its request.
 use Rattle.std.proofs.Common.{◌≡◌, ◌≢◌, ◌⊎◌, ℕ, Bool, true, false, List, Option, None, Some, refl, ap, sym, subst, ◌∙◌, inl, inr, arith}
-use Rattle.std.specs.Prelude.{IfNone, IfSome, MatchOption, map}
+use Rattle.std.specs.Prelude.{IfNone, IfSome, MatchOption}
 use Rattle.std.specs.Option.{option_map}
 use Rattle.std.proofs.lemmas.Bool.{eq-eqb, eqb-true}
 use Rattle.card_types.proofs.SameAid.{same_aid_decides}
 use Rattle.card_types.specs.AidOrder.{same_aid}
 use Rattle.card_types.specs.Found.{aid_of}
 use Rattle.card_types.specs.Registry as registry
-use Rattle.card_types.specs.Registry.{entry_named}
+use Rattle.card_types.specs.Registry.{entry_named, is_domain}
 use Rattle.card_types.specs.Represents.{entry_of}
 use Rattle.card_types.specs.Slots.{held}
 use Rattle.card_types.specs.Well.{IsDomainNamed}
@@ -17,27 +17,30 @@ use Rattle.card_types.specs.declared.life.LifeMark.{LifeMark}
 use Rattle.card_types.specs.declared.tables.Entry.{Entry}
 use Rattle.card_types.specs.declared.tables.Tables.{Tables}
 use Rattle.policy_rules.specs.Admission.{Admitted}
-use Rattle.policy_rules.specs.EntryStatus.{EntryStatusFails, IsEntryStep, Marks, SettingStatusFails, entry_status_rules}
-use Rattle.policy_rules.specs.FirstFailing.{IsFirst}
+use Rattle.policy_rules.specs.EntryStatus.{IsEntryStep, Marks, SettingStatusFails, managed_entry_status}
 use Rattle.policy_rules.specs.Management.{ManagementFails}
 use Rattle.policy_rules.specs.Requests.{ActsIn}
-use Rattle.policy_rules.specs.StatusSetRequests.{IsChangeFor, IsEntryStatusOf, IsSlotStep, MaySet, TellsCard, own_status_rules}
+use Rattle.policy_rules.specs.SetStatusRequests.{IsChangeFor, IsEntryStatusOf, IsSlotStep, MaySet, TellsCard}
 use Rattle.policy_rules.specs.declared.entry_status.EntryStatusRequest.{EntryStatusRequest}
 use Rattle.policy_rules.specs.declared.entry_status.RuleSS.{RuleSS}
 use Rattle.policy_rules.specs.declared.entry_status.RuleSS.TheVariants.{SS1, SS2, SS3, SS4}
 use Rattle.policy_rules.specs.declared.entry_status.StatusChange.TheVariants.{One, Tree}
 use Rattle.policy_rules.specs.declared.management.RuleM.TheVariants.{M2, M3}
 use Rattle.policy_rules.specs.declared.rule.Rule.TheVariants.{SS}
-use Rattle.policy_rules.proofs.FirstLike.{first_of_group}
-use Rattle.policy_rules.proofs.ManagementFirst.{behind_setting}
 use Rattle.policy_rules.proofs.ThingsFound.{IsEntryAt, entry_at, named_as}
+use Rattle.policy_rules.specs.CommandForm.{FailsFirst}
+use Rattle.card_types.specs.Aid.{IsAid}
+use Rattle.policy_rules.proofs.EntryStatusLaws.{entry_status_judgeable}
+use Rattle.policy_rules.proofs.ManagedJudging.{two_pass, own_refuses, approval_decides}
+use Rattle.policy_rules.specs.ManagedForm.{OwnFirst, command_form}
 
--- its own rules behind those of management
-pub own_status_first : (admitted : Admitted) → (ManagementFails admitted M2 → ⊥) × (ManagementFails admitted M3 → ⊥) → (found : Option RuleSS)
-    → IsFirst (SettingStatusFails admitted) own_status_rules found → IsFirst (EntryStatusFails admitted) entry_status_rules (option_map SS found)
-own_status_first admitted managed found first =
-    behind_setting (EntryStatusFails admitted) (map SS own_status_rules) (option_map SS found) managed.0 managed.1
-    (first_of_group SS (EntryStatusFails admitted) own_status_rules found first)
+-- its own rules after those of management
+pub own_status_first : (admitted : Admitted) → IsAid admitted.command.body → (ManagementFails admitted M2 → ⊥) × (ManagementFails admitted M3 → ⊥)
+    → (found : Option RuleSS) → OwnFirst managed_entry_status.judged admitted tt found → FailsFirst (command_form managed_entry_status) admitted (option_map SS found)
+own_status_first admitted field managed None first =
+    approval_decides managed_entry_status.judged entry_status_judgeable admitted tt field (two_pass managed) None first refl
+own_status_first admitted field managed (Some rule) first =
+    own_refuses managed_entry_status.judged entry_status_judgeable admitted tt field (two_pass managed) rule first
 
 -- P1 by the request
 module _ (request : EntryStatusRequest) (admitted : Admitted) (is : IsEntryStatusOf request admitted.command) where
@@ -119,10 +122,10 @@ module _ (page : ℕ → List ℕ) (tables : Tables) (domain : ℕ) (admitted : 
       -- a step of the entry in the slot is one of the entry by its name
       step_named : (life : LifeMark) → IsSlotStep request entry life → IsEntryStep admitted.command.p1 admitted.command.p2 by_name life
       step_named life (inl marks) =
-          inl (record { mark = subst (λ (code : ℕ). Marks code life.locked) is.code marks.0; other = marks.1; stays = marks.2 })
+          inl (record { mark = subst (λ (code : ℕ). Marks code life.locked) is.life marks.0; other = marks.1; stays = marks.2 })
       step_named life (inr personalizes) = inr (record {
         one = of_one request admitted is personalizes.0;
-        code = sym is.code ∙ personalizes.1;
+        code = sym is.life ∙ personalizes.1;
         domain = personalizes.2;
         selectable = personalizes.3;
         becomes = personalizes.4;
@@ -130,9 +133,9 @@ module _ (page : ℕ → List ℕ) (tables : Tables) (domain : ℕ) (admitted : 
 
       step_in_slot : (life : LifeMark) → IsEntryStep admitted.command.p1 admitted.command.p2 by_name life → IsSlotStep request entry life
       step_in_slot life (inl marks) =
-          inl (subst (λ (code : ℕ). Marks code life.locked) (sym is.code) marks.mark, marks.other, marks.stays)
+          inl (subst (λ (code : ℕ). Marks code life.locked) (sym is.life) marks.mark, marks.other, marks.stays)
       step_in_slot life (inr personalizes) =
-          inr (one_of request admitted is personalizes.one, is.code ∙ personalizes.code, personalizes.domain, personalizes.selectable, personalizes.becomes)
+          inr (one_of request admitted is personalizes.one, is.life ∙ personalizes.code, personalizes.domain, personalizes.selectable, personalizes.becomes)
 
       pub stepless : ((life : LifeMark) → IsSlotStep request entry life → ⊥) → SettingStatusFails admitted SS4
       stepless none =
@@ -152,7 +155,7 @@ module _ (page : ℕ → List ℕ) (tables : Tables) (domain : ℕ) (admitted : 
       pub tree_change : (life : LifeMark) → request.tree ≡ true → IsSlotStep request entry life → IsChangeFor admitted (Tree slot life.locked)
       tree_change life all (inl marks) = (
         of_all request admitted is all,
-        subst (λ (code : ℕ). Marks code life.locked) is.code marks.0,
+        subst (λ (code : ℕ). Marks code life.locked) is.life marks.0,
       )
       tree_change life all (inr personalizes) = (let clash = sym all ∙ personalizes.0 in cc)
 
@@ -171,7 +174,7 @@ module _ (page : ℕ → List ℕ) (tables : Tables) (domain : ℕ) (admitted : 
 -- which of its own rules is the first
 module _ (admitted : Admitted) where
   abbrev First : Option RuleSS → Type 0
-  First found = IsFirst (SettingStatusFails admitted) own_status_rules found
+  First found = OwnFirst managed_entry_status.judged admitted tt found
 
   abbrev Passes : RuleSS → Type 0
   Passes rule = SettingStatusFails admitted rule → ⊥

@@ -1,6 +1,6 @@
 -- The laws of SET STATUS of an entry.
 use Rattle.std.proofs.Common.{◌≡◌, ◌≢◌, ◌⊎◌, inl, inr, ℕ, List, Bool, true, false, Option, None, Some, refl, ap, sym, subst, ◌∙◌, arith}
-use Rattle.std.specs.Prelude.{Contains, IfSome, MatchOption}
+use Rattle.std.specs.Prelude.{IfSome, MatchOption}
 use Rattle.std.specs.Option.{option_map}
 use Rattle.std.proofs.lemmas.Bool.{false_from_ne_true}
 use Rattle.std.proofs.lemmas.List.Elements.{All-contains}
@@ -17,19 +17,17 @@ use Rattle.card_types.specs.declared.life.LifeMark.{LifeMark}
 use Rattle.domain_tree.proofs.Paths.{root_alone}
 use Rattle.domain_tree.specs.AboveLaws.{IsAboveIn, IsTreeOf}
 use Rattle.policy_rules.specs.Admission.{Admitted}
-use Rattle.policy_rules.specs.Classes.{managing}
-use Rattle.policy_rules.specs.Commands.{JudgesAs}
-use Rattle.policy_rules.specs.EntryStatus.{EntryStatusEffect, EntryStatusFails, IsEntryStep, IsMarked, IsPersonalizing, Marks, OneIsSet, TreeIsSet, entry_status, entry_status_rules}
+use Rattle.policy_rules.specs.EntryStatus.{IsEntryStep, IsMarked, IsPersonalizing, Marks, OneIsSet, TreeIsSet, managed_entry_status}
 use Rattle.policy_rules.specs.FirstFailing.{IsFirst}
-use Rattle.policy_rules.specs.Sound.{Fits, IsSound}
-use Rattle.policy_rules.specs.State.{Effect}
+use Rattle.policy_rules.specs.Sound.{Fits}
 use Rattle.policy_rules.specs.Volatile.{Volatile}
 use Rattle.policy_rules.specs.declared.entry_status.RuleSS.TheVariants.{SS2}
-use Rattle.policy_rules.specs.declared.rule.Rule.TheVariants.{SS}
 use Rattle.policy_rules.proofs.ChangedFits.{changed_fits}
-use Rattle.policy_rules.proofs.FirstUnique.{none_fails}
-use Rattle.policy_rules.proofs.Lawful.{IsLawful, IsReady, fits_as, load_same, placeless_same, some_same}
-use Rattle.policy_rules.proofs.SameEffect.{effect_same, state_same}
+use Rattle.policy_rules.proofs.Lawful.{some_same}
+use Rattle.card_types.specs.Aid.{IsAid}
+use Rattle.policy_rules.proofs.ManagedJudging.{own_pass, IsJudgeable}
+use Rattle.policy_rules.proofs.ManagedLawful.{IsManagedLawful, IsPassedFor, MayFollow}
+use Rattle.policy_rules.specs.ManagedForm.{command_form}
 
 -- nothing is above the Issuer Security Domain
 issuer_root : (registry : Registry) → Well registry → domain_of registry ISSUER ≡ Some ISSUER
@@ -51,19 +49,15 @@ step_fits registry well aid entry named p1 p2 life (inl marks) =
 step_fits registry well aid entry named p1 p2 life (inr personalizes) =
     ap (λ (l : LifeMark). has_life (is_domain entry) l.life) personalizes.becomes ∙ ap (λ (is : Bool). has_life is Personalized) personalizes.domain
 
-module _ (admitted : Admitted) (first : IsFirst (EntryStatusFails admitted) entry_status_rules None) where
-  other : admitted.command.body ≢ ISSUER
-  other same = none_fails (EntryStatusFails admitted) entry_status_rules (SS SS2) (3, omega arith, refl) first same
-
-  -- the registry that is left is one that a card may have
-  pub set_of_card : IsOfCard admitted.at.registry → (left : Registry) → OneIsSet admitted left ⊎ TreeIsSet admitted left → IsOfCard left
-  set_of_card of left (inl set) =
+module _ (admitted : Admitted) (other : admitted.command.body ≢ ISSUER) where
+  set_follows : IsOfCard admitted.at.registry → (left : Registry) → OneIsSet admitted left ⊎ TreeIsSet admitted left → IsOfCard left
+  set_follows of left (inl set) =
       subst IsOfCard (sym set.registry) (life_keeps admitted.at.registry admitted.command.body set.life of (record {
         other = other;
         fits = subst (λ (o : Option Entry). IfSome o (λ e. has_life (is_domain e) set.life.life ≡ true)) (sym set.named)
             (step_fits admitted.at.registry of.well admitted.command.body set.entry set.named admitted.command.p1 admitted.command.p2 set.life set.step);
       }))
-  set_of_card of left (inr set) =
+  set_follows of left (inr set) =
       subst IsOfCard (sym set.registry) (locks_keep admitted.at.registry set.these set.locked of
       (false_from_ne_true (set.these ISSUER) (λ is. elim ((set.tree ISSUER).0 is) [
         | inl same ↦ other (sym same)
@@ -80,11 +74,21 @@ set_fits admitted left volatile (inr set) fits =
     (changed_fits admitted.at.registry set.these (λ entry. record entry { life = record { life = entry.life.life; locked = set.locked } })
     (record { aid = λ _. refl; file = λ _. refl; privileges = λ _. refl }) volatile fits)
 
-setting_keeps : (admitted : Admitted) (done : Effect) → IsReady admitted → JudgesAs entry_status admitted None → EntryStatusEffect admitted done → IsSound done.state
-setting_keeps admitted done ready (takes, first) does =
-    let kept = set_of_card admitted first (record { well = ready.sound.well; ascending = ready.sound.ascending }) done.state.registry does.set in
-    let fits = set_fits admitted done.state.registry admitted.at.volatile does.set ready.sound.fits in
-    record { well = kept.well; ascending = kept.ascending; fits = fits_as refl (sym does.volatile) fits }
+pub entry_status_judgeable : IsJudgeable managed_entry_status.judged
+entry_status_judgeable = record { one_asked = λ p1 p2 body a b one other. refl; own = λ rule. tt; one_rule = λ a b same. cc; approving = tt }
+
+-- the registry that is left is one that a card may have
+pub set_of_card : (admitted : Admitted) → IsAid admitted.command.body → IsFirst ((command_form managed_entry_status).fails admitted) (command_form managed_entry_status).rules None → IsOfCard admitted.at.registry
+    → (left : Registry) → OneIsSet admitted left ⊎ TreeIsSet admitted left → IsOfCard left
+set_of_card admitted field first =
+    set_follows admitted (own_pass managed_entry_status.judged entry_status_judgeable admitted tt field first SS2 (1, omega arith, refl))
+
+setting_keeps : (admitted : Admitted) (asked : Unit {0}) (changed : Registry) → IsPassedFor managed_entry_status.judged admitted asked
+    → OneIsSet admitted changed ⊎ TreeIsSet admitted changed → MayFollow admitted changed
+setting_keeps admitted asked changed passed set = record {
+  of = set_follows admitted (passed.own SS2 (1, omega arith, refl)) (record { well = passed.sound.well; ascending = passed.sound.ascending }) changed set;
+  fits = set_fits admitted changed admitted.at.volatile set passed.sound.fits;
+}
 
 -- P2 says one lock mark
 one_mark : (p2 : ℕ) (a b : Bool) → Marks p2 a → Marks p2 b → a ≡ b
@@ -147,18 +151,10 @@ set_once admitted a b (inl one) (inr other) = absurd (apart admitted a b one oth
 set_once admitted a b (inr one) (inl other) = absurd (apart admitted b a other one)
 set_once admitted a b (inr one) (inr other) = tree_set admitted a b one other
 
-setting_one : (admitted : Admitted) (a b : Effect) → EntryStatusEffect admitted a → EntryStatusEffect admitted b → a ≡ b
-setting_one admitted a b one other =
-    effect_same a b
-    (state_same a.state b.state (set_once admitted a.state.registry b.state.registry one.set other.set) (one.volatile ∙ sym other.volatile)) (one.body ∙ sym other.body)
-    (one.status ∙ sym other.status)
-
--- once its instruction is one of those that manage content
-pub entry_status_lawful : Contains managing entry_status.instruction → IsLawful entry_status
-entry_status_lawful managed = record {
+pub managed_entry_status_lawful : IsManagedLawful managed_entry_status
+managed_entry_status_lawful = record {
+  judgeable = entry_status_judgeable;
+  receipted = λ admitted delegated. absurd delegated;
   keeps = setting_keeps;
-  one = setting_one;
-  quiet = λ unmanaged. absurd (unmanaged managed);
-  without_place = λ other admitted done none does. placeless_same admitted.at.volatile done.state.volatile admitted.channel does.volatile none;
-  loads_stay = λ admitted done takes other does. load_same admitted.at.volatile done.state.volatile does.volatile;
+  one = λ admitted asked a b asks one other. set_once admitted a b one other;
 }

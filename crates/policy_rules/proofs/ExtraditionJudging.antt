@@ -1,13 +1,12 @@
 -- The rules of INSTALL [for extradition] behind its form, by its request.
-use Rattle.std.proofs.Common.{◌≡◌, ◌≢◌, ◌↔◌, ◌⊎◌, inl, inr, ℕ, Bool, true, false, List, ◌++◌, Option, None, Some, refl, ap, sym, subst, ◌∙◌}
-use Rattle.std.specs.Prelude.{IsTrue, MatchOption, map, not}
-use Rattle.std.specs.Option.{option_map}
+use Rattle.std.proofs.Common.{◌≡◌, ◌≢◌, ◌↔◌, ◌⊎◌, inl, inr, ℕ, Bool, true, false, List, Option, None, Some, refl, ap, sym, subst, ◌∙◌}
+use Rattle.std.specs.Prelude.{IsTrue, MatchOption, not}
 use Rattle.std.proofs.lemmas.Bool.{false_from_ne_true, not-true, not_from_false}
 use Rattle.card_types.proofs.FoundNames.{found_entry_named, found_file_named, none_found_none_named}
 use Rattle.card_types.specs.Found.{aid_of}
 use Rattle.card_types.specs.Privileges.{bits_of}
 use Rattle.card_types.specs.Registry as registry
-use Rattle.card_types.specs.Registry.{Key, entry_named}
+use Rattle.card_types.specs.Registry.{Key}
 use Rattle.card_types.specs.Represents.{Represents}
 use Rattle.card_types.specs.Slots.{held}
 use Rattle.card_types.specs.Well.{IsDomainNamed}
@@ -20,27 +19,21 @@ use Rattle.card_types.specs.declared.tables.Tables.{Tables}
 use Rattle.domain_tree.specs.Holders.{entry_has}
 use Rattle.policy_rules.specs.Admission.{Admitted}
 use Rattle.policy_rules.specs.Charge.{IsAtOrAbove}
-use Rattle.policy_rules.specs.Delegation.{Holds, IsVerifier, delegation_rules}
-use Rattle.policy_rules.specs.Extradition.{AsksToExtradite, ExtraditingFails, ExtraditionAskedFails, ExtraditionFails, IsOutOfReach, IsUnapprovable, extradition_rules, is_personalized}
-use Rattle.policy_rules.specs.ExtraditionRequests.{IsExtraditionOf, own_extradition_rules}
+use Rattle.policy_rules.specs.Delegation.{Holds, IsVerifier}
+use Rattle.policy_rules.specs.Extradition.{ExtraditingFails, IsOutOfReach, IsUnapprovable, is_personalized, managed_extradition}
+use Rattle.policy_rules.specs.ExtraditionRequests.{IsExtraditionOf}
 use Rattle.policy_rules.specs.FirstFailing.{IsFirst}
-use Rattle.policy_rules.specs.InstallFields.{InstallData, approval_in}
-use Rattle.policy_rules.specs.InstallRequests.{ApprovalFails, may_manage_by}
-use Rattle.policy_rules.specs.Management.{ManagementFails, acting}
+use Rattle.policy_rules.specs.InstallFields.{InstallData}
+use Rattle.policy_rules.specs.InstallApplicationRequests.{may_manage_by}
+use Rattle.policy_rules.specs.Management.{acting}
 use Rattle.policy_rules.specs.Requests.{ActsIn}
 use Rattle.policy_rules.specs.declared.extradition.ExtraditionRequest.{ExtraditionRequest}
 use Rattle.policy_rules.specs.declared.extradition.RuleEX.{RuleEX}
 use Rattle.policy_rules.specs.declared.extradition.RuleEX.TheVariants.{EX1, EX2, EX3, EX4, EX5, EX6, EX7}
-use Rattle.policy_rules.specs.declared.management.RuleM.TheVariants.{M1, M2}
-use Rattle.policy_rules.specs.declared.rule.Rule.{Rule}
-use Rattle.policy_rules.specs.declared.rule.Rule.TheVariants.{EX}
 use Rattle.policy_rules.proofs.Approved.{one_holder}
-use Rattle.policy_rules.proofs.FirstJoined.{first_behind, first_within}
-use Rattle.policy_rules.proofs.FirstLike.{first_like, first_of_group}
-use Rattle.policy_rules.proofs.InstallJudging.{holds_named, manages, may_manage}
-use Rattle.policy_rules.proofs.LengthFields.{one_data}
-use Rattle.policy_rules.proofs.ManagementFirst.{behind_management}
+use Rattle.policy_rules.proofs.InstallApplicationJudging.{holds_named, manages, may_manage}
 use Rattle.policy_rules.proofs.ThingsFound.{entry_at, named_as}
+use Rattle.policy_rules.specs.declared.rule.RulePS.TheVariants.{P}
 
 -- what a negated test tells
 pub not_told : {P : Type 0} (is : Bool) → IsTrue is ↔ P → IsTrue (not is) ↔ (P → ⊥)
@@ -64,40 +57,6 @@ fitness_told page tables admitted says given to named entry at fit told =
       λ fails. negated.1 (subst Unfit is fails),
     )
 
--- the rules of its own, and those on its approval, are rules of the command
-module _ (admitted : Admitted) (given : InstallData) (asks : AsksToExtradite admitted.command.body given) where
-  abbrev FailsAsked : Rule → Type 0
-  FailsAsked rule = (other : InstallData) × AsksToExtradite admitted.command.body other × ExtraditionAskedFails admitted other rule
-
-  of_command : (rules : List Rule) (found : Option Rule) → IsFirst (ExtraditionAskedFails admitted given) rules found → IsFirst FailsAsked rules found
-  of_command rules found first =
-      first_like (ExtraditionAskedFails admitted given) FailsAsked (λ rule fails. (given, asks, fails))
-      (λ rule fails. subst (λ (a : InstallData). ExtraditionAskedFails admitted a rule) (one_data fails.0 given admitted.command.body fails.1.fields asks.fields) fails.2) rules found first
-
-  own_first : (found : Option RuleEX) → IsFirst (ExtraditingFails admitted given) own_extradition_rules found
-      → IsFirst (ExtraditionFails admitted) (map EX own_extradition_rules) (option_map EX found)
-  own_first found first =
-      of_command (map EX own_extradition_rules) (option_map EX found) (first_of_group EX (ExtraditionAskedFails admitted given) own_extradition_rules found first)
-
-  approval_first : (found : Option Rule) → IsFirst (ApprovalFails admitted (approval_in given)) delegation_rules found
-      → IsFirst (ExtraditionFails admitted) delegation_rules found
-  approval_first found first = of_command delegation_rules found first
-
-  module _ (managed : (ManagementFails admitted M1 → ⊥) × (ManagementFails admitted M2 → ⊥)) where
-    -- a rule of its own fails first
-    pub own_refuses : (rule : RuleEX) → IsFirst (ExtraditingFails admitted given) own_extradition_rules (Some rule)
-        → IsFirst (ExtraditionFails admitted) extradition_rules (Some (EX rule))
-    own_refuses rule first =
-        behind_management (ExtraditionFails admitted) (map EX own_extradition_rules ++ delegation_rules) (Some (EX rule)) managed.0 managed.1
-        (first_within (ExtraditionFails admitted) delegation_rules (map EX own_extradition_rules) (EX rule) (own_first (Some rule) first))
-
-    -- none of its own fails, and its approval decides
-    pub approval_decides : (found : Option Rule) → IsFirst (ExtraditingFails admitted given) own_extradition_rules None
-        → IsFirst (ApprovalFails admitted (approval_in given)) delegation_rules found → IsFirst (ExtraditionFails admitted) extradition_rules found
-    approval_decides found none first =
-        behind_management (ExtraditionFails admitted) (map EX own_extradition_rules ++ delegation_rules) found managed.0 managed.1
-        (first_behind (ExtraditionFails admitted) delegation_rules (map EX own_extradition_rules) found (own_first None none) (approval_first found first))
-
 module _ (page : ℕ → List ℕ) (tables : Tables) (domain : ℕ) (admitted : Admitted) (acts : ActsIn page tables domain admitted) where
   -- the domain holds what its slot holds
   pub holds_told : (privilege : Privileges) (has : Bool) → has ≡ entry_has privilege (held tables.entries.items domain)
@@ -112,25 +71,25 @@ module _ (page : ℕ → List ℕ) (tables : Tables) (domain : ℕ) (admitted : 
 
   module _ (request : ExtraditionRequest) (is : IsExtraditionOf request admitted.command) where
     -- the thing and its new domain are one
-    pub one_thing : request.domain ≡ request.aid → is.given.first ≡ is.given.third
-    one_thing same = sym is.domain ∙ same ∙ is.aid
+    pub one_thing : request.to ≡ request.aid → is.given.first ≡ is.given.third
+    one_thing same = sym is.to ∙ same ∙ is.aid
 
-    pub two_things : (request.domain ≡ request.aid → ⊥) → is.given.first ≢ is.given.third
-    two_things other same = other (is.domain ∙ same ∙ sym is.aid)
+    pub two_things : (request.to ≡ request.aid → ⊥) → is.given.first ≢ is.given.third
+    two_things other same = other (is.to ∙ same ∙ sym is.aid)
 
     -- what is said of the new domain's AID
-    to_given : (x : List ℕ) (above : Bool) → IsTrue above ↔ IsAtOrAbove admitted.at.registry x request.domain
+    to_given : (x : List ℕ) (above : Bool) → IsTrue above ↔ IsAtOrAbove admitted.at.registry x request.to
         → IsTrue above ↔ IsAtOrAbove admitted.at.registry x is.given.first
-    to_given x above told = subst (λ (y : List ℕ). IsTrue above ↔ IsAtOrAbove admitted.at.registry x y) is.domain told
+    to_given x above told = subst (λ (y : List ℕ). IsTrue above ↔ IsAtOrAbove admitted.at.registry x y) is.to told
 
-    pub reach_told : (request.domain ≡ request.aid → ⊥) → (above : Bool) → IsTrue above ↔ IsAtOrAbove admitted.at.registry (acting admitted) request.domain
+    pub reach_told : (request.to ≡ request.aid → ⊥) → (above : Bool) → IsTrue above ↔ IsAtOrAbove admitted.at.registry (acting admitted) request.to
         → IsTrue (not above) ↔ IsOutOfReach admitted is.given
     reach_told other above told =
         let negated = not_told above (to_given (acting admitted) above told) in
         ((λ so. (two_things other, negated.0 so)), (λ out. negated.1 out.1))
 
-    pub approver_told : (request.domain ≡ request.aid → ⊥) → (verifier : List ℕ) (key : Key) → IsVerifier admitted.at.registry (acting admitted) verifier key
-        → (above : Bool) → IsTrue above ↔ IsAtOrAbove admitted.at.registry verifier request.domain → IsTrue (not above) ↔ IsUnapprovable admitted is.given
+    pub approver_told : (request.to ≡ request.aid → ⊥) → (verifier : List ℕ) (key : Key) → IsVerifier admitted.at.registry (acting admitted) verifier key
+        → (above : Bool) → IsTrue above ↔ IsAtOrAbove admitted.at.registry verifier request.to → IsTrue (not above) ↔ IsUnapprovable admitted is.given
     approver_told other verifier key verifies above told = (
       λ so. inr (inr (verifier, key, verifies, negated.0 so)),
       λ fails. elim fails [
@@ -154,7 +113,7 @@ module _ (admitted : Admitted) (given : InstallData) where
   Passes rule = Fails rule → ⊥
 
   abbrev First : Option RuleEX → Type 0
-  First found = IsFirst Fails own_extradition_rules found
+  First found = IsFirst Fails managed_extradition.judged.own_rules found
 
   pub first_1 : Fails EX1 → First (Some EX1)
   first_1 fails = inl (fails, refl)
@@ -198,15 +157,15 @@ module _ (page : ℕ → List ℕ) (tables : Tables) (domain : ℕ) (admitted : 
   pub unknown : ((thing : Found) → aid_of tables thing ≢ Some request.aid) → Fails admitted is.given EX2
   unknown none = inl (none_found_none_named page tables admitted.at.registry acts.says is.given.third (λ thing named. none thing (named ∙ ap Some (sym is.aid))))
 
-  pub no_domain : (IsDomainNamed admitted.at.registry request.domain → ⊥) → Fails admitted is.given EX2
-  no_domain none = inr (λ there. none (subst (IsDomainNamed admitted.at.registry) (sym is.domain) there))
+  pub no_domain : (IsDomainNamed admitted.at.registry request.to → ⊥) → Fails admitted is.given EX2
+  no_domain none = inr (λ there. none (subst (IsDomainNamed admitted.at.registry) (sym is.to) there))
 
-  pub known : (thing : Found) → aid_of tables thing ≡ Some request.aid → IsDomainNamed admitted.at.registry request.domain → Passes admitted is.given EX2
+  pub known : (thing : Found) → aid_of tables thing ≡ Some request.aid → IsDomainNamed admitted.at.registry request.to → Passes admitted is.given EX2
   known (found.Entry slot) named there (inl none) =
       (let at = found_entry_named page tables admitted.at.registry acts.says slot is.given.third (named ∙ ap Some is.aid) in let missing = none.0 in let clash = at.2 in cc)
   known (found.File slot) named there (inl none) =
       (let at = found_file_named page tables admitted.at.registry acts.says slot is.given.third (named ∙ ap Some is.aid) in let missing = none.1 in let clash = at.2 in cc)
-  known thing named there (inr none) = none (subst (IsDomainNamed admitted.at.registry) is.domain there)
+  known thing named there (inr none) = none (subst (IsDomainNamed admitted.at.registry) is.to there)
 
   pub fixed : (request.aid ≡ ISSUER) ⊎ (request.aid ≡ FACTORY_FILE) → Fails admitted is.given EX3
   fixed (inl same) = inl (sym is.aid ∙ same)

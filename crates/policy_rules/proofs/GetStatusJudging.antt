@@ -6,7 +6,7 @@ use Rattle.policy_rules.specs.Admission.{Admitted}
 use Rattle.policy_rules.specs.FirstFailing.{IsFirst}
 use Rattle.policy_rules.specs.GetStatus.{BeginsAbove, GetStatusFails, IsListed, IsPlaceOf, IsSearch, ListingFails, get_status_rules, place_before, tag_list}
 use Rattle.policy_rules.specs.Management.{ManagementFails, acting}
-use Rattle.policy_rules.specs.StatusRequests.{IsListOf, IsNextListed, NoneListed}
+use Rattle.policy_rules.specs.GetStatusRequests.{IsListOf, IsNextListed, NoneListed}
 use Rattle.policy_rules.specs.Volatile.{Place}
 use Rattle.policy_rules.specs.declared.get_status.ListRequest.{ListRequest}
 use Rattle.policy_rules.specs.declared.get_status.RuleGS.TheVariants.{GS1, GS2}
@@ -53,21 +53,21 @@ module _ (admitted : Admitted) where
 module _ (admitted : Admitted) (request : ListRequest) (is : IsListOf request admitted.command) where
   module _ (after : Option (List ℕ)) (begins : BeginsAbove admitted after) where
     -- nothing is listed, so nothing is to be shown
-    pub nothing_shown : NoneListed admitted request.kind request.partial.now after → ListingFails admitted GS2
+    pub nothing_shown : NoneListed admitted request.kind request.prefix.now after → ListingFails admitted GS2
     nothing_shown none thing (partial, beginning, search, above, listed) =
         let kinds = subst (λ (p1 : ℕ). IsListed admitted.at.registry (acting admitted) p1 partial beginning thing) (sym is.kind) listed in
         let asked = subst (λ (p : List ℕ). IsListed admitted.at.registry (acting admitted) request.kind p beginning thing)
-        (one_search admitted.command.body partial request.partial.now search is.search) kinds in
-        none thing (subst (λ (a : Option (List ℕ)). IsListed admitted.at.registry (acting admitted) request.kind request.partial.now a thing)
+        (one_search admitted.command.body partial request.prefix.now search is.search) kinds in
+        none thing (subst (λ (a : Option (List ℕ)). IsListed admitted.at.registry (acting admitted) request.kind request.prefix.now a thing)
         (one_beginning admitted beginning after above begins) asked)
 
-    pub something_shown : (page : ℕ → List ℕ) (tables : Tables) (found : Found) → IsNextListed page tables admitted request.kind request.partial.now after found
+    pub something_shown : (page : ℕ → List ℕ) (tables : Tables) (found : Found) → IsNextListed page tables admitted request.kind request.prefix.now after found
         → ListingFails admitted GS2 → ⊥
     something_shown page tables found next none =
         none next.thing (
-          request.partial.now,
+          request.prefix.now,
           after,
           is.search,
           begins,
-          subst (λ (p1 : ℕ). IsListed admitted.at.registry (acting admitted) p1 request.partial.now after next.thing) is.kind next.listed,
+          subst (λ (p1 : ℕ). IsListed admitted.at.registry (acting admitted) p1 request.prefix.now after next.thing) is.kind next.listed,
         )

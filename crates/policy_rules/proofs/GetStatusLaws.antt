@@ -7,12 +7,11 @@ use Rattle.policy_rules.specs.GetStatus.{AreTemplates, GetStatusEffect, IsFullFo
 use Rattle.policy_rules.specs.Sound.{Fits, IsSecured, IsSound, IsWellChannel}
 use Rattle.policy_rules.specs.State.{Effect}
 use Rattle.policy_rules.specs.Volatile.{Channel, Place, Volatile, channel_at}
-use Rattle.policy_rules.specs.Laws.{LoadStays}
-use Rattle.policy_rules.proofs.Lawful.{IsLawful, IsReady, same_as, sound_with}
+use Rattle.policy_rules.proofs.Lawful.{IsLawful, IsReady, same_as, sound_with, LoadStays}
 use Rattle.policy_rules.proofs.SameEffect.{effect_same, state_same}
 use Rattle.policy_rules.proofs.SecureChannelSet.{within}
 use Rattle.policy_rules.proofs.SetChannel.{set_fits}
-use Rattle.policy_rules.proofs.StatusParts.{IsFullBehind, one_listing, one_part, one_templates}
+use Rattle.policy_rules.proofs.GetStatusParts.{IsFullBehind, one_listing, one_part, one_templates}
 
 abbrev HasSecured : Option Channel → Type 0
 HasSecured channel = MatchOption channel ⊥ (λ opened. IsSecured opened.secure_channel)

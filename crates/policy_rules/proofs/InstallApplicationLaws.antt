@@ -1,5 +1,5 @@
 -- The laws of INSTALL [for install].
-use Rattle.std.proofs.Common.{◌≡◌, ◌≢◌, inl, inr, ℕ, List, [], ◌∷◌, Bool, true, false, ◌&&◌, Option, None, Some, length, refl, sym, ap, subst, ◌∙◌, arith, if◌then◌else◌}
+use Rattle.std.proofs.Common.{◌≡◌, ◌≢◌, inl, inr, ℕ, List, ◌∷◌, Bool, true, false, ◌&&◌, Option, None, Some, length, refl, sym, ap, subst, ◌∙◌, arith, if◌then◌else◌}
 use Rattle.std.specs.Prelude.{Contains, IsSome, MatchOption, ◌==◌}
 use Rattle.std.proofs.lemmas.Bool.{cases_Bool, cases_lt}
 use Rattle.std.proofs.lemmas.Bool.Decides.{eqb_tells}
@@ -19,26 +19,18 @@ use Rattle.card_types.specs.Well.{IsDomainNamed, IsProperEntry, has_domain_privi
 use Rattle.card_types.specs.declared.factory.TheConstants.{FACTORY_FILE, FACTORY_MODULE}
 use Rattle.card_types.specs.declared.life.Life.TheVariants.{Installed, Selectable}
 use Rattle.card_types.specs.declared.limits.TheConstants.{ENTRIES}
-use Rattle.policy_rules.proofs.AnsweredKeeps.{answered_fits, answered_keeps, answered_once}
-use Rattle.policy_rules.proofs.FirstUnique.{none_fails}
 use Rattle.policy_rules.proofs.FitsKept.{KeepsThings, fits_kept, load_unnamed}
-use Rattle.policy_rules.proofs.InstallAsking.{one_asked}
-use Rattle.policy_rules.proofs.Lawful.{IsLawful, IsReady, fits_as, load_same, managed_apart, placeless_same}
-use Rattle.policy_rules.proofs.SameEffect.{effect_same, state_same}
 use Rattle.policy_rules.specs.Admission.{Admitted}
-use Rattle.policy_rules.specs.Classes.{managing}
-use Rattle.policy_rules.specs.Commands.{JudgesAs}
-use Rattle.policy_rules.specs.Delegation.{Holds, IsAnswered, ReceiptFails}
 use Rattle.policy_rules.specs.FirstFailing.{IsFirst}
-use Rattle.policy_rules.specs.InstallApplication.{AsksToInstall, InstallAsked, InstallEffect, InstallFails, InstallingFails, MayBeMade, entry_made, install_application, install_rules, refused_privileges}
+use Rattle.policy_rules.specs.InstallApplication.{AsksToInstall, InstallAsked, InstallingFails, MayBeMade, entry_made, managed_install, refused_privileges}
 use Rattle.policy_rules.specs.Management.{acting}
-use Rattle.policy_rules.specs.Sound.{IsSound}
-use Rattle.policy_rules.specs.State.{Effect}
 use Rattle.policy_rules.specs.Volatile.{LoadSession}
-use Rattle.policy_rules.specs.declared.delegation.RuleRC.TheVariants.{RC1}
 use Rattle.policy_rules.specs.declared.install_application.RuleII.{RuleII}
 use Rattle.policy_rules.specs.declared.install_application.RuleII.TheVariants.{II1, II2, II3, II4, II5, II6, II7}
-use Rattle.policy_rules.specs.declared.rule.Rule.TheVariants.{II, RC}
+use Rattle.policy_rules.proofs.InstallApplicationAsking.{install_judgeable}
+use Rattle.policy_rules.proofs.ManagedJudging.{own_pass}
+use Rattle.policy_rules.proofs.ManagedLawful.{IsManagedLawful, IsPassedFor, MayFollow, receipt_judged}
+use Rattle.policy_rules.specs.ManagedForm.{command_form}
 
 -- what can't be otherwise is so
 bool_stable : (a b : Bool) → ((a ≡ b → ⊥) → ⊥) → a ≡ b
@@ -151,68 +143,56 @@ module _ (admitted : Admitted) (asked : InstallAsked) (passes : (rule : RuleII) 
         subst (λ (r : Registry). entry_named r l.aid ≡ None) (sym added.same)
         (beside_found (λ (e : Entry). e.aid) made admitted.at.registry.entries changed.entries of.ascending.entries added.entries l.aid (λ same. other (sym same)) ∙ free)
 
--- none of its own rules fails where none fails
-no_rule : (admitted : Admitted) → IsFirst (InstallFails admitted) install_rules None → (rule : RuleII) → InstallFails admitted (II rule) → ⊥
-no_rule admitted first rule fails = none_fails (InstallFails admitted) install_rules (II rule) (among rule) first fails
+-- each of its own rules passes
+passing : (admitted : Admitted) (asked : InstallAsked) → ((rule : RuleII) → Contains managed_install.judged.own_rules rule → InstallingFails admitted asked rule → ⊥)
+    → (rule : RuleII) → InstallingFails admitted asked rule → ⊥
+passing admitted asked own rule = own rule (among rule)
   where
-    among : (rule : RuleII) → Contains install_rules (II rule)
-    among II1 = (2, omega arith, refl)
-    among II2 = (3, omega arith, refl)
-    among II3 = (4, omega arith, refl)
-    among II4 = (5, omega arith, refl)
-    among II5 = (6, omega arith, refl)
-    among II6 = (7, omega arith, refl)
-    among II7 = (8, omega arith, refl)
+    among : (rule : RuleII) → Contains managed_install.judged.own_rules rule
+    among II1 = (0, omega arith, refl)
+    among II2 = (1, omega arith, refl)
+    among II3 = (2, omega arith, refl)
+    among II4 = (3, omega arith, refl)
+    among II5 = (4, omega arith, refl)
+    among II6 = (5, omega arith, refl)
+    among II7 = (6, omega arith, refl)
 
 -- the registry with the entry is one that a card may have
 pub made_of_card : (admitted : Admitted) (asked : InstallAsked) → AsksToInstall admitted.command.body asked → IsOfCard admitted.at.registry
-    → IsDomainNamed admitted.at.registry (acting admitted) → IsFirst (InstallFails admitted) install_rules None → (changed : Registry)
+    → IsDomainNamed admitted.at.registry (acting admitted) → IsFirst ((command_form managed_install).fails admitted) (command_form managed_install).rules None → (changed : Registry)
     → IsEntryAdded (entry_made admitted asked) admitted.at.registry changed → IsOfCard changed
 made_of_card admitted asked asks of domain first changed added =
     entry_added_keeps (entry_made admitted asked) admitted.at.registry changed of
-    (may_be_added admitted asked (λ rule fails. no_rule admitted first rule (asked, asks, fails)) asks domain) added
+    (may_be_added admitted asked (passing admitted asked (own_pass managed_install.judged install_judgeable admitted asked asks first)) asks domain) added
 
 -- it leaves a card sound
-install_keeps : (admitted : Admitted) (done : Effect) → IsReady admitted → JudgesAs install_application admitted None → InstallEffect admitted done
-    → IsSound done.state
-install_keeps admitted done ready (takes, first) does =
+install_keeps : (admitted : Admitted) (asked : InstallAsked) (changed : Registry) → IsPassedFor managed_install.judged admitted asked
+    → IsEntryAdded (entry_made admitted asked) admitted.at.registry changed → MayFollow admitted changed
+install_keeps admitted asked changed passed added =
     let registry = admitted.at.registry in
-    let apart = managed_apart admitted.command.ins install_application.instruction takes.0 (omega arith) in
-    let domain = ready.domain apart.0 apart.1 in
-    let of : IsOfCard registry = record { well = ready.sound.well; ascending = ready.sound.ascending } in
-    let passes : (rule : RuleII) → InstallingFails admitted does.asked rule → ⊥ = (λ rule fails. no_rule admitted first rule (does.asked, does.asks, fails)) in
-    let receipts : Holds admitted delegated_management → ReceiptFails admitted RC1 → ⊥ = (λ holds fails.
-    none_fails (InstallFails admitted) install_rules (RC RC1) (12, omega arith, refl) first (does.asked, does.asks, (holds, fails))) in
-    let after = made_of_card admitted does.asked does.asks of domain first does.changed does.added in
-    let kept = answered_keeps (Holds admitted delegated_management) admitted (does.asked.given.first ∷ does.asked.given.third ∷ []) does.changed done ready.sound.well receipts does.answered after in
-    let free = load_free admitted does.asked passes of does.asks domain does.changed does.added admitted.at.volatile.load (λ loading. passes II4 (inr (inr loading)))
-    (load_unnamed registry admitted.at.volatile admitted.at.volatile.load ready.sound.fits.load) in
-    let fits = answered_fits (Holds admitted delegated_management) admitted (does.asked.given.first ∷ does.asked.given.third ∷ []) does.changed done ready.sound.well receipts does.answered admitted.at.volatile free
-    (fits_kept registry does.changed (added_keeps_things admitted does.asked passes of does.asks domain does.changed does.added) admitted.at.volatile free ready.sound.fits) in
-    record { well = kept.well; ascending = kept.ascending; fits = fits_as refl (sym does.volatile) fits }
+    let of : IsOfCard registry = record { well = passed.sound.well; ascending = passed.sound.ascending } in
+    let passes = passing admitted asked passed.own in
+    let free = load_free admitted asked passes of passed.asks passed.domain changed added admitted.at.volatile.load (λ loading. passes II4 (inr (inr loading)))
+    (load_unnamed registry admitted.at.volatile admitted.at.volatile.load passed.sound.fits.load) in
+    record {
+      of = entry_added_keeps (entry_made admitted asked) registry changed of (may_be_added admitted asked passes passed.asks passed.domain) added;
+      fits = fits_kept registry changed (added_keeps_things admitted asked passes of passed.asks passed.domain changed added) admitted.at.volatile free passed.sound.fits;
+    }
 
--- it does one thing
-install_one : (admitted : Admitted) (a b : Effect) → InstallEffect admitted a → InstallEffect admitted b → a ≡ b
-install_one admitted a b one other =
-    let asked = one_asked one.asked other.asked admitted.command.body one.asks other.asks in
-    let added : IsEntryAdded (entry_made admitted other.asked) admitted.at.registry one.changed = subst (λ (q : InstallAsked). IsEntryAdded (entry_made admitted q) admitted.at.registry one.changed) asked one.added in
-    let entries : one.changed.entries ≡ other.changed.entries =
-    one_order (λ (x y : Entry). aid_order x.aid y.aid) (on_total (λ (e : Entry). e.aid) nat_list_cmp_total) one.changed.entries other.changed.entries
-    added.entries.ascending other.added.entries.ascending
-    (IsPermutation-trans one.changed.entries (entry_made admitted other.asked ∷ admitted.at.registry.entries) other.changed.entries
-    (IsPermutation-sym (entry_made admitted other.asked ∷ admitted.at.registry.entries) one.changed.entries added.entries.same) other.added.entries.same) in
-    let changed : one.changed ≡ other.changed = one.added.same ∙ ap (λ (es : List Entry). record admitted.at.registry { entries = es }) entries ∙ sym other.added.same in
-    let Answer : InstallAsked → Registry → Type 0 = (λ (q : InstallAsked) (r : Registry). IsAnswered (Holds admitted delegated_management) admitted (q.given.first ∷ q.given.third ∷ []) r a) in
-    let answered : Answer other.asked other.changed = subst (λ (r : Registry). Answer other.asked r) changed (subst (λ (q : InstallAsked). Answer q one.changed) asked one.answered) in
-    let same = answered_once (Holds admitted delegated_management) admitted (other.asked.given.first ∷ other.asked.given.third ∷ []) other.changed a b answered other.answered in
-    effect_same a b (state_same a.state b.state same.0 (one.volatile ∙ sym other.volatile)) same.1 (one.status ∙ sym other.status)
+-- there is one registry with the entry
+install_one : (admitted : Admitted) (asked : InstallAsked) (a b : Registry) → AsksToInstall admitted.command.body asked
+    → IsEntryAdded (entry_made admitted asked) admitted.at.registry a → IsEntryAdded (entry_made admitted asked) admitted.at.registry b → a ≡ b
+install_one admitted asked a b asks one other =
+    let made = entry_made admitted asked ∷ admitted.at.registry.entries in
+    let entries : a.entries ≡ b.entries =
+    one_order (λ (x y : Entry). aid_order x.aid y.aid) (on_total (λ (e : Entry). e.aid) nat_list_cmp_total) a.entries b.entries one.entries.ascending other.entries.ascending
+    (IsPermutation-trans a.entries made b.entries (IsPermutation-sym made a.entries one.entries.same) other.entries.same) in
+    one.same ∙ ap (λ (es : List Entry). record admitted.at.registry { entries = es }) entries ∙ sym other.same
 
--- once its instruction is one of those that manage content
-pub install_application_lawful : Contains managing install_application.instruction → IsLawful install_application
-install_application_lawful managed = record {
+pub managed_install_lawful : IsManagedLawful managed_install
+managed_install_lawful = record {
+  judgeable = install_judgeable;
+  receipted = λ admitted delegated. receipt_judged;
   keeps = install_keeps;
   one = install_one;
-  quiet = λ unmanaged. absurd (unmanaged managed);
-  without_place = λ other admitted done none does. placeless_same admitted.at.volatile done.state.volatile admitted.channel does.volatile none;
-  loads_stay = λ admitted done takes other does. load_same admitted.at.volatile done.state.volatile does.volatile;
 }

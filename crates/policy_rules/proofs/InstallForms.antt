@@ -5,10 +5,11 @@ use Rattle.std.proofs.lemmas.Bool.{eqb-false}
 use Rattle.policy_rules.specs.Classes.{managing}
 use Rattle.policy_rules.specs.CommandForm.{CommandForm}
 use Rattle.policy_rules.specs.Commands.{OneOf, Takes}
-use Rattle.policy_rules.specs.Extradition.{extradition}
-use Rattle.policy_rules.specs.InstallApplication.{install_application}
+use Rattle.policy_rules.specs.Extradition.{managed_extradition}
+use Rattle.policy_rules.specs.InstallApplication.{managed_install}
 use Rattle.policy_rules.specs.InstallLoad.{install_load}
-use Rattle.policy_rules.specs.MakeSelectable.{make_selectable}
+use Rattle.policy_rules.specs.MakeSelectable.{managed_selectable}
+use Rattle.policy_rules.specs.ManagedForm.{command_form}
 
 -- none of the forms takes a command that this one takes
 abbrev pub AreApart : CommandForm → List CommandForm → Type 0
@@ -21,7 +22,7 @@ managed = (3, omega arith, refl)
 not_both : (p1 a b : ℕ) → (a == b) ≡ false → p1 ≡ a → p1 ≡ b → ⊥
 not_both p1 a b differ is other = eqb-false a b differ (sym is ∙ other)
 
-pub install_apart : AreApart install_application (make_selectable ∷ extradition ∷ install_load ∷ [])
+pub install_apart : AreApart (command_form managed_install) (command_form managed_selectable ∷ command_form managed_extradition ∷ install_load ∷ [])
 install_apart ins p1 p2 body (is, (inl four, zero), field) (inl other) = not_both p1 0x04 0x08 refl four other.1.0
 install_apart ins p1 p2 body (is, (inr twelve, zero), field) (inl other) = not_both p1 0x0C 0x08 refl twelve other.1.0
 install_apart ins p1 p2 body (is, (inl four, zero), field) (inr (inl other)) = not_both p1 0x04 0x10 refl four other.1.0
@@ -30,11 +31,11 @@ install_apart ins p1 p2 body (is, (inl four, zero), field) (inr (inr (inl other)
 install_apart ins p1 p2 body (is, (inr twelve, zero), field) (inr (inr (inl other))) = not_both p1 0x0C 0x02 refl twelve other.1.0
 install_apart ins p1 p2 body takes (inr (inr (inr none))) = none
 
-pub selectable_apart : AreApart make_selectable (extradition ∷ install_load ∷ [])
+pub selectable_apart : AreApart (command_form managed_selectable) (command_form managed_extradition ∷ install_load ∷ [])
 selectable_apart ins p1 p2 body takes (inl other) = not_both p1 0x08 0x10 refl takes.1.0 other.1.0
 selectable_apart ins p1 p2 body takes (inr (inl other)) = not_both p1 0x08 0x02 refl takes.1.0 other.1.0
 selectable_apart ins p1 p2 body takes (inr (inr none)) = none
 
-pub extradition_apart : AreApart extradition (install_load ∷ [])
+pub extradition_apart : AreApart (command_form managed_extradition) (install_load ∷ [])
 extradition_apart ins p1 p2 body takes (inl other) = not_both p1 0x10 0x02 refl takes.1.0 other.1.0
 extradition_apart ins p1 p2 body takes (inr none) = none

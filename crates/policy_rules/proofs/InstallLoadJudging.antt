@@ -1,7 +1,6 @@
 -- The rules of INSTALL [for load] behind its form, by its request.
-use Rattle.std.proofs.Common.{◌≡◌, ◌≢◌, ◌↔◌, ◌⊎◌, inl, inr, ℕ, Bool, true, false, List, [], ◌∷◌, ◌++◌, length, Option, None, Some, refl, ap, sym, subst, ◌∙◌, arith}
-use Rattle.std.specs.Prelude.{IfSome, IsSome, IsTrue, is_some, map}
-use Rattle.std.specs.Option.{option_map}
+use Rattle.std.proofs.Common.{◌≡◌, ◌≢◌, ◌↔◌, ◌⊎◌, inl, inr, ℕ, Bool, true, false, List, [], ◌∷◌, length, Option, None, Some, refl, ap, sym, subst, ◌∙◌, arith}
+use Rattle.std.specs.Prelude.{IfSome, IsSome, IsTrue, is_some}
 use Rattle.card_types.proofs.Room.{file_room, no_file_room}
 use Rattle.card_types.specs.Aid.{IsAid}
 use Rattle.card_types.specs.First.{IsFirstFree, NoneFree}
@@ -16,27 +15,17 @@ use Rattle.card_types.specs.declared.tables.Entry.{Entry}
 use Rattle.card_types.specs.declared.tables.Tables.{Tables}
 use Rattle.policy_rules.specs.Admission.{Admitted}
 use Rattle.policy_rules.specs.Charge.{IsAtOrAbove}
-use Rattle.policy_rules.specs.Delegation.{token_rules}
-use Rattle.policy_rules.specs.FirstFailing.{IsFirst}
-use Rattle.policy_rules.specs.InstallLoad.{AsksToLoad, InstallLoadFails, InstallingLoadFails, LoadAskedFails, LoadData, file_domain_for, install_load_rules, load_approval, named_or}
-use Rattle.policy_rules.specs.InstallLoadRequests.{IsLoadInstallOf, LoadTokenFails, NamesDomain, own_install_load_rules}
-use Rattle.policy_rules.specs.InstallRequests.{may_manage_by}
-use Rattle.policy_rules.specs.Management.{ManagementFails, acting}
+use Rattle.policy_rules.specs.InstallLoad.{InstallingLoadFails, LoadData, file_domain_for, named_or}
+use Rattle.policy_rules.specs.InstallLoadRequests.{IsLoadInstallOf, NamesDomain}
+use Rattle.policy_rules.specs.InstallApplicationRequests.{may_manage_by}
+use Rattle.policy_rules.specs.Management.{acting}
 use Rattle.policy_rules.specs.Requests.{ActsIn, IsLoadNamed}
 use Rattle.policy_rules.specs.Volatile.{LoadSession}
-use Rattle.policy_rules.specs.declared.delegation.RuleTK.{RuleTK}
 use Rattle.policy_rules.specs.declared.install_load.LoadInstallRequest.{LoadInstallRequest}
 use Rattle.policy_rules.specs.declared.install_load.RuleIL.{RuleIL}
 use Rattle.policy_rules.specs.declared.install_load.RuleIL.TheVariants.{IL1, IL2, IL3, IL4, IL5, IL7}
 use Rattle.policy_rules.specs.declared.live.LoadName.{LoadName}
-use Rattle.policy_rules.specs.declared.management.RuleM.TheVariants.{M1, M2}
-use Rattle.policy_rules.specs.declared.rule.Rule.{Rule}
-use Rattle.policy_rules.specs.declared.rule.Rule.TheVariants.{IL, TK}
-use Rattle.policy_rules.proofs.FirstJoined.{first_behind, first_within}
-use Rattle.policy_rules.proofs.FirstLike.{first_like, first_of_group}
-use Rattle.policy_rules.proofs.InstallJudging.{manages, may_manage, not_there, there}
-use Rattle.policy_rules.proofs.LengthFields.{one_load_data}
-use Rattle.policy_rules.proofs.ManagementFirst.{behind_management}
+use Rattle.policy_rules.proofs.InstallApplicationJudging.{manages, may_manage, not_there, there}
 use Rattle.policy_rules.proofs.ThingsFound.{acting_named}
 
 -- a name of a domain is not empty
@@ -115,37 +104,3 @@ module _ (page : ℕ → List ℕ) (tables : Tables) (domain : ℕ) (admitted : 
 
     pub roomy : (slot : ℕ) → IsFirstFree tables.files.items slot → Fails IL7 → ⊥
     roomy slot first fails = (let below = file_room page tables admitted.at.registry acts.says slot first.within first.free in omega (arith, below, whole, fails))
-
--- the rules of its own, and those on its token, are rules of the command
-module _ (admitted : Admitted) (given : LoadData) (asks : AsksToLoad admitted.command.body given) where
-  abbrev FailsAsked : Rule → Type 0
-  FailsAsked rule = (other : LoadData) × AsksToLoad admitted.command.body other × LoadAskedFails admitted other rule
-
-  of_command : (rules : List Rule) (found : Option Rule) → IsFirst (LoadAskedFails admitted given) rules found → IsFirst FailsAsked rules found
-  of_command rules found first =
-      first_like (LoadAskedFails admitted given) FailsAsked (λ rule fails. (given, asks, fails))
-      (λ rule fails. subst (λ (a : LoadData). LoadAskedFails admitted a rule) (one_load_data fails.0 given admitted.command.body fails.1.fields asks.fields) fails.2) rules found first
-
-  own_first : (found : Option RuleIL) → IsFirst (InstallingLoadFails admitted given) own_install_load_rules found
-      → IsFirst (InstallLoadFails admitted) (map IL own_install_load_rules) (option_map IL found)
-  own_first found first =
-      of_command (map IL own_install_load_rules) (option_map IL found) (first_of_group IL (LoadAskedFails admitted given) own_install_load_rules found first)
-
-  token_first : (found : Option RuleTK) → IsFirst (LoadTokenFails admitted (load_approval given)) token_rules found
-      → IsFirst (InstallLoadFails admitted) (map TK token_rules) (option_map TK found)
-  token_first found first = of_command (map TK token_rules) (option_map TK found) (first_of_group TK (LoadAskedFails admitted given) token_rules found first)
-
-  module _ (managed_ : (ManagementFails admitted M1 → ⊥) × (ManagementFails admitted M2 → ⊥)) where
-    -- a rule of its own fails first
-    pub own_refuses : (rule : RuleIL) → IsFirst (InstallingLoadFails admitted given) own_install_load_rules (Some rule)
-        → IsFirst (InstallLoadFails admitted) install_load_rules (Some (IL rule))
-    own_refuses rule first =
-        behind_management (InstallLoadFails admitted) (map IL own_install_load_rules ++ map TK token_rules) (Some (IL rule)) managed_.0 managed_.1
-        (first_within (InstallLoadFails admitted) (map TK token_rules) (map IL own_install_load_rules) (IL rule) (own_first (Some rule) first))
-
-    -- none of its own fails, and its token decides
-    pub token_decides : (found : Option RuleTK) → IsFirst (InstallingLoadFails admitted given) own_install_load_rules None
-        → IsFirst (LoadTokenFails admitted (load_approval given)) token_rules found → IsFirst (InstallLoadFails admitted) install_load_rules (option_map TK found)
-    token_decides found none first =
-        behind_management (InstallLoadFails admitted) (map IL own_install_load_rules ++ map TK token_rules) (option_map TK found) managed_.0 managed_.1
-        (first_behind (InstallLoadFails admitted) (map TK token_rules) (map IL own_install_load_rules) (option_map TK found) (own_first None none) (token_first found first))

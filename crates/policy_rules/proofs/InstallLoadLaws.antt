@@ -5,11 +5,11 @@ use Rattle.std.proofs.lemmas.Bool.Decides.{eqb_tells}
 use Rattle.card_types.specs.Aid.{IsAid}
 use Rattle.card_types.specs.Registry.{Registry, entry_named, file_named}
 use Rattle.card_types.specs.Well.{IsDomainNamed}
-use Rattle.policy_rules.specs.Admission.{Admitted}
+use Rattle.policy_rules.specs.Admission.{Admitted, without_place}
 use Rattle.policy_rules.specs.Classes.{managing}
 use Rattle.policy_rules.specs.Commands.{Judges, JudgesAs, TakesCommand}
 use Rattle.policy_rules.specs.FirstFailing.{IsFirst}
-use Rattle.policy_rules.specs.InstallLoad.{AsksToLoad, InstallLoadEffect, InstallLoadFails, InstallingLoadFails, LoadData, install_load, install_load_rules, load_begun, named_or}
+use Rattle.policy_rules.specs.InstallLoad.{AsksToLoad, InstallLoadEffect, InstallingLoadFails, LoadData, install_load, load_begun, named_or, judged_install_load}
 use Rattle.policy_rules.specs.Management.{acting}
 use Rattle.policy_rules.specs.Sound.{Fits, IsHashLength, IsSound, IsWellLoad}
 use Rattle.policy_rules.specs.State.{Effect}
@@ -17,14 +17,14 @@ use Rattle.policy_rules.specs.Volatile.{Volatile, with_load}
 use Rattle.policy_rules.specs.declared.install_load.RuleIL.{RuleIL}
 use Rattle.policy_rules.specs.declared.install_load.RuleIL.TheVariants.{IL1, IL2, IL3, IL4, IL5, IL6, IL7}
 use Rattle.policy_rules.specs.declared.rule.Rule.{Rule}
-use Rattle.policy_rules.specs.declared.rule.Rule.TheVariants.{IL}
 use Rattle.policy_rules.proofs.ExtraditionLaws.{domain_stable}
-use Rattle.policy_rules.proofs.FirstUnique.{none_fails}
 use Rattle.policy_rules.proofs.InstallForms.{managed}
 use Rattle.policy_rules.proofs.Judging.{judged}
 use Rattle.policy_rules.proofs.Lawful.{HasNoPlaceOn, IsLawful, IsReady, managed_apart, sound_with}
 use Rattle.policy_rules.proofs.LengthFields.{one_load_data}
 use Rattle.policy_rules.proofs.SameEffect.{effect_same, state_same}
+use Rattle.policy_rules.specs.declared.rule.RulePS.TheVariants.{P}
+use Rattle.policy_rules.proofs.ManagedJudging.{IsJudgeable, own_pass}
 
 -- what is not there
 gone : {A : Type 0} (o : Option A) → (IsSome o → ⊥) → o ≡ None
@@ -55,19 +55,28 @@ domain_given registry [] other domain passes = domain
 domain_given registry (byte ∷ bytes) other domain passes =
     domain_stable (entry_named registry (byte ∷ bytes)) (λ none. passes ((λ same. cc), none))
 
--- none of its own rules fails where none fails
-no_rule : (admitted : Admitted) → IsFirst (InstallLoadFails admitted) install_load_rules None → (given : LoadData) → AsksToLoad admitted.command.body given
+pub load_install_judgeable : IsJudgeable judged_install_load
+load_install_judgeable = record {
+  one_asked = λ p1 p2 body a b one other. one_load_data a b body one.fields other.fields;
+  own = λ rule. tt;
+  one_rule = λ a b same. cc;
+  approving = (tt, (tt, (tt, tt)));
+}
+
+-- each of its own rules passes where none fails
+no_rule : (admitted : Admitted) → IsFirst (install_load.fails admitted) install_load.rules None → (given : LoadData) → AsksToLoad admitted.command.body given
     → (rule : RuleIL) → InstallingLoadFails admitted given rule → ⊥
-no_rule admitted first given asks rule fails = none_fails (InstallLoadFails admitted) install_load_rules (IL rule) (among rule) first (given, asks, fails)
+no_rule admitted first given asks rule =
+    own_pass judged_install_load load_install_judgeable admitted given asks first rule (among rule)
   where
-    among : (rule : RuleIL) → Contains install_load_rules (IL rule)
-    among IL1 = (2, omega arith, refl)
-    among IL2 = (3, omega arith, refl)
-    among IL3 = (4, omega arith, refl)
-    among IL4 = (5, omega arith, refl)
-    among IL5 = (6, omega arith, refl)
-    among IL6 = (7, omega arith, refl)
-    among IL7 = (8, omega arith, refl)
+    among : (rule : RuleIL) → Contains judged_install_load.own_rules rule
+    among IL1 = (0, omega arith, refl)
+    among IL2 = (1, omega arith, refl)
+    among IL3 = (2, omega arith, refl)
+    among IL4 = (3, omega arith, refl)
+    among IL5 = (4, omega arith, refl)
+    among IL6 = (5, omega arith, refl)
+    among IL7 = (6, omega arith, refl)
 
 -- the load session that begins goes with the registry
 begun_well : (admitted : Admitted) (given : LoadData) → IsAid given.file → IsReady admitted → admitted.command.ins ≡ install_load.instruction
@@ -109,7 +118,7 @@ install_load_one admitted a b one other =
     effect_same a b (state_same a.state b.state (one.registry ∙ sym other.registry) (volatile ∙ sym other.volatile)) (one.body ∙ sym other.body) (one.status ∙ sym other.status)
 
 -- how it is judged by what was found
-pub load_install_judged : (admitted : Admitted) (found : Option Rule) → TakesCommand install_load admitted.command → IsFirst (InstallLoadFails admitted) install_load_rules found
+pub load_install_judged : (admitted : Admitted) (found : Option Rule) → TakesCommand install_load admitted.command → IsFirst (install_load.fails admitted) install_load.rules found
     → Judges admitted found
 load_install_judged admitted found takes first = judged install_load (λ P is. inr (inr (inr (inl is)))) admitted takes refl found first
 

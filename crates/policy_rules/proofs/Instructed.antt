@@ -39,10 +39,6 @@ each_byte test (first ∷ bytes) all byte there = by (test first) refl all (λ r
     ]
     by false is rest behind = cc
 
--- the bytes of one list are in another
-pub all_among : (these all : List ℕ) → list_all (λ n. list_any (λ one. one == n) all) these ≡ true → (byte : ℕ) → Contains these byte → Contains all byte
-all_among these all are byte there = among all byte (each_byte (λ n. list_any (λ one. one == n) all) these are byte there)
-
 -- what is not in the front is behind it
 pub any_behind : (front rest : List ℕ) (byte : ℕ) → list_any (λ one. one == byte) front ≡ false
     → list_any (λ one. one == byte) (front ++ rest) ≡ list_any (λ one. one == byte) rest

@@ -1,5 +1,5 @@
 -- A card that is powered on is sound, and each step keeps it so.
-use Rattle.std.proofs.Common.{◌≡◌, ℕ, zero, suc, List, [], ◌∷◌, false, None, refl, sym, ap, subst, inl, inr}
+use Rattle.std.proofs.Common.{◌≡◌, ℕ, zero, suc, List, false, refl, sym, ap, subst, inl, inr}
 use Rattle.std.specs.Prelude.{MatchOption}
 use Rattle.apdu_core.specs.Apdu.{Apdu}
 use Rattle.card_types.specs.Registry.{Registry}
@@ -8,7 +8,7 @@ use Rattle.policy_rules.specs.Admission.{Admits, Admitted, GeneralRefusalLeaves,
 use Rattle.policy_rules.specs.Classes.{channel_of}
 use Rattle.policy_rules.specs.Laws.{StartsSound, StepsKeepSound}
 use Rattle.policy_rules.specs.Sound.{Fits, IsSound, IsWellChannel}
-use Rattle.policy_rules.specs.State.{Effect, State}
+use Rattle.policy_rules.specs.State.{State}
 use Rattle.policy_rules.specs.Step.{Outcome, keeps_load, refusal_leaves}
 use Rattle.policy_rules.specs.Volatile.{Nothing, Volatile, channel_at, first_volatile, with_offer_dropped, without_session, without_load}
 use Rattle.policy_rules.specs.declared.rule.RuleG.{RuleG}
@@ -17,12 +17,9 @@ use Rattle.policy_rules.proofs.Opened.{passed_protected}
 use Rattle.policy_rules.proofs.Passing.{admitted_fits, admitted_loads, admitted_selected, admitted_session, channel_is_low, class_fits, domain_selected, either, placeless_fits}
 use Rattle.policy_rules.proofs.SetChannel.{without_load_fits}
 use Rattle.policy_rules.proofs.SecureChannelSet.{dropped_fits, secure_channel_fits}
-use Rattle.policy_rules.specs.CommandForm.{CommandForm}
-use Rattle.policy_rules.specs.Commands.{AtMostOne, DoesAs, JudgesAs, OneOf, TakesCommand, forms_of}
-use Rattle.policy_rules.proofs.AllLawful.{AllOf, all_lawful}
-use Rattle.policy_rules.proofs.FormTaken.{judged_of, own_judged, takes_of}
+use Rattle.policy_rules.proofs.FormTaken.{accepted_by}
 use Rattle.policy_rules.proofs.FreshChannel.{issuer_is_well}
-use Rattle.policy_rules.proofs.Lawful.{IsLawful, IsReady, sound_with}
+use Rattle.policy_rules.proofs.Lawful.{IsReady, sound_with}
 use Rattle.policy_rules.specs.declared.rule.Rule.{Rule}
 
 first_channels : (registry : Registry) → Well registry → (number : ℕ) → MatchOption (channel_at first_volatile number) (Unit {0}) (IsWellChannel registry)
@@ -51,15 +48,6 @@ admitted_is_ready state bytes admitted sound admits =
           (domain_selected state bytes command admits.1.1 admits.0 sound.fits selects manages);
       session = λ managed. admitted_session state command sound.fits taken.0 taken.1 taken.2 (passed_protected state bytes command admits.1.1 admits.0 managed);
     })
-
-does_keeps : (admitted : Admitted) (done : Effect) → IsReady admitted → (forms : List CommandForm) → AllOf IsLawful forms
-    → OneOf (λ form. JudgesAs form admitted None) forms → OneOf (λ form. DoesAs form admitted done) forms
-    → AtMostOne (λ form. TakesCommand form admitted.command) forms → IsSound done.state
-does_keeps admitted done ready [] lawful judges does one = absurd does
-does_keeps admitted done ready (form ∷ forms) lawful (inl judges) (inl does) one = lawful.0.keeps admitted done ready judges does.1
-does_keeps admitted done ready (form ∷ forms) lawful (inl judges) (inr does) one = absurd (one.0 judges.0 (takes_of admitted done forms does))
-does_keeps admitted done ready (form ∷ forms) lawful (inr judges) (inl does) one = absurd (one.0 does.0 (judged_of admitted None forms judges))
-does_keeps admitted done ready (form ∷ forms) lawful (inr judges) (inr does) one = does_keeps admitted done ready forms lawful.1 judges does one.1
 
 -- a session ends behind the check of the class
 ends_fits : (registry : Registry) (volatile : Volatile) (command : Apdu) → Fits registry volatile
@@ -101,6 +89,6 @@ steps_keep_sound state bytes outcome sound (inr (inl refuses)) =
     (sound_with state _ sound refl (subst (λ (r : Registry). Fits r (refusal_leaves refuses.admitted refuses.rule)) same (refusal_fits refuses.admitted refuses.rule ready)))
 steps_keep_sound state bytes outcome sound (inr (inr accepts)) =
     let ready = admitted_is_ready state bytes accepts.admitted sound accepts.admits in
-    subst (λ (o : Outcome). IsSound o.state) (sym accepts.outcome_is) (does_keeps accepts.admitted accepts.done ready (forms_of accepts.admitted.command.ins) (all_lawful accepts.admitted.command.ins).each
-    (own_judged accepts.admitted None refl accepts.judges) accepts.does
-    ((all_lawful accepts.admitted.command.ins).one accepts.admitted.command.ins accepts.admitted.command.p1 accepts.admitted.command.p2 accepts.admitted.command.body))
+    subst (λ (o : Outcome). IsSound o.state) (sym accepts.outcome_is)
+    (accepted_by accepts.admitted accepts.done (IsSound accepts.done.state) (λ form lawful judged does. lawful.keeps accepts.admitted accepts.done ready judged does)
+    accepts.judges accepts.does)

@@ -1,18 +1,18 @@
 -- What is asked of a command.
-use Rattle.std.proofs.Common.{◌≡◌, ◌≢◌, ℕ, ◌<◌, ◌≤◌, false, Option, None, Some, refl, sym, ap, subst, ◌∙◌, inl, inr, arith}
+use Rattle.std.proofs.Common.{◌≡◌, ◌≢◌, ◌⊎◌, ℕ, ◌<◌, ◌≤◌, false, Option, None, Some, refl, sym, ap, subst, ◌∙◌, inl, inr, arith}
 use Rattle.std.specs.Prelude.{◌==◌, Contains}
 use Rattle.card_types.specs.Ascending.{IsAscending}
 use Rattle.card_types.specs.Registry.{Registry}
 use Rattle.card_types.specs.Well.{IsDomainNamed, Well}
+use Rattle.apdu_core.specs.Apdu.{Apdu}
 use Rattle.policy_rules.specs.Admission.{Admitted}
 use Rattle.policy_rules.specs.Classes.{managing}
 use Rattle.policy_rules.specs.Commands.{JudgesAs, TakesCommand}
-use Rattle.policy_rules.specs.Laws.{IsLoading, LoadStays}
 use Rattle.policy_rules.specs.Management.{acting}
 use Rattle.policy_rules.specs.Sound.{Fits, IsSound}
 use Rattle.policy_rules.specs.State.{Effect, State}
 use Rattle.policy_rules.specs.Volatile.{Channel, LoadSession, SecureChannel, Volatile, channel_at, load_without_channel, place_in, channel_with, with_channel, with_secure_channel}
-use Rattle.policy_rules.specs.declared.instruction.TheConstants.{GET_STATUS, SELECT, MANAGE_CHANNEL, LOAD}
+use Rattle.policy_rules.specs.declared.instruction.TheConstants.{GET_STATUS, INSTALL, LOAD, MANAGE_CHANNEL, SELECT}
 use Rattle.policy_rules.specs.Changes.{IsSameButCounters}
 use Rattle.policy_rules.specs.CommandForm.{CommandForm}
 use Rattle.std.proofs.lemmas.Bool.Decides.{eqb_tells}
@@ -29,6 +29,14 @@ pub record IsReady (admitted : Admitted) : Type 0 where
 -- the channel has no place in a listing
 abbrev pub HasNoPlaceOn : Volatile → ℕ → Type 0
 HasNoPlaceOn volatile number = place_in (channel_at volatile number) ≡ None
+
+-- the command begins a load session, or goes on with one: INSTALL [for load] and LOAD
+abbrev pub IsLoading : Apdu → Type 0
+IsLoading command = (command.ins ≡ LOAD) ⊎ ((command.ins ≡ INSTALL) × (command.p1 ≡ 0x02))
+
+-- the load session is as it was, or there is none
+abbrev pub LoadStays : Volatile → Volatile → Type 0
+LoadStays before after = (after.load ≡ before.load) ⊎ (after.load ≡ None)
 
 -- It leaves a card sound, it does one thing, without secure messaging it changes no more than the numbers of sequence counters,
 -- unless it is GET STATUS it sets no place in a listing on its channel, and unless it loads it leaves the load session or ends it.

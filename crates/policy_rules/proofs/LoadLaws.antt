@@ -10,14 +10,14 @@ use Rattle.card_types.proofs.ChangeExists.{one_order}
 use Rattle.card_types.specs.AidOrder.{aid_order}
 use Rattle.card_types.specs.ChangeLaws.{IsOfCard, MayAddFile}
 use Rattle.card_types.specs.Privileges.{delegated_management}
-use Rattle.card_types.specs.Registry.{LoadFile, Registry, entry_named}
+use Rattle.card_types.specs.Registry.{LoadFile, Registry}
 use Rattle.card_types.specs.RegistryChange.{IsFileAdded}
 use Rattle.card_types.specs.Well.{pages_of}
 use Rattle.card_types.specs.declared.limits.TheConstants.{FILE_LIMIT, LOAD_PAGES}
-use Rattle.policy_rules.specs.Admission.{Admitted}
+use Rattle.policy_rules.specs.Admission.{Admitted, without_place}
 use Rattle.policy_rules.specs.Classes.{managing}
 use Rattle.policy_rules.specs.Commands.{JudgesAs}
-use Rattle.policy_rules.specs.Delegation.{Holds, IsAnswered, ReceiptFails}
+use Rattle.policy_rules.specs.Delegation.{Holds, IsAnswered, ReceiptFails, unconfirmed}
 use Rattle.policy_rules.specs.FirstFailing.{IsFirst}
 use Rattle.policy_rules.specs.Load.{EndsLoad, GoesOn, IsLoadOn, LoadEffect, LoadFails, LoadingFails, block_of, file_of_load, load_rules, loading}
 use Rattle.policy_rules.specs.LoadBlocks.{BringsBytes, pages_used, with_block}
@@ -176,14 +176,12 @@ loading_keeps admitted done sound (takes, first) does = by does.taken
         let changed = loaded_of_card admitted does.load does.on does.size does.bytes does.brings well of ends.last first ends.changed ends.added in
         let receipts : Holds admitted delegated_management → ReceiptFails admitted RC1 → ⊥ = (λ holds fails. passes LO8 (ends.last, holds, fails)) in
         let aids = does.load.aid ∷ does.load.domain ∷ [] in
-        let kept = answered_keeps (Holds admitted delegated_management) admitted aids ends.changed done sound.well receipts ends.answered changed in
+        let kept = answered_keeps (Holds admitted delegated_management) admitted aids ends.changed unconfirmed done sound.well receipts ends.answered changed in
         let left = without_load admitted.at.volatile admitted.channel in
         let none : left.load ≡ None = ended admitted.channel admitted.at.volatile.load does.load does.on.0 does.on.1 in
-        let free : MatchOption left.load (Unit {0}) (λ l. entry_named ends.changed l.aid ≡ None) =
-        subst (λ (load : Option LoadSession). MatchOption load (Unit {0}) (λ l. entry_named ends.changed l.aid ≡ None)) (sym none) tt in
         let with_file = fits_as (sym ends.added.same) refl
         (files_fit admitted.at.registry ends.changed.files left none (without_load_fits admitted.at.registry admitted.at.volatile admitted.channel sound.fits)) in
-        let fits = answered_fits (Holds admitted delegated_management) admitted aids ends.changed done sound.well receipts ends.answered left free with_file in
+        let fits = answered_fits (Holds admitted delegated_management) admitted aids ends.changed unconfirmed done sound.well receipts ends.answered left with_file in
         record { well = kept.well; ascending = kept.ascending; fits = fits_as refl (sym ends.volatile) fits })
 
 -- the files of a registry to which one is added
@@ -206,8 +204,8 @@ taken_once admitted load a b status (inr one) (inl other) = absurd (omega (arith
 taken_once admitted load a b status (inr one) (inr other) =
     let aids = load.aid ∷ load.domain ∷ [] in
     let changed = one_added (file_of_load load) admitted.at.registry one.changed other.changed one.added other.added in
-    let answered = subst (λ (r : Registry). IsAnswered (Holds admitted delegated_management) admitted aids r a) changed one.answered in
-    let same = answered_once (Holds admitted delegated_management) admitted aids other.changed a b answered other.answered in
+    let answered = subst (λ (r : Registry). IsAnswered (Holds admitted delegated_management) admitted aids r unconfirmed a) changed one.answered in
+    let same = answered_once (Holds admitted delegated_management) admitted aids other.changed unconfirmed a b answered other.answered in
     effect_same a b (state_same a.state b.state same.0 (one.volatile ∙ sym other.volatile)) same.1 status
 
 -- it does one thing

@@ -10,8 +10,7 @@ use Rattle.policy_rules.specs.Volatile.{Channel, fresh, with_channel, without_ch
 use Rattle.policy_rules.proofs.SetChannel.{ended_fits, lowest_is_closed, set_fits}
 use Rattle.policy_rules.proofs.SecureChannelSet.{within}
 use Rattle.policy_rules.specs.Changes.{IsSameButCounters}
-use Rattle.policy_rules.specs.Laws.{LoadStays}
-use Rattle.policy_rules.proofs.Lawful.{HasNoPlaceOn, IsLawful, load_ended, placeless_same, placeless_set, same_as, sound_with}
+use Rattle.policy_rules.proofs.Lawful.{HasNoPlaceOn, IsLawful, load_ended, placeless_same, placeless_set, same_as, sound_with, LoadStays}
 use Rattle.policy_rules.proofs.FreshChannel.{issuer_is_well}
 use Rattle.policy_rules.proofs.Judging.{judged}
 use Rattle.policy_rules.specs.Commands.{TakesCommand, Judges}

@@ -1,7 +1,6 @@
 -- From one state the same bytes have at most one outcome.
-use Rattle.std.proofs.Common.{◌≡◌, ◌⊎◌, ℕ, List, [], ◌∷◌, false, Option, None, Some, refl, sym, ap, subst, ◌∙◌, inl, inr}
+use Rattle.std.proofs.Common.{◌≡◌, ◌⊎◌, ℕ, List, [], ◌∷◌, false, Option, None, Some, refl, sym, ap, subst, ◌∙◌, inl, inr, true}
 use Rattle.std.specs.Prelude.{MatchOption}
-use Rattle.std.proofs.lemmas.Bool.{true≢false}
 use Rattle.apdu_core.proofs.OneSpelling.{one_command}
 use Rattle.apdu_core.specs.Apdu.{Apdu, Short}
 use Rattle.policy_rules.specs.Admission.{Admits, Admitted, GeneralFails, IsTaken, GeneralRefusalLeaves, Of, SessionEnds, admitted_as, class_passed, general_rules, without_place, session_for}
@@ -18,13 +17,13 @@ use Rattle.policy_rules.proofs.FirstUnique.{one_first}
 use Rattle.scp03_card.proofs.GivesLemmas.{opens_one}
 use Rattle.scp03_card.specs.Opens.{Opens, accepting}
 use Rattle.scp03_card.specs.Session.{Session}
-use Rattle.policy_rules.specs.CommandForm.{CommandForm}
-use Rattle.policy_rules.specs.Commands.{AtMostOne, HasEffect, DoesAs, FormFails, Judges, JudgesAs, OneOf, TakesCommand, form_rules, forms_of}
-use Rattle.policy_rules.proofs.AllLawful.{AllOf, all_lawful}
-use Rattle.policy_rules.proofs.FormTaken.{judged_of, takes_of}
-use Rattle.policy_rules.proofs.Lawful.{IsLawful, some_same}
+use Rattle.policy_rules.specs.Commands.{HasEffect, DoesAs, FormFails, Judges, JudgesAs, OneOf, form_rules, forms_of}
+use Rattle.policy_rules.proofs.FormTaken.{by_form}
+use Rattle.policy_rules.proofs.Lawful.{some_same}
 use Rattle.policy_rules.specs.Run.{Run}
 use Rattle.policy_rules.specs.Run as run
+use Rattle.policy_rules.specs.declared.rule.RulePS.TheVariants.{P}
+use Rattle.std.proofs.lemmas.Bool.{true≢false}
 
 -- the bytes are one command
 pub of_one : (bytes : List ℕ) (holds : Apdu → Type 0) (command : Apdu) → Short command bytes → Of bytes holds → holds command
@@ -82,14 +81,11 @@ admits_one state bytes a b one other =
     let same = taken_one state command first.0 second.0 first.1 second.1 first.2 second.2 in
     first.3 ∙ (λ i. admitted_as state command (same.0 i) (same.1 i)) ∙ sym second.3
 
-own_one : (admitted : Admitted) (a b : Option Rule) (forms : List CommandForm) → OneOf (λ form. JudgesAs form admitted a) forms
-    → OneOf (λ form. JudgesAs form admitted b) forms
-    → AtMostOne (λ form. TakesCommand form admitted.command) forms → a ≡ b
-own_one admitted a b [] one other alone = absurd one
-own_one admitted a b (form ∷ forms) (inl one) (inl other) alone = one_first (form.fails admitted) form.rules a b one.1 other.1
-own_one admitted a b (form ∷ forms) (inl one) (inr other) alone = absurd (alone.0 one.0 (judged_of admitted b forms other))
-own_one admitted a b (form ∷ forms) (inr one) (inl other) alone = absurd (alone.0 other.0 (judged_of admitted a forms one))
-own_one admitted a b (form ∷ forms) (inr one) (inr other) alone = own_one admitted a b forms one other alone.1
+own_one : (admitted : Admitted) (a b : Option Rule) → OneOf (λ form. JudgesAs form admitted a) (forms_of admitted.command.ins)
+    → OneOf (λ form. JudgesAs form admitted b) (forms_of admitted.command.ins) → a ≡ b
+own_one admitted a b =
+    by_form admitted (λ form. JudgesAs form admitted a) (λ form. JudgesAs form admitted b) (λ form one. one.0) (λ form one. one.0) (a ≡ b)
+    (λ form lawful one other. one_first (form.fails admitted) form.rules a b one.1 other.1)
 
 pub judges_one : (admitted : Admitted) (a b : Option Rule) → Judges admitted a → Judges admitted b → a ≡ b
 judges_one admitted a b (inl one) (inl other) =
@@ -98,24 +94,12 @@ judges_one admitted a b (inl one) (inr other) =
     (let clash = one_first (FormFails admitted) (form_rules admitted.command.ins) (Some one.rule) None one.first other.0 in cc)
 judges_one admitted a b (inr one) (inl other) =
     (let clash = one_first (FormFails admitted) (form_rules admitted.command.ins) (Some other.rule) None other.first one.0 in cc)
-judges_one admitted a b (inr one) (inr other) =
-    own_one admitted a b (forms_of admitted.command.ins) one.1 other.1
-    ((all_lawful admitted.command.ins).one admitted.command.ins admitted.command.p1 admitted.command.p2 admitted.command.body)
-
-done_one : (admitted : Admitted) (a b : Effect) (forms : List CommandForm) → AllOf IsLawful forms → OneOf (λ form. DoesAs form admitted a) forms
-    → OneOf (λ form. DoesAs form admitted b) forms
-    → AtMostOne (λ form. TakesCommand form admitted.command) forms → a ≡ b
-done_one admitted a b [] lawful one other alone = absurd one
-done_one admitted a b (form ∷ forms) lawful (inl one) (inl other) alone = lawful.0.one admitted a b one.1 other.1
-done_one admitted a b (form ∷ forms) lawful (inl one) (inr other) alone = absurd (alone.0 one.0 (takes_of admitted b forms other))
-done_one admitted a b (form ∷ forms) lawful (inr one) (inl other) alone = absurd (alone.0 other.0 (takes_of admitted a forms one))
-done_one admitted a b (form ∷ forms) lawful (inr one) (inr other) alone = done_one admitted a b forms lawful.1 one other alone.1
+judges_one admitted a b (inr one) (inr other) = own_one admitted a b one.1 other.1
 
 pub does_one : (admitted : Admitted) (a b : Effect) → HasEffect admitted a → HasEffect admitted b → a ≡ b
-does_one admitted a b one other =
-    let all = all_lawful admitted.command.ins in
-    done_one admitted a b (forms_of admitted.command.ins) all.each one other
-    (all.one admitted.command.ins admitted.command.p1 admitted.command.p2 admitted.command.body)
+does_one admitted a b =
+    by_form admitted (λ form. DoesAs form admitted a) (λ form. DoesAs form admitted b) (λ form one. one.0) (λ form one. one.0) (a ≡ b)
+    (λ form lawful one other. lawful.one admitted a b one.1 other.1)
 
 -- what is barred is not admitted
 rejected_or_admitted : {P : Type 0} (state : State) (bytes : List ℕ) (a : Outcome) (admitted : Admitted) → IsRejected state bytes a → Admits state bytes admitted → P

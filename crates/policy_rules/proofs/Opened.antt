@@ -1,11 +1,11 @@
 -- What changes more than a sequence counter opens in a session.
-use Rattle.std.proofs.Common.{◌≡◌, ℕ, List, [], ◌∷◌, true, false, Option, None, Some, refl, sym, ap, subst, ◌∙◌, inl, inr, arith}
+use Rattle.std.proofs.Common.{◌≡◌, ℕ, List, true, false, Option, None, Some, refl, sym, ap, subst, ◌∙◌, inl, inr, arith}
 use Rattle.std.specs.Prelude.{not, ◌==◌, Contains, MatchOption}
 use Rattle.apdu_core.specs.Apdu.{Apdu, Short}
 use Rattle.card_types.specs.Registry.{Registry}
 use Rattle.policy_rules.specs.Admission.{Admits, Admitted, GeneralFails, IsTaken, general_rules, session_for}
 use Rattle.policy_rules.specs.Changes.{Changes, OpensInSession, IsSameButCounters}
-use Rattle.policy_rules.specs.Classes.{class_of, instructions_of, is_protected, management, managing, protects}
+use Rattle.policy_rules.specs.Classes.{class_of, instructions_of, is_protected, managing, protects}
 use Rattle.policy_rules.specs.FirstFailing.{IsFirst}
 use Rattle.policy_rules.specs.Laws.{ChangesAreOpened}
 use Rattle.policy_rules.specs.State.{Effect, State}
@@ -18,19 +18,10 @@ use Rattle.scp03_card.specs.Opens.{Opens, accepting}
 use Rattle.scp03_card.specs.Session.{Session}
 use Rattle.std.proofs.lemmas.Bool.{cases_Bool, true≢false}
 use Rattle.std.specs.List.{list_any}
-use Rattle.policy_rules.specs.CommandForm.{CommandForm}
-use Rattle.policy_rules.specs.Commands.{HasEffect, DoesAs, OneOf, forms_of}
-use Rattle.policy_rules.proofs.AllLawful.{AllOf, all_lawful}
-use Rattle.policy_rules.proofs.Instructed.{all_among, each_byte, found_among}
-use Rattle.policy_rules.proofs.Lawful.{IsLawful, same_as}
-
--- a command that is none of card content management changes no more than the numbers of sequence counters
-others_quiet : (admitted : Admitted) (done : Effect) → (Contains managing admitted.command.ins → ⊥) → (forms : List CommandForm) → AllOf IsLawful forms
-    → OneOf (λ form. DoesAs form admitted done) forms → IsSameButCounters admitted.at.registry done.state.registry
-others_quiet admitted done other [] lawful does = absurd does
-others_quiet admitted done other (form ∷ forms) lawful (inl does) =
-    lawful.0.quiet (λ managed. other (subst (Contains managing) (sym does.0.0) managed)) admitted done does.1
-others_quiet admitted done other (form ∷ forms) lawful (inr does) = others_quiet admitted done other forms lawful.1 does
+use Rattle.policy_rules.specs.Commands.{HasEffect}
+use Rattle.policy_rules.proofs.Instructed.{each_byte, found_among}
+use Rattle.policy_rules.proofs.Lawful.{same_as}
+use Rattle.policy_rules.proofs.FormTaken.{done_by}
 
 -- Card content management outside of secure messaging does not pass.
 abbrev IsOfClass : Option Class → ℕ → Type 0
@@ -43,9 +34,6 @@ never_interindustry ins managed known =
 
 always_protected : (ins : ℕ) → Contains managing ins → protects (Some Secure) ins ≡ true
 always_protected ins managed = each_byte (protects (Some Secure)) managing refl ins managed
-
-pub is_management : (ins : ℕ) → Contains managing ins → Contains management ins
-is_management ins managed = all_among managing management refl ins managed
 
 pub managed_protected : (class : Option Class) (ins : ℕ) → IsOfClass class ins → (class ≡ Some Plain → ⊥) → Contains managing ins → protects class ins ≡ true
 managed_protected None ins known other managed = absurd known
@@ -62,7 +50,7 @@ passed_protected state bytes command short first managed = elim (cases_Bool (is_
     short,
     inl (λ known.
         (let protected = managed_protected (class_of command.class) command.ins known
-        (λ class. none_fails (GeneralFails state bytes) general_rules G6 (5, omega arith, refl) first (command, short, inl (class, is_management command.ins managed)))
+        (λ class. none_fails (GeneralFails state bytes) general_rules G6 (5, omega arith, refl) first (command, short, inl (class, managed)))
         managed in
         let clash = sym protected ∙ plain in cc)),
   ))
@@ -81,7 +69,8 @@ module _ (state : State) (bytes : List ℕ) (admitted : Admitted) (done : Effect
       let managed_not : Contains managing admitted.command.ins → ⊥ = λ managed.
       (let clash = sym (passed_protected state bytes command admits.1.1 admits.0 (subst (Contains managing) ins managed)) ∙ plain in cc) in
       changes (subst (λ (r : Registry). IsSameButCounters r done.state.registry) at
-      (others_quiet admitted done managed_not (forms_of admitted.command.ins) (all_lawful admitted.command.ins).each does))
+      (done_by admitted done (IsSameButCounters admitted.at.registry done.state.registry) (λ form lawful takes it. lawful.quiet
+      (λ managed. managed_not (subst (Contains managing) (sym takes.0) managed)) admitted done it) does))
 
   opened : OpensInSession state bytes
   opened = by admits.1.2.0 admits.1.2.1 admits.1.2.2

@@ -1,7 +1,7 @@
 -- PUT KEY keeps a registry well and its lists in order.
-use Rattle.std.proofs.Common.{◌≡◌, ◌≢◌, true, ◌==◌, ◌⊎◌, inl, inr, ℕ, suc, ◌+◌, ◌<◌, ◌≤◌, ◌++◌, List, [], ◌∷◌, Option, None, Some, length, refl, ap, sym, subst, ◌∙◌, arith}
-use Rattle.std.specs.Prelude.{All, Contains, MatchOption, filter, slice_index_or}
-use Rattle.std.proofs.lemmas.Bool.{and_from, cases_eq, cases_lt, eq-eqb, false≢true, le-ltb, lt-ltb}
+use Rattle.std.proofs.Common.{◌≡◌, ◌≢◌, true, ◌==◌, ◌⊎◌, inl, inr, ℕ, suc, ◌+◌, ◌<◌, ◌≤◌, ◌++◌, List, [], ◌∷◌, Option, None, Some, length, refl, ap, sym, subst, ◌∙◌, arith, false}
+use Rattle.std.specs.Prelude.{All, Contains, MatchOption, filter}
+use Rattle.std.proofs.lemmas.Bool.{and_from, cases_eq, cases_lt, eq-eqb, le-ltb, lt-ltb, false≢true}
 use Rattle.std.proofs.lemmas.List.Elements.{All-head, All-nil, All-cons, All-tail}
 use Rattle.card_types.proofs.Members.{contains_cases, contains_first, contains_later}
 use Rattle.card_types.proofs.SameAid.{same_aid_decides}
@@ -15,14 +15,13 @@ use Rattle.policy_rules.specs.Admission.{Admitted}
 use Rattle.policy_rules.specs.Arranged.{IsArranged}
 use Rattle.policy_rules.specs.KeyVersions.{counters_but, has_key_version, is_key_numbered, keys_but, with_keys}
 use Rattle.policy_rules.specs.Management.{acting}
-use Rattle.policy_rules.specs.PutKey.{AreKeysSent, AreOfOneLength, HasFieldLengths, IsNewVersion, PutKeyEffect, PutKeyFails, SentKey, counters_from, key_count, keys_from, keys_left, new_version, own_keys_left}
-use Rattle.policy_rules.specs.State.{Effect}
+use Rattle.policy_rules.specs.PutKey.{AreKeysSent, AreOfOneLength, HasFieldLengths, IsNewVersion, SentKey, counters_from, key_count, keys_from, keys_left, own_keys_left, AreKeysPut, AsksToPut, KeysAsked, PuttingKeyFails}
 use Rattle.policy_rules.specs.Volatile.{session_on}
 use Rattle.policy_rules.specs.declared.put_key.RulePK.TheVariants.{PK2, PK4}
-use Rattle.policy_rules.specs.declared.rule.Rule.TheVariants.{PK}
 use Rattle.scp03_card.specs.Session.{Session}
 use Rattle.policy_rules.proofs.Filtered.{any_there}
 use Rattle.policy_rules.proofs.PutKeyKeys.{AreApart, counter_begun, key_added, length_of_added, put_well}
+use Rattle.card_types.specs.ChangeLaws.{IsOfCard}
 
 -- what is so of a key that is put
 pub record IsNewKey (owner : List ℕ) (version identifier size : ℕ) (keys : List (List ℕ)) (key : Key) : Type 0 where
@@ -230,9 +229,9 @@ of_version p2 version keys (inl set) count = inl (set.1, set.2, count ∙ ap key
 of_version p2 version keys (inr one) count = inr (one.1, count ∙ ap key_count one.0)
 
 -- the card and the domain have room where no rule says otherwise
-pub rooms : (admitted : Admitted) → (PutKeyFails admitted (PK PK4) → ⊥)
+pub rooms : (admitted : Admitted) (asked : KeysAsked) → (PuttingKeyFails admitted asked PK4 → ⊥)
     → (length (keys_left admitted) + key_count admitted.command.p2 ≤ KEYS) × (length (own_keys_left admitted) + key_count admitted.command.p2 ≤ DOMAIN_KEYS)
-rooms admitted passed = (
+rooms admitted asked passed = (
   elim (cases_lt KEYS (length (keys_left admitted) + key_count admitted.command.p2)) [
     | inl full ↦ absurd (passed (inl full))
     | inr room ↦ room
@@ -243,23 +242,22 @@ rooms admitted passed = (
   ],
 )
 
-pub put_keeps : (admitted : Admitted) (done : Effect) → Well admitted.at.registry → IsAscending admitted.at.registry
-    → IsDomainNamed admitted.at.registry (acting admitted) → (PutKeyFails admitted (PK PK2) → ⊥) → (PutKeyFails admitted (PK PK4) → ⊥) → PutKeyEffect admitted done
-    → Well done.state.registry × IsAscending done.state.registry
-put_keeps admitted done well ascending domain untaken roomy does =
+-- it leaves a registry that a card may have
+pub put_keeps : (admitted : Admitted) (asked : KeysAsked) (changed : Registry) → IsOfCard admitted.at.registry → IsDomainNamed admitted.at.registry (acting admitted)
+    → AsksToPut admitted.command.p1 admitted.command.p2 admitted.command.body asked → (PuttingKeyFails admitted asked PK2 → ⊥) → (PuttingKeyFails admitted asked PK4 → ⊥)
+    → (put : AreKeysPut admitted asked changed) → IsOfCard (with_keys admitted.at.registry put.keys put.counters)
+put_keeps admitted asked changed of domain has untaken roomy put =
     let registry = admitted.at.registry in
-    let has = does.brings.has in
-    let sent = in_session (session_on admitted.at.volatile admitted.channel) does.sent does.bytes does.brings.opened has.each has.alike in
-    let count : length does.bytes ≡ key_count admitted.command.p2 = sent.1 ∙ has.count in
-    let versioned = of_version admitted.command.p2 does.version does.bytes has.new count in
-    let is : new_version admitted ≡ does.version = ap (λ (body : List ℕ). slice_index_or body 0 0) has.spelled in
-    let free = subst (λ (v : ℕ). (v ≢ admitted.command.p1) × (has_key_version registry (acting admitted) v ≡ true) → ⊥) is untaken in
-    let room = rooms admitted roomy in
-    let card : length (keys_left admitted) + length does.bytes ≤ KEYS = (let r = room.0 in omega arith) in
-    let own : length (own_keys_left admitted) + length does.bytes ≤ DOMAIN_KEYS = (let r = room.1 in omega arith) in (
-      subst Well (sym does.registry)
-          (new_keys_well registry well (acting admitted) domain admitted.command.p1 does.version does.bytes sent.0 versioned free does.keys does.counters does.keys_put does.counters_put card own),
-      subst IsAscending (sym does.registry)
-          (new_keys_ascending registry well (acting admitted) domain admitted.command.p1 does.version does.bytes sent.0 versioned free does.keys does.counters does.keys_put does.counters_put card own
-          ascending),
-    )
+    let sent = in_session (session_on admitted.at.volatile admitted.channel) asked.sent put.bytes put.opened has.each has.alike in
+    let count : length put.bytes ≡ key_count admitted.command.p2 = sent.1 ∙ has.count in
+    let versioned = of_version admitted.command.p2 asked.version put.bytes has.new count in
+    let room = rooms admitted asked roomy in
+    let card : length (keys_left admitted) + length put.bytes ≤ KEYS = (let r = room.0 in omega arith) in
+    let own : length (own_keys_left admitted) + length put.bytes ≤ DOMAIN_KEYS = (let r = room.1 in omega arith) in
+    record {
+      well =
+          new_keys_well registry of.well (acting admitted) domain admitted.command.p1 asked.version put.bytes sent.0 versioned untaken put.keys put.counters put.keys_put put.counters_put card own;
+      ascending =
+          new_keys_ascending registry of.well (acting admitted) domain admitted.command.p1 asked.version put.bytes sent.0 versioned untaken put.keys put.counters put.keys_put put.counters_put card own
+          of.ascending;
+    }

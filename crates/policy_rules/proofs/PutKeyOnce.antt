@@ -16,14 +16,16 @@ use Rattle.card_types.proofs.KeyNames.{counter_order_total, key_order_total}
 use Rattle.card_types.specs.Ascending.{counter_order, key_order}
 use Rattle.policy_rules.specs.Admission.{Admitted}
 use Rattle.policy_rules.specs.Arranged.{IsArranged}
-use Rattle.policy_rules.specs.KeyVersions.{counters_but, with_keys}
+use Rattle.policy_rules.specs.KeyVersions.{with_keys}
 use Rattle.policy_rules.specs.Management.{acting}
-use Rattle.policy_rules.specs.PutKey.{AreKeysSent, Brings, HasKeyFields, IsKeySent, PutKeyEffect, SentKey, counters_from, key_count, key_field, keys_from, keys_left}
-use Rattle.policy_rules.specs.State.{Effect}
+use Rattle.policy_rules.specs.PutKey.{AreKeysSent, HasKeyFields, IsKeySent, SentKey, key_count, key_field, keys_from, keys_left, AreKeysPut, AsksToPut, KeysAsked, PuttingKeyFails, managed_put_key}
 use Rattle.policy_rules.specs.Volatile.{session_on}
 use Rattle.scp03_card.specs.Session.{Session}
 use Rattle.policy_rules.proofs.KeyFields.{one_fields}
-use Rattle.policy_rules.proofs.SameEffect.{effect_same, state_same}
+use Rattle.card_types.specs.Registry.{Registry}
+use Rattle.policy_rules.specs.declared.rule.Rule.TheVariants.{PK}
+use Rattle.policy_rules.specs.declared.put_key.RulePK.{RulePK}
+use Rattle.policy_rules.specs.ManagedForm.{command_form}
 
 pub zeros : IsBlock zero_block
 zeros = record {
@@ -53,7 +55,7 @@ one_keys dek (s ∷ sent) (x ∷ a) (y ∷ b) one other =
     let rest = one_keys dek sent a b one.1 other.1 in
     (λ i. first i ∷ rest i)
 
-opened_once : (session : Option Session) (sent : List SentKey) (a b : List (List ℕ)) → MatchOption session ⊥ (λ s. AreKeysSent s.offer.dek sent a)
+pub opened_once : (session : Option Session) (sent : List SentKey) (a b : List (List ℕ)) → MatchOption session ⊥ (λ s. AreKeysSent s.offer.dek sent a)
     → MatchOption session ⊥ (λ s. AreKeysSent s.offer.dek sent b) → a ≡ b
 opened_once None sent a b one other = absurd one
 opened_once (Some session) sent a b one other = one_keys session.offer.dek sent a b one other
@@ -69,16 +71,12 @@ one_sent p2 body v w xs ys one other =
     one_fields xs ys (concat (map key_field xs)) (key_count p2) (record { number = one.count; each = one.each; alike = one.alike; spelled = refl })
     (record { number = other.count; each = other.each; alike = other.alike; spelled = fields })
 
--- what the command brings is one
-pub brings_once : (admitted : Admitted) (v w : ℕ) (xs ys : List SentKey) (a b : List (List ℕ)) → Brings admitted v xs a → Brings admitted w ys b
-    → (v ≡ w) × (xs ≡ ys) × (a ≡ b)
-brings_once admitted v w xs ys a b one other =
-    let sent = one_sent admitted.command.p2 admitted.command.body v w xs ys one.has other.has in (
-      one_version admitted.command.p2 admitted.command.body v w xs ys one.has other.has,
-      sent,
-      opened_once (session_on admitted.at.volatile admitted.channel) xs a b one.opened
-          (subst (λ (s : List SentKey). MatchOption (session_on admitted.at.volatile admitted.channel) ⊥ (λ session. AreKeysSent session.offer.dek s b)) (sym sent) other.opened),
-    )
+-- what the command asks for is one thing
+pub one_put : (p1 p2 : ℕ) (body : List ℕ) (a b : KeysAsked) → AsksToPut p1 p2 body a → AsksToPut p1 p2 body b → a ≡ b
+one_put p1 p2 body a b one other =
+    let version = one_version p2 body a.version b.version a.sent b.sent one other in
+    let sent = one_sent p2 body a.version b.version a.sent b.sent one other in
+    (λ i. record { version = version i; sent = sent i })
 
 pub one_arranged : {X : Type 0} (order : X → X → Ordering) → IsTotalOrder order → (things others a b : List X) → things ≡ others
     → IsArranged order things a → IsArranged order others b → a ≡ b
@@ -86,18 +84,19 @@ one_arranged order total things others a b same one other =
     one_order order total a b one.ascending other.ascending
     (IsPermutation-trans a things b (IsPermutation-sym things a one.same) (subst (λ (xs : List _). IsPermutation xs b) (sym same) other.same))
 
-pub put_key_one : (admitted : Admitted) (a b : Effect) → PutKeyEffect admitted a → PutKeyEffect admitted b → a ≡ b
-put_key_one admitted a b one other =
-    let brings = brings_once admitted one.version other.version one.sent other.sent one.bytes other.bytes one.brings other.brings in
+pub keys_put_once : (admitted : Admitted) (asked : KeysAsked) (a b : Registry) → AsksToPut admitted.command.p1 admitted.command.p2 admitted.command.body asked
+    → AreKeysPut admitted asked a → AreKeysPut admitted asked b → a ≡ b
+keys_put_once admitted asked a b asks one other =
     let owner = acting admitted in
-    let new : keys_from owner one.version 1 one.bytes ++ keys_left admitted ≡ keys_from owner other.version 1 other.bytes ++ keys_left admitted =
-    (λ i. keys_from owner (brings.0 i) 1 (brings.2 i) ++ keys_left admitted) in
-    let without_number : counters_from owner one.version ++ counters_but owner admitted.command.p1 admitted.at.registry.counters
-    ≡ counters_from owner other.version ++ counters_but owner admitted.command.p1 admitted.at.registry.counters =
-    (λ i. counters_from owner (brings.0 i) ++ counters_but owner admitted.command.p1 admitted.at.registry.counters) in
+    let bytes = opened_once (session_on admitted.at.volatile admitted.channel) asked.sent one.bytes other.bytes one.opened other.opened in
+    let new = ap (λ (keys : List (List ℕ)). keys_from owner asked.version 1 keys ++ keys_left admitted) bytes in
     let keys = one_arranged key_order key_order_total _ _ one.keys other.keys new one.keys_put other.keys_put in
-    let counters = one_arranged counter_order counter_order_total _ _ one.counters other.counters without_number one.counters_put other.counters_put in
-    effect_same a b
-    (state_same a.state b.state (one.registry ∙ (λ i. with_keys admitted.at.registry (keys i) (counters i)) ∙ sym other.registry) (one.volatile ∙ sym other.volatile))
-    (one.body ∙ (λ i. brings.0 i ∷ concat (map (λ (s : SentKey). s.check) (brings.1 i))) ∙ sym other.body)
-    (one.status ∙ sym other.status)
+    let counters = one_arranged counter_order counter_order_total _ _ one.counters other.counters refl one.counters_put other.counters_put in
+    one.registry ∙ (λ i. with_keys admitted.at.registry (keys i) (counters i)) ∙ sym other.registry
+
+-- a rule of the form's own that fails of the command fails for what it asks
+pub put_fails : (admitted : Admitted) (rule : RulePK) (fails : (command_form managed_put_key).fails admitted (PK rule)) → PuttingKeyFails admitted fails.0 rule
+put_fails admitted rule fails =
+    let own = fails.2 in
+    let same : own.0 ≡ rule = (let is = own.1 in cc) in
+    subst (PuttingKeyFails admitted fails.0) same own.2

@@ -15,8 +15,7 @@ use Rattle.bertlv.proofs.SpellingLemmas.{one_spelling, one_spelling_each}
 use Rattle.bertlv.specs.Spelling.{AreElements, Spelling}
 use Rattle.policy_rules.proofs.SameEffect.{effect_same, state_same}
 use Rattle.policy_rules.specs.Changes.{IsSameButCounters}
-use Rattle.policy_rules.specs.Laws.{LoadStays}
-use Rattle.policy_rules.proofs.Lawful.{HasNoPlaceOn, IsLawful, IsReady, load_ended, placeless_same, placeless_set, same_as, sound_with}
+use Rattle.policy_rules.proofs.Lawful.{HasNoPlaceOn, IsLawful, IsReady, load_ended, placeless_same, placeless_set, same_as, sound_with, LoadStays}
 use Rattle.policy_rules.proofs.FreshChannel.{fresh_is_well}
 use Rattle.card_types.specs.Registry as registry
 use Rattle.policy_rules.proofs.Judging.{judged}

@@ -12,33 +12,32 @@ use Rattle.card_types.specs.declared.limits.TheConstants.{OBJECTS}
 use Rattle.policy_rules.specs.Admission.{Admitted}
 use Rattle.policy_rules.specs.Arranged.{IsArranged}
 use Rattle.policy_rules.specs.Management.{acting, ManagementFails}
-use Rattle.policy_rules.specs.State.{Effect}
 use Rattle.policy_rules.specs.DataObjects.{is_object_of, with_data, with_object, with_objects}
-use Rattle.policy_rules.specs.StoreData.{StoreDataEffect, StoreDataFails, objects_stored, HasObjects, StoreDataField, store_rules, store_data}
+use Rattle.policy_rules.specs.StoreData.{objects_stored, HasObjects, StoreDataField, managed_store_data, AreObjectsPut, StoringFails}
 use Rattle.policy_rules.specs.declared.rule.Rule.TheVariants.{SD}
 use Rattle.policy_rules.specs.declared.store_data.RuleSD.TheVariants.{SD1}
 use Rattle.card_types.proofs.ChangeExists.{one_order}
 use Rattle.card_types.proofs.ObjectNames.{object_order_total}
 use Rattle.policy_rules.proofs.StoreDataElements.{one_list}
-use Rattle.policy_rules.proofs.SameEffect.{effect_same, state_same}
 use Rattle.std.specs.List.{list_any}
 use Rattle.std.proofs.lemmas.List.{length-map}
 use Rattle.card_types.specs.Represents.{object_of, used}
 use Rattle.card_types.specs.declared.tables.Tables.{Tables}
-use Rattle.policy_rules.proofs.ManagementFirst.{behind_management}
 use Rattle.policy_rules.proofs.StoredCount.{has_alike, stored_count}
 use Rattle.policy_rules.specs.FirstFailing.{IsFirst}
 use Rattle.policy_rules.specs.Requests.{ActsIn}
 use Rattle.policy_rules.specs.ObjectsFound.{has_object_in, new_tags}
 use Rattle.policy_rules.specs.declared.management.RuleM.TheVariants.{M1, M2}
-use Rattle.policy_rules.specs.Commands.{JudgesAs, TakesCommand, Judges}
-use Rattle.policy_rules.specs.Sound.{IsSound}
-use Rattle.policy_rules.proofs.FirstUnique.{none_fails}
+use Rattle.policy_rules.specs.Commands.{TakesCommand, Judges}
 use Rattle.policy_rules.proofs.SameThings.{same_fits}
-use Rattle.policy_rules.proofs.Lawful.{IsLawful, IsReady, fits_as, load_same, managed_apart, placeless_same}
 use Rattle.policy_rules.proofs.Judging.{judged}
 use Rattle.policy_rules.specs.declared.rule.Rule.{Rule}
 use Rattle.policy_rules.proofs.DataWell.{data_well}
+use Rattle.policy_rules.specs.declared.rule.RulePS.TheVariants.{P}
+use Rattle.policy_rules.specs.CommandForm.{FailsFirst}
+use Rattle.policy_rules.proofs.ManagedJudging.{two_pass, IsJudgeable, own_refuses, approval_decides}
+use Rattle.policy_rules.proofs.ManagedLawful.{IsManagedLawful, IsPassedFor, MayFollow, may_follow}
+use Rattle.policy_rules.specs.ManagedForm.{command_form}
 
 module _ (registry : Registry) (owner : List ℕ) (domain : IsDomainNamed registry owner) where
   -- those that are put are ones that the domain may have
@@ -80,28 +79,42 @@ few_stored number fits = elim (cases_lt OBJECTS number) [
   | inr below ↦ below
 ]
 
--- STORE DATA leaves a registry that a card may have
-pub store_keeps : (admitted : Admitted) (done : Effect) → Well admitted.at.registry → IsAscending admitted.at.registry
-    → IsDomainNamed admitted.at.registry (acting admitted) → (StoreDataFails admitted (SD SD1) → ⊥) → StoreDataEffect admitted done
-    → Well done.state.registry × IsAscending done.state.registry
-store_keeps admitted done well ascending domain fits does =
-    let registry = admitted.at.registry in
-    let few = few_stored (length (objects_stored admitted does.elements)) (λ above. fits (does.elements, does.has, above)) in (
-      subst Well (sym does.registry) (arranged_well registry (acting admitted) domain well does.elements does.objects does.has.each does.arranged few),
-      subst IsAscending (sym does.registry) (data_ascending registry (objects_stored admitted does.elements) does.objects ascending does.arranged),
-    )
+pub store_judgeable : IsJudgeable managed_store_data.judged
+store_judgeable = record {
+  one_asked = λ p1 p2 body a b one other. one_list a b body one.spelled other.spelled;
+  own = λ rule. tt;
+  one_rule = λ a b same. cc;
+  approving = tt;
+}
 
-pub store_data_one : (admitted : Admitted) (a b : Effect) → StoreDataEffect admitted a → StoreDataEffect admitted b → a ≡ b
-store_data_one admitted a b one other =
-    let elements = one_list one.elements other.elements admitted.command.body one.has.spelled other.has.spelled in
-    let arranged = subst (λ (es : List Element). IsArranged object_order (objects_stored admitted es) one.objects) elements one.arranged in
-    let things = objects_stored admitted other.elements in
-    let objects = one_order object_order object_order_total one.objects other.objects arranged.ascending other.arranged.ascending
-    (IsPermutation-trans one.objects things other.objects (IsPermutation-sym things one.objects arranged.same) other.arranged.same) in
-    effect_same a b
-    (state_same a.state b.state (one.registry ∙ ap (with_data admitted.at.registry) objects ∙ sym other.registry) (one.volatile ∙ sym other.volatile))
-    (one.body ∙ sym other.body)
-    (one.status ∙ sym other.status)
+-- it changes data objects alone
+storing_keeps : (admitted : Admitted) (elements : List Element) (changed : Registry) → IsPassedFor managed_store_data.judged admitted elements
+    → AreObjectsPut admitted elements changed → MayFollow admitted changed
+storing_keeps admitted elements changed passed put =
+    let registry = admitted.at.registry in
+    let few = few_stored (length (objects_stored admitted elements)) (passed.own SD1 (0, omega arith, refl)) in
+    may_follow admitted (with_data registry put.objects) changed put.registry
+    (record {
+      well = arranged_well registry (acting admitted) passed.domain passed.sound.well elements put.objects passed.asks.each put.arranged few;
+      ascending = data_ascending registry (objects_stored admitted elements) put.objects passed.sound.ascending put.arranged;
+    })
+    (same_fits registry registry.life registry.keys registry.counters put.objects admitted.at.volatile passed.sound.fits)
+
+put_once : (admitted : Admitted) (elements : List Element) (a b : Registry) → HasObjects admitted.command.body elements → AreObjectsPut admitted elements a
+    → AreObjectsPut admitted elements b → a ≡ b
+put_once admitted elements a b has one other =
+    let things = objects_stored admitted elements in
+    let objects = one_order object_order object_order_total one.objects other.objects one.arranged.ascending other.arranged.ascending
+    (IsPermutation-trans one.objects things other.objects (IsPermutation-sym things one.objects one.arranged.same) other.arranged.same) in
+    one.registry ∙ ap (with_data admitted.at.registry) objects ∙ sym other.registry
+
+pub managed_store_data_lawful : IsManagedLawful managed_store_data
+managed_store_data_lawful = record {
+  judgeable = store_judgeable;
+  receipted = λ admitted delegated. absurd delegated;
+  keeps = storing_keeps;
+  one = put_once;
+}
 
 module _ (page : ℕ → List ℕ) (tables : Tables) (domain : ℕ) (admitted : Admitted) (acts : ActsIn page tables domain admitted) where
   -- the objects that there would be are counted by slots
@@ -125,39 +138,20 @@ module _ (page : ℕ → List ℕ) (tables : Tables) (domain : ℕ) (admitted : 
         omega (arith, number_is, by_slots, all)
 
     -- there are too many exactly where the rule fails
-    pub too_many : OBJECTS < number + new → StoreDataFails admitted (SD SD1)
-    too_many above = (let all = are_so_many field.0 field.1 in (field.0, field.1, omega (arith, above, all)))
+    pub too_many : OBJECTS < number + new → StoringFails admitted field.0 SD1
+    too_many above = (let all = are_so_many field.0 field.1 in omega (arith, above, all))
 
-    pub few_enough : number + new ≤ OBJECTS → StoreDataFails admitted (SD SD1) → ⊥
-    few_enough below (elements, has, above) = (let all = are_so_many elements has in omega (arith, below, above, all))
+    pub few_enough : number + new ≤ OBJECTS → StoringFails admitted field.0 SD1 → ⊥
+    few_enough below above = (let all = are_so_many field.0 field.1 in omega (arith, below, above, all))
 
-    pub full_first : (ManagementFails admitted M1 → ⊥) × (ManagementFails admitted M2 → ⊥) → OBJECTS < number + new
-        → IsFirst (StoreDataFails admitted) store_rules (Some (SD SD1))
-    full_first managed above = behind_management (StoreDataFails admitted) (SD SD1 ∷ []) (Some (SD SD1)) managed.0 managed.1 (inl (too_many above, refl))
+    pub full_first : (ManagementFails admitted M1 → ⊥) × (ManagementFails admitted M2 → ⊥) → OBJECTS < number + new → FailsFirst (command_form managed_store_data) admitted (Some (SD SD1))
+    full_first managed above =
+        own_refuses managed_store_data.judged store_judgeable admitted field.0 field.1 (two_pass managed) SD1 (inl (too_many above, refl))
 
-    pub none_first : (ManagementFails admitted M1 → ⊥) × (ManagementFails admitted M2 → ⊥) → number + new ≤ OBJECTS
-        → IsFirst (StoreDataFails admitted) store_rules None
-    none_first managed below = behind_management (StoreDataFails admitted) (SD SD1 ∷ []) None managed.0 managed.1 (inr (few_enough below, refl))
+    pub none_first : (ManagementFails admitted M1 → ⊥) × (ManagementFails admitted M2 → ⊥) → number + new ≤ OBJECTS → FailsFirst (command_form managed_store_data) admitted None
+    none_first managed below =
+        approval_decides managed_store_data.judged store_judgeable admitted field.0 field.1 (two_pass managed) None (inr (few_enough below, refl)) refl
 
--- it changes data objects alone
-store_data_keeps : (admitted : Admitted) (done : Effect) → IsReady admitted → JudgesAs store_data admitted None → StoreDataEffect admitted done
-    → IsSound done.state
-store_data_keeps admitted done ready (takes, first) does =
-    let apart = managed_apart admitted.command.ins store_data.instruction takes.0 (omega arith) in
-    let registry = admitted.at.registry in
-    let kept = store_keeps admitted done ready.sound.well ready.sound.ascending (ready.domain apart.0 apart.1)
-    (none_fails (StoreDataFails admitted) store_rules (SD SD1) (2, omega arith, refl) first) does in
-    let fits = same_fits registry registry.life registry.keys registry.counters does.objects admitted.at.volatile ready.sound.fits in
-    record { well = kept.0; ascending = kept.1; fits = fits_as (sym does.registry) (sym does.volatile) fits }
-
-pub store_data_lawful : IsLawful store_data
-store_data_lawful = record {
-  keeps = store_data_keeps;
-  one = store_data_one;
-  quiet = λ unmanaged. absurd (unmanaged (1, omega arith, refl));
-  without_place = λ other admitted done none does. placeless_same admitted.at.volatile done.state.volatile admitted.channel does.volatile none;
-  loads_stay = λ admitted done takes other does. load_same admitted.at.volatile done.state.volatile does.volatile;
-}
-
-pub store_judged : (admitted : Admitted) (found : Option Rule) → TakesCommand store_data admitted.command → IsFirst (StoreDataFails admitted) store_rules found → Judges admitted found
-store_judged admitted found takes first = judged store_data (λ P is. inl is) admitted takes refl found first
+pub store_judged : (admitted : Admitted) (found : Option Rule) → TakesCommand (command_form managed_store_data) admitted.command → IsFirst ((command_form managed_store_data).fails admitted) (command_form managed_store_data).rules found
+    → Judges admitted found
+store_judged admitted found takes first = judged (command_form managed_store_data) (λ P is. inl is) admitted takes refl found first

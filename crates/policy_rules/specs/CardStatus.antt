@@ -1,22 +1,21 @@
 -- SET STATUS of the card (GlobalPlatform Card Specification 2.3.1, 5.1 and 11.10): the card goes to another life cycle state. Who may
 -- take which step is this profile's own.
-use Rattle.std.specs.Prelude.{◌≡◌, ◌≢◌, ◌⊎◌, ℕ, List, [], ◌∷◌, codes}
+use Rattle.std.specs.Prelude.{◌≡◌, ◌≢◌, ◌⊎◌, ℕ, [], ◌∷◌, codes}
 use Rattle.card_types.specs.CardLife.{card_life_code}
 use Rattle.card_types.specs.RegistryChange.{with_card_life}
 use Rattle.card_types.specs.declared.card_life.CardLife.{CardLife}
 use Rattle.card_types.specs.declared.card_life.CardLife.TheVariants.{OpReady, Initialized, Secured, Locked}
 use Rattle.card_types.specs.declared.factory.TheConstants.{ISSUER}
 use Rattle.policy_rules.specs.Admission.{Admitted}
-use Rattle.policy_rules.specs.CommandForm.{CommandForm}
 use Rattle.policy_rules.specs.Delegation.{Holds}
-use Rattle.policy_rules.specs.Management.{ManagementFails, acting}
+use Rattle.policy_rules.specs.Management.{acting}
 use Rattle.policy_rules.specs.Refusal.{Refusal, refusal}
-use Rattle.policy_rules.specs.State.{Effect}
 use Rattle.policy_rules.specs.declared.card_status.RuleSC.{RuleSC}
 use Rattle.policy_rules.specs.declared.card_status.RuleSC.TheVariants.{SC1, SC2}
+use Rattle.policy_rules.specs.declared.rule.Rule.TheVariants.{SC}
+use Rattle.policy_rules.specs.ManagedForm.{ManagedForm, to_nobody}
+use Rattle.card_types.specs.Registry.{Registry}
 use Rattle.policy_rules.specs.declared.management.RuleM.TheVariants.{M2, M3}
-use Rattle.policy_rules.specs.declared.rule.Rule.{Rule}
-use Rattle.policy_rules.specs.declared.rule.Rule.TheVariants.{M, SC}
 
 -- P1 is 80, and P2 the code of the new life cycle state; the data field is not read
 abbrev pub CardStatusParameters : ℕ → ℕ → Type 0
@@ -49,36 +48,36 @@ abbrev pub card_status_refusal : RuleSC → Refusal
 card_status_refusal SC1 = refusal (codes "SC1") 0x6985
 card_status_refusal SC2 = refusal (codes "SC2") 0x6982
 
-abbrev pub card_status_rules : List Rule
-card_status_rules = M M2 ∷ M M3 ∷ SC SC1 ∷ SC SC2 ∷ []
-
-abbrev pub CardStatusFails : Admitted → Rule → Type 0
-CardStatusFails admitted (M rule) = ManagementFails admitted rule
+abbrev pub SettingCardFails : Admitted → RuleSC → Type 0
 -- there is no such step
-CardStatusFails admitted (SC SC1) = IsCardStep admitted.at.registry.life admitted.command.p2 → ⊥
+SettingCardFails admitted SC1 = IsCardStep admitted.at.registry.life admitted.command.p2 → ⊥
 -- the Issuer Security Domain prepares the card, a holder of Card Lock locks and unlocks it, one of Card Terminate terminates it
-CardStatusFails admitted (SC SC2) =
+SettingCardFails admitted SC2 =
     (IsPreparing admitted.at.registry.life admitted.command.p2 × (acting admitted ≢ ISSUER))
     ⊎ (IsLocking admitted.at.registry.life admitted.command.p2 × (Holds admitted card_lock → ⊥))
     ⊎ (IsTerminating admitted.command.p2 × (Holds admitted card_terminate → ⊥))
-CardStatusFails admitted rule = ⊥
 
--- The card is in the state with this code. The reply is empty.
-pub record CardStatusEffect (admitted : Admitted) (done : Effect) : Type 0 where
+-- the card is in the state with the code in P2
+pub record CardIsSet (admitted : Admitted) (changed : Registry) : Type 0 where
   pub life : CardLife
   pub code : card_life_code life ≡ admitted.command.p2
-  pub registry : done.state.registry ≡ with_card_life admitted.at.registry life
-  pub volatile : done.state.volatile ≡ admitted.at.volatile
-  pub body : done.body ≡ []
-  pub status : done.status ≡ 0x9000
+  pub registry : changed ≡ with_card_life admitted.at.registry life
 
--- SET STATUS of the card
-abbrev pub card_status : CommandForm
-card_status = record {
-  instruction = 0xF0;
-  takes = CardStatusParameters;
-  takes_field = λ p1 p2 body. Unit {0};
-  rules = card_status_rules;
-  fails = CardStatusFails;
-  does = CardStatusEffect;
+-- what is asked for stands in P2 alone
+abbrev pub managed_card_status : ManagedForm
+managed_card_status = record {
+  judged = record {
+    instruction = 0xF0;
+    takes = CardStatusParameters;
+    Asked = Unit {0};
+    asks = λ p1 p2 body asked. Unit {0};
+    first_rules = M2 ∷ M3 ∷ [];
+    Own = RuleSC;
+    group = SC;
+    own_rules = SC1 ∷ SC2 ∷ [];
+    fails = λ admitted asked. SettingCardFails admitted;
+    delegation = to_nobody;
+  };
+  becomes = λ admitted asked. CardIsSet admitted;
+  reply = λ asked. [];
 }

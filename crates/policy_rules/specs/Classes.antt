@@ -21,7 +21,7 @@ channel_of byte = byte % 4
 abbrev pub changing : List ℕ
 changing = 0xD8 ∷ 0xE2 ∷ 0xE4 ∷ 0xE6 ∷ 0xE8 ∷ 0xF0 ∷ []
 
--- and GET STATUS, which lists it
+-- the instructions of card content management: these, and GET STATUS, which lists it
 abbrev pub managing : List ℕ
 managing = changing ++ 0xF2 ∷ []
 
@@ -39,13 +39,9 @@ abbrev pub is_secure : Class → Bool
 is_secure Secure = true
 is_secure class = false
 
--- DELETE, INSTALL, LOAD, PUT KEY, STORE DATA, SET STATUS and GET STATUS: the instructions of card content management
-abbrev pub management : List ℕ
-management = 0xE4 ∷ 0xE6 ∷ 0xE8 ∷ 0xD8 ∷ 0xE2 ∷ 0xF0 ∷ 0xF2 ∷ []
-
--- one of them outside of secure messaging
+-- card content management outside of secure messaging
 abbrev pub IsPlainManagement : Apdu → Type 0
-IsPlainManagement command = (class_of command.class ≡ Some Plain) × Contains management command.ins
+IsPlainManagement command = (class_of command.class ≡ Some Plain) × Contains managing command.ins
 
 -- in secure messaging each command is protected by the session of its channel, but for EXTERNAL AUTHENTICATE, which opens it
 abbrev pub protects : Option Class → ℕ → Bool

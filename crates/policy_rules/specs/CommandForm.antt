@@ -1,6 +1,7 @@
 -- What a command is.
-use Rattle.std.specs.Prelude.{ℕ, List}
+use Rattle.std.specs.Prelude.{ℕ, List, Option}
 use Rattle.policy_rules.specs.Admission.{Admitted}
+use Rattle.policy_rules.specs.FirstFailing.{IsFirst}
 use Rattle.policy_rules.specs.State.{Effect}
 use Rattle.policy_rules.specs.declared.rule.Rule.{Rule}
 
@@ -13,3 +14,7 @@ pub record CommandForm : Type 1 where
   pub rules : List Rule
   pub fails : Admitted → Rule → Type 0
   pub does : Admitted → Effect → Type 0
+
+-- the first of its own rules that fails, or none
+abbrev pub FailsFirst : CommandForm → Admitted → Option Rule → Type 0
+FailsFirst form admitted = IsFirst (form.fails admitted) form.rules

@@ -2,29 +2,30 @@
 use Rattle.std.specs.Prelude.{◌≡◌, ◌⊎◌, ℕ, List, [], ◌∷◌, ◌++◌, Bool, true, false, Option, None, Some, ◌==◌}
 use Rattle.apdu_core.specs.Apdu.{Apdu}
 use Rattle.policy_rules.specs.Admission.{Admitted}
-use Rattle.policy_rules.specs.CardStatus.{card_status}
-use Rattle.policy_rules.specs.CommandForm.{CommandForm}
-use Rattle.policy_rules.specs.DeleteKey.{delete_key}
-use Rattle.policy_rules.specs.DeleteObject.{delete_object}
-use Rattle.policy_rules.specs.EntryStatus.{entry_status}
+use Rattle.policy_rules.specs.CardStatus.{managed_card_status}
+use Rattle.policy_rules.specs.CommandForm.{CommandForm, FailsFirst}
+use Rattle.policy_rules.specs.DeleteKey.{managed_delete_key}
+use Rattle.policy_rules.specs.DeleteObject.{managed_delete_object}
+use Rattle.policy_rules.specs.EntryStatus.{managed_entry_status}
 use Rattle.policy_rules.specs.ExternalAuthenticate.{ExternalAuthenticateFails, external_authenticate, rules_before_form}
-use Rattle.policy_rules.specs.Extradition.{extradition}
+use Rattle.policy_rules.specs.Extradition.{managed_extradition}
 use Rattle.policy_rules.specs.FirstFailing.{IsFirst}
 use Rattle.policy_rules.specs.GetData.{get_data}
 use Rattle.policy_rules.specs.GetStatus.{get_status}
 use Rattle.policy_rules.specs.InitializeUpdate.{initialize_update}
-use Rattle.policy_rules.specs.InstallApplication.{install_application}
+use Rattle.policy_rules.specs.InstallApplication.{managed_install}
 use Rattle.policy_rules.specs.InstallLoad.{install_load}
 use Rattle.policy_rules.specs.Load.{loading}
-use Rattle.policy_rules.specs.MakeSelectable.{make_selectable}
+use Rattle.policy_rules.specs.MakeSelectable.{managed_selectable}
 use Rattle.policy_rules.specs.ManageChannel.{manage_channel}
-use Rattle.policy_rules.specs.PutKey.{put_key}
+use Rattle.policy_rules.specs.PutKey.{managed_put_key}
 use Rattle.policy_rules.specs.Select.{select}
 use Rattle.policy_rules.specs.State.{Effect}
-use Rattle.policy_rules.specs.StoreData.{store_data}
+use Rattle.policy_rules.specs.StoreData.{managed_store_data}
 use Rattle.policy_rules.specs.declared.rule.Rule.{Rule}
 use Rattle.policy_rules.specs.declared.rule.Rule.TheVariants.{EA, PS}
 use Rattle.policy_rules.specs.declared.rule.RulePS.TheVariants.{P, S}
+use Rattle.policy_rules.specs.ManagedForm.{command_form}
 
 -- these forms where the test holds, and others where it does not
 abbrev pub listed : Bool → List CommandForm → List CommandForm → List CommandForm
@@ -39,11 +40,11 @@ forms_of ins =
     (listed (ins == get_data.instruction) (get_data ∷ [])
     (listed (ins == initialize_update.instruction) (initialize_update ∷ [])
     (listed (ins == external_authenticate.instruction) (external_authenticate ∷ [])
-    (listed (ins == put_key.instruction) (put_key ∷ [])
-    (listed (ins == store_data.instruction) (store_data ∷ [])
-    (listed (ins == delete_key.instruction) (delete_key ∷ delete_object ∷ [])
-    (listed (ins == install_application.instruction) (install_application ∷ make_selectable ∷ extradition ∷ install_load ∷ [])
-    (listed (ins == card_status.instruction) (card_status ∷ entry_status ∷ [])
+    (listed (ins == managed_put_key.judged.instruction) (command_form managed_put_key ∷ [])
+    (listed (ins == managed_store_data.judged.instruction) (command_form managed_store_data ∷ [])
+    (listed (ins == managed_delete_key.judged.instruction) (command_form managed_delete_key ∷ command_form managed_delete_object ∷ [])
+    (listed (ins == managed_install.judged.instruction) (command_form managed_install ∷ command_form managed_selectable ∷ (command_form managed_extradition) ∷ install_load ∷ [])
+    (listed (ins == managed_card_status.judged.instruction) (command_form managed_card_status ∷ command_form managed_entry_status ∷ [])
     (listed (ins == loading.instruction) (loading ∷ [])
     (listed (ins == get_status.instruction) (get_status ∷ []) [])))))))))))
 
@@ -95,7 +96,7 @@ JudgesForm admitted found = IsFirst (FormFails admitted) (form_rules admitted.co
 
 -- a form takes the command, and this is the first of the form's own rules that fails, or none
 abbrev pub JudgesAs : CommandForm → Admitted → Option Rule → Type 0
-JudgesAs form admitted found = TakesCommand form admitted.command × IsFirst (form.fails admitted) form.rules found
+JudgesAs form admitted found = TakesCommand form admitted.command × FailsFirst form admitted found
 
 -- a form takes the command, and does this
 abbrev pub DoesAs : CommandForm → Admitted → Effect → Type 0

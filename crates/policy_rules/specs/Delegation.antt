@@ -115,13 +115,17 @@ pub record IsConfirmed (admitted : Admitted) (aids : List (List ℕ)) (changed :
   pub registry : done.state.registry ≡ with_receipts changed receipter (entry.receipts + 1)
   pub body : done.body ≡ receipt key.bytes (entry.receipts + 1) (unique_data admitted.at.registry) aids
 
--- nobody confirms it, and the reply is 00
-pub record IsUnconfirmed (changed : Registry) (done : Effect) : Type 0 where
+-- nobody confirms it, and this is the reply
+pub record IsUnconfirmed (changed : Registry) (reply : List ℕ) (done : Effect) : Type 0 where
   pub registry : done.state.registry ≡ changed
-  pub body : done.body ≡ 0x00 ∷ []
+  pub body : done.body ≡ reply
 
--- A command that was about these things, and left this registry but for a receipt number, is answered.
-abbrev pub IsAnswered : Type 0 → Admitted → List (List ℕ) → Registry → Effect → Type 0
-IsAnswered delegated admitted aids changed done =
+-- the reply of a command that could be confirmed, and is not
+abbrev pub unconfirmed : List ℕ
+unconfirmed = 0x00 ∷ []
+
+-- A command that was about these things, and left this registry but for a receipt number, is answered: by a receipt, or by this reply.
+abbrev pub IsAnswered : Type 0 → Admitted → List (List ℕ) → Registry → List ℕ → Effect → Type 0
+IsAnswered delegated admitted aids changed reply done =
     (delegated × IsConfirmed admitted aids changed done)
-    ⊎ ((delegated → NoReceipter admitted.at.registry (acting admitted)) × IsUnconfirmed changed done)
+    ⊎ ((delegated → NoReceipter admitted.at.registry (acting admitted)) × IsUnconfirmed changed reply done)

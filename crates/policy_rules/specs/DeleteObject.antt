@@ -9,18 +9,16 @@ use Rattle.card_types.specs.RegistryChange.{without_applications, without_entry,
 use Rattle.card_types.specs.declared.factory.TheConstants.{FACTORY_FILE, ISSUER}
 use Rattle.policy_rules.specs.Admission.{Admitted}
 use Rattle.policy_rules.specs.Charge.{IsInCharge}
-use Rattle.policy_rules.specs.CommandForm.{CommandForm}
 use Rattle.policy_rules.specs.DeleteKey.{DeleteParameters}
-use Rattle.policy_rules.specs.Delegation.{Approval, DelegatedFails, Holds, IsAnswered, MayManage, delegation_rules}
-use Rattle.policy_rules.specs.Management.{ManagementFails, acting}
+use Rattle.policy_rules.specs.Delegation.{Approval, Holds, MayManage, delegation_rules, unconfirmed}
+use Rattle.policy_rules.specs.Management.{acting}
 use Rattle.policy_rules.specs.Refusal.{Refusal, refusal}
-use Rattle.policy_rules.specs.State.{Effect}
 use Rattle.policy_rules.specs.Volatile.{Volatile, channel_at}
 use Rattle.policy_rules.specs.declared.delete_object.RuleDO.{RuleDO}
 use Rattle.policy_rules.specs.declared.delete_object.RuleDO.TheVariants.{DO1, DO2, DO3, DO4}
+use Rattle.policy_rules.specs.declared.rule.Rule.TheVariants.{DO}
+use Rattle.policy_rules.specs.ManagedForm.{ManagedForm}
 use Rattle.policy_rules.specs.declared.management.RuleM.TheVariants.{M1, M2}
-use Rattle.policy_rules.specs.declared.rule.Rule.{Rule}
-use Rattle.policy_rules.specs.declared.rule.Rule.TheVariants.{DO, M, RC, TK}
 
 -- what is asked for: the AID of the thing, and what approves it
 pub record DeletionAsked : Type 0 where
@@ -79,9 +77,6 @@ delete_object_refusal DO2 = refusal (codes "DO2") 0x6985
 delete_object_refusal DO3 = refusal (codes "DO3") 0x6982
 delete_object_refusal DO4 = refusal (codes "DO4") 0x6985
 
-abbrev pub delete_object_rules : List Rule
-delete_object_rules = M M1 ∷ M M2 ∷ DO DO1 ∷ DO DO2 ∷ DO DO3 ∷ DO DO4 ∷ delegation_rules
-
 abbrev pub DeletingFails : Admitted → DeletionAsked → RuleDO → Type 0
 -- nothing has the AID
 DeletingFails admitted asked DO1 = (entry_named admitted.at.registry asked.aid ≡ None) × (file_named admitted.at.registry asked.aid ≡ None)
@@ -97,35 +92,25 @@ DeletingFails admitted asked DO4 =
     ((aid : List ℕ) × IsToGo admitted asked.aid aid × IsInUse admitted aid)
     ⊎ ((admitted.command.p2 ≡ 0x00) × ((aid : List ℕ) × ComesFrom admitted.at.registry asked.aid aid))
 
-abbrev pub DeletionAskedFails : Admitted → DeletionAsked → Rule → Type 0
-DeletionAskedFails admitted asked (DO rule) = DeletingFails admitted asked rule
-DeletionAskedFails admitted asked (TK rule) = IsDelegated admitted × DelegatedFails admitted asked.approval (TK rule)
-DeletionAskedFails admitted asked (RC rule) = IsDelegated admitted × DelegatedFails admitted asked.approval (RC rule)
-DeletionAskedFails admitted asked rule = ⊥
-
-abbrev pub DeleteObjectFails : Admitted → Rule → Type 0
-DeleteObjectFails admitted (M rule) = ManagementFails admitted rule
-DeleteObjectFails admitted rule = (asked : DeletionAsked) × AsksToDelete admitted.command.body asked × DeletionAskedFails admitted asked rule
-
 -- the registry without the thing, without what comes from it, and without the keys, sequence counters and data objects that it owns
 abbrev pub without_thing : Registry → List ℕ → Registry
 without_thing registry aid = without_file (without_entry (without_applications registry aid) aid) aid
 
--- What is to go is gone, and the command is answered about the thing.
-pub record DeleteObjectEffect (admitted : Admitted) (done : Effect) : Type 0 where
-  pub asked : DeletionAsked
-  pub asks : AsksToDelete admitted.command.body asked
-  pub answered : IsAnswered (IsDelegated admitted) admitted (asked.aid ∷ []) (without_thing admitted.at.registry asked.aid) done
-  pub volatile : done.state.volatile ≡ admitted.at.volatile
-  pub status : done.status ≡ 0x9000
-
--- DELETE of an object
-abbrev pub delete_object : CommandForm
-delete_object = record {
-  instruction = 0xE4;
-  takes = DeleteParameters;
-  takes_field = λ p1 p2 body. (asked : DeletionAsked) × AsksToDelete body asked;
-  rules = delete_object_rules;
-  fails = DeleteObjectFails;
-  does = DeleteObjectEffect;
+-- What is to go is gone, and a receipt names the thing.
+abbrev pub managed_delete_object : ManagedForm
+managed_delete_object = record {
+  judged = record {
+    instruction = 0xE4;
+    takes = DeleteParameters;
+    Asked = DeletionAsked;
+    asks = λ p1 p2. AsksToDelete;
+    first_rules = M1 ∷ M2 ∷ [];
+    Own = RuleDO;
+    group = DO;
+    own_rules = DO1 ∷ DO2 ∷ DO3 ∷ DO4 ∷ [];
+    fails = DeletingFails;
+    delegation = record { is_delegated = IsDelegated; approval = λ asked. asked.approval; about = λ admitted asked. asked.aid ∷ []; rules = delegation_rules };
+  };
+  becomes = λ admitted asked changed. changed ≡ without_thing admitted.at.registry asked.aid;
+  reply = λ asked. unconfirmed;
 }

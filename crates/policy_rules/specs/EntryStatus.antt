@@ -10,17 +10,15 @@ use Rattle.card_types.specs.declared.life.Life.TheVariants.{Selectable}
 use Rattle.card_types.specs.declared.life.LifeMark.{LifeMark}
 use Rattle.domain_tree.specs.AboveLaws.{IsAboveIn, IsTreeOf}
 use Rattle.policy_rules.specs.Admission.{Admitted}
-use Rattle.policy_rules.specs.CommandForm.{CommandForm}
 use Rattle.policy_rules.specs.Delegation.{Holds}
 use Rattle.policy_rules.specs.Extradition.{is_personalized}
-use Rattle.policy_rules.specs.Management.{ManagementFails, acting}
+use Rattle.policy_rules.specs.Management.{acting}
 use Rattle.policy_rules.specs.Refusal.{Refusal, refusal}
-use Rattle.policy_rules.specs.State.{Effect}
 use Rattle.policy_rules.specs.declared.entry_status.RuleSS.{RuleSS}
 use Rattle.policy_rules.specs.declared.entry_status.RuleSS.TheVariants.{SS1, SS2, SS3, SS4}
+use Rattle.policy_rules.specs.declared.rule.Rule.TheVariants.{SS}
+use Rattle.policy_rules.specs.ManagedForm.{ManagedForm, to_nobody}
 use Rattle.policy_rules.specs.declared.management.RuleM.TheVariants.{M2, M3}
-use Rattle.policy_rules.specs.declared.rule.Rule.{Rule}
-use Rattle.policy_rules.specs.declared.rule.Rule.TheVariants.{M, SS}
 
 -- P1 names one entry (40), or a security domain with all entries below it (60), and the data field is its AID; P2 says what it
 -- becomes
@@ -59,9 +57,6 @@ entry_status_refusal SS2 = refusal (codes "SS2") 0x6985
 entry_status_refusal SS3 = refusal (codes "SS3") 0x6982
 entry_status_refusal SS4 = refusal (codes "SS4") 0x6985
 
-abbrev pub entry_status_rules : List Rule
-entry_status_rules = M M2 ∷ M M3 ∷ SS SS1 ∷ SS SS2 ∷ SS SS3 ∷ SS SS4 ∷ []
-
 -- a domain that asks to be personalized itself
 pub record PersonalizesItself (admitted : Admitted) : Type 0 where
   pub itself : admitted.command.body ≡ acting admitted
@@ -82,11 +77,6 @@ SettingStatusFails admitted SS3 =
 SettingStatusFails admitted SS4 =
     MatchOption (entry_named admitted.at.registry admitted.command.body) ⊥ (λ entry. (life : LifeMark) → IsEntryStep admitted.command.p1 admitted.command.p2 entry life → ⊥)
 
-abbrev pub EntryStatusFails : Admitted → Rule → Type 0
-EntryStatusFails admitted (M rule) = ManagementFails admitted rule
-EntryStatusFails admitted (SS rule) = SettingStatusFails admitted rule
-EntryStatusFails admitted rule = ⊥
-
 -- the entry has taken the step
 pub record OneIsSet (admitted : Admitted) (left : Registry) : Type 0 where
   pub one : admitted.command.p1 ≡ 0x40
@@ -105,20 +95,21 @@ pub record TreeIsSet (admitted : Admitted) (left : Registry) : Type 0 where
   pub tree : IsTreeOf admitted.at.registry admitted.command.body these
   pub registry : left ≡ with_locks admitted.at.registry these locked
 
--- The life cycle state is set. The reply is empty.
-pub record EntryStatusEffect (admitted : Admitted) (done : Effect) : Type 0 where
-  pub set : OneIsSet admitted done.state.registry ⊎ TreeIsSet admitted done.state.registry
-  pub volatile : done.state.volatile ≡ admitted.at.volatile
-  pub body : done.body ≡ []
-  pub status : done.status ≡ 0x9000
-
--- SET STATUS of an entry
-abbrev pub entry_status : CommandForm
-entry_status = record {
-  instruction = 0xF0;
-  takes = EntryStatusParameters;
-  takes_field = λ p1 p2. IsAid;
-  rules = entry_status_rules;
-  fails = EntryStatusFails;
-  does = EntryStatusEffect;
+-- what is asked for stands in P1, P2 and the data field as they are
+abbrev pub managed_entry_status : ManagedForm
+managed_entry_status = record {
+  judged = record {
+    instruction = 0xF0;
+    takes = EntryStatusParameters;
+    Asked = Unit {0};
+    asks = λ p1 p2 body asked. IsAid body;
+    first_rules = M2 ∷ M3 ∷ [];
+    Own = RuleSS;
+    group = SS;
+    own_rules = SS1 ∷ SS2 ∷ SS3 ∷ SS4 ∷ [];
+    fails = λ admitted asked. SettingStatusFails admitted;
+    delegation = to_nobody;
+  };
+  becomes = λ admitted asked changed. OneIsSet admitted changed ⊎ TreeIsSet admitted changed;
+  reply = λ asked. [];
 }

@@ -13,17 +13,15 @@ use Rattle.card_types.specs.declared.life.LifeMark.{LifeMark}
 use Rattle.domain_tree.specs.AboveLaws.{IsAboveIn}
 use Rattle.policy_rules.specs.Admission.{Admitted}
 use Rattle.policy_rules.specs.Charge.{IsAtOrAbove, IsInCharge}
-use Rattle.policy_rules.specs.CommandForm.{CommandForm}
-use Rattle.policy_rules.specs.Delegation.{DelegatedFails, Holds, IsAnswered, IsVerifier, MayManage, NoVerifier, delegation_rules}
+use Rattle.policy_rules.specs.Delegation.{Holds, IsVerifier, MayManage, NoVerifier, unconfirmed}
 use Rattle.policy_rules.specs.InstallFields.{InstallData, IsInstallData, approval_in}
-use Rattle.policy_rules.specs.Management.{ManagementFails, acting}
-use Rattle.policy_rules.specs.State.{Effect}
+use Rattle.policy_rules.specs.Management.{acting}
 use Rattle.policy_rules.specs.Refusal.{Refusal, refusal}
 use Rattle.policy_rules.specs.declared.extradition.RuleEX.{RuleEX}
 use Rattle.policy_rules.specs.declared.extradition.RuleEX.TheVariants.{EX1, EX2, EX3, EX4, EX5, EX6, EX7}
+use Rattle.policy_rules.specs.declared.rule.Rule.TheVariants.{EX}
+use Rattle.policy_rules.specs.ManagedForm.{ManagedForm, to_holders}
 use Rattle.policy_rules.specs.declared.management.RuleM.TheVariants.{M1, M2}
-use Rattle.policy_rules.specs.declared.rule.Rule.{Rule}
-use Rattle.policy_rules.specs.declared.rule.Rule.TheVariants.{EX, M, RC, TK}
 
 abbrev pub ExtraditionParameters : ℕ → ℕ → Type 0
 ExtraditionParameters p1 p2 = (p1 ≡ 0x10) × (p2 ≡ 0x00)
@@ -61,9 +59,6 @@ extradition_refusal EX5 = refusal (codes "EX5") 0x6985
 extradition_refusal EX6 = refusal (codes "EX6") 0x6985
 extradition_refusal EX7 = refusal (codes "EX7") 0x6982
 
-abbrev pub extradition_rules : List Rule
-extradition_rules = M M1 ∷ M M2 ∷ EX EX1 ∷ EX EX2 ∷ EX EX3 ∷ EX EX4 ∷ EX EX5 ∷ EX EX6 ∷ EX EX7 ∷ delegation_rules
-
 -- who manages in its own right moves a thing to itself, to a domain below it, or to the thing itself
 abbrev pub IsOutOfReach : Admitted → InstallData → Type 0
 IsOutOfReach admitted given = (given.first ≢ given.third) × (IsAtOrAbove admitted.at.registry (acting admitted) given.first → ⊥)
@@ -94,32 +89,21 @@ ExtraditingFails admitted given EX6 = IsAboveIn admitted.at.registry given.third
 ExtraditingFails admitted given EX7 =
     (Holds admitted authorized_management × IsOutOfReach admitted given) ⊎ (Holds admitted delegated_management × IsUnapprovable admitted given)
 
-abbrev pub ExtraditionAskedFails : Admitted → InstallData → Rule → Type 0
-ExtraditionAskedFails admitted given (EX rule) = ExtraditingFails admitted given rule
-ExtraditionAskedFails admitted given (TK rule) = Holds admitted delegated_management × DelegatedFails admitted (approval_in given) (TK rule)
-ExtraditionAskedFails admitted given (RC rule) = Holds admitted delegated_management × DelegatedFails admitted (approval_in given) (RC rule)
-ExtraditionAskedFails admitted given rule = ⊥
-
-abbrev pub ExtraditionFails : Admitted → Rule → Type 0
-ExtraditionFails admitted (M rule) = ManagementFails admitted rule
-ExtraditionFails admitted rule = (given : InstallData) × AsksToExtradite admitted.command.body given × ExtraditionAskedFails admitted given rule
-
--- The thing is in its new domain, and the command is answered about the old domain, the thing and the new domain.
-pub record ExtraditionEffect (admitted : Admitted) (done : Effect) : Type 0 where
-  pub given : InstallData
-  pub asks : AsksToExtradite admitted.command.body given
-  pub answered : IsAnswered (Holds admitted delegated_management) admitted
-      (domain_of_thing admitted.at.registry given.third ∷ given.third ∷ given.first ∷ []) (moved admitted.at.registry given.third given.first) done
-  pub volatile : done.state.volatile ≡ admitted.at.volatile
-  pub status : done.status ≡ 0x9000
-
--- INSTALL [for extradition]
-abbrev pub extradition : CommandForm
-extradition = record {
-  instruction = 0xE6;
-  takes = ExtraditionParameters;
-  takes_field = λ p1 p2 body. (given : InstallData) × AsksToExtradite body given;
-  rules = extradition_rules;
-  fails = ExtraditionFails;
-  does = ExtraditionEffect;
+-- The thing is in its new domain, and a receipt names the old domain, the thing and the new domain.
+abbrev pub managed_extradition : ManagedForm
+managed_extradition = record {
+  judged = record {
+    instruction = 0xE6;
+    takes = ExtraditionParameters;
+    Asked = InstallData;
+    asks = λ p1 p2. AsksToExtradite;
+    first_rules = M1 ∷ M2 ∷ [];
+    Own = RuleEX;
+    group = EX;
+    own_rules = EX1 ∷ EX2 ∷ EX3 ∷ EX4 ∷ EX5 ∷ EX6 ∷ EX7 ∷ [];
+    fails = ExtraditingFails;
+    delegation = to_holders approval_in (λ admitted given. domain_of_thing admitted.at.registry given.third ∷ given.third ∷ given.first ∷ []);
+  };
+  becomes = λ admitted given changed. changed ≡ moved admitted.at.registry given.third given.first;
+  reply = λ given. unconfirmed;
 }

@@ -6,7 +6,7 @@ use Rattle.bertlv.specs.Spelling.{AreElements, Element}
 use Rattle.card_types.specs.Aid.{IsAid}
 use Rattle.card_types.specs.AidOrder.{same_aid}
 use Rattle.card_types.specs.Privileges.{ArePrivilegeBytes, authorized_management, bits_of, delegated_management, has, receipt_generation, token_verification}
-use Rattle.card_types.specs.Registry.{Entry, Registry, entry_named, file_named, is_domain}
+use Rattle.card_types.specs.Registry.{Entry, entry_named, file_named, is_domain}
 use Rattle.card_types.specs.RegistryChange.{IsEntryAdded}
 use Rattle.card_types.specs.Well.{has_domain_privilege}
 use Rattle.card_types.specs.declared.factory.TheConstants.{FACTORY_FILE, FACTORY_MODULE}
@@ -15,17 +15,15 @@ use Rattle.card_types.specs.declared.limits.TheConstants.{ENTRIES}
 use Rattle.card_types.specs.declared.privileges.Privileges.{Privileges}
 use Rattle.policy_rules.specs.Admission.{Admitted}
 use Rattle.policy_rules.specs.Charge.{IsFileInCharge}
-use Rattle.policy_rules.specs.CommandForm.{CommandForm}
-use Rattle.policy_rules.specs.Delegation.{DelegatedFails, Holds, IsAnswered, MayManage, delegation_rules}
+use Rattle.policy_rules.specs.Delegation.{Holds, MayManage, unconfirmed}
 use Rattle.policy_rules.specs.InstallFields.{InstallData, IsInstallData, approval_in}
-use Rattle.policy_rules.specs.Management.{ManagementFails, acting}
-use Rattle.policy_rules.specs.State.{Effect}
+use Rattle.policy_rules.specs.Management.{acting}
 use Rattle.policy_rules.specs.Refusal.{Refusal, refusal}
 use Rattle.policy_rules.specs.declared.install_application.RuleII.{RuleII}
 use Rattle.policy_rules.specs.declared.install_application.RuleII.TheVariants.{II1, II2, II3, II4, II5, II6, II7}
+use Rattle.policy_rules.specs.declared.rule.Rule.TheVariants.{II}
+use Rattle.policy_rules.specs.ManagedForm.{ManagedForm, to_holders}
 use Rattle.policy_rules.specs.declared.management.RuleM.TheVariants.{M1, M2}
-use Rattle.policy_rules.specs.declared.rule.Rule.{Rule}
-use Rattle.policy_rules.specs.declared.rule.Rule.TheVariants.{II, M, RC, TK}
 
 -- P1 is 04, or 0C where the application is made selectable too; P2 is 00
 abbrev pub InstallParameters : ℕ → ℕ → Type 0
@@ -94,9 +92,6 @@ install_refusal II5 = refusal (codes "II5") 0x6A80
 install_refusal II6 = refusal (codes "II6") 0x6982
 install_refusal II7 = refusal (codes "II7") 0x6A84
 
-abbrev pub install_rules : List Rule
-install_rules = M M1 ∷ M M2 ∷ II II1 ∷ II II2 ∷ II II3 ∷ II II4 ∷ II II5 ∷ II II6 ∷ II II7 ∷ delegation_rules
-
 abbrev pub InstallingFails : Admitted → InstallAsked → RuleII → Type 0
 -- the domain does not manage content
 InstallingFails admitted asked II1 = MayManage admitted → ⊥
@@ -117,34 +112,21 @@ InstallingFails admitted asked II6 =
 -- the card has no room for another entry
 InstallingFails admitted asked II7 = ENTRIES ≤ length admitted.at.registry.entries
 
--- a rule fails for what is asked
-abbrev pub AskedFails : Admitted → InstallAsked → Rule → Type 0
-AskedFails admitted asked (II rule) = InstallingFails admitted asked rule
-AskedFails admitted asked (TK rule) = Holds admitted delegated_management × DelegatedFails admitted (approval_in asked.given) (TK rule)
-AskedFails admitted asked (RC rule) = Holds admitted delegated_management × DelegatedFails admitted (approval_in asked.given) (RC rule)
-AskedFails admitted asked rule = ⊥
-
-abbrev pub InstallFails : Admitted → Rule → Type 0
-InstallFails admitted (M rule) = ManagementFails admitted rule
-InstallFails admitted rule = (asked : InstallAsked) × AsksToInstall admitted.command.body asked × AskedFails admitted asked rule
-
--- The entry is there, and the command is answered about the Executable Load File and the application.
-pub record InstallEffect (admitted : Admitted) (done : Effect) : Type 0 where
-  pub asked : InstallAsked
-  pub asks : AsksToInstall admitted.command.body asked
-  pub changed : Registry
-  pub added : IsEntryAdded (entry_made admitted asked) admitted.at.registry changed
-  pub answered : IsAnswered (Holds admitted delegated_management) admitted (asked.given.first ∷ asked.given.third ∷ []) changed done
-  pub volatile : done.state.volatile ≡ admitted.at.volatile
-  pub status : done.status ≡ 0x9000
-
--- INSTALL [for install], and [for install and make selectable]
-abbrev pub install_application : CommandForm
-install_application = record {
-  instruction = 0xE6;
-  takes = InstallParameters;
-  takes_field = λ p1 p2 body. (asked : InstallAsked) × AsksToInstall body asked;
-  rules = install_rules;
-  fails = InstallFails;
-  does = InstallEffect;
+-- The entry is there, and a receipt names the Executable Load File and the application.
+abbrev pub managed_install : ManagedForm
+managed_install = record {
+  judged = record {
+    instruction = 0xE6;
+    takes = InstallParameters;
+    Asked = InstallAsked;
+    asks = λ p1 p2. AsksToInstall;
+    first_rules = M1 ∷ M2 ∷ [];
+    Own = RuleII;
+    group = II;
+    own_rules = II1 ∷ II2 ∷ II3 ∷ II4 ∷ II5 ∷ II6 ∷ II7 ∷ [];
+    fails = InstallingFails;
+    delegation = to_holders (λ asked. approval_in asked.given) (λ admitted asked. asked.given.first ∷ asked.given.third ∷ []);
+  };
+  becomes = λ admitted asked. IsEntryAdded (entry_made admitted asked) admitted.at.registry;
+  reply = λ asked. unconfirmed;
 }

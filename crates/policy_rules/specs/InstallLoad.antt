@@ -11,18 +11,18 @@ use Rattle.card_types.specs.declared.limits.TheConstants.{FILES}
 use Rattle.policy_rules.specs.Admission.{Admitted}
 use Rattle.policy_rules.specs.Charge.{IsAtOrAbove}
 use Rattle.policy_rules.specs.CommandForm.{CommandForm}
-use Rattle.policy_rules.specs.Delegation.{Approval, Holds, MayManage, TokenFails, token_rules}
+use Rattle.policy_rules.specs.Delegation.{Approval, Holds, MayManage, token_rules}
 use Rattle.policy_rules.specs.InstallFields.{AreLengthFields}
-use Rattle.policy_rules.specs.Management.{ManagementFails, acting}
+use Rattle.policy_rules.specs.Management.{acting}
 use Rattle.policy_rules.specs.Refusal.{Refusal, refusal}
 use Rattle.policy_rules.specs.Sound.{IsHashLength}
 use Rattle.policy_rules.specs.State.{Effect}
 use Rattle.policy_rules.specs.Volatile.{LoadSession, with_load}
 use Rattle.policy_rules.specs.declared.install_load.RuleIL.{RuleIL}
 use Rattle.policy_rules.specs.declared.install_load.RuleIL.TheVariants.{IL1, IL2, IL3, IL4, IL5, IL6, IL7}
+use Rattle.policy_rules.specs.declared.rule.Rule.TheVariants.{IL, TK}
+use Rattle.policy_rules.specs.ManagedForm.{JudgedForm, judged_form, to_holders}
 use Rattle.policy_rules.specs.declared.management.RuleM.TheVariants.{M1, M2}
-use Rattle.policy_rules.specs.declared.rule.Rule.{Rule}
-use Rattle.policy_rules.specs.declared.rule.Rule.TheVariants.{IL, M, TK}
 
 abbrev pub InstallLoadParameters : ℕ → ℕ → Type 0
 InstallLoadParameters p1 p2 = (p1 ≡ 0x02) × (p2 ≡ 0x00)
@@ -70,10 +70,6 @@ install_load_refusal IL5 = refusal (codes "IL5") 0x6982
 install_load_refusal IL6 = refusal (codes "IL6") 0x6A80
 install_load_refusal IL7 = refusal (codes "IL7") 0x6A84
 
--- nothing is receipted before the last block
-abbrev pub install_load_rules : List Rule
-install_load_rules = M M1 ∷ M M2 ∷ IL IL1 ∷ IL IL2 ∷ IL IL3 ∷ IL IL4 ∷ IL IL5 ∷ IL IL6 ∷ IL IL7 ∷ map TK token_rules
-
 abbrev pub InstallingLoadFails : Admitted → LoadData → RuleIL → Type 0
 -- the domain does not manage content
 InstallingLoadFails admitted given IL1 = MayManage admitted → ⊥
@@ -91,15 +87,20 @@ InstallingLoadFails admitted given IL6 =
 -- the card has no room for another Executable Load File
 InstallingLoadFails admitted given IL7 = FILES ≤ length admitted.at.registry.files
 
--- a rule fails for what is asked; of a command that is not delegated no token is read
-abbrev pub LoadAskedFails : Admitted → LoadData → Rule → Type 0
-LoadAskedFails admitted given (IL rule) = InstallingLoadFails admitted given rule
-LoadAskedFails admitted given (TK rule) = Holds admitted delegated_management × TokenFails admitted (load_approval given) rule
-LoadAskedFails admitted given rule = ⊥
-
-abbrev pub InstallLoadFails : Admitted → Rule → Type 0
-InstallLoadFails admitted (M rule) = ManagementFails admitted rule
-InstallLoadFails admitted rule = (given : LoadData) × AsksToLoad admitted.command.body given × LoadAskedFails admitted given rule
+-- nothing is receipted before the last block
+abbrev pub judged_install_load : JudgedForm
+judged_install_load = record {
+  instruction = 0xE6;
+  takes = InstallLoadParameters;
+  Asked = LoadData;
+  asks = λ p1 p2. AsksToLoad;
+  first_rules = M1 ∷ M2 ∷ [];
+  Own = RuleIL;
+  group = IL;
+  own_rules = IL1 ∷ IL2 ∷ IL3 ∷ IL4 ∷ IL5 ∷ IL6 ∷ IL7 ∷ [];
+  fails = InstallingLoadFails;
+  delegation = record (to_holders load_approval (λ admitted given. [])) { rules = map TK token_rules };
+}
 
 -- the load session on the command's channel, before its first block
 abbrev pub load_begun : Admitted → LoadData → LoadSession
@@ -124,11 +125,4 @@ pub record InstallLoadEffect (admitted : Admitted) (done : Effect) : Type 0 wher
 
 -- INSTALL [for load]
 abbrev pub install_load : CommandForm
-install_load = record {
-  instruction = 0xE6;
-  takes = InstallLoadParameters;
-  takes_field = λ p1 p2 body. (given : LoadData) × AsksToLoad body given;
-  rules = install_load_rules;
-  fails = InstallLoadFails;
-  does = InstallLoadEffect;
-}
+install_load = judged_form judged_install_load InstallLoadEffect

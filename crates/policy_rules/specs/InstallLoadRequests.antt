@@ -1,5 +1,5 @@
 -- What the code reads of an INSTALL [for load], and its own rules.
-use Rattle.std.specs.Prelude.{◌≡◌, ℕ, ◌≤◌, List, [], ◌∷◌, Option, None, Some, length}
+use Rattle.std.specs.Prelude.{◌≡◌, ℕ, ◌≤◌, List, [], Option, None, Some, length}
 use Rattle.apdu_core.specs.Apdu.{Apdu}
 use Rattle.card_types.specs.Aid.{IsAid}
 use Rattle.card_types.specs.Privileges.{delegated_management}
@@ -10,8 +10,6 @@ use Rattle.policy_rules.specs.InstallLoad.{AsksToLoad, LoadData, load_approval}
 use Rattle.policy_rules.specs.declared.delegation.RuleTK.{RuleTK}
 use Rattle.policy_rules.specs.declared.install_load.LoadFields.{LoadFields}
 use Rattle.policy_rules.specs.declared.install_load.LoadInstallRequest.{LoadInstallRequest}
-use Rattle.policy_rules.specs.declared.install_load.RuleIL.{RuleIL}
-use Rattle.policy_rules.specs.declared.install_load.RuleIL.TheVariants.{IL1, IL2, IL3, IL4, IL5, IL6, IL7}
 
 -- the fields that were read
 abbrev pub load_data_of : LoadFields → LoadData
@@ -42,10 +40,6 @@ pub record IsLoadInstallRequest (request : LoadInstallRequest) (p1 p2 : ℕ) (bo
 -- and that of this command
 abbrev pub IsLoadInstallOf : LoadInstallRequest → Apdu → Type 0
 IsLoadInstallOf request command = IsLoadInstallRequest request command.p1 command.p2 command.body
-
--- its rules but for those of management and on its token
-abbrev pub own_install_load_rules : List RuleIL
-own_install_load_rules = IL1 ∷ IL2 ∷ IL3 ∷ IL4 ∷ IL5 ∷ IL6 ∷ IL7 ∷ []
 
 -- the rules on the token fail for a delegated command alone
 abbrev pub LoadTokenFails : Admitted → Approval → RuleTK → Type 0

@@ -3,7 +3,6 @@ use Rattle.std.specs.Prelude.{◌≡◌, ◌≢◌, ◌⊎◌, ℕ, List, Bool, 
 use Rattle.card_types.specs.Ascending.{IsAscending}
 use Rattle.card_types.specs.Registry.{Registry}
 use Rattle.card_types.specs.Well.{Well}
-use Rattle.apdu_core.specs.Apdu.{Apdu}
 use Rattle.policy_rules.specs.Admission.{Of}
 use Rattle.policy_rules.specs.Changes.{Changes, OpensInSession, without_number}
 use Rattle.policy_rules.specs.Classes.{channel_of}
@@ -12,8 +11,8 @@ use Rattle.policy_rules.specs.Run.{Input, Run}
 use Rattle.policy_rules.specs.Sound.{IsSound}
 use Rattle.policy_rules.specs.State.{State, powered_on}
 use Rattle.policy_rules.specs.Step.{Outcome, Step}
-use Rattle.policy_rules.specs.Volatile.{Volatile, channel_at, offer_on, place_in}
-use Rattle.policy_rules.specs.declared.instruction.TheConstants.{GET_STATUS, INSTALL, LOAD}
+use Rattle.policy_rules.specs.Volatile.{channel_at, offer_on, place_in}
+use Rattle.policy_rules.specs.declared.instruction.TheConstants.{GET_STATUS}
 use Rattle.policy_rules.specs.declared.rule.Rule.{Rule}
 use Rattle.policy_rules.specs.declared.rule.Rule.TheVariants.{G}
 use Rattle.policy_rules.specs.declared.rule.RuleG.TheVariants.{G1, G2, G3, G4}
@@ -75,11 +74,3 @@ abbrev pub PlacesAreForgotten : Type 0
 PlacesAreForgotten =
     (state : State) (bytes : List ℕ) (outcome : Outcome) → Step state bytes outcome → MatchOption outcome.rule (Unit {0}) (λ rule. is_later rule ≡ true)
     → Of bytes (λ command. command.ins ≢ GET_STATUS → place_in (channel_at outcome.state.volatile (channel_of command.class)) ≡ None)
-
--- the command begins a load session, or goes on with one: INSTALL [for load] and LOAD
-abbrev pub IsLoading : Apdu → Type 0
-IsLoading command = (command.ins ≡ LOAD) ⊎ ((command.ins ≡ INSTALL) × (command.p1 ≡ 0x02))
-
--- the load session is as it was, or there is none
-abbrev pub LoadStays : Volatile → Volatile → Type 0
-LoadStays before after = (after.load ≡ before.load) ⊎ (after.load ≡ None)

@@ -8,7 +8,7 @@ use Rattle.card_types.specs.RegistryChange.{IsFileAdded}
 use Rattle.policy_rules.specs.Admission.{Admitted}
 use Rattle.policy_rules.specs.Charge.{IsAtOrAbove}
 use Rattle.policy_rules.specs.CommandForm.{CommandForm}
-use Rattle.policy_rules.specs.Delegation.{Holds, IsAnswered, ReceiptFails}
+use Rattle.policy_rules.specs.Delegation.{Holds, IsAnswered, unconfirmed, ReceiptFails}
 use Rattle.policy_rules.specs.LoadBlocks.{Block, BringsBytes, HasNoLength, HasNoRoom, HasOtherCount, HasOtherHash, with_block}
 use Rattle.policy_rules.specs.Management.{ManagementFails, acting}
 use Rattle.policy_rules.specs.Refusal.{Refusal, refusal}
@@ -100,7 +100,7 @@ pub record EndsLoad (admitted : Admitted) (load : LoadSession) (done : Effect) :
   pub last : admitted.command.p1 ≡ 0x80
   pub changed : Registry
   pub added : IsFileAdded (file_of_load load) admitted.at.registry changed
-  pub answered : IsAnswered (Holds admitted delegated_management) admitted (load.aid ∷ load.domain ∷ []) changed done
+  pub answered : IsAnswered (Holds admitted delegated_management) admitted (load.aid ∷ load.domain ∷ []) changed unconfirmed done
   pub volatile : done.state.volatile ≡ without_load admitted.at.volatile admitted.channel
 
 -- The block is counted and its bytes go behind those that came.

@@ -2,7 +2,7 @@
 -- selected from then on.
 use Rattle.std.specs.Prelude.{◌≡◌, ◌≢◌, ◌⊎◌, ℕ, List, [], ◌∷◌, MatchOption, None, codes, false}
 use Rattle.card_types.specs.Aid.{IsAid}
-use Rattle.card_types.specs.Privileges.{ArePrivilegeBytes, delegated_management}
+use Rattle.card_types.specs.Privileges.{ArePrivilegeBytes}
 use Rattle.card_types.specs.Registry.{entry_named}
 use Rattle.card_types.specs.RegistryChange.{with_life}
 use Rattle.card_types.specs.declared.life.Life.TheVariants.{Installed, Selectable}
@@ -10,17 +10,15 @@ use Rattle.card_types.specs.declared.life.LifeMark.{LifeMark}
 use Rattle.card_types.specs.declared.privileges.Privileges.{Privileges}
 use Rattle.domain_tree.specs.AboveLaws.{IsAboveIn}
 use Rattle.policy_rules.specs.Admission.{Admitted}
-use Rattle.policy_rules.specs.CommandForm.{CommandForm}
-use Rattle.policy_rules.specs.Delegation.{DelegatedFails, Holds, IsAnswered, MayManage, delegation_rules}
+use Rattle.policy_rules.specs.Delegation.{MayManage, unconfirmed}
 use Rattle.policy_rules.specs.InstallFields.{InstallData, IsInstallData, approval_in}
-use Rattle.policy_rules.specs.Management.{ManagementFails, acting}
-use Rattle.policy_rules.specs.State.{Effect}
+use Rattle.policy_rules.specs.Management.{acting}
 use Rattle.policy_rules.specs.Refusal.{Refusal, refusal}
 use Rattle.policy_rules.specs.declared.make_selectable.RuleMS.{RuleMS}
 use Rattle.policy_rules.specs.declared.make_selectable.RuleMS.TheVariants.{MS1, MS2, MS3, MS4, MS5}
+use Rattle.policy_rules.specs.declared.rule.Rule.TheVariants.{MS}
+use Rattle.policy_rules.specs.ManagedForm.{ManagedForm, to_holders}
 use Rattle.policy_rules.specs.declared.management.RuleM.TheVariants.{M1, M2}
-use Rattle.policy_rules.specs.declared.rule.Rule.{Rule}
-use Rattle.policy_rules.specs.declared.rule.Rule.TheVariants.{M, MS, RC, TK}
 
 abbrev pub MakeSelectableParameters : ℕ → ℕ → Type 0
 MakeSelectableParameters p1 p2 = (p1 ≡ 0x08) × (p2 ≡ 0x00)
@@ -44,9 +42,6 @@ selectable_refusal MS3 = refusal (codes "MS3") 0x6982
 selectable_refusal MS4 = refusal (codes "MS4") 0x6985
 selectable_refusal MS5 = refusal (codes "MS5") 0x6A80
 
-abbrev pub selectable_rules : List Rule
-selectable_rules = M M1 ∷ M M2 ∷ MS MS1 ∷ MS MS2 ∷ MS MS3 ∷ MS MS4 ∷ MS MS5 ∷ delegation_rules
-
 abbrev pub MakingSelectableFails : Admitted → InstallData → RuleMS → Type 0
 -- the domain does not manage content
 MakingSelectableFails admitted given MS1 = MayManage admitted → ⊥
@@ -61,33 +56,21 @@ MakingSelectableFails admitted given MS5 =
     (privileges : Privileges) × ArePrivilegeBytes privileges given.privileges
     × MatchOption (entry_named admitted.at.registry given.third) ⊥ (λ entry. entry.privileges ≢ privileges)
 
-abbrev pub SelectableAskedFails : Admitted → InstallData → Rule → Type 0
-SelectableAskedFails admitted given (MS rule) = MakingSelectableFails admitted given rule
-SelectableAskedFails admitted given (TK rule) = Holds admitted delegated_management × DelegatedFails admitted (approval_in given) (TK rule)
-SelectableAskedFails admitted given (RC rule) = Holds admitted delegated_management × DelegatedFails admitted (approval_in given) (RC rule)
-SelectableAskedFails admitted given rule = ⊥
-
-abbrev pub MakeSelectableFails : Admitted → Rule → Type 0
-MakeSelectableFails admitted (M rule) = ManagementFails admitted rule
-MakeSelectableFails admitted rule =
-    (given : InstallData) × AsksToMakeSelectable admitted.command.body given × SelectableAskedFails admitted given rule
-
--- The application is selectable, and the command is answered about it.
-pub record MakeSelectableEffect (admitted : Admitted) (done : Effect) : Type 0 where
-  pub given : InstallData
-  pub asks : AsksToMakeSelectable admitted.command.body given
-  pub answered : IsAnswered (Holds admitted delegated_management) admitted (given.third ∷ [])
-      (with_life admitted.at.registry given.third (record { life = Selectable; locked = false })) done
-  pub volatile : done.state.volatile ≡ admitted.at.volatile
-  pub status : done.status ≡ 0x9000
-
--- INSTALL [for make selectable]
-abbrev pub make_selectable : CommandForm
-make_selectable = record {
-  instruction = 0xE6;
-  takes = MakeSelectableParameters;
-  takes_field = λ p1 p2 body. (given : InstallData) × AsksToMakeSelectable body given;
-  rules = selectable_rules;
-  fails = MakeSelectableFails;
-  does = MakeSelectableEffect;
+-- The application is selectable, and a receipt names it.
+abbrev pub managed_selectable : ManagedForm
+managed_selectable = record {
+  judged = record {
+    instruction = 0xE6;
+    takes = MakeSelectableParameters;
+    Asked = InstallData;
+    asks = λ p1 p2. AsksToMakeSelectable;
+    first_rules = M1 ∷ M2 ∷ [];
+    Own = RuleMS;
+    group = MS;
+    own_rules = MS1 ∷ MS2 ∷ MS3 ∷ MS4 ∷ MS5 ∷ [];
+    fails = MakingSelectableFails;
+    delegation = to_holders approval_in (λ admitted given. given.third ∷ []);
+  };
+  becomes = λ admitted given changed. changed ≡ with_life admitted.at.registry given.third (record { life = Selectable; locked = false });
+  reply = λ given. unconfirmed;
 }

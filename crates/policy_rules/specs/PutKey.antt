@@ -1,28 +1,27 @@
 -- PUT KEY (GlobalPlatform Card Specification 2.3.1, 11.8; Amendment D, 7.2): a key set, a token key or a receipt key of the selected
 -- domain is put, in the place of the keys with another key version number, or of none.
-use Rattle.std.specs.Prelude.{◌≡◌, ◌≢◌, ◌⊎◌, ℕ, ◌+◌, ◌*◌, ◌/◌, ◌<◌, ◌≤◌, List, [], ◌∷◌, ◌++◌, All, Bool, MatchOption, codes, false, filter, if◌then◌else◌, length, map, nat_lt, replicate, slice_index_or, take, true, ◌==◌}
+use Rattle.std.specs.Prelude.{◌≡◌, ◌≢◌, ◌⊎◌, ℕ, ◌+◌, ◌*◌, ◌/◌, ◌<◌, ◌≤◌, List, [], ◌∷◌, ◌++◌, All, Bool, MatchOption, codes, false, filter, if◌then◌else◌, length, map, nat_lt, replicate, take, true, ◌==◌}
 use Rattle.std.specs.List.{concat}
 use Rattle.aes_block.specs.Cipher.{cipher}
 use Rattle.card_types.specs.AidOrder.{same_aid}
 use Rattle.card_types.specs.Ascending.{counter_order, key_order}
-use Rattle.card_types.specs.Registry.{Counter, Key}
+use Rattle.card_types.specs.Registry.{Counter, Key, Registry}
 use Rattle.card_types.specs.Well.{IsKeyLength}
 use Rattle.card_types.specs.declared.limits.TheConstants.{DOMAIN_KEYS, KEYS}
 use Rattle.cmac_kdf.specs.Blocks.{IsBytes, zero_block}
 use Rattle.cmac_kdf.specs.Cbc.{cbc}
 use Rattle.policy_rules.specs.Admission.{Admitted}
 use Rattle.policy_rules.specs.Arranged.{IsArranged}
-use Rattle.policy_rules.specs.CommandForm.{CommandForm}
 use Rattle.policy_rules.specs.KeyVersions.{counters_but, has_key_version, keys_but, with_keys}
-use Rattle.policy_rules.specs.Management.{ManagementFails, acting}
-use Rattle.policy_rules.specs.State.{Effect}
+use Rattle.policy_rules.specs.Management.{acting}
 use Rattle.policy_rules.specs.Volatile.{session_on}
 use Rattle.policy_rules.specs.Refusal.{Refusal, refusal}
-use Rattle.policy_rules.specs.declared.management.RuleM.TheVariants.{M1, M2}
 use Rattle.policy_rules.specs.declared.put_key.RulePK.{RulePK}
 use Rattle.policy_rules.specs.declared.put_key.RulePK.TheVariants.{PK1, PK2, PK3, PK4}
 use Rattle.policy_rules.specs.declared.rule.Rule.{Rule}
-use Rattle.policy_rules.specs.declared.rule.Rule.TheVariants.{M, PK}
+use Rattle.policy_rules.specs.declared.rule.Rule.TheVariants.{PK}
+use Rattle.policy_rules.specs.ManagedForm.{ManagedForm, command_form, to_nobody}
+use Rattle.policy_rules.specs.declared.management.RuleM.TheVariants.{M1, M2}
 
 -- P1 is the key version number that is replaced, or 00 for none; P2 is the first key identifier, 01, with the high bit where
 -- several keys come
@@ -71,8 +70,13 @@ pub record HasKeyFields (p2 : ℕ) (body : List ℕ) (version : ℕ) (keys : Lis
   pub alike : AreOfOneLength keys
   pub spelled : body ≡ version ∷ concat (map key_field keys)
 
-abbrev pub PutKeyField : ℕ → List ℕ → Type 0
-PutKeyField p2 body = (version : ℕ) × (keys : List SentKey) × HasKeyFields p2 body version keys
+-- what is asked for: the new key version number, and the keys as they are sent
+pub record KeysAsked : Type 0 where
+  pub version : ℕ
+  pub sent : List SentKey
+
+abbrev pub AsksToPut : (p1 p2 : ℕ) → List ℕ → KeysAsked → Type 0
+AsksToPut p1 p2 body asked = HasKeyFields p2 body asked.version asked.sent
 
 -- The bytes of a key that is sent. With the bytes behind it that fill the last block, which are not read, it was enciphered as
 -- what was sent, under the static Key-DEK of the session (CBC without padding, from a zero block; Amendment D, 4.1.4).
@@ -92,10 +96,10 @@ AreKeysSent dek sent keys = ⊥
 abbrev pub check_value : List ℕ → List ℕ
 check_value key = take 3 (cipher key (replicate 16 0x01))
 
--- what the command brings: the new key version number, the keys as they are sent, and the keys
-pub record Brings (admitted : Admitted) (version : ℕ) (sent : List SentKey) (keys : List (List ℕ)) : Type 0 where
-  pub has : HasKeyFields admitted.command.p2 admitted.command.body version sent
-  pub opened : MatchOption (session_on admitted.at.volatile admitted.channel) ⊥ (λ session. AreKeysSent session.offer.dek sent keys)
+-- the keys that are sent open to these in the session of the command's channel
+abbrev pub AreOpened : Admitted → List SentKey → List (List ℕ) → Type 0
+AreOpened admitted sent keys =
+    MatchOption (session_on admitted.at.volatile admitted.channel) ⊥ (λ session. AreKeysSent session.offer.dek sent keys)
 
 -- each check value is that of its key
 abbrev pub ChecksFit : List SentKey → List (List ℕ) → Type 0
@@ -107,13 +111,6 @@ put_key_refusal PK2 = refusal (codes "PK2") 0x6A80
 put_key_refusal PK3 = refusal (codes "PK3") 0x6A80
 put_key_refusal PK4 = refusal (codes "PK4") 0x6A84
 
-abbrev pub put_rules : List Rule
-put_rules = M M1 ∷ M M2 ∷ PK PK1 ∷ PK PK2 ∷ PK PK3 ∷ PK PK4 ∷ []
-
--- the first byte of the data field
-abbrev pub new_version : Admitted → ℕ
-new_version admitted = slice_index_or admitted.command.body 0 0
-
 -- the keys that stay, on the card and with the domain
 abbrev pub keys_left : Admitted → List Key
 keys_left admitted = keys_but (acting admitted) admitted.command.p1 admitted.at.registry.keys
@@ -121,31 +118,19 @@ keys_left admitted = keys_but (acting admitted) admitted.command.p1 admitted.at.
 abbrev pub own_keys_left : Admitted → List Key
 own_keys_left admitted = filter (λ key. same_aid key.owner (acting admitted)) (keys_left admitted)
 
-abbrev pub PutKeyFails : Admitted → Rule → Type 0
-PutKeyFails admitted (M rule) = ManagementFails admitted rule
+abbrev pub PuttingKeyFails : Admitted → KeysAsked → RulePK → Type 0
 -- the key version number that is to be replaced is not there
-PutKeyFails admitted (PK PK1) =
+PuttingKeyFails admitted asked PK1 =
     (admitted.command.p1 ≢ 0x00) × (has_key_version admitted.at.registry (acting admitted) admitted.command.p1 ≡ false)
 -- the new one is there already, and is not the one replaced
-PutKeyFails admitted (PK PK2) =
-    (new_version admitted ≢ admitted.command.p1) × (has_key_version admitted.at.registry (acting admitted) (new_version admitted) ≡ true)
+PuttingKeyFails admitted asked PK2 =
+    (asked.version ≢ admitted.command.p1) × (has_key_version admitted.at.registry (acting admitted) asked.version ≡ true)
 -- a check value is another
-PutKeyFails admitted (PK PK3) =
-    (version : ℕ) × (sent : List SentKey) × (keys : List (List ℕ)) × Brings admitted version sent keys × (ChecksFit sent keys → ⊥)
+PuttingKeyFails admitted asked PK3 = (keys : List (List ℕ)) × AreOpened admitted asked.sent keys × (ChecksFit asked.sent keys → ⊥)
 -- the card or the domain would have too many keys
-PutKeyFails admitted (PK PK4) =
+PuttingKeyFails admitted asked PK4 =
     (KEYS < length (keys_left admitted) + key_count admitted.command.p2)
     ⊎ (DOMAIN_KEYS < length (own_keys_left admitted) + key_count admitted.command.p2)
-PutKeyFails admitted rule = ⊥
-
--- whether the check values fit, as a flag says it
-abbrev pub SaysChecks : Bool → Admitted → Type 0
-SaysChecks true admitted = PutKeyFails admitted (PK PK3) → ⊥
-SaysChecks false admitted = PutKeyFails admitted (PK PK3)
-
--- the same of PUT KEY, and nothing of other commands
-abbrev pub TellsChecks : Bool → Admitted → Type 0
-TellsChecks flag admitted = admitted.command.ins ≡ 0xD8 → SaysChecks flag admitted
 
 -- the keys that are put, with key identifiers from the one given on
 abbrev pub keys_from : List ℕ → ℕ → ℕ → List (List ℕ) → List Key
@@ -157,29 +142,43 @@ keys_from owner version identifier (bytes ∷ keys) =
 abbrev pub counters_from : List ℕ → ℕ → List Counter
 counters_from owner version = if nat_lt version 0x70 then record { owner = owner; version = version; number = 0 } ∷ [] else []
 
--- The keys are put, with a new sequence counter for a key set. The reply is the new key version number and the check values.
-pub record PutKeyEffect (admitted : Admitted) (done : Effect) : Type 0 where
-  pub version : ℕ
-  pub sent : List SentKey
+-- The keys are put, with a new sequence counter for a key set.
+pub record AreKeysPut (admitted : Admitted) (asked : KeysAsked) (changed : Registry) : Type 0 where
   pub bytes : List (List ℕ)
-  pub brings : Brings admitted version sent bytes
+  pub opened : AreOpened admitted asked.sent bytes
   pub keys : List Key
   pub counters : List Counter
-  pub keys_put : IsArranged key_order (keys_from (acting admitted) version 1 bytes ++ keys_left admitted) keys
-  pub counters_put : IsArranged counter_order
-      (counters_from (acting admitted) version ++ counters_but (acting admitted) admitted.command.p1 admitted.at.registry.counters) counters
-  pub registry : done.state.registry ≡ with_keys admitted.at.registry keys counters
-  pub volatile : done.state.volatile ≡ admitted.at.volatile
-  pub body : done.body ≡ version ∷ concat (map (λ one. one.check) sent)
-  pub status : done.status ≡ 0x9000
+  pub keys_put : IsArranged key_order (keys_from (acting admitted) asked.version 1 bytes ++ keys_left admitted) keys
+  pub counters_put : IsArranged counter_order (counters_from (acting admitted) asked.version ++ counters_but (acting admitted) admitted.command.p1 admitted.at.registry.counters) counters
+  pub registry : changed ≡ with_keys admitted.at.registry keys counters
 
--- PUT KEY
-abbrev pub put_key : CommandForm
-put_key = record {
-  instruction = 0xD8;
-  takes = PutKeyParameters;
-  takes_field = λ p1. PutKeyField;
-  rules = put_rules;
-  fails = PutKeyFails;
-  does = PutKeyEffect;
+-- the reply is the new key version number and the check values
+abbrev pub managed_put_key : ManagedForm
+managed_put_key = record {
+  judged = record {
+    instruction = 0xD8;
+    takes = PutKeyParameters;
+    Asked = KeysAsked;
+    asks = AsksToPut;
+    first_rules = M1 ∷ M2 ∷ [];
+    Own = RulePK;
+    group = PK;
+    own_rules = PK1 ∷ PK2 ∷ PK3 ∷ PK4 ∷ [];
+    fails = PuttingKeyFails;
+    delegation = to_nobody;
+  };
+  becomes = AreKeysPut;
+  reply = λ asked. asked.version ∷ concat (map (λ one. one.check) asked.sent);
 }
+
+abbrev pub PutKeyFails : Admitted → Rule → Type 0
+PutKeyFails = (command_form managed_put_key).fails
+
+-- whether the check values fit, as a flag says it
+abbrev pub SaysChecks : Bool → Admitted → Type 0
+SaysChecks true admitted = PutKeyFails admitted (PK PK3) → ⊥
+SaysChecks false admitted = PutKeyFails admitted (PK PK3)
+
+-- the same of PUT KEY, and nothing of other commands
+abbrev pub TellsChecks : Bool → Admitted → Type 0
+TellsChecks flag admitted = admitted.command.ins ≡ managed_put_key.judged.instruction → SaysChecks flag admitted

@@ -9,36 +9,36 @@ use Rattle.card_types.specs.Well.{Well}
 use Rattle.card_types.specs.declared.tables.Entry.{Entry}
 use Rattle.card_types.specs.declared.tables.Tables.{Tables}
 use Rattle.policy_rules.specs.Admission.{Admitted}
-use Rattle.policy_rules.specs.CardStatus.{card_status}
+use Rattle.policy_rules.specs.CardStatus.{managed_card_status}
 use Rattle.policy_rules.specs.CommandForm.{CommandForm}
 use Rattle.policy_rules.specs.Commands.{HasDataField, HasParameters, TakesCommand, Takes}
-use Rattle.policy_rules.specs.DeleteKey.{Chooses, delete_key}
-use Rattle.policy_rules.specs.DeleteObject.{delete_object}
-use Rattle.policy_rules.specs.DeletionRequests.{IsDeletionRequest}
-use Rattle.policy_rules.specs.EntryStatus.{entry_status}
+use Rattle.policy_rules.specs.DeleteKey.{Chooses, managed_delete_key}
+use Rattle.policy_rules.specs.DeleteObject.{managed_delete_object}
+use Rattle.policy_rules.specs.DeleteObjectRequests.{IsDeletionRequest}
+use Rattle.policy_rules.specs.EntryStatus.{managed_entry_status}
 use Rattle.policy_rules.specs.ExternalAuthenticate.{external_authenticate}
-use Rattle.policy_rules.specs.Extradition.{extradition}
+use Rattle.policy_rules.specs.Extradition.{managed_extradition}
 use Rattle.policy_rules.specs.ExtraditionRequests.{IsExtraditionRequest}
 use Rattle.policy_rules.specs.GetData.{get_data, tag_of}
 use Rattle.policy_rules.specs.GetStatus.{get_status}
 use Rattle.policy_rules.specs.InitializeUpdate.{initialize_update}
-use Rattle.policy_rules.specs.InstallApplication.{install_application}
-use Rattle.policy_rules.specs.InstallRequests.{IsInstallRequest}
+use Rattle.policy_rules.specs.InstallApplication.{managed_install}
+use Rattle.policy_rules.specs.InstallApplicationRequests.{IsInstallRequest}
 use Rattle.policy_rules.specs.InstallLoad.{install_load}
 use Rattle.policy_rules.specs.InstallLoadRequests.{IsLoadInstallRequest}
 use Rattle.policy_rules.specs.Load.{loading}
 use Rattle.policy_rules.specs.LoadRequests.{IsLoadRequest}
-use Rattle.policy_rules.specs.MakeSelectable.{make_selectable}
+use Rattle.policy_rules.specs.MakeSelectable.{managed_selectable}
 use Rattle.policy_rules.specs.KeptPlaces.{place_of}
 use Rattle.policy_rules.specs.ManageChannel.{manage_channel}
 use Rattle.policy_rules.specs.Management.{acting}
-use Rattle.policy_rules.specs.PutKey.{HasKeyFields, SentKey, put_key}
+use Rattle.policy_rules.specs.PutKey.{HasKeyFields, SentKey, managed_put_key}
 use Rattle.policy_rules.specs.Select.{select}
-use Rattle.policy_rules.specs.SelectableRequests.{IsSelectableRequest}
+use Rattle.policy_rules.specs.MakeSelectableRequests.{IsSelectableRequest}
 use Rattle.policy_rules.specs.State.{State}
-use Rattle.policy_rules.specs.StatusRequests.{IsListRequest}
-use Rattle.policy_rules.specs.StatusSetRequests.{IsEntryStatusRequest}
-use Rattle.policy_rules.specs.StoreData.{store_data}
+use Rattle.policy_rules.specs.GetStatusRequests.{IsListRequest}
+use Rattle.policy_rules.specs.SetStatusRequests.{IsEntryStatusRequest}
+use Rattle.policy_rules.specs.StoreData.{managed_store_data}
 use Rattle.policy_rules.specs.Volatile.{Channel, LoadSession, channel_at, place_in, selected_on}
 use Rattle.policy_rules.specs.declared.instruction.TheConstants.{EXTERNAL_AUTHENTICATE, GET_STATUS, LOAD}
 use Rattle.policy_rules.specs.declared.live.Live.{Live}
@@ -48,10 +48,11 @@ use Rattle.policy_rules.specs.declared.put_key.PutKeys.{PutKeys}
 use Rattle.policy_rules.specs.declared.put_key.PutKeys.TheVariants.{One, Three}
 use Rattle.policy_rules.specs.declared.put_key.SealedKey.{SealedKey}
 use Rattle.policy_rules.specs.declared.request.Request.{Request}
-use Rattle.policy_rules.specs.declared.request.Request.TheVariants.{Select, MoreChannel, LessChannel, Get, Initialize, Authenticate, PutKey, Store, DeleteKey, DeleteObject, Install, MakeSelectable, Extradite, BeginLoad, CardStatus, EntryStatus, Load, ListStatus}
+use Rattle.policy_rules.specs.declared.request.Request.TheVariants.{Select, MoreChannel, LessChannel, Get, Initialize, Authenticate, PutKey, Store, DeleteKey, DeleteObject, Install, MakeSelectable, Extradite, InstallLoad, CardStatus, EntryStatus, Load, List as ListStatus}
 use Rattle.policy_rules.specs.declared.rule.Rule.{Rule}
 use Rattle.policy_rules.specs.declared.rule.Rule.TheVariants.{PS}
 use Rattle.policy_rules.specs.declared.rule.RulePS.TheVariants.{P, S}
+use Rattle.policy_rules.specs.ManagedForm.{command_form}
 
 -- a key as it is sent, and the keys of PUT KEY
 abbrev pub sent_key : SealedKey → SentKey
@@ -69,16 +70,16 @@ form_in (LessChannel number) = manage_channel
 form_in (Get tag) = get_data
 form_in (Initialize version challenge) = initialize_update
 form_in (Authenticate level proof) = external_authenticate
-form_in (PutKey replaced version keys) = put_key
-form_in (Store objects) = store_data
-form_in (DeleteKey version identifier) = delete_key
-form_in (DeleteObject request) = delete_object
-form_in (Install request) = install_application
-form_in (MakeSelectable request) = make_selectable
-form_in (Extradite request) = extradition
-form_in (BeginLoad request) = install_load
-form_in (CardStatus code) = card_status
-form_in (EntryStatus request) = entry_status
+form_in (PutKey replaced version keys) = command_form managed_put_key
+form_in (Store objects) = command_form managed_store_data
+form_in (DeleteKey version identifier) = command_form managed_delete_key
+form_in (DeleteObject request) = command_form managed_delete_object
+form_in (Install request) = command_form managed_install
+form_in (MakeSelectable request) = command_form managed_selectable
+form_in (Extradite request) = command_form managed_extradition
+form_in (InstallLoad request) = install_load
+form_in (CardStatus code) = command_form managed_card_status
+form_in (EntryStatus request) = command_form managed_entry_status
 form_in (Load request) = loading
 form_in (ListStatus request) = get_status
 
@@ -97,7 +98,7 @@ Decodes (DeleteObject request) p1 p2 body = IsDeletionRequest request p1 p2 body
 Decodes (Install request) p1 p2 body = IsInstallRequest request p1 p2 body
 Decodes (MakeSelectable request) p1 p2 body = IsSelectableRequest request p1 p2 body
 Decodes (Extradite request) p1 p2 body = IsExtraditionRequest request p1 p2 body
-Decodes (BeginLoad request) p1 p2 body = IsLoadInstallRequest request p1 p2 body
+Decodes (InstallLoad request) p1 p2 body = IsLoadInstallRequest request p1 p2 body
 Decodes (CardStatus code) p1 p2 body = code ≡ p2
 Decodes (EntryStatus request) p1 p2 body = IsEntryStatusRequest request p1 p2 body
 Decodes (Load request) p1 p2 body = IsLoadRequest request p1 p2 body

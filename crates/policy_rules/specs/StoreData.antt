@@ -3,21 +3,19 @@
 use Rattle.std.specs.Prelude.{◌≡◌, ◌≢◌, ◌⊎◌, ℕ, ◌<◌, List, [], ◌∷◌, All, codes, length}
 use Rattle.bertlv.specs.Spelling.{AreElements, Element}
 use Rattle.card_types.specs.Ascending.{object_order}
-use Rattle.card_types.specs.Registry.{Object}
+use Rattle.card_types.specs.Registry.{Object, Registry}
 use Rattle.card_types.specs.Well.{IsObject}
 use Rattle.card_types.specs.declared.limits.TheConstants.{OBJECTS}
 use Rattle.policy_rules.specs.Admission.{Admitted}
 use Rattle.policy_rules.specs.Arranged.{IsArranged}
-use Rattle.policy_rules.specs.CommandForm.{CommandForm}
 use Rattle.policy_rules.specs.DataObjects.{with_data, with_objects}
-use Rattle.policy_rules.specs.Management.{ManagementFails, acting}
-use Rattle.policy_rules.specs.State.{Effect}
+use Rattle.policy_rules.specs.Management.{acting}
 use Rattle.policy_rules.specs.Refusal.{Refusal, refusal}
-use Rattle.policy_rules.specs.declared.management.RuleM.TheVariants.{M1, M2}
-use Rattle.policy_rules.specs.declared.rule.Rule.{Rule}
-use Rattle.policy_rules.specs.declared.rule.Rule.TheVariants.{M, SD}
+use Rattle.policy_rules.specs.declared.rule.Rule.TheVariants.{SD}
 use Rattle.policy_rules.specs.declared.store_data.RuleSD.{RuleSD}
 use Rattle.policy_rules.specs.declared.store_data.RuleSD.TheVariants.{SD1}
+use Rattle.policy_rules.specs.ManagedForm.{ManagedForm, to_nobody}
+use Rattle.policy_rules.specs.declared.management.RuleM.TheVariants.{M1, M2}
 
 -- P1 says whether more blocks come, and that the data are BER-TLV or of no said form; P2 is any block number
 abbrev pub StoreDataParameters : ℕ → Type 0
@@ -35,37 +33,34 @@ StoreDataField body = (elements : List Element) × HasObjects body elements
 abbrev pub store_data_refusal : RuleSD → Refusal
 store_data_refusal SD1 = refusal (codes "SD1") 0x6A84
 
-abbrev pub store_rules : List Rule
-store_rules = M M1 ∷ M M2 ∷ SD SD1 ∷ []
-
 -- the objects that the card has with those of the data field
 abbrev pub objects_stored : Admitted → List Element → List Object
 objects_stored admitted elements = with_objects (acting admitted) admitted.at.registry.objects elements
 
-abbrev pub StoreDataFails : Admitted → Rule → Type 0
-StoreDataFails admitted (M rule) = ManagementFails admitted rule
+abbrev pub StoringFails : Admitted → List Element → RuleSD → Type 0
 -- the card would have too many data objects
-StoreDataFails admitted (SD SD1) = (elements : List Element) × HasObjects admitted.command.body elements × (OBJECTS < length (objects_stored admitted elements))
-StoreDataFails admitted rule = ⊥
+StoringFails admitted elements SD1 = OBJECTS < length (objects_stored admitted elements)
 
--- The objects are put. The reply is empty.
-pub record StoreDataEffect (admitted : Admitted) (done : Effect) : Type 0 where
-  pub elements : List Element
+-- the objects are put
+pub record AreObjectsPut (admitted : Admitted) (elements : List Element) (changed : Registry) : Type 0 where
   pub objects : List Object
-  pub has : HasObjects admitted.command.body elements
   pub arranged : IsArranged object_order (objects_stored admitted elements) objects
-  pub registry : done.state.registry ≡ with_data admitted.at.registry objects
-  pub volatile : done.state.volatile ≡ admitted.at.volatile
-  pub body : done.body ≡ []
-  pub status : done.status ≡ 0x9000
+  pub registry : changed ≡ with_data admitted.at.registry objects
 
--- STORE DATA, of any P2
-abbrev pub store_data : CommandForm
-store_data = record {
-  instruction = 0xE2;
-  takes = λ p1 p2. StoreDataParameters p1;
-  takes_field = λ p1 p2. StoreDataField;
-  rules = store_rules;
-  fails = StoreDataFails;
-  does = StoreDataEffect;
+abbrev pub managed_store_data : ManagedForm
+managed_store_data = record {
+  judged = record {
+    instruction = 0xE2;
+    takes = λ p1 p2. StoreDataParameters p1;
+    Asked = List Element;
+    asks = λ p1 p2. HasObjects;
+    first_rules = M1 ∷ M2 ∷ [];
+    Own = RuleSD;
+    group = SD;
+    own_rules = SD1 ∷ [];
+    fails = StoringFails;
+    delegation = to_nobody;
+  };
+  becomes = AreObjectsPut;
+  reply = λ elements. [];
 }

@@ -3,11 +3,12 @@
 ghost use Rattle.std.specs.Prelude.{◌≡◌, ◌↔◌, ℕ, List, None, Some, IfErr, IfNone, IfOk, IfSome, IsTrue, OnOk, ◌≤◌, length};
 ghost use Rattle.card_types.specs.CardLife.{card_life_code};
 ghost use Rattle.policy_rules.specs.Admission.{Admitted};
-ghost use Rattle.policy_rules.specs.CardStatus.{CardStatusFails, CardStatusParameters, IsCardStep, card_status, card_status_refusal, card_status_rules};
-ghost use Rattle.policy_rules.specs.FirstFailing.{IsFirst};
-ghost use Rattle.policy_rules.specs.InstallRequests.{IsRefusedBy};
+ghost use Rattle.policy_rules.specs.CardStatus.{CardStatusParameters, IsCardStep, managed_card_status, card_status_refusal};
+ghost use Rattle.policy_rules.specs.InstallApplicationRequests.{IsRefusedBy};
 ghost use Rattle.policy_rules.specs.Requests.{ActsIn};
-ghost use Rattle.policy_rules.specs.StatusSetRequests.{IsCardStatusOf, IsStepBy, MayStep};
+ghost use Rattle.policy_rules.specs.SetStatusRequests.{IsCardStatusOf, IsStepBy, MayStep};
+ghost use Rattle.policy_rules.specs.CommandForm.{FailsFirst};
+ghost use Rattle.policy_rules.specs.ManagedForm.{command_form};
 
 use crate::delegation::holds;
 use crate::management::{is_issuer_in, judge_setting};
@@ -87,9 +88,9 @@ fn may_step(tables: &Tables, domain: u8, step: CardStep) -> bool
 /// Judges a SET STATUS of the card for the domain in a slot: the new life cycle state.
 pub fn judge_card_status(tables: &Tables, domain: u8, code: u8) -> Result<CardLife, Rule>
     ensures passed { (page : ℕ → List ℕ) (admitted : Admitted) → ActsIn page tables.now domain admitted
-        → IsCardStatusOf code admitted.command → OnOk result (IsFirst (CardStatusFails admitted) card_status_rules None) }
+        → IsCardStatusOf code admitted.command → OnOk result (FailsFirst (command_form managed_card_status) admitted None) }
     ensures refused { (page : ℕ → List ℕ) (admitted : Admitted) → ActsIn page tables.now domain admitted
-        → IsCardStatusOf code admitted.command → IfErr result (λ rule. IsFirst (CardStatusFails admitted) card_status_rules (Some rule)) }
+        → IsCardStatusOf code admitted.command → IfErr result (λ rule. FailsFirst (command_form managed_card_status) admitted (Some rule)) }
     ensures life { IfOk result (λ life. card_life_code life ≡ code) }
 {
     judge_setting(tables, domain, true)?;
@@ -109,7 +110,7 @@ pub fn judge_card_status(tables: &Tables, domain: u8, code: u8) -> Result<CardLi
 pub(crate) fn parse_card_status(p1: u8, p2: u8, body: &[u8]) -> Result<u8, Rule>
     ensures form { IfOk result (λ code. CardStatusParameters p1 p2) }
     ensures means { IfOk result (λ code. code ≡ p2) }
-    ensures refused { IfErr result (IsRefusedBy card_status p1 p2 body.now) }
+    ensures refused { IfErr result (IsRefusedBy (command_form managed_card_status) p1 p2 body.now) }
 {
     if p1 != 0x80 {
         return Err(Rule::PS(RulePS::P));

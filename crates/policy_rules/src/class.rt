@@ -1,7 +1,7 @@
 //! Class bytes (ISO/IEC 7816-4:2013, 5.4; GlobalPlatform Card Specification 2.3.1, 11.1.4).
 
 ghost use Rattle.std.specs.Prelude.{◌≡◌, ◌↔◌, IsTrue, Contains, Some};
-ghost use Rattle.policy_rules.specs.Classes.{class_of as class_of_byte, channel_of as channel_of_byte, instructions_of, management, protects};
+ghost use Rattle.policy_rules.specs.Classes.{class_of as class_of_byte, channel_of as channel_of_byte, instructions_of, managing, protects};
 ghost use Rattle.policy_rules.specs.declared.class.Class.TheVariants.{Plain as ThePlain};
 
 use crate::instruction::{
@@ -58,7 +58,7 @@ impl Class {
 
 /// Whether it is card content management outside of secure messaging, which no card takes.
 pub fn is_plain_management(class: Class, ins: u8) -> bool
-    ensures { IsTrue result ↔ ((class ≡ ThePlain) × Contains management ins) }
+    ensures { IsTrue result ↔ ((class ≡ ThePlain) × Contains managing ins) }
 {
     class == Class::Plain && MANAGING.contains(&ins)
 }

@@ -5,12 +5,13 @@ ghost use Rattle.std.specs.List.{list_any};
 ghost use Rattle.card_types.specs.InOrder.{IsInOrder};
 ghost use Rattle.card_types.specs.Represents.{domain_slot};
 ghost use Rattle.policy_rules.specs.Admission.{Admitted};
-ghost use Rattle.policy_rules.specs.DeleteKey.{Chooses, DeleteField, DeleteParameters, IsLastSet, NamesPart, delete_key, delete_key_refusal};
+ghost use Rattle.policy_rules.specs.DeleteKey.{Chooses, DeleteParameters, IsLastSet, NamesPart, managed_delete_key, delete_key_refusal, AsksToDeleteKey, KeyChosen};
 ghost use Rattle.policy_rules.specs.Commands.{Judges};
-ghost use Rattle.policy_rules.specs.InstallRequests.{IsRefusedBy};
+ghost use Rattle.policy_rules.specs.InstallApplicationRequests.{IsRefusedBy};
 ghost use Rattle.policy_rules.specs.KeyOrder.{holds_counter_but as holds_counter_but_by};
 ghost use Rattle.policy_rules.specs.Requests.{ActsIn, IsRequestOf};
 ghost use Rattle.policy_rules.specs.declared.request.Request.TheVariants.{DeleteKey};
+ghost use Rattle.policy_rules.specs.ManagedForm.{command_form};
 
 use crate::key_order::keeps_counter;
 use crate::management::judge_management;
@@ -54,7 +55,7 @@ impl RuleDK {
 // The key version number (D2), and a key identifier (D0) or none, in either order.
 fn read_choice(body: &[u8]) -> Option<(u8, Option<u8>)>
     ensures some { IfSome result (λ choice. Chooses body.now choice.0 choice.1) }
-    ensures none { IfNone result (DeleteField body.now → ⊥) }
+    ensures none { IfNone result ((chosen : KeyChosen) × AsksToDeleteKey body.now chosen → ⊥) }
 {
     match *body {
         [0xD2, 1, version] => Some((version, None)),
@@ -68,7 +69,7 @@ fn read_choice(body: &[u8]) -> Option<(u8, Option<u8>)>
 pub(crate) fn parse_delete_key(p1: u8, p2: u8, body: &[u8]) -> Result<(u8, Option<u8>), Rule>
     ensures form { IfOk result (λ choice. DeleteParameters p1 p2) }
     ensures means { IfOk result (λ choice. Chooses body.now choice.0 choice.1) }
-    ensures refused { IfErr result (IsRefusedBy delete_key p1 p2 body.now) }
+    ensures refused { IfErr result (IsRefusedBy (command_form managed_delete_key) p1 p2 body.now) }
 {
     if p1 != 0x00 || (p2 != 0x00 && p2 != 0x80) {
         return Err(Rule::PS(RulePS::P));

@@ -5,15 +5,17 @@ ghost use Rattle.card_types.specs.Found.{aid_of};
 ghost use Rattle.card_types.specs.InOrder.{IsInOrder};
 ghost use Rattle.policy_rules.specs.Admission.{Admitted};
 ghost use Rattle.policy_rules.specs.DeleteKey.{DeleteParameters};
-ghost use Rattle.policy_rules.specs.DeleteObject.{AsksToDelete, DeleteObjectFails, DeletingFails, DeletionAsked, IsDelegated, IsTokenField, delete_object, delete_object_refusal, delete_object_rules};
-ghost use Rattle.policy_rules.specs.DeletionFound.{DeletionApprovalFails, HasNoneFrom, IsAlone, IsPartOutOfCharge, IsRemovable, IsUnselected};
-ghost use Rattle.policy_rules.specs.DeletionRequests.{IsDeletionOf, IsDeletionRequest, own_deletion_rules};
+ghost use Rattle.policy_rules.specs.DeleteObject.{AsksToDelete, DeletingFails, DeletionAsked, IsDelegated, IsTokenField, managed_delete_object, delete_object_refusal};
+ghost use Rattle.policy_rules.specs.DeleteObjectFound.{DeletionApprovalFails, HasNoneFrom, IsAlone, IsPartOutOfCharge, IsRemovable, IsUnselected};
+ghost use Rattle.policy_rules.specs.DeleteObjectRequests.{IsDeletionOf, IsDeletionRequest};
 ghost use Rattle.policy_rules.specs.FirstFailing.{IsFirst};
 ghost use Rattle.policy_rules.specs.HoldersFound.{FindsConfirmer, IsSignedFor, MayReceipt, approval_of};
 ghost use Rattle.policy_rules.specs.Delegation.{delegation_rules};
-ghost use Rattle.policy_rules.specs.InstallRequests.{IsRefusedBy};
+ghost use Rattle.policy_rules.specs.InstallApplicationRequests.{IsRefusedBy};
 ghost use Rattle.policy_rules.specs.Requests.{ActsIn, ForActingLive};
 ghost use Rattle.policy_rules.specs.declared.delete_object.RuleDO.TheVariants.{DO3, DO4};
+ghost use Rattle.policy_rules.specs.CommandForm.{FailsFirst};
+ghost use Rattle.policy_rules.specs.ManagedForm.{OwnFirst, command_form};
 
 use crate::charge::has_charge;
 use crate::delegation::{Signed, holds, judge_delegated};
@@ -144,9 +146,9 @@ fn judge_removal(
 ) -> Result<Found, RuleDO>
     requires in_order { IsInOrder tables.now }
     ensures passed { ForActingLive tables.now live.now domain (λ page admitted. (is : IsDeletionOf request.now admitted.command)
-        → OnOk result (IsFirst (DeletingFails admitted is.asked) own_deletion_rules None)) }
+        → OnOk result (OwnFirst managed_delete_object.judged admitted is.asked None)) }
     ensures refused { ForActingLive tables.now live.now domain (λ page admitted. (is : IsDeletionOf request.now admitted.command)
-        → IfErr result (λ rule. IsFirst (DeletingFails admitted is.asked) own_deletion_rules (Some rule))) }
+        → IfErr result (λ rule. OwnFirst managed_delete_object.judged admitted is.asked (Some rule))) }
     ensures thing { IfOk result (λ thing. aid_of tables.now thing ≡ Some request.now.aid) }
     ensures alone { IfOk result (λ thing. IsAlone tables.now request.now.related thing) }
     ensures unselected { IfOk result (λ thing. IsUnselected tables.now live.now request.now.related thing) }
@@ -206,9 +208,9 @@ pub fn judge_deletion(
     requires in_order { IsInOrder tables.now }
     requires short { length request.now.signed.before.now ≤ 255 }
     ensures passed { ForActingLive tables.now live.now domain (λ page admitted. IsDeletionOf request.now admitted.command
-        → OnOk result (IsFirst (DeleteObjectFails admitted) delete_object_rules None)) }
+        → OnOk result (FailsFirst (command_form managed_delete_object) admitted None)) }
     ensures refused { ForActingLive tables.now live.now domain (λ page admitted. IsDeletionOf request.now admitted.command
-        → IfErr result (λ rule. IsFirst (DeleteObjectFails admitted) delete_object_rules (Some rule))) }
+        → IfErr result (λ rule. FailsFirst (command_form managed_delete_object) admitted (Some rule))) }
     ensures thing { IfOk result (λ found. aid_of tables.now found.thing ≡ Some request.now.aid) }
     ensures receipter { (page : ℕ → List ℕ) (admitted : Admitted) → ActsIn page tables.now domain admitted
         → IfOk result (λ found. FindsConfirmer (IsDelegated admitted) tables.now admitted found.receipter) }
@@ -281,7 +283,7 @@ fn takes_parameters(p1: u8, p2: u8) -> bool
 pub(crate) fn parse_delete_object(p1: u8, p2: u8, body: &[u8]) -> Result<DeletionRequest<'_>, Rule>
     ensures form { IfOk result (λ request. DeleteParameters p1 p2) }
     ensures means { IfOk result (λ request. IsDeletionRequest request p1 p2 body.now) }
-    ensures refused { IfErr result (IsRefusedBy delete_object p1 p2 body.now) }
+    ensures refused { IfErr result (IsRefusedBy (command_form managed_delete_object) p1 p2 body.now) }
 {
     if !takes_parameters(p1, p2) {
         return Err(Rule::PS(RulePS::P));

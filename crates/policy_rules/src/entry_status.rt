@@ -8,13 +8,14 @@ ghost use Rattle.card_types.specs.declared.found.Found.TheVariants.{Entry as At}
 ghost use Rattle.domain_tree.specs.AboveLaws.{IsAboveIn};
 ghost use Rattle.policy_rules.specs.Admission.{Admitted};
 ghost use Rattle.policy_rules.specs.Delegation.{Holds};
-ghost use Rattle.policy_rules.specs.EntryStatus.{EntryStatusFails, EntryStatusParameters, PersonalizesItself, SettingStatusFails, entry_status, entry_status_refusal, entry_status_rules, global_lock};
-ghost use Rattle.policy_rules.specs.FirstFailing.{IsFirst};
-ghost use Rattle.policy_rules.specs.InstallRequests.{IsRefusedBy};
+ghost use Rattle.policy_rules.specs.EntryStatus.{EntryStatusParameters, PersonalizesItself, SettingStatusFails, managed_entry_status, entry_status_refusal, global_lock};
+ghost use Rattle.policy_rules.specs.InstallApplicationRequests.{IsRefusedBy};
 ghost use Rattle.policy_rules.specs.Management.{acting};
 ghost use Rattle.policy_rules.specs.Requests.{ActsIn};
-ghost use Rattle.policy_rules.specs.StatusSetRequests.{IsChangeFor, IsEntryStatusOf, IsEntryStatusRequest, IsOther, IsSlotStep, MaySet, own_status_rules, slot_of};
+ghost use Rattle.policy_rules.specs.SetStatusRequests.{IsChangeFor, IsEntryStatusOf, IsEntryStatusRequest, IsOther, IsSlotStep, MaySet, slot_of};
 ghost use Rattle.policy_rules.specs.declared.entry_status.RuleSS.TheVariants.{SS1};
+ghost use Rattle.policy_rules.specs.CommandForm.{FailsFirst};
+ghost use Rattle.policy_rules.specs.ManagedForm.{OwnFirst, command_form};
 
 use crate::charge::{find_domain, find_entry};
 use crate::delegation::holds;
@@ -70,7 +71,7 @@ impl RuleSS {
 #[derive(Clone, Copy, Debug)]
 pub struct EntryStatusRequest {
     pub tree: bool,
-    pub code: u8,
+    pub life: u8,
     pub aid: Aid,
 }
 
@@ -97,9 +98,9 @@ fn is_domain(entry: &Entry) -> bool
 
 // Whether a request asks for one entry to be personalized.
 fn is_personalizing(request: &EntryStatusRequest) -> bool
-    ensures { IsTrue result ↔ ((request.now.tree ≡ false) × (request.now.code ≡ 0x0F)) }
+    ensures { IsTrue result ↔ ((request.now.tree ≡ false) × (request.now.life ≡ 0x0F)) }
 {
-    !request.tree && request.code == PERSONALIZED
+    !request.tree && request.life == PERSONALIZED
 }
 
 // The slot of the entry that a request names, which is a security domain where all below it is set too.
@@ -152,7 +153,7 @@ fn step_of(entry: &Entry, request: &EntryStatusRequest) -> Option<LifeMark>
     ensures some { IfSome result (IsSlotStep request.now entry.now) }
     ensures none { IfNone result ((life : LifeMark) → IsSlotStep request.now entry.now life → ⊥) }
 {
-    let locked = request.code >= LOCKED;
+    let locked = request.life >= LOCKED;
     if entry.life.locked != locked {
         return Some(LifeMark {
             life: entry.life.life,
@@ -176,9 +177,9 @@ fn judge_change(
 ) -> Result<StatusChange, RuleSS>
     requires in_order { IsInOrder tables.now }
     ensures passed { (page : ℕ → List ℕ) (admitted : Admitted) → ActsIn page tables.now domain admitted
-        → IsEntryStatusOf request.now admitted.command → OnOk result (IsFirst (SettingStatusFails admitted) own_status_rules None) }
+        → IsEntryStatusOf request.now admitted.command → OnOk result (OwnFirst managed_entry_status.judged admitted tt None) }
     ensures refused { (page : ℕ → List ℕ) (admitted : Admitted) → ActsIn page tables.now domain admitted
-        → IsEntryStatusOf request.now admitted.command → IfErr result (λ rule. IsFirst (SettingStatusFails admitted) own_status_rules (Some rule)) }
+        → IsEntryStatusOf request.now admitted.command → IfErr result (λ rule. OwnFirst managed_entry_status.judged admitted tt (Some rule)) }
     ensures named { IfOk result (λ change. aid_of tables.now (At (slot_of change)) ≡ Some request.now.aid) }
     ensures other { IfOk result (IsOther tables.now.entries.items) }
     ensures change { (page : ℕ → List ℕ) (admitted : Admitted) → ActsIn page tables.now domain admitted
@@ -215,9 +216,9 @@ pub fn judge_entry_status(
 ) -> Result<StatusChange, Rule>
     requires in_order { IsInOrder tables.now }
     ensures passed { (page : ℕ → List ℕ) (admitted : Admitted) → ActsIn page tables.now domain admitted
-        → IsEntryStatusOf request.now admitted.command → OnOk result (IsFirst (EntryStatusFails admitted) entry_status_rules None) }
+        → IsEntryStatusOf request.now admitted.command → OnOk result (FailsFirst (command_form managed_entry_status) admitted None) }
     ensures refused { (page : ℕ → List ℕ) (admitted : Admitted) → ActsIn page tables.now domain admitted
-        → IsEntryStatusOf request.now admitted.command → IfErr result (λ rule. IsFirst (EntryStatusFails admitted) entry_status_rules (Some rule)) }
+        → IsEntryStatusOf request.now admitted.command → IfErr result (λ rule. FailsFirst (command_form managed_entry_status) admitted (Some rule)) }
     ensures named { IfOk result (λ change. aid_of tables.now (At (slot_of change)) ≡ Some request.now.aid) }
     ensures other { IfOk result (IsOther tables.now.entries.items) }
     ensures change { (page : ℕ → List ℕ) (admitted : Admitted) → ActsIn page tables.now domain admitted
@@ -234,7 +235,7 @@ pub fn judge_entry_status(
 pub(crate) fn parse_entry_status(p1: u8, p2: u8, body: &[u8]) -> Result<EntryStatusRequest, Rule>
     ensures form { IfOk result (λ request. EntryStatusParameters p1 p2) }
     ensures means { IfOk result (λ request. IsEntryStatusRequest request p1 p2 body.now) }
-    ensures refused { IfErr result (IsRefusedBy entry_status p1 p2 body.now) }
+    ensures refused { IfErr result (IsRefusedBy (command_form managed_entry_status) p1 p2 body.now) }
 {
     if p1 != 0x40 && p1 != 0x60 {
         return Err(Rule::PS(RulePS::P));
@@ -242,7 +243,7 @@ pub(crate) fn parse_entry_status(p1: u8, p2: u8, body: &[u8]) -> Result<EntrySta
     match Aid::new(body) {
         Some(aid) => Ok(EntryStatusRequest {
             tree: p1 == 0x60,
-            code: p2,
+            life: p2,
             aid,
         }),
         None => Err(Rule::PS(RulePS::S)),

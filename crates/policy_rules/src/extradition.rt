@@ -12,14 +12,15 @@ ghost use Rattle.card_types.specs.declared.factory.TheConstants.{FACTORY_FILE, I
 ghost use Rattle.card_types.specs.declared.found.Found.TheVariants.{Entry};
 ghost use Rattle.policy_rules.specs.Admission.{Admitted};
 ghost use Rattle.policy_rules.specs.Delegation.{Holds};
-ghost use Rattle.policy_rules.specs.Extradition.{AsksToExtradite, ExtraditingFails, ExtraditionFails, ExtraditionParameters, IsOutOfReach, IsUnapprovable, domain_of_thing, extradition, extradition_refusal, extradition_rules, is_personalized};
-ghost use Rattle.policy_rules.specs.ExtraditionRequests.{IsExtraditionOf, IsExtraditionRequest, own_extradition_rules};
-ghost use Rattle.policy_rules.specs.FirstFailing.{IsFirst};
+ghost use Rattle.policy_rules.specs.Extradition.{AsksToExtradite, ExtraditingFails, ExtraditionParameters, IsOutOfReach, IsUnapprovable, domain_of_thing, managed_extradition, extradition_refusal, is_personalized};
+ghost use Rattle.policy_rules.specs.ExtraditionRequests.{IsExtraditionOf, IsExtraditionRequest};
 ghost use Rattle.policy_rules.specs.HoldersFound.{FindsConfirmer, MayReceipt};
 ghost use Rattle.policy_rules.specs.InstallFields.{InstallData};
-ghost use Rattle.policy_rules.specs.InstallRequests.{IsRefusedBy};
+ghost use Rattle.policy_rules.specs.InstallApplicationRequests.{IsRefusedBy};
 ghost use Rattle.policy_rules.specs.Requests.{ActsIn};
 ghost use Rattle.policy_rules.specs.declared.extradition.RuleEX.TheVariants.{EX5, EX7};
+ghost use Rattle.policy_rules.specs.CommandForm.{FailsFirst};
+ghost use Rattle.policy_rules.specs.ManagedForm.{OwnFirst, command_form};
 
 use crate::charge::{domain_of, find_domain, has_charge, is_at_or_above, is_over};
 use crate::delegation::{Signed, TOKEN_KEY, holds, nearest_with_key};
@@ -85,7 +86,7 @@ impl RuleEX {
 /// What an INSTALL [for extradition] asks for: the AIDs of the new security domain and of the thing, and what approves it.
 #[derive(Clone, Copy, Debug)]
 pub struct ExtraditionRequest<'a> {
-    pub domain: Aid,
+    pub to: Aid,
     pub aid: Aid,
     pub signed: Signed<'a>,
 }
@@ -140,13 +141,13 @@ fn is_unfit(tables: &Tables, to: u8) -> bool
 fn is_out_of_reach(tables: &Tables, domain: u8, request: &ExtraditionRequest<'_>, to: u8) -> bool
     requires in_order { IsInOrder tables.now }
     ensures { (page : ℕ → List ℕ) (admitted : Admitted) → ActsIn page tables.now domain admitted
-        → (is : IsExtraditionOf request.now admitted.command) → aid_of tables.now (Entry to) ≡ Some request.now.domain
+        → (is : IsExtraditionOf request.now admitted.command) → aid_of tables.now (Entry to) ≡ Some request.now.to
         → IsTrue result ↔ (Holds admitted authorized_management × IsOutOfReach admitted is.given) }
 {
     if !holds(&tables.entries, domain, Privileges::AUTHORIZED_MANAGEMENT) {
         return false;
     }
-    if request.domain == request.aid {
+    if request.to == request.aid {
         return false;
     }
     !is_at_or_above(tables, domain, to)
@@ -156,13 +157,13 @@ fn is_out_of_reach(tables: &Tables, domain: u8, request: &ExtraditionRequest<'_>
 fn is_unapprovable(tables: &Tables, domain: u8, request: &ExtraditionRequest<'_>, to: u8) -> bool
     requires in_order { IsInOrder tables.now }
     ensures { (page : ℕ → List ℕ) (admitted : Admitted) → ActsIn page tables.now domain admitted
-        → (is : IsExtraditionOf request.now admitted.command) → aid_of tables.now (Entry to) ≡ Some request.now.domain
+        → (is : IsExtraditionOf request.now admitted.command) → aid_of tables.now (Entry to) ≡ Some request.now.to
         → IsTrue result ↔ (Holds admitted delegated_management × IsUnapprovable admitted is.given) }
 {
     if !holds(&tables.entries, domain, Privileges::DELEGATED_MANAGEMENT) {
         return false;
     }
-    if request.domain == request.aid {
+    if request.to == request.aid {
         return true;
     }
     match nearest_with_key(tables, domain, Privileges::TOKEN_VERIFICATION, TOKEN_KEY) {
@@ -175,7 +176,7 @@ fn is_unapprovable(tables: &Tables, domain: u8, request: &ExtraditionRequest<'_>
 fn is_barred(tables: &Tables, domain: u8, request: &ExtraditionRequest<'_>, to: u8) -> bool
     requires in_order { IsInOrder tables.now }
     ensures { (page : ℕ → List ℕ) (admitted : Admitted) → ActsIn page tables.now domain admitted
-        → (is : IsExtraditionOf request.now admitted.command) → aid_of tables.now (Entry to) ≡ Some request.now.domain
+        → (is : IsExtraditionOf request.now admitted.command) → aid_of tables.now (Entry to) ≡ Some request.now.to
         → IsTrue result ↔ ExtraditingFails admitted is.given EX7 }
 {
     is_out_of_reach(tables, domain, request, to) || is_unapprovable(tables, domain, request, to)
@@ -189,11 +190,11 @@ fn judge_move(
 ) -> Result<(Found, u8), RuleEX>
     requires in_order { IsInOrder tables.now }
     ensures passed { (page : ℕ → List ℕ) (admitted : Admitted) → ActsIn page tables.now domain admitted
-        → (is : IsExtraditionOf request.now admitted.command) → OnOk result (IsFirst (ExtraditingFails admitted is.given) own_extradition_rules None) }
+        → (is : IsExtraditionOf request.now admitted.command) → OnOk result (OwnFirst managed_extradition.judged admitted is.given None) }
     ensures refused { (page : ℕ → List ℕ) (admitted : Admitted) → ActsIn page tables.now domain admitted
-        → (is : IsExtraditionOf request.now admitted.command) → IfErr result (λ rule. IsFirst (ExtraditingFails admitted is.given) own_extradition_rules (Some rule)) }
+        → (is : IsExtraditionOf request.now admitted.command) → IfErr result (λ rule. OwnFirst managed_extradition.judged admitted is.given (Some rule)) }
     ensures thing { IfOk result (λ found. aid_of tables.now found.0 ≡ Some request.now.aid) }
-    ensures to { IfOk result (λ found. aid_of tables.now (Entry found.1) ≡ Some request.now.domain) }
+    ensures to { IfOk result (λ found. aid_of tables.now (Entry found.1) ≡ Some request.now.to) }
 {
     if !may_manage(&tables.entries, domain) {
         return Err(RuleEX::EX1);
@@ -201,7 +202,7 @@ fn judge_move(
     let Some(thing) = find(tables, &request.aid) else {
         return Err(RuleEX::EX2);
     };
-    let Some(to) = find_domain(tables, &request.domain) else {
+    let Some(to) = find_domain(tables, &request.to) else {
         return Err(RuleEX::EX2);
     };
     if is_fixed(&request.aid) {
@@ -231,13 +232,13 @@ pub fn judge_extradition(
     requires in_order { IsInOrder tables.now }
     requires short { length request.now.signed.before.now ≤ 255 }
     ensures passed { (page : ℕ → List ℕ) (admitted : Admitted) → ActsIn page tables.now domain admitted
-        → IsExtraditionOf request.now admitted.command → OnOk result (IsFirst (ExtraditionFails admitted) extradition_rules None) }
+        → IsExtraditionOf request.now admitted.command → OnOk result (FailsFirst (command_form managed_extradition) admitted None) }
     ensures refused { (page : ℕ → List ℕ) (admitted : Admitted) → ActsIn page tables.now domain admitted
-        → IsExtraditionOf request.now admitted.command → IfErr result (λ rule. IsFirst (ExtraditionFails admitted) extradition_rules (Some rule)) }
+        → IsExtraditionOf request.now admitted.command → IfErr result (λ rule. FailsFirst (command_form managed_extradition) admitted (Some rule)) }
     ensures thing { IfOk result (λ found. aid_of tables.now found.thing ≡ Some request.now.aid) }
     ensures from { (page : ℕ → List ℕ) (said : Registry) → Represents page tables.now said → Well said
         → IfOk result (λ found. domain_aid tables.now.entries.items found.from ≡ domain_of_thing said request.now.aid) }
-    ensures to { IfOk result (λ found. aid_of tables.now (Entry found.to) ≡ Some request.now.domain) }
+    ensures to { IfOk result (λ found. aid_of tables.now (Entry found.to) ≡ Some request.now.to) }
     ensures receipter { (page : ℕ → List ℕ) (admitted : Admitted) → ActsIn page tables.now domain admitted
         → IfOk result (λ found. FindsConfirmer (Holds admitted delegated_management) tables.now admitted found.receipter) }
     ensures able { IfOk result (λ found. IfSome found.receipter (MayReceipt tables.now)) }
@@ -266,10 +267,10 @@ fn read_request(p1: u8, p2: u8, body: &[u8]) -> Option<ExtraditionRequest<'_>>
     if !fields.second.is_empty() || !fields.privileges.is_empty() {
         return None;
     }
-    let domain = Aid::new(fields.first)?;
+    let to = Aid::new(fields.first)?;
     let aid = Aid::new(fields.third)?;
     Some(ExtraditionRequest {
-        domain,
+        to,
         aid,
         signed: Signed {
             p1,
@@ -284,7 +285,7 @@ fn read_request(p1: u8, p2: u8, body: &[u8]) -> Option<ExtraditionRequest<'_>>
 pub(crate) fn parse_extradition(p1: u8, p2: u8, body: &[u8]) -> Result<ExtraditionRequest<'_>, Rule>
     ensures form { IfOk result (λ request. ExtraditionParameters p1 p2) }
     ensures means { IfOk result (λ request. IsExtraditionRequest request p1 p2 body.now) }
-    ensures refused { IfErr result (IsRefusedBy extradition p1 p2 body.now) }
+    ensures refused { IfErr result (IsRefusedBy (command_form managed_extradition) p1 p2 body.now) }
 {
     if p1 != 0x10 || p2 != 0x00 {
         return Err(Rule::PS(RulePS::P));

@@ -8,7 +8,7 @@ ghost use Rattle.policy_rules.specs.FirstFailing.{IsFirst};
 ghost use Rattle.policy_rules.specs.GetStatus.{BeginsAbove, GetStatusFails, IsInTree, IsSearch, ListingFails, Sees, StatusParameters, Thing, get_status, get_status_refusal, get_status_rules};
 ghost use Rattle.policy_rules.specs.Management.{acting};
 ghost use Rattle.policy_rules.specs.Requests.{ActsIn, Parses};
-ghost use Rattle.policy_rules.specs.StatusRequests.{IsFirstShown, IsListOf, IsListRequest, IsListedAs, IsListedAt, IsNextListed, IsPlaceBefore, IsThingAt, NoneListed, found_in, lower_of};
+ghost use Rattle.policy_rules.specs.GetStatusRequests.{IsFirstShown, IsListOf, IsListRequest, IsListedAs, IsListedAt, IsNextListed, IsPlaceBefore, IsThingAt, NoneListed, found_in, lower_of};
 ghost use Rattle.policy_rules.specs.declared.get_status.RuleGS.TheVariants.{GS1};
 ghost use Rattle.policy_rules.specs.declared.instruction.TheConstants.{GET_STATUS};
 
@@ -61,7 +61,7 @@ impl RuleGS {
 pub struct ListRequest<'a> {
     pub kind: u8,
     pub next: bool,
-    pub partial: &'a [u8],
+    pub prefix: &'a [u8],
     pub body: &'a [u8],
 }
 
@@ -261,7 +261,7 @@ pub fn judge_status(
         Ok(after) => after,
         Err(rule) => return Err(Rule::GS(rule)),
     };
-    match next_shown(tables, domain, request.kind, request.partial, after) {
+    match next_shown(tables, domain, request.kind, request.prefix, after) {
         Some(found) => Ok(found),
         None => Err(Rule::GS(RuleGS::GS2)),
     }
@@ -305,10 +305,10 @@ pub(crate) fn parse_get_status(p1: u8, p2: u8, body: &[u8]) -> Result<Request<'_
         return Err(Rule::PS(RulePS::P));
     }
     match read_search(body) {
-        Some(partial) => Ok(Request::ListStatus(ListRequest {
+        Some(partial) => Ok(Request::List(ListRequest {
             kind: p1,
             next: p2 == 0x03,
-            partial,
+            prefix: partial,
             body,
         })),
         None => Err(Rule::PS(RulePS::S)),

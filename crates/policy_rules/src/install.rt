@@ -17,7 +17,7 @@ pub(crate) fn parse_install(p1: u8, p2: u8, body: &[u8]) -> Result<Request<'_>, 
 {
     match p1 {
         0x02 => match parse_load_install(p1, p2, body) {
-            Ok(request) => Ok(Request::BeginLoad(request)),
+            Ok(request) => Ok(Request::InstallLoad(request)),
             Err(rule) => Err(rule),
         },
         0x08 => match parse_selectable(p1, p2, body) {

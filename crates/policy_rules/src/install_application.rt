@@ -20,11 +20,13 @@ ghost use Rattle.policy_rules.specs.Admission.{Admitted};
 ghost use Rattle.policy_rules.specs.Charge.{IsFileInCharge};
 ghost use Rattle.policy_rules.specs.Delegation.{Holds, delegation_rules};
 ghost use Rattle.policy_rules.specs.FirstFailing.{IsFirst};
-ghost use Rattle.policy_rules.specs.InstallApplication.{AreInstallParameters, AsksToInstall, InstallAsked, InstallFails, InstallParameters, InstallingFails, IsTakenAid, MayBeMade, install_application, install_refusal, install_rules};
+ghost use Rattle.policy_rules.specs.InstallApplication.{AreInstallParameters, AsksToInstall, InstallAsked, InstallParameters, IsTakenAid, MayBeMade, managed_install, install_refusal};
 ghost use Rattle.policy_rules.specs.HoldersFound.{FindsConfirmer, IsSignedFor, MayReceipt, approval_of};
-ghost use Rattle.policy_rules.specs.InstallRequests.{ApprovalFails, IsInstallOf, IsInstallRequest, IsOutOfCharge, IsRefusedBy, application_rules, exceeds_by, is_loaded_as, may_manage_by};
+ghost use Rattle.policy_rules.specs.InstallApplicationRequests.{ApprovalFails, IsInstallOf, IsInstallRequest, IsOutOfCharge, IsRefusedBy, exceeds_by, is_loaded_as, may_manage_by};
 ghost use Rattle.policy_rules.specs.Management.{acting};
 ghost use Rattle.policy_rules.specs.Requests.{ActsIn, ForActing, IsLoadNamed};
+ghost use Rattle.policy_rules.specs.CommandForm.{FailsFirst};
+ghost use Rattle.policy_rules.specs.ManagedForm.{OwnFirst, command_form};
 
 use crate::delegation::{Signed, holds, judge_delegated};
 use crate::install_fields::read_fields;
@@ -168,7 +170,7 @@ fn read_request(p1: u8, p2: u8, body: &[u8]) -> Option<InstallRequest<'_>>
 pub(crate) fn parse_application(p1: u8, p2: u8, body: &[u8]) -> Result<InstallRequest<'_>, Rule>
     ensures form { IfOk result (λ request. InstallParameters p1 p2) }
     ensures means { IfOk result (λ request. IsInstallRequest request p1 p2 body.now) }
-    ensures refused { IfErr result (IsRefusedBy install_application p1 p2 body.now) }
+    ensures refused { IfErr result (IsRefusedBy (command_form managed_install) p1 p2 body.now) }
 {
     if !takes_parameters(p1, p2) {
         return Err(Rule::PS(RulePS::P));
@@ -339,10 +341,10 @@ fn judge_application(
 ) -> Result<u8, RuleII>
     requires in_order { IsInOrder tables.now }
     ensures passed { ForActing tables.now domain (λ page admitted. IsLoadNamed tables.now.entries.items live.now.load admitted.at.volatile.load
-        → (is : IsInstallOf request.now admitted.command) → OnOk result (IsFirst (InstallingFails admitted is.asked) application_rules None)) }
+        → (is : IsInstallOf request.now admitted.command) → OnOk result (OwnFirst managed_install.judged admitted is.asked None)) }
     ensures refused { ForActing tables.now domain (λ page admitted. IsLoadNamed tables.now.entries.items live.now.load admitted.at.volatile.load
         → (is : IsInstallOf request.now admitted.command)
-        → IfErr result (λ rule. IsFirst (InstallingFails admitted is.asked) application_rules (Some rule))) }
+        → IfErr result (λ rule. OwnFirst managed_install.judged admitted is.asked (Some rule))) }
     ensures file { IfOk result (λ slot. aid_of tables.now (File slot) ≡ Some request.now.file) }
     ensures free { OnOk result ((thing : Thing) → aid_of tables.now thing ≢ Some request.now.aid) }
     ensures room { OnOk result (NoneFree tables.now.entries.items → ⊥) }
@@ -406,9 +408,9 @@ pub fn judge_install(
     requires in_order { IsInOrder tables.now }
     requires short { length request.now.signed.before.now ≤ 255 }
     ensures passed { ForActing tables.now domain (λ page admitted. IsLoadNamed tables.now.entries.items live.now.load admitted.at.volatile.load
-        → IsInstallOf request.now admitted.command → OnOk result (IsFirst (InstallFails admitted) install_rules None)) }
+        → IsInstallOf request.now admitted.command → OnOk result (FailsFirst (command_form managed_install) admitted None)) }
     ensures refused { ForActing tables.now domain (λ page admitted. IsLoadNamed tables.now.entries.items live.now.load admitted.at.volatile.load
-        → IsInstallOf request.now admitted.command → IfErr result (λ rule. IsFirst (InstallFails admitted) install_rules (Some rule))) }
+        → IsInstallOf request.now admitted.command → IfErr result (λ rule. FailsFirst (command_form managed_install) admitted (Some rule))) }
     ensures file { IfOk result (λ found. aid_of tables.now (File found.file) ≡ Some request.now.file) }
     ensures free { OnOk result ((thing : Thing) → aid_of tables.now thing ≢ Some request.now.aid) }
     ensures room { OnOk result (NoneFree tables.now.entries.items → ⊥) }

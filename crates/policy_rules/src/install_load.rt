@@ -12,13 +12,15 @@ ghost use Rattle.policy_rules.specs.Admission.{Admitted};
 ghost use Rattle.policy_rules.specs.Delegation.{token_rules};
 ghost use Rattle.policy_rules.specs.FirstFailing.{IsFirst};
 ghost use Rattle.policy_rules.specs.HoldersFound.{IsSignedFor, approval_of};
-ghost use Rattle.policy_rules.specs.InstallLoad.{AsksToLoad, InstallLoadFails, InstallLoadParameters, InstallingLoadFails, IsLoadData, LoadData, file_domain_for, install_load, install_load_refusal, install_load_rules, signed_load_fields};
-ghost use Rattle.policy_rules.specs.InstallLoadRequests.{IsLoadInstallOf, IsLoadInstallRequest, LoadTokenFails, NamesDomain, load_data_of, own_install_load_rules};
-ghost use Rattle.policy_rules.specs.InstallRequests.{IsRefusedBy};
+ghost use Rattle.policy_rules.specs.InstallLoad.{AsksToLoad, InstallLoadParameters, InstallingLoadFails, IsLoadData, LoadData, file_domain_for, install_load, install_load_refusal, signed_load_fields, judged_install_load};
+ghost use Rattle.policy_rules.specs.InstallLoadRequests.{IsLoadInstallOf, IsLoadInstallRequest, LoadTokenFails, NamesDomain, load_data_of};
+ghost use Rattle.policy_rules.specs.InstallApplicationRequests.{IsRefusedBy};
 ghost use Rattle.policy_rules.specs.Requests.{ActsIn, ForActing, IsLoadNamed};
 ghost use Rattle.policy_rules.specs.Sound.{IsHashLength};
 ghost use Rattle.policy_rules.specs.declared.install_load.RuleIL.TheVariants.{IL4, IL6};
 ghost use Rattle.tokens_receipts.specs.Receipt.{with_length};
+ghost use Rattle.policy_rules.specs.CommandForm.{FailsFirst};
+ghost use Rattle.policy_rules.specs.ManagedForm.{OwnFirst};
 
 use crate::charge::{find_domain, is_at_or_above};
 use crate::delegation::{RuleTK, Signed, holds, judge_token};
@@ -222,10 +224,10 @@ fn judge_loading(
 ) -> Result<u8, RuleIL>
     requires in_order { IsInOrder tables.now }
     ensures passed { ForActing tables.now domain (λ page admitted. IsLoadNamed tables.now.entries.items live.now.load admitted.at.volatile.load
-        → (is : IsLoadInstallOf request.now admitted.command) → OnOk result (IsFirst (InstallingLoadFails admitted is.given) own_install_load_rules None)) }
+        → (is : IsLoadInstallOf request.now admitted.command) → OnOk result (OwnFirst judged_install_load admitted is.given None)) }
     ensures refused { ForActing tables.now domain (λ page asked. IsLoadNamed tables.now.entries.items live.now.load asked.at.volatile.load
         → (is : IsLoadInstallOf request.now asked.command)
-        → IfErr result (λ rule. IsFirst (InstallingLoadFails asked is.given) own_install_load_rules (Some rule))) }
+        → IfErr result (λ rule. OwnFirst judged_install_load asked is.given (Some rule))) }
     ensures found { ForActing tables.now domain (λ page admitted. (is : IsLoadInstallOf request.now admitted.command)
         → IfOk result (λ slot. aid_of tables.now (Entry slot) ≡ Some (file_domain_for admitted is.given))) }
     ensures hash { OnOk result (IsHashLength (length request.now.hash.now)) }
@@ -282,9 +284,9 @@ pub fn judge_load_install(
     requires in_order { IsInOrder tables.now }
     requires short { length request.now.signed.before.now ≤ 255 }
     ensures passed { ForActing tables.now domain (λ page admitted. IsLoadNamed tables.now.entries.items live.now.load admitted.at.volatile.load
-        → IsLoadInstallOf request.now admitted.command → OnOk result (IsFirst (InstallLoadFails admitted) install_load_rules None)) }
+        → IsLoadInstallOf request.now admitted.command → OnOk result (FailsFirst install_load admitted None)) }
     ensures refused { ForActing tables.now domain (λ page admitted. IsLoadNamed tables.now.entries.items live.now.load admitted.at.volatile.load
-        → IsLoadInstallOf request.now admitted.command → IfErr result (λ rule. IsFirst (InstallLoadFails admitted) install_load_rules (Some rule))) }
+        → IsLoadInstallOf request.now admitted.command → IfErr result (λ rule. FailsFirst install_load admitted (Some rule))) }
     ensures found { ForActing tables.now domain (λ page admitted. (is : IsLoadInstallOf request.now admitted.command)
         → IfOk result (λ slot. aid_of tables.now (Entry slot) ≡ Some (file_domain_for admitted is.given))) }
     ensures hash { OnOk result (IsHashLength (length request.now.hash.now)) }

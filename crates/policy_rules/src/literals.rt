@@ -3,19 +3,20 @@
 ghost use Rattle.std.specs.Prelude.{◌≡◌, ℕ, List, [], ◌∷◌, ◌++◌, None, Some, map, replicate};
 ghost use Rattle.std.specs.List.{range_with_len};
 ghost use Rattle.policy_rules.specs.Admission.{general_rules};
-ghost use Rattle.policy_rules.specs.Classes.{class_of, instructions_of, management};
+ghost use Rattle.policy_rules.specs.Classes.{class_of, instructions_of, managing};
 ghost use Rattle.policy_rules.specs.Commands.{forms_of};
 ghost use Rattle.policy_rules.specs.ExternalAuthenticate.{rules_before_form};
-ghost use Rattle.policy_rules.specs.Extradition.{extradition};
-ghost use Rattle.policy_rules.specs.InstallApplication.{install_application};
+ghost use Rattle.policy_rules.specs.Extradition.{managed_extradition};
+ghost use Rattle.policy_rules.specs.InstallApplication.{managed_install};
 ghost use Rattle.policy_rules.specs.InstallLoad.{install_load};
-ghost use Rattle.policy_rules.specs.MakeSelectable.{make_selectable};
+ghost use Rattle.policy_rules.specs.MakeSelectable.{managed_selectable};
 ghost use Rattle.policy_rules.specs.PutKey.{key_field, sealed_size};
 ghost use Rattle.policy_rules.specs.Rules.{status_of, statuses_of};
 ghost use Rattle.policy_rules.specs.declared.class.Class.TheVariants.{Interindustry, Plain, Secure};
 ghost use Rattle.policy_rules.specs.declared.live.TheConstants.{CHANNELS};
 ghost use Rattle.policy_rules.specs.declared.rule.Rule.TheVariants.{G, PS};
 ghost use Rattle.policy_rules.specs.declared.rule.RulePS.TheVariants.{P, S};
+ghost use Rattle.policy_rules.specs.ManagedForm.{command_form};
 
 /// How many channels there are.
 pub fn constants()
@@ -29,7 +30,7 @@ pub fn classes()
     ensures interindustry { instructions_of Interindustry ≡ 0xA4 ∷ 0x70 ∷ 0xCA ∷ [] }
     ensures plain { instructions_of Plain ≡ 0xCA ∷ 0x50 ∷ 0xD8 ∷ 0xE2 ∷ 0xE4 ∷ 0xE6 ∷ 0xE8 ∷ 0xF0 ∷ 0xF2 ∷ [] }
     ensures secure { instructions_of Secure ≡ 0x82 ∷ 0xCA ∷ 0xD8 ∷ 0xE2 ∷ 0xE4 ∷ 0xE6 ∷ 0xE8 ∷ 0xF0 ∷ 0xF2 ∷ [] }
-    ensures management { management ≡ 0xE4 ∷ 0xE6 ∷ 0xE8 ∷ 0xD8 ∷ 0xE2 ∷ 0xF0 ∷ 0xF2 ∷ [] }
+    ensures management { managing ≡ 0xD8 ∷ 0xE2 ∷ 0xE4 ∷ 0xE6 ∷ 0xE8 ∷ 0xF0 ∷ 0xF2 ∷ [] }
 {}
 
 /// The key field of PUT KEY for a key of each length.
@@ -54,12 +55,12 @@ pub fn status_words()
     ensures load { statuses_of (forms_of 0xE8) ≡ (0x6985 ∷ 0x6985 ∷ 0x6985 ∷ 0x6A86 ∷ 0x6A80 ∷ 0x6A84 ∷ 0x6A80 ∷ 0x6A80 ∷ 0x6982 ∷ 0x6985 ∷ []) ∷ [] }
     ensures set_status { statuses_of (forms_of 0xF0) ≡ (0x6985 ∷ 0x6985 ∷ 0x6985 ∷ 0x6982 ∷ [])
         ∷ (0x6985 ∷ 0x6985 ∷ 0x6A88 ∷ 0x6985 ∷ 0x6982 ∷ 0x6985 ∷ []) ∷ [] }
-    ensures install { statuses_of (forms_of 0xE6) ≡ statuses_of (install_application ∷ make_selectable ∷ extradition ∷ install_load ∷ []) }
-    ensures for_install { map status_of install_application.rules
+    ensures install { statuses_of (forms_of 0xE6) ≡ statuses_of (command_form managed_install ∷ command_form managed_selectable ∷ (command_form managed_extradition) ∷ install_load ∷ []) }
+    ensures for_install { map status_of (command_form managed_install).rules
         ≡ 0x6985 ∷ 0x6985 ∷ 0x6982 ∷ 0x6A88 ∷ 0x6982 ∷ 0x6A80 ∷ 0x6A80 ∷ 0x6982 ∷ 0x6A84 ∷ 0x6A80 ∷ 0x6982 ∷ 0x6982 ∷ 0x6985 ∷ [] }
-    ensures for_make_selectable { map status_of make_selectable.rules
+    ensures for_make_selectable { map status_of (command_form managed_selectable).rules
         ≡ 0x6985 ∷ 0x6985 ∷ 0x6982 ∷ 0x6A88 ∷ 0x6982 ∷ 0x6985 ∷ 0x6A80 ∷ 0x6A80 ∷ 0x6982 ∷ 0x6982 ∷ 0x6985 ∷ [] }
-    ensures for_extradition { map status_of extradition.rules
+    ensures for_extradition { map status_of (command_form managed_extradition).rules
         ≡ 0x6985 ∷ 0x6985 ∷ 0x6982 ∷ 0x6A88 ∷ 0x6985 ∷ 0x6982 ∷ 0x6985 ∷ 0x6985 ∷ 0x6982 ∷ 0x6A80 ∷ 0x6982 ∷ 0x6982 ∷ 0x6985 ∷ [] }
     ensures for_load { map status_of install_load.rules
         ≡ 0x6985 ∷ 0x6985 ∷ 0x6982 ∷ 0x6985 ∷ 0x6A80 ∷ 0x6A88 ∷ 0x6982 ∷ 0x6A80 ∷ 0x6A84 ∷ 0x6A80 ∷ 0x6982 ∷ 0x6982 ∷ [] }

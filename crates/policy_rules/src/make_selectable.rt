@@ -6,13 +6,14 @@ ghost use Rattle.card_types.specs.Privileges.{delegated_management};
 ghost use Rattle.card_types.specs.Slots.{held};
 ghost use Rattle.policy_rules.specs.Admission.{Admitted};
 ghost use Rattle.policy_rules.specs.Delegation.{Holds};
-ghost use Rattle.policy_rules.specs.FirstFailing.{IsFirst};
 ghost use Rattle.policy_rules.specs.HoldersFound.{FindsConfirmer, MayReceipt};
 ghost use Rattle.policy_rules.specs.InstallFields.{InstallData};
-ghost use Rattle.policy_rules.specs.InstallRequests.{IsRefusedBy};
-ghost use Rattle.policy_rules.specs.MakeSelectable.{AsksToMakeSelectable, MakeSelectableFails, MakeSelectableParameters, MakingSelectableFails, is_installed, make_selectable, selectable_refusal, selectable_rules};
+ghost use Rattle.policy_rules.specs.InstallApplicationRequests.{IsRefusedBy};
+ghost use Rattle.policy_rules.specs.MakeSelectable.{AsksToMakeSelectable, MakeSelectableParameters, is_installed, managed_selectable, selectable_refusal};
 ghost use Rattle.policy_rules.specs.Requests.{ActsIn};
-ghost use Rattle.policy_rules.specs.SelectableRequests.{AreGiven, IsInstalledWith, IsSelectableOf, IsSelectableRequest, own_selectable_rules};
+ghost use Rattle.policy_rules.specs.MakeSelectableRequests.{AreGiven, IsInstalledWith, IsSelectableOf, IsSelectableRequest};
+ghost use Rattle.policy_rules.specs.CommandForm.{FailsFirst};
+ghost use Rattle.policy_rules.specs.ManagedForm.{OwnFirst, command_form};
 
 use crate::charge::find_entry;
 use crate::delegation::Signed;
@@ -115,9 +116,9 @@ fn judge_installed(
 ) -> Result<u8, RuleMS>
     requires in_order { IsInOrder tables.now }
     ensures passed { (page : ℕ → List ℕ) (admitted : Admitted) → ActsIn page tables.now domain admitted
-        → (is : IsSelectableOf request.now admitted.command) → OnOk result (IsFirst (MakingSelectableFails admitted is.given) own_selectable_rules None) }
+        → (is : IsSelectableOf request.now admitted.command) → OnOk result (OwnFirst managed_selectable.judged admitted is.given None) }
     ensures refused { (page : ℕ → List ℕ) (admitted : Admitted) → ActsIn page tables.now domain admitted
-        → (is : IsSelectableOf request.now admitted.command) → IfErr result (λ rule. IsFirst (MakingSelectableFails admitted is.given) own_selectable_rules (Some rule)) }
+        → (is : IsSelectableOf request.now admitted.command) → IfErr result (λ rule. OwnFirst managed_selectable.judged admitted is.given (Some rule)) }
     ensures entry { IfOk result (λ slot. IsInstalledWith request.now.aid (held tables.now.entries.items slot)) }
 {
     if !may_manage(&tables.entries, domain) {
@@ -148,9 +149,9 @@ pub fn judge_selectable(
     requires in_order { IsInOrder tables.now }
     requires short { length request.now.signed.before.now ≤ 255 }
     ensures passed { (page : ℕ → List ℕ) (admitted : Admitted) → ActsIn page tables.now domain admitted
-        → IsSelectableOf request.now admitted.command → OnOk result (IsFirst (MakeSelectableFails admitted) selectable_rules None) }
+        → IsSelectableOf request.now admitted.command → OnOk result (FailsFirst (command_form managed_selectable) admitted None) }
     ensures refused { (page : ℕ → List ℕ) (admitted : Admitted) → ActsIn page tables.now domain admitted
-        → IsSelectableOf request.now admitted.command → IfErr result (λ rule. IsFirst (MakeSelectableFails admitted) selectable_rules (Some rule)) }
+        → IsSelectableOf request.now admitted.command → IfErr result (λ rule. FailsFirst (command_form managed_selectable) admitted (Some rule)) }
     ensures entry { IfOk result (λ found. IsInstalledWith request.now.aid (held tables.now.entries.items found.entry)) }
     ensures receipter { (page : ℕ → List ℕ) (admitted : Admitted) → ActsIn page tables.now domain admitted
         → IfOk result (λ found. FindsConfirmer (Holds admitted delegated_management) tables.now admitted found.receipter) }
@@ -204,7 +205,7 @@ fn read_request(p1: u8, p2: u8, body: &[u8]) -> Option<SelectableRequest<'_>>
 pub(crate) fn parse_selectable(p1: u8, p2: u8, body: &[u8]) -> Result<SelectableRequest<'_>, Rule>
     ensures form { IfOk result (λ request. MakeSelectableParameters p1 p2) }
     ensures means { IfOk result (λ request. IsSelectableRequest request p1 p2 body.now) }
-    ensures refused { IfErr result (IsRefusedBy make_selectable p1 p2 body.now) }
+    ensures refused { IfErr result (IsRefusedBy (command_form managed_selectable) p1 p2 body.now) }
 {
     if p1 != 0x08 || p2 != 0x00 {
         return Err(Rule::PS(RulePS::P));

@@ -7,7 +7,7 @@ ghost use Rattle.card_types.specs.declared.tables.Entry.{Entry};
 ghost use Rattle.policy_rules.specs.Admission.{Admitted};
 ghost use Rattle.policy_rules.specs.Management.{ManagementFails, acting, management_refusal};
 ghost use Rattle.policy_rules.specs.Requests.{ActsIn};
-ghost use Rattle.policy_rules.specs.StatusSetRequests.{TellsCard};
+ghost use Rattle.policy_rules.specs.SetStatusRequests.{TellsCard};
 ghost use Rattle.policy_rules.specs.declared.management.RuleM.TheVariants.{M1, M2, M3};
 ghost use Rattle.policy_rules.specs.declared.rule.Rule.TheVariants.{M};
 

@@ -60,7 +60,7 @@ pub fn judge(
 {
     let domain = live.selected[usize::from(channel)].unwrap();
     match request {
-        Request::Select { partial } => match judge_select(tables, partial) {
+        Request::Select { prefix } => match judge_select(tables, prefix) {
             Ok(_) => None,
             Err(rule) => Some(Rule::SE(rule)),
         },
@@ -94,11 +94,11 @@ pub fn judge(
         Request::Install(request) => judge_install(tables, live, domain, request).err(),
         Request::MakeSelectable(request) => judge_selectable(tables, domain, request).err(),
         Request::Extradite(request) => judge_extradition(tables, domain, request).err(),
-        Request::BeginLoad(request) => judge_load_install(tables, live, domain, request).err(),
-        Request::CardStatus { code } => judge_card_status(tables, domain, *code).err(),
+        Request::InstallLoad(request) => judge_load_install(tables, live, domain, request).err(),
+        Request::CardStatus { life } => judge_card_status(tables, domain, *life).err(),
         Request::EntryStatus(request) => judge_entry_status(tables, domain, request).err(),
         Request::Load(request) => judge_load(tables, live, channel, domain, request).err(),
-        Request::ListStatus(request) => {
+        Request::List(request) => {
             let place = live.places[usize::from(channel)].as_ref();
             judge_status(tables, place, domain, request).err()
         }

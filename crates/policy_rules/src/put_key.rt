@@ -9,11 +9,13 @@ ghost use Rattle.policy_rules.specs.Admission.{Admitted};
 ghost use Rattle.policy_rules.specs.FirstFailing.{IsFirst};
 ghost use Rattle.policy_rules.specs.KeyFields.{AreFields, BeginsWithKey, NoFields};
 ghost use Rattle.policy_rules.specs.Requests.{ActsIn, IsRequestOf, Parses, sent_key, sent_keys};
-ghost use Rattle.policy_rules.specs.PutKey.{HasKeyFields, IsNewVersion, PutKeyFails, PutKeyField, PutKeyParameters, SaysChecks, SentKey, key_count, put_key_refusal, put_rules, sealed_size};
-ghost use Rattle.policy_rules.specs.PutRules.{key_rules, version_rules};
+ghost use Rattle.policy_rules.specs.PutKey.{PutKeyFails, HasKeyFields, IsNewVersion, PutKeyParameters, SaysChecks, SentKey, key_count, put_key_refusal, sealed_size, managed_put_key, KeysAsked};
+ghost use Rattle.policy_rules.specs.PutKeyRules.{key_rules, version_rules};
 ghost use Rattle.policy_rules.specs.declared.instruction.TheConstants.{PUT_KEY};
 ghost use Rattle.policy_rules.specs.declared.put_key.PutKeys.{PutKeys as Keys};
 ghost use Rattle.policy_rules.specs.declared.request.Request.TheVariants.{PutKey};
+ghost use Rattle.policy_rules.specs.CommandForm.{FailsFirst};
+ghost use Rattle.policy_rules.specs.ManagedForm.{command_form};
 
 use crate::management::judge_management;
 use crate::request::Request;
@@ -192,7 +194,7 @@ fn is_new_version(p2: u8, version: u8) -> bool
 // The new key version number and the keys of the data field.
 fn read_body(p2: u8, body: &[u8]) -> Option<(u8, PutKeys<'_>)>
     ensures some { IfSome result (λ read. HasKeyFields p2 body.now read.0 (sent_keys read.1)) }
-    ensures none { IfNone result (PutKeyField p2 body.now → ⊥) }
+    ensures none { IfNone result ((asked : KeysAsked) × HasKeyFields p2 body.now asked.version asked.sent → ⊥) }
 {
     if body.is_empty() || !is_new_version(p2, body[0]) {
         return None;
@@ -292,10 +294,10 @@ pub fn judge_put_key(
     requires in_order { IsInOrder tables.now }
     ensures passed { (page : ℕ → List ℕ) (admitted : Admitted) → ActsIn page tables.now domain admitted
         → IsRequestOf (PutKey replaced version keys.now) admitted.command → SaysChecks checks_fit admitted
-        → OnOk result (IsFirst (PutKeyFails admitted) put_rules None) }
+        → OnOk result (FailsFirst (command_form managed_put_key) admitted None) }
     ensures refused { (page : ℕ → List ℕ) (admitted : Admitted) → ActsIn page tables.now domain admitted
         → IsRequestOf (PutKey replaced version keys.now) admitted.command → SaysChecks checks_fit admitted
-        → IfErr result (λ rule. IsFirst (PutKeyFails admitted) put_rules (Some rule)) }
+        → IfErr result (λ rule. FailsFirst (command_form managed_put_key) admitted (Some rule)) }
     ensures roomy { OnOk result (NoneHolds (PutFails domain replaced version (length (sent_keys keys.now)) tables.now.keys.items)) }
 {
     judge_put_versions(tables, domain, replaced, version)?;

@@ -25,7 +25,7 @@ use card_types::Level;
 pub enum Request<'a> {
     /// SELECT of the entry whose AID begins so.
     Select {
-        partial: &'a [u8],
+        prefix: &'a [u8],
     },
     /// MANAGE CHANNEL that opens a channel.
     MoreChannel,
@@ -71,17 +71,17 @@ pub enum Request<'a> {
     /// INSTALL [for extradition].
     Extradite(ExtraditionRequest<'a>),
     /// INSTALL [for load].
-    BeginLoad(LoadInstallRequest<'a>),
-    /// SET STATUS of the card, to the state with this code.
+    InstallLoad(LoadInstallRequest<'a>),
+    /// SET STATUS of the card, to the life cycle state with this code.
     CardStatus {
-        code: u8,
+        life: u8,
     },
     /// SET STATUS of an application or a security domain.
     EntryStatus(EntryStatusRequest),
     /// LOAD.
     Load(LoadRequest<'a>),
     /// GET STATUS.
-    ListStatus(ListRequest<'a>),
+    List(ListRequest<'a>),
 }
 
 /// The request of a command, or the first of the rules on its form that fails.

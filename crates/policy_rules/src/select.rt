@@ -55,7 +55,7 @@ pub(crate) fn parse_select(p1: u8, p2: u8, body: &[u8]) -> Result<Request<'_>, R
     if body.len() > 16 {
         return Err(Rule::PS(RulePS::S));
     }
-    Ok(Request::Select { partial: body })
+    Ok(Request::Select { prefix: body })
 }
 
 /// Whether the AID is that of the Issuer Security Domain.

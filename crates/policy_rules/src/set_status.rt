@@ -14,8 +14,8 @@ pub(crate) fn parse_set_status(p1: u8, p2: u8, body: &[u8]) -> Result<Request<'_
     ensures { Parses SET_STATUS p1 p2 body.now result }
 {
     if p1 == 0x80 {
-        let code = parse_card_status(p1, p2, body)?;
-        return Ok(Request::CardStatus { code });
+        let life = parse_card_status(p1, p2, body)?;
+        return Ok(Request::CardStatus { life });
     }
     match parse_entry_status(p1, p2, body) {
         Ok(request) => Ok(Request::EntryStatus(request)),

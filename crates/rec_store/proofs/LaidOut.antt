@@ -1,10 +1,10 @@
--- Store pages that are written, behind a gate that is closed.
-use Rattle.std.proofs.Common.{◌≡◌, ℕ, false, if◌then◌else◌, ◌==◌, List, [], Some, slice_get, get_or, ap, sym, subst, ◌∙◌, arith}
+-- Store pages that are written where the gate is closed.
+use Rattle.std.proofs.Common.{◌≡◌, ℕ, false, if◌then◌else◌, ◌==◌, List, [], Some, slice_get, get_or, ap, sym, subst, ◌∙◌}
 use Rattle.std.proofs.lemmas.Bool.{false≢true}
 use Rattle.card_check.specs.IsCard.{IsCardOf}
 use Rattle.card_types.specs.Registry.{Registry}
 use Rattle.card_types.specs.declared.tables.Tables.{Tables}
-use Rattle.flash_core.specs.Device.{Only, SameBut}
+use Rattle.flash_core.specs.Device.{Only}
 use Rattle.flash_core.specs.declared.page.Page.{Page}
 use Rattle.page_journal.specs.Journal.{HasValidJournal, bytes_of, copied_place, descriptor, is_open, stored}
 use Rattle.rec_store.specs.Reopens.{KeepsPages, load_page, store_in, store_page}
@@ -24,14 +24,11 @@ module _ (pages : List Page) (closed : is_open pages ≡ false) where
   keeps_shut may_leave t registry held only card =
       keeps pages may_leave registry t sound (tables_same (store_in (slice_get pages)) (store_page pages) (λ n lt. ap bytes_of (at_home n)) t held) card [] (only_leaves pages may_leave sound only) (none_loose t)
 
--- the gate is written behind the store pages, and all pages are synced
-pub laid_out : (written shut pages : List Page) (gate : Page) (may_leave : List Page → Type 0) (t : Tables) (registry : Registry) → HoldsTables Third (store_in (slice_get written)) t
-    → SameBut 45 written shut → slice_get shut 45 ≡ Some gate → get_or gate.bytes 0 0 ≡ 0 → pages ≡ shut → Only shut may_leave → IsCardOf (load_page pages) t registry → KeepsPages pages may_leave registry
-laid_out written shut pages gate may_leave t registry held others there zero same only card =
-    keeps_shut pages (subst (λ list. is_open list ≡ false) (sym same) closed) may_leave t registry (subst (λ list. HoldsTables Third (store_in (slice_get list)) t) (sym same) kept) (subst (λ list. Only list may_leave) (sym same) only) card
+-- all pages are synced, the gate closed among them
+pub laid_out : (written pages : List Page) (gate : Page) (may_leave : List Page → Type 0) (t : Tables) (registry : Registry) → HoldsTables Third (store_in (slice_get written)) t
+    → slice_get written 45 ≡ Some gate → get_or gate.bytes 0 0 ≡ 0 → pages ≡ written → Only written may_leave → IsCardOf (load_page pages) t registry → KeepsPages pages may_leave registry
+laid_out written pages gate may_leave t registry held there zero same only card =
+    keeps_shut pages (subst (λ list. is_open list ≡ false) (sym same) closed) may_leave t registry (subst (λ list. HoldsTables Third (store_in (slice_get list)) t) (sym same) held) (subst (λ list. Only list may_leave) (sym same) only) card
   where
-    closed : is_open shut ≡ false
+    closed : is_open written ≡ false
     closed = ap (λ one. get_or (bytes_of one) 0 0 == 165) there ∙ ap (λ byte. byte == 165) zero
-
-    kept : HoldsTables Third (store_in (slice_get shut)) t
-    kept = tables_same (store_in (slice_get written)) (store_in (slice_get shut)) (λ n lt. ap bytes_of (others.others n (λ is. omega (arith, is, lt)))) t held

@@ -19,7 +19,8 @@ use flash_core::{Flash, FlashFailed, Page};
 use page_journal::GATE;
 
 /// Lays out a card on a device: its store pages, and a closed journal. The slots past the end of a list are free. Nothing is
-/// said of the device where power is lost before the call's end.
+/// said of the device where power is lost before the call's end. The superblock is blank from the first write to the last, so
+/// what is stopped between two writes leaves no card.
 pub fn lay_out<F: Flash>(
     flash: &mut F,
     life: CardLife,
@@ -35,15 +36,17 @@ pub fn lay_out<F: Flash>(
     ensures keeps { F.tells → (tables : Tables) (registry : Registry) → HasFirst tables life entries.now files.now keys.now objects.now
         → IsCard (load_page (F.pages flash.new)) tables → Represents (load_page (F.pages flash.new)) tables registry
         → OnOk result (Keeps F.Flash flash.new registry) }
-    ensures load { F.tells → (page : ℕ) → 96 ≤ page → slice_get (F.pages flash.new) page ≡ slice_get (F.pages flash.old) page }
+    ensures others { F.tells → (page : ℕ) → 46 ≤ page → slice_get (F.pages flash.new) page ≡ slice_get (F.pages flash.old) page }
     ensures cause { HasCause (F.faults flash.old) (F.faults flash.new) result }
 {
+    let blank = Page { bytes: [0; 256] };
+    flash.write(0, &blank)?;
+    flash.write(GATE, &blank)?;
     write_tables(flash, life, entries, files, keys, objects)?;
-    flash.write(GATE, &Page { bytes: [0; 256] })?;
     flash.sync()
 }
 
-// Writes the superblock and all slots.
+// Writes all slots, and then the superblock.
 fn write_tables<F: Flash>(
     flash: &mut F,
     life: CardLife,
@@ -59,14 +62,12 @@ fn write_tables<F: Flash>(
     ensures others { F.tells → (page : ℕ) → 45 ≤ page → slice_get (F.pages flash.new) page ≡ slice_get (F.pages flash.old) page }
     ensures cause { HasCause (F.faults flash.old) (F.faults flash.new) result }
 {
-    flash.write(
-        0,
-        &Page {
-            bytes: superblock(life),
-        },
-    )?;
     write_slots(flash, entries, ENTRIES)?;
     write_slots(flash, files, FILES)?;
     write_slots(flash, keys, KEYS)?;
-    write_slots(flash, objects, OBJECTS)
+    write_slots(flash, objects, OBJECTS)?;
+    let first = Page {
+        bytes: superblock(life),
+    };
+    flash.write(0, &first)
 }

@@ -24,7 +24,7 @@
 //!     are staged, and power lost at any moment leaves the registry (`write_load`, `moments` and `keeps`). After `mount` and
 //!     after a commit each load page is spare that the tables leave free (`spare`).
 //!  7. A card is laid out on a device whatever the device held, and once it is, power lost leaves the registry of its tables
-//!     (`lay_out`, `keeps`). No load page is written (`lay_out`, `load`).
+//!     (`lay_out`, `keeps`). No page past the gate changes (`lay_out`, `others`).
 //!  8. A call fails only where the device's count of faults rose (`cause` on each call, and `mount`, `err`).
 #![tactic(auto)]
 

@@ -3,15 +3,17 @@ use Rattle.card_core.proofs.CardLifeSet.{card_life_cards, card_life_says}
 use Rattle.card_core.proofs.ManagedAs.{refused_as}
 use Rattle.card_types.specs.RegistryChange.{with_card_life}
 use Rattle.card_types.specs.declared.tables.Tables.{Tables}
-use Rattle.policy_rules.specs.CardStatus.{card_status}
+use Rattle.policy_rules.proofs.ManagedLawful.{replied}
+use Rattle.policy_rules.specs.CardStatus.{managed_card_status}
 use Rattle.policy_rules.specs.Requests.{ActsIn}
 use Rattle.policy_rules.specs.State.{Effect}
 use Rattle.card_core.proofs.card_status.set_card_status.Goals as goal
+use Rattle.policy_rules.specs.ManagedForm.{command_form}
 
 pub returns-in_err-life-clause-done : goal.returns-in_err-life-clause-done
 returns-in_err-life-clause-done g c page admitted acts is =
     let here = subst (λ (t : Tables). ActsIn page t c.args.domain admitted) (sym c.tables.ensures.tables) acts in
-    refused_as card_status admitted page c.args.records.now.tables [] c.from_residual.result c.in_err-life.field-0.0 c.from_residual.ensures.1
+    refused_as (command_form managed_card_status) admitted page c.args.records.now.tables [] c.from_residual.result c.in_err-life.field-0.0 c.from_residual.ensures.1
     (c.in_err-life.ensures.refused page admitted here is) refl
 
 pub returns-clause-done : goal.returns-clause-done
@@ -24,7 +26,7 @@ returns-clause-done g c page admitted acts is =
     record {
       first = c.in_ok-life.ensures.passed page admitted here is;
       done = done;
-      does = record { life = life; code = c.in_ok-life.ensures.life ∙ is.code_is; registry = refl; volatile = refl; body = refl; status = refl };
+      does = replied managed_card_status admitted tt left tt (record { life = life; code = c.in_ok-life.ensures.life ∙ is.code_is; registry = refl }) (λ no. no);
       volatile = refl;
       says = card_life_says before c.set_card_life.new.self.tables life c.set_card_life.ensures.tables page admitted.at.registry acts.says;
       body_is = refl;

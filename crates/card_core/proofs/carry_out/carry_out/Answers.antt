@@ -80,10 +80,10 @@ begin_load-requires-clause-in_order g c = subst IsInOrder (sym c.tables.ensures.
 pub begin_load-requires-clause-formed : goal.begin_load-requires-clause-formed
 begin_load-requires-clause-formed g c =
     let request : IsRequestOf c.in-Ok.request (apdu_of c.args.command.now) = record { form = search rules; means = search rules } in
-    (apdu_of c.args.command.now, subst (λ (r : Request). IsRequestOf r (apdu_of c.args.command.now)) c.in-BeginLoad.is request, c.requires.short)
+    (apdu_of c.args.command.now, subst (λ (r : Request). IsRequestOf r (apdu_of c.args.command.now)) c.in-InstallLoad.is request, c.requires.short)
 
-pub returns-in-BeginLoad-clause-done : goal.returns-in-BeginLoad-clause-done
-returns-in-BeginLoad-clause-done g c = λ page judged whole shown passed.
+pub returns-in-InstallLoad-clause-done : goal.returns-in-InstallLoad-clause-done
+returns-in-InstallLoad-clause-done g c = λ page judged whole shown passed.
     let stands = shown.on in
     let at = passed.on in
     let tables = c.args.records.now.tables in
@@ -93,14 +93,14 @@ returns-in-BeginLoad-clause-done g c = λ page judged whole shown passed.
     let low = low page tables live all judged stands c.told-held c.args.received.now.channel slot c.requires.channel at c.requires.selected in
     let acts = acts_for page tables live all judged stands c.told-held c.args.received.now.channel slot c.requires.channel at c.requires.selected in
     let request : IsRequestOf c.in-Ok.request (apdu_of c.args.command.now) = record { form = search rules; means = search rules } in
-    let asks = subst (λ (r : Request). IsRequestOf r judged.command) c.in-BeginLoad.is (subst (IsRequestOf c.in-Ok.request) (sym passed.is) request) in
+    let asks = subst (λ (r : Request). IsRequestOf r judged.command) c.in-InstallLoad.is (subst (IsRequestOf c.in-Ok.request) (sym passed.is) request) in
     let loads = (rw c.tables.ensures.tables at c.begin_load.ensures.done) page judged acts stands.shows.says stands.sound.fits.channels at asks in
     let left = begin_left page tables live c.begin_load.new.live c.args.loading.now c.begin_load.new.loading c.begin_load.result c.begin_load.ensures.refused in
     rw (c.begin_load.ensures.writes, c.requires.unwritten) (loaded_carried page page tables tables live c.begin_load.new.live all judged stands (record { held = c.told-held; channels = stands.sound.fits.channels }) low
     c.args.loading.now.session c.begin_load.new.loading.session c.begin_load.new.reply.items c.begin_load.result left loads)
 
-pub returns-in-BeginLoad-clause-loads : goal.returns-in-BeginLoad-clause-loads
-returns-in-BeginLoad-clause-loads g c = λ page judged whole shown passed.
+pub returns-in-InstallLoad-clause-loads : goal.returns-in-InstallLoad-clause-loads
+returns-in-InstallLoad-clause-loads g c = λ page judged whole shown passed.
     let stands = shown.on in
     let at = passed.on in
     let tables = c.args.records.now.tables in
@@ -110,7 +110,7 @@ returns-in-BeginLoad-clause-loads g c = λ page judged whole shown passed.
     let low = low page tables live all judged stands c.told-held c.args.received.now.channel slot c.requires.channel at c.requires.selected in
     let acts = acts_for page tables live all judged stands c.told-held c.args.received.now.channel slot c.requires.channel at c.requires.selected in
     let request : IsRequestOf c.in-Ok.request (apdu_of c.args.command.now) = record { form = search rules; means = search rules } in
-    let asks = subst (λ (r : Request). IsRequestOf r judged.command) c.in-BeginLoad.is (subst (IsRequestOf c.in-Ok.request) (sym passed.is) request) in
+    let asks = subst (λ (r : Request). IsRequestOf r judged.command) c.in-InstallLoad.is (subst (IsRequestOf c.in-Ok.request) (sym passed.is) request) in
     let loads = (rw c.tables.ensures.tables at c.begin_load.ensures.done) page judged acts stands.shows.says stands.sound.fits.channels at asks in
     let left = begin_left page tables live c.begin_load.new.live c.args.loading.now c.begin_load.new.loading c.begin_load.result c.begin_load.ensures.refused in
     rw (c.begin_load.ensures.writes, c.requires.unwritten) (loaded_by page page tables tables live c.begin_load.new.live all judged stands (record { held = c.told-held; channels = stands.sound.fits.channels }) low

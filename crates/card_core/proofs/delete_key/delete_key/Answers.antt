@@ -5,12 +5,14 @@ use Rattle.card_core.proofs.Managing.{refusal_managed}
 use Rattle.card_types.specs.InOrder.{IsInOrder}
 use Rattle.card_types.specs.Represents.{Represents}
 use Rattle.card_types.specs.declared.tables.Tables.{Tables}
+use Rattle.policy_rules.proofs.ManagedLawful.{replied}
 use Rattle.policy_rules.proofs.DeleteKeyKeeps.{without_version}
 use Rattle.policy_rules.proofs.Judging.{does_so}
-use Rattle.policy_rules.specs.DeleteKey.{delete_key}
+use Rattle.policy_rules.specs.DeleteKey.{managed_delete_key}
 use Rattle.policy_rules.specs.Requests.{ActsIn}
 use Rattle.policy_rules.specs.Management.{acting}
 use Rattle.card_core.proofs.delete_key.delete_key.Goals as goal
+use Rattle.policy_rules.specs.ManagedForm.{command_form}
 
 pub judge_delete_key-requires : goal.judge_delete_key-requires
 judge_delete_key-requires g c = record { in_order = subst IsInOrder (sym c.tables.ensures.tables) (in_order c.args.records.now.tables c.requires.cards) }
@@ -31,15 +33,8 @@ returns-clause-done g c page admitted acts request =
     record {
       judges = c.in_ok-judge_delete_key.ensures.passed page admitted here request;
       done = record { state = record { registry = registry; volatile = admitted.at.volatile }; body = 0x00 ∷ []; status = 0x9000 };
-      does = does_so delete_key (λ holds here. inl here) admitted request.form _ (record {
-        version = c.args.version;
-        identifier = c.args.identifier;
-        chooses = request.means;
-        registry = refl;
-        volatile = refl;
-        body = refl;
-        status = refl;
-      });
+      does = does_so (command_form managed_delete_key) (λ holds here. inl here) admitted request.form _
+          (replied managed_delete_key admitted (record { version = c.args.version; identifier = c.args.identifier }) registry request.means refl (λ no. no));
       volatile = refl;
       says = subst (λ (aid : List ℕ). Represents page c.delete.new.keeper.tables (without_version admitted.at.registry aid c.args.version)) (sym acts.on) says;
       body_is = c.push.ensures.items ∙ ap (λ (items : List ℕ). items ++ 0x00 ∷ []) c.requires.empty;

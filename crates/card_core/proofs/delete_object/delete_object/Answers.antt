@@ -11,12 +11,13 @@ use Rattle.card_types.specs.Found.{aid_of}
 use Rattle.card_types.specs.InOrder.{IsInOrder}
 use Rattle.card_types.specs.Represents.{Represents}
 use Rattle.card_types.specs.declared.tables.Tables.{Tables}
-use Rattle.policy_rules.specs.DeleteObject.{IsDelegated, delete_object, without_thing}
-use Rattle.policy_rules.specs.DeletionFound.{HasNoneFrom, IsAlone, IsRemovable, IsUnselected}
+use Rattle.policy_rules.specs.DeleteObject.{IsDelegated, managed_delete_object, without_thing}
+use Rattle.policy_rules.specs.DeleteObjectFound.{HasNoneFrom, IsAlone, IsRemovable, IsUnselected}
 use Rattle.policy_rules.specs.HoldersFound.{FindsConfirmer, MayReceipt}
 use Rattle.policy_rules.specs.Requests.{ActsIn, RepresentsState}
 use Rattle.card_core.proofs.FreePages.{files_free, free_twice}
 use Rattle.card_core.proofs.delete_object.delete_object.Goals as goal
+use Rattle.policy_rules.specs.ManagedForm.{command_form}
 
 pub judge_deletion-requires-clause-in_order : goal.judge_deletion-requires-clause-in_order
 judge_deletion-requires-clause-in_order g c = subst IsInOrder (sym c.tables.ensures.tables) (in_order c.args.records.now.tables c.requires.cards)
@@ -29,7 +30,7 @@ returns-in_err-found-clause-done g c page admitted acts state four request =
     let here = subst (λ (t : Tables). ActsIn page t c.args.domain admitted) (sym c.tables.ensures.tables) acts in
     let shown = subst (λ (t : Tables). RepresentsState page t c.args.live.now admitted.at) (sym c.tables.ensures.tables) state in
     let rule = c.in_err-found.field-0.0 in
-    refused_as delete_object admitted page c.args.records.now.tables c.args.reply.now.items c.from_residual.result rule c.from_residual.ensures.1
+    refused_as (command_form managed_delete_object) admitted page c.args.records.now.tables c.args.reply.now.items c.from_residual.result rule c.from_residual.ensures.1
     (c.in_err-found.ensures.refused page admitted here shown four request) c.requires.empty
 
 pub returns-in_err-found-clause-selected : goal.returns-in_err-found-clause-selected
@@ -115,7 +116,7 @@ returns-clause-done g c page admitted acts state four request =
     record {
       first = c.in_ok-found.ensures.passed page admitted here shown four request;
       done = leaves admitted told.0 body;
-      does = record { asked = asked; asks = request.asks; answered = answered; volatile = refl; status = refl };
+      does = record { asked = asked; asks = request.asks; changed = changed; becomes = refl; answered = answered; volatile = refl; status = refl };
       volatile = refl;
       says = told.1;
       body_is = refl;

@@ -8,11 +8,13 @@ use Rattle.card_types.specs.InOrder.{IsInOrder}
 use Rattle.card_types.specs.declared.found.Found.TheVariants as found
 use Rattle.card_types.specs.declared.tables.Tables.{Tables}
 use Rattle.domain_tree.proofs.AboveNamed.{free_of_loops}
+use Rattle.policy_rules.proofs.ManagedLawful.{replied}
 use Rattle.policy_rules.proofs.EntryStatusLaws.{set_of_card}
-use Rattle.policy_rules.specs.EntryStatus.{entry_status}
+use Rattle.policy_rules.specs.EntryStatus.{managed_entry_status}
 use Rattle.policy_rules.specs.Requests.{ActsIn}
-use Rattle.policy_rules.specs.StatusSetRequests.{IsOther, slot_of}
+use Rattle.policy_rules.specs.SetStatusRequests.{IsOther, slot_of}
 use Rattle.card_core.proofs.entry_status.set_entry_status.Goals as goal
+use Rattle.policy_rules.specs.ManagedForm.{command_form}
 
 pub judge_entry_status-requires : goal.judge_entry_status-requires
 judge_entry_status-requires g c = record { in_order = subst IsInOrder (sym c.tables.ensures.tables) (in_order c.args.records.now.tables c.requires.cards) }
@@ -20,7 +22,7 @@ judge_entry_status-requires g c = record { in_order = subst IsInOrder (sym c.tab
 pub returns-in_err-change-clause-done : goal.returns-in_err-change-clause-done
 returns-in_err-change-clause-done g c page admitted acts is =
     let here = subst (λ (t : Tables). ActsIn page t c.args.domain admitted) (sym c.tables.ensures.tables) acts in
-    refused_as entry_status admitted page c.args.records.now.tables [] c.from_residual.result c.in_err-change.field-0.0 c.from_residual.ensures.1
+    refused_as (command_form managed_entry_status) admitted page c.args.records.now.tables [] c.from_residual.result c.in_err-change.field-0.0 c.from_residual.ensures.1
     (c.in_err-change.ensures.refused page admitted here is) refl
 
 pub make_change-requires-clause-slot : goal.make_change-requires-clause-slot
@@ -49,7 +51,7 @@ returns-clause-done g c page admitted acts is =
     record {
       first = c.in_ok-change.ensures.passed page admitted here is;
       done = record { state = record { registry = left.0; volatile = admitted.at.volatile }; body = []; status = 0x9000 };
-      does = record { set = left.2; volatile = refl; body = refl; status = refl };
+      does = replied managed_entry_status admitted tt left.0 is.field left.2 (λ no. no);
       volatile = refl;
       says = left.1;
       body_is = refl;
@@ -79,5 +81,5 @@ returns-clause-cards g c =
     let here = subst (λ (t : Tables). ActsIn page t c.args.domain some) (sym c.tables.ensures.tables) acts in
     let left = change_says page before after some change (named ∙ ap Some asked.1.aid) (c.in_ok-change.ensures.change page some here asked.1)
     (c.make_change.ensures.said page said says well) in
-    let kept = set_of_card some (c.in_ok-change.ensures.passed page some here asked.1) (of_card page before said says well c.args.domain c.requires.domain) left.0 left.2 in
+    let kept = set_of_card some asked.1.field (c.in_ok-change.ensures.passed page some here asked.1) (of_card page before said says well c.args.domain c.requires.domain) left.0 left.2 in
     (left.0, left.1, kept.well))) c.requires.cards

@@ -23,9 +23,10 @@ use Rattle.card_types.specs.RegistryChange.{moved}
 use Rattle.card_types.specs.declared.found.Found.TheVariants.{Entry}
 use Rattle.card_types.specs.declared.tables.Entry.{Entry as Slot}
 use Rattle.policy_rules.proofs.ExtraditionLaws.{moved_of_card}
-use Rattle.policy_rules.specs.Extradition.{domain_of_thing, extradition}
+use Rattle.policy_rules.specs.Extradition.{domain_of_thing, managed_extradition}
 use Rattle.card_core.proofs.FreePages.{files_free, free_twice, moved_free}
 use Rattle.card_core.proofs.extradition.extradite.Goals as goal
+use Rattle.policy_rules.specs.ManagedForm.{command_form}
 
 pub judge_extradition-requires-clause-in_order : goal.judge_extradition-requires-clause-in_order
 judge_extradition-requires-clause-in_order g c = subst IsInOrder (sym c.tables.ensures.tables) (in_order c.args.records.now.tables c.requires.cards)
@@ -38,7 +39,7 @@ returns-in_err-found-clause-done g c page admitted acts request =
     let here = subst (λ (t : Tables). ActsIn page t c.args.domain admitted) (sym c.tables.ensures.tables) acts in
     let rule = c.in_err-found.field-0.0 in
     refusal_managed admitted page c.args.records.now.tables c.args.reply.now.items c.from_residual.result rule c.from_residual.ensures.1
-    (judged extradition (λ holds found. inr (inr (inl found))) admitted request.form refl (Some rule) (c.in_err-found.ensures.refused page admitted here request.means))
+    (judged (command_form managed_extradition) (λ holds found. inr (inr (inl found))) admitted request.form refl (Some rule) (c.in_err-found.ensures.refused page admitted here request.means))
     c.requires.empty
 
 -- the AID of an entry that is found in its slot
@@ -59,8 +60,8 @@ move_to-requires-clause-slot g c =
 
 pub move_to-requires-clause-domain : goal.move_to-requires-clause-domain
 move_to-requires-clause-domain g c =
-    entry_there c.args.records.now.tables c.in_ok-found.found.to c.args.request.now.domain
-    (subst (λ (t : Tables). aid_of t (Entry c.in_ok-found.found.to) ≡ Some c.args.request.now.domain) c.tables.ensures.tables c.in_ok-found.ensures.to)
+    entry_there c.args.records.now.tables c.in_ok-found.found.to c.args.request.now.to
+    (subst (λ (t : Tables). aid_of t (Entry c.in_ok-found.found.to) ≡ Some c.args.request.now.to) c.tables.ensures.tables c.in_ok-found.ensures.to)
 
 pub move_to-requires-clause-room : goal.move_to-requires-clause-room
 move_to-requires-clause-room g c = thing_room c.in_ok-found.found.thing c.args.records.now.staged c.requires.clean
@@ -85,7 +86,7 @@ confirm-requires-clause-cards g c =
     let request = c.requires.formed.1 in
     let given = request.means.given in
     let there = subst (λ (t : Tables). aid_of t thing ≡ Some c.args.request.now.aid) c.tables.ensures.tables c.in_ok-found.ensures.thing in
-    let into = slot_aid before to c.args.request.now.domain (subst (λ (t : Tables). aid_of t (Entry to) ≡ Some c.args.request.now.domain) c.tables.ensures.tables c.in_ok-found.ensures.to) in
+    let into = slot_aid before to c.args.request.now.to (subst (λ (t : Tables). aid_of t (Entry to) ≡ Some c.args.request.now.to) c.tables.ensures.tables c.in_ok-found.ensures.to) in
     moved_cards before after thing to c.move_to.ensures.slots (λ page said says well.
     (let some = some_admitted page before said says well c.args.domain c.requires.domain None c.requires.formed.0 in
     let acts = some_acts page before said says well c.args.domain c.requires.domain None c.requires.formed.0 in
@@ -93,7 +94,7 @@ confirm-requires-clause-cards g c =
     let kept = moved_of_card some given request.means.asks (of_card page before said says well c.args.domain c.requires.domain)
     (c.in_ok-found.ensures.passed page some here request.means) in (
       moved said given.third given.first,
-      subst (λ (name : List ℕ). Represents page after (moved said given.third name)) (into ∙ request.means.domain)
+      subst (λ (name : List ℕ). Represents page after (moved said given.third name)) (into ∙ request.means.to)
           (subst (λ (name : List ℕ). Represents page after (moved said name (domain_aid before.entries.items to))) request.means.aid
           (c.move_to.ensures.said page said c.args.request.now.aid there says well)),
       kept.well,
@@ -116,8 +117,8 @@ returns-clause-done g c page admitted acts request =
     let given = request.means.given in
     let here = subst (λ (t : Tables). ActsIn page t c.args.domain admitted) (sym c.tables.ensures.tables) acts in
     let there = subst (λ (t : Tables). aid_of t thing ≡ Some c.args.request.now.aid) c.tables.ensures.tables c.in_ok-found.ensures.thing in
-    let into = slot_aid before to c.args.request.now.domain (subst (λ (t : Tables). aid_of t (Entry to) ≡ Some c.args.request.now.domain) c.tables.ensures.tables c.in_ok-found.ensures.to) in
-    let says = subst (λ (name : List ℕ). Represents page after (moved registry given.third name)) (into ∙ request.means.domain)
+    let into = slot_aid before to c.args.request.now.to (subst (λ (t : Tables). aid_of t (Entry to) ≡ Some c.args.request.now.to) c.tables.ensures.tables c.in_ok-found.ensures.to) in
+    let says = subst (λ (name : List ℕ). Represents page after (moved registry given.third name)) (into ∙ request.means.to)
     (subst (λ (name : List ℕ). Represents page after (moved registry name (domain_aid before.entries.items to))) request.means.aid
     (c.move_to.ensures.said page registry c.args.request.now.aid there acts.says acts.well)) in
     let delegated = Holds admitted delegated_management in
@@ -138,13 +139,13 @@ returns-clause-done g c page admitted acts request =
     ∙ ap (domain_of_thing registry) request.means.aid in
     let Told : List ℕ → List ℕ → List ℕ → Type 0 = (λ (a b d : List ℕ). AnswersFor page c.confirm.new.records.tables c.in_ok-found.found.receipter admitted (a ∷ b ∷ d ∷ []) changed c.confirm.new.reply.items) in
     let told : Told (domain_of_thing registry given.third) given.third given.first =
-    subst (λ (d : List ℕ). Told (domain_of_thing registry given.third) given.third d) request.means.domain
-    (subst (λ (b : List ℕ). Told (domain_of_thing registry given.third) b c.args.request.now.domain) request.means.aid
-    (subst (λ (a : List ℕ). Told a c.args.request.now.aid c.args.request.now.domain) from answers)) in
+    subst (λ (d : List ℕ). Told (domain_of_thing registry given.third) given.third d) request.means.to
+    (subst (λ (b : List ℕ). Told (domain_of_thing registry given.third) b c.args.request.now.to) request.means.aid
+    (subst (λ (a : List ℕ). Told a c.args.request.now.aid c.args.request.now.to) from answers)) in
     let answered = answered_so delegated before admitted c.in_ok-found.found.receipter finds (domain_of_thing registry given.third ∷ given.third ∷ given.first ∷ []) changed (leaves admitted told.0 c.confirm.new.reply.items) told.2 in
-    answered_managed extradition (λ holds found. inr (inr (inl found))) admitted request.form refl (c.in_ok-found.ensures.passed page admitted here request.means) page
+    answered_managed (command_form managed_extradition) (λ holds found. inr (inr (inl found))) admitted request.form refl (c.in_ok-found.ensures.passed page admitted here request.means) page
     c.confirm.new.records.tables (domain_of_thing registry given.third ∷ given.third ∷ given.first ∷ []) changed c.confirm.new.reply.items c.in_ok-found.found.receipter told
-    (record { given = given; asks = request.means.asks; answered = answered; volatile = refl; status = refl }) (record { 0 = 0x9000 }) refl
+    (record { asked = given; asks = request.means.asks; changed = changed; becomes = refl; answered = answered; volatile = refl; status = refl }) (record { 0 = 0x9000 }) refl
 
 pub returns-clause-free : goal.returns-clause-free
 returns-clause-free g c =

@@ -23,12 +23,13 @@ use Rattle.card_types.specs.declared.tables.LoadFile.{LoadFile}
 use Rattle.card_types.specs.declared.tables.Tables.{Tables}
 use Rattle.policy_rules.proofs.InstallApplicationLaws.{made_of_card}
 use Rattle.policy_rules.proofs.Judging.{judged}
-use Rattle.policy_rules.specs.InstallApplication.{install_application}
+use Rattle.policy_rules.specs.InstallApplication.{managed_install}
 use Rattle.policy_rules.specs.Delegation.{Holds}
 use Rattle.policy_rules.specs.HoldersFound.{FindsConfirmer, MayReceipt}
 use Rattle.policy_rules.specs.Requests.{ActsIn, IsLoadNamed}
 use Rattle.registry.specs.Adding.{NoneHas}
 use Rattle.card_core.proofs.install_application.install_application.Goals as goal
+use Rattle.policy_rules.specs.ManagedForm.{command_form}
 
 pub judge_install-requires-clause-in_order : goal.judge_install-requires-clause-in_order
 judge_install-requires-clause-in_order g c = subst IsInOrder (sym c.tables.ensures.tables) (in_order c.args.records.now.tables c.requires.cards)
@@ -42,7 +43,7 @@ returns-in_err-found-clause-done g c page admitted acts load request =
     let named = subst (λ (t : Tables). IsLoadNamed t.entries.items c.args.live.now.load admitted.at.volatile.load) (sym c.tables.ensures.tables) load in
     let rule = c.in_err-found.field-0.0 in
     refusal_managed admitted page c.args.records.now.tables c.args.reply.now.items c.from_residual.result rule c.from_residual.ensures.1
-    (judged install_application (λ holds found. inl found) admitted request.form refl (Some rule) (c.in_err-found.ensures.refused page admitted here named request.means))
+    (judged (command_form managed_install) (λ holds found. inl found) admitted request.form refl (Some rule) (c.in_err-found.ensures.refused page admitted here named request.means))
     c.requires.empty
 
 file_there : (tables : Tables) (slot : ℕ) (aid : List ℕ) → aid_of tables (File slot) ≡ Some aid → IsSome (held tables.files.items slot)
@@ -139,6 +140,6 @@ returns-clause-done g c page admitted acts load request =
     let told : Told asked.given.first asked.given.third =
     subst (λ (b : List ℕ). Told asked.given.first b) request.means.aid (subst (λ (a : List ℕ). Told a c.args.request.now.aid) request.means.file answers) in
     let answered = answered_so delegated before admitted c.in_ok-found.found.receipter finds (asked.given.first ∷ asked.given.third ∷ []) added.0 (leaves admitted told.0 c.confirm.new.reply.items) told.2 in
-    answered_managed install_application (λ holds found. inl found) admitted request.form refl (c.in_ok-found.ensures.passed page admitted here named request.means) page
+    answered_managed (command_form managed_install) (λ holds found. inl found) admitted request.form refl (c.in_ok-found.ensures.passed page admitted here named request.means) page
     c.confirm.new.records.tables (asked.given.first ∷ asked.given.third ∷ []) added.0 c.confirm.new.reply.items c.in_ok-found.found.receipter told
-    (record { asked = asked; asks = request.means.asks; changed = added.0; added = joined; answered = answered; volatile = refl; status = refl }) (record { 0 = 0x9000 }) refl
+    (record { asked = asked; asks = request.means.asks; changed = added.0; becomes = joined; answered = answered; volatile = refl; status = refl }) (record { 0 = 0x9000 }) refl

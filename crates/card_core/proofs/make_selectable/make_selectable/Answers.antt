@@ -19,10 +19,11 @@ use Rattle.policy_rules.proofs.Judging.{judged}
 use Rattle.policy_rules.proofs.MakeSelectableLaws.{selectable_life, selectable_of_card}
 use Rattle.policy_rules.specs.Delegation.{Holds}
 use Rattle.policy_rules.specs.HoldersFound.{FindsConfirmer, MayReceipt}
-use Rattle.policy_rules.specs.MakeSelectable.{make_selectable}
+use Rattle.policy_rules.specs.MakeSelectable.{managed_selectable}
 use Rattle.policy_rules.specs.Requests.{ActsIn}
-use Rattle.policy_rules.specs.SelectableRequests.{IsInstalledWith}
+use Rattle.policy_rules.specs.MakeSelectableRequests.{IsInstalledWith}
 use Rattle.card_core.proofs.make_selectable.make_selectable.Goals as goal
+use Rattle.policy_rules.specs.ManagedForm.{command_form}
 
 -- the entry that was found is just installed, and has the AID that is asked for
 found_at : (aid : List ℕ) (entries : List (Option Entry)) (slot : ℕ) → IsInstalledWith aid (held entries slot)
@@ -47,7 +48,7 @@ returns-in_err-found-clause-done g c page admitted acts request =
     let here = subst (λ (t : Tables). ActsIn page t c.args.domain admitted) (sym c.tables.ensures.tables) acts in
     let rule = c.in_err-found.field-0.0 in
     refusal_managed admitted page c.args.records.now.tables c.args.reply.now.items c.from_residual.result rule c.from_residual.ensures.1
-    (judged make_selectable (λ holds found. inr (inl found)) admitted request.form refl (Some rule) (c.in_err-found.ensures.refused page admitted here request.means))
+    (judged (command_form managed_selectable) (λ holds found. inr (inl found)) admitted request.form refl (Some rule) (c.in_err-found.ensures.refused page admitted here request.means))
     c.requires.empty
 
 pub set_life-requires-clause-slot : goal.set_life-requires-clause-slot
@@ -121,6 +122,6 @@ returns-clause-done g c page admitted acts request =
     }) in
     let told = subst (λ (name : List ℕ). AnswersFor page c.confirm.new.records.tables c.in_ok-found.found.receipter admitted (name ∷ []) changed c.confirm.new.reply.items) request.means.aid answers in
     let answered = answered_so delegated before admitted c.in_ok-found.found.receipter finds (given.third ∷ []) changed (leaves admitted told.0 c.confirm.new.reply.items) told.2 in
-    answered_managed make_selectable (λ holds found. inr (inl found)) admitted request.form refl (c.in_ok-found.ensures.passed page admitted here request.means) page
+    answered_managed (command_form managed_selectable) (λ holds found. inr (inl found)) admitted request.form refl (c.in_ok-found.ensures.passed page admitted here request.means) page
     c.confirm.new.records.tables (given.third ∷ []) changed c.confirm.new.reply.items c.in_ok-found.found.receipter told
-    (record { given = given; asks = request.means.asks; answered = answered; volatile = refl; status = refl }) (record { 0 = 0x9000 }) refl
+    (record { asked = given; asks = request.means.asks; changed = changed; becomes = refl; answered = answered; volatile = refl; status = refl }) (record { 0 = 0x9000 }) refl

@@ -6,19 +6,20 @@ use Rattle.std.specs.Prelude.{Contains, ◌==◌}
 use Rattle.card_types.specs.Slots.{held}
 use Rattle.card_types.specs.declared.tables.Entry.{Entry}
 use Rattle.policy_rules.specs.declared.live.Live.{Live}
-use Rattle.policy_rules.specs.CardStatus.{card_status}
+use Rattle.policy_rules.specs.CardStatus.{managed_card_status}
 use Rattle.policy_rules.specs.Classes.{changing}
-use Rattle.policy_rules.specs.DeleteObject.{delete_object}
-use Rattle.policy_rules.specs.EntryStatus.{entry_status}
+use Rattle.policy_rules.specs.DeleteObject.{managed_delete_object}
+use Rattle.policy_rules.specs.EntryStatus.{managed_entry_status}
 use Rattle.card_core.proofs.Answered.{aids_selected}
 use Rattle.card_core.proofs.FreePages.{files_free}
 use Rattle.card_core.proofs.ManagedAs.{managed_as}
 use Rattle.policy_rules.specs.Requests.{form_in}
 use Rattle.policy_rules.specs.declared.request.Request.{Request}
-use Rattle.policy_rules.specs.declared.request.Request.TheVariants.{Authenticate, BeginLoad, CardStatus, DeleteKey, DeleteObject, EntryStatus, Extradite, Get, Initialize, Install, LessChannel, ListStatus, Load, MakeSelectable, MoreChannel, PutKey, Select, Store}
+use Rattle.policy_rules.specs.declared.request.Request.TheVariants.{Authenticate, InstallLoad, CardStatus, DeleteKey, DeleteObject, EntryStatus, Extradite, Get, Initialize, Install, LessChannel, List as ListStatus, Load, MakeSelectable, MoreChannel, PutKey, Select, Store}
 use Rattle.card_core.specs.Manages.{KeepsAids, KeepsSelected}
 use Rattle.card_core.specs.Serves.{AsksForLoad}
 use Rattle.card_core.proofs.management.manage.Goals as goal
+use Rattle.policy_rules.specs.ManagedForm.{command_form}
 
 -- STORE DATA, whose reply has no data
 pub returns-in-Store-clause-done : goal.returns-in-Store-clause-done
@@ -43,14 +44,14 @@ delete_object-requires-clause-formed g c =
 pub returns-in-DeleteObject-clause-done : goal.returns-in-DeleteObject-clause-done
 returns-in-DeleteObject-clause-done g c page admitted acts says channels request holds =
     let asked = rw c.in-DeleteObject.is at request in
-    managed_as delete_object (λ held here. inr (inl here)) admitted asked.form refl page _ _ _ _
+    managed_as (command_form managed_delete_object) (λ held here. inr (inl here)) admitted asked.form refl page _ _ _ _
     (c.delete_object.ensures.done page admitted acts says channels asked.means)
 
 pub returns-in-CardStatus-clause-done : goal.returns-in-CardStatus-clause-done
 returns-in-CardStatus-clause-done g c page admitted acts says channels request holds =
     let asked = rw c.in-CardStatus.is at request in
     rw c.requires.empty
-    (managed_as card_status (λ held here. inl here) admitted asked.form refl page _ _ _ _
+    (managed_as (command_form managed_card_status) (λ held here. inl here) admitted asked.form refl page _ _ _ _
     (c.set_card_status.ensures.done page admitted acts (record { parameters = asked.form.1; code_is = asked.means })))
 
 pub set_entry_status-requires-clause-formed : goal.set_entry_status-requires-clause-formed
@@ -63,7 +64,7 @@ pub returns-in-EntryStatus-clause-done : goal.returns-in-EntryStatus-clause-done
 returns-in-EntryStatus-clause-done g c page admitted acts says channels request holds =
     let asked = rw c.in-EntryStatus.is at request in
     rw c.requires.empty
-    (managed_as entry_status (λ held here. inr (inl here)) admitted asked.form refl page _ _ _ _
+    (managed_as (command_form managed_entry_status) (λ held here. inr (inl here)) admitted asked.form refl page _ _ _ _
     (c.set_entry_status.ensures.done page admitted acts asked.means))
 
 pub returns-in-PutKey-clause-free : goal.returns-in-PutKey-clause-free
@@ -111,7 +112,7 @@ unreachable-requires g c = left c.args.request.now refl
     left (Install request) is = c.in_default.not-Install request is
     left (MakeSelectable request) is = c.in_default.not-MakeSelectable request is
     left (Extradite request) is = c.in_default.not-Extradite request is
-    left (BeginLoad request) is = c.requires.other (subst AsksForLoad (sym is) tt)
+    left (InstallLoad request) is = c.requires.other (subst AsksForLoad (sym is) tt)
     left (CardStatus code) is = c.in_default.not-CardStatus code is
     left (EntryStatus request) is = c.in_default.not-EntryStatus request is
     left (Load request) is = c.requires.other (subst AsksForLoad (sym is) tt)

@@ -29,7 +29,7 @@ use Rattle.card_core.proofs.LoadsKept.{installs_not, kept_loading, loads_not, lo
 use Rattle.card_types.specs.Represents.{domain_aid}
 use Rattle.card_types.specs.declared.tables.Entry.{Entry}
 use Rattle.load_session.specs.Session.{load_slot}
-use Rattle.policy_rules.specs.Laws.{IsLoading}
+use Rattle.policy_rules.proofs.Lawful.{IsLoading}
 use Rattle.card_core.proofs.perform.perform.Goals as goal
 
 -- the requests of card content management that change the registry
@@ -150,28 +150,28 @@ returns-in-PutKey-clause-idle g c = λ other unmanaged. absurd (unmanaged (manag
 
 -- GET STATUS
 pub get_status-requires-clause-in_order : goal.get_status-requires-clause-in_order
-get_status-requires-clause-in_order g c = subst IsInOrder (sym c.tables-in-ListStatus.ensures.tables) (in_order c.args.records.now.tables c.requires.cards)
+get_status-requires-clause-in_order g c = subst IsInOrder (sym c.tables-in-List.ensures.tables) (in_order c.args.records.now.tables c.requires.cards)
 
 pub get_status-requires-clause-formed : goal.get_status-requires-clause-formed
-get_status-requires-clause-formed g c = subst IsWellFormed c.in-ListStatus.is c.requires.formed
+get_status-requires-clause-formed g c = subst IsWellFormed c.in-List.is c.requires.formed
 
-pub returns-in-ListStatus-clause-done : goal.returns-in-ListStatus-clause-done
-returns-in-ListStatus-clause-done g c = λ page judged stands passed.
+pub returns-in-List-clause-done : goal.returns-in-List-clause-done
+returns-in-List-clause-done g c = λ page judged stands passed.
     let tables = c.args.records.now.tables in
     let live = c.args.live.now in
     let all = c.args.held.now in
     let slot = c.args.received.now.selected in
     let low = low page tables live all judged stands c.told-held c.args.received.now.channel slot c.requires.channel passed.on c.requires.selected in
     let acts = acts_for page tables live all judged stands c.told-held c.args.received.now.channel slot c.requires.channel passed.on c.requires.selected in
-    let here = subst (λ (t : Tables). ActsIn page t slot judged) (sym c.tables-in-ListStatus.ensures.tables) acts in
-    let says = subst (λ (t : Tables). RepresentsState page t live judged.at) (sym c.tables-in-ListStatus.ensures.tables) stands.shows.says in
+    let here = subst (λ (t : Tables). ActsIn page t slot judged) (sym c.tables-in-List.ensures.tables) acts in
+    let says = subst (λ (t : Tables). RepresentsState page t live judged.at) (sym c.tables-in-List.ensures.tables) stands.shows.says in
     let lists = c.get_status.ensures.done page judged here says (record {
       on = passed.on;
-      asks = subst (λ (r : Request). IsRequestOf r judged.command) c.in-ListStatus.is passed.asks;
-      goes_on = λ lists. passed.goes_on (ap (λ (r : Request). (form_in r).instruction) c.in-ListStatus.is);
+      asks = subst (λ (r : Request). IsRequestOf r judged.command) c.in-List.is passed.asks;
+      goes_on = λ lists. passed.goes_on (ap (λ (r : Request). (form_in r).instruction) c.in-List.is);
     }) in
     listing_carried page tables live all judged stands (record { held = c.told-held; channels = stands.sound.fits.channels }) low c.get_status.new.live c.get_status.new.reply.items c.get_status.result
-    (subst (λ (t : Tables). Lists judged page t live c.get_status.new.live c.get_status.new.reply.items c.get_status.result) c.tables-in-ListStatus.ensures.tables lists)
+    (subst (λ (t : Tables). Lists judged page t live c.get_status.new.live c.get_status.new.reply.items c.get_status.result) c.tables-in-List.ensures.tables lists)
 
 -- what is kept of the load session goes with it
 not_loading : (request : Request) → ChangesRegistry request → (command : Apdu) → IsRequestOf request command → IsLoading command → ⊥
@@ -212,9 +212,9 @@ returns-in-Authenticate-clause-loads g c = λ page judged loading all asked.
     let is = subst (λ (r : Request). IsRequestOf r judged.command) c.in-Authenticate.is asked.asks in
     loads_same page c.args.records.now.tables loading judged c.external_authenticate.result (loads_not judged.command 0x82 is.form.0 (λ e. absurd (omega (arith, e))) (λ e. absurd (omega (arith, e)))) all.loading
 
-pub returns-in-ListStatus-clause-loads : goal.returns-in-ListStatus-clause-loads
-returns-in-ListStatus-clause-loads g c = λ page judged loading all asked.
-    let is = subst (λ (r : Request). IsRequestOf r judged.command) c.in-ListStatus.is asked.asks in
+pub returns-in-List-clause-loads : goal.returns-in-List-clause-loads
+returns-in-List-clause-loads g c = λ page judged loading all asked.
+    let is = subst (λ (r : Request). IsRequestOf r judged.command) c.in-List.is asked.asks in
     loads_same page c.args.records.now.tables loading judged c.get_status.result (loads_not judged.command 0xF2 is.form.0 (λ e. absurd (omega (arith, e))) (λ e. absurd (omega (arith, e)))) all.loading
 
 pub returns-in-Initialize-clause-loads : goal.returns-in-Initialize-clause-loads

@@ -4,8 +4,7 @@ use Rattle.card_types.specs.Well.{IsKeyLength}
 use Rattle.policy_rules.proofs.FirstJoined.{first_behind, first_within}
 use Rattle.policy_rules.proofs.PutKeyLaws.{put_judged}
 use Rattle.policy_rules.specs.Requests.{ActsIn, IsRequestOf, IsWellFormed, sent_key}
-use Rattle.policy_rules.specs.PutKey.{PutKeyFails}
-use Rattle.policy_rules.specs.PutRules.{key_rules, version_rules}
+use Rattle.policy_rules.specs.PutKeyRules.{key_rules, version_rules}
 use Rattle.policy_rules.specs.declared.put_key.PutKeys.TheVariants.{One, Three}
 use Rattle.policy_rules.specs.declared.request.Request.TheVariants.{PutKey}
 use Rattle.card_core.proofs.Cards.{in_order}
@@ -16,12 +15,14 @@ use Rattle.card_core.proofs.PutKeyTables.{put_cards, puts_lent}
 use Rattle.card_core.specs.SecureChannels.{RepresentsSecureChannel}
 use Rattle.card_core.specs.Offers.{secure_channel_for}
 use Rattle.card_core.proofs.put_key.put_key.Goals as goal
+use Rattle.policy_rules.specs.PutKey.{managed_put_key}
+use Rattle.policy_rules.specs.ManagedForm.{command_form}
 
 pub returns-in_err-judge_put_versions-clause-done : goal.returns-in_err-judge_put_versions-clause-done
 returns-in_err-judge_put_versions-clause-done g c page admitted acts request holds =
     let rule = c.in_err-judge_put_versions.field-0.0 in
     let refused = c.in_err-judge_put_versions.ensures.refused page admitted c.args.keys.now (subst (λ t. ActsIn page t c.args.domain admitted) (sym c.tables.ensures.tables) acts) request in
-    let first = first_within (PutKeyFails admitted) key_rules version_rules rule refused in
+    let first = first_within ((command_form managed_put_key).fails admitted) key_rules version_rules rule refused in
     refusal_managed admitted page c.args.records.now.tables c.args.reply.now.items c.from_residual.result rule c.from_residual.ensures.1
     (put_judged admitted (Some rule) request.form first) c.requires.empty
 
@@ -44,7 +45,7 @@ returns-in_err-judge_put_keys-in-One-clause-done g c page admitted acts request 
     let before = c.in_ok-judge_put_versions.ensures.passed page admitted c.args.keys.now (subst (λ t. ActsIn page t c.args.domain admitted) (sym c.tables.ensures.tables) acts) request in
     let refused = c.in_err-judge_put_keys-in-One.ensures.refused page admitted c.args.version
     (subst (λ t. ActsIn page t c.args.domain admitted) (sym c.tables-in-One.ensures.tables) acts) request checks in
-    let first = first_behind (PutKeyFails admitted) key_rules version_rules (Some c.in_err-judge_put_keys-in-One.field-0.0) before refused in
+    let first = first_behind ((command_form managed_put_key).fails admitted) key_rules version_rules (Some c.in_err-judge_put_keys-in-One.field-0.0) before refused in
     refusal_managed admitted page c.args.records.now.tables c.args.reply.now.items c.from_residual-in_err-judge_put_keys-in-One.result c.in_err-judge_put_keys-in-One.field-0.0
     c.from_residual-in_err-judge_put_keys-in-One.ensures.1
     (put_judged admitted (Some c.in_err-judge_put_keys-in-One.field-0.0) request.form first) c.requires.empty
@@ -131,7 +132,7 @@ returns-in_err-judge_put_keys-in-Three-clause-done g c page admitted acts reques
     let before = c.in_ok-judge_put_versions.ensures.passed page admitted c.args.keys.now (subst (λ t. ActsIn page t c.args.domain admitted) (sym c.tables.ensures.tables) acts) request in
     let refused = c.in_err-judge_put_keys-in-Three.ensures.refused page admitted c.args.version
     (subst (λ t. ActsIn page t c.args.domain admitted) (sym c.tables-in-Three.ensures.tables) acts) request checks in
-    let first = first_behind (PutKeyFails admitted) key_rules version_rules (Some c.in_err-judge_put_keys-in-Three.field-0.0) before refused in
+    let first = first_behind ((command_form managed_put_key).fails admitted) key_rules version_rules (Some c.in_err-judge_put_keys-in-Three.field-0.0) before refused in
     refusal_managed admitted page c.args.records.now.tables c.args.reply.now.items c.from_residual-in_err-judge_put_keys-in-Three.result c.in_err-judge_put_keys-in-Three.field-0.0
     c.from_residual-in_err-judge_put_keys-in-Three.ensures.1
     (put_judged admitted (Some c.in_err-judge_put_keys-in-Three.field-0.0) request.form first) c.requires.empty
@@ -149,7 +150,7 @@ returns-in_ok-judge_put_keys-in-One-clause-done g c page admitted acts request h
     let before = c.in_ok-judge_put_versions.ensures.passed page admitted c.args.keys.now (subst (λ t. ActsIn page t c.args.domain admitted) (sym c.tables.ensures.tables) acts) request in
     let passed = c.in_ok-judge_put_keys-in-One.ensures.passed page admitted c.args.version
     (subst (λ t. ActsIn page t c.args.domain admitted) (sym c.tables-in-One.ensures.tables) acts) request checks in
-    let first = first_behind (PutKeyFails admitted) key_rules version_rules None before passed in
+    let first = first_behind ((command_form managed_put_key).fails admitted) key_rules version_rules None before passed in
     let judged = judged_by c.args.domain c.args.replaced c.args.version c.tables.result.now c.tables-in-One.result.now c.args.records.now.tables c.args.keys.now (One c.in-One.sent)
     c.tables.ensures.tables c.tables-in-One.ensures.tables c.in-One.is c.in_ok-judge_put_versions.ensures.known c.in_ok-judge_put_versions.ensures.free
     (c.in_ok-judge_put_keys-in-One.ensures.roomy c.args.version) in
@@ -192,7 +193,7 @@ returns-in_ok-judge_put_keys-in-Three-clause-done g c page admitted acts request
     let before = c.in_ok-judge_put_versions.ensures.passed page admitted c.args.keys.now (subst (λ t. ActsIn page t c.args.domain admitted) (sym c.tables.ensures.tables) acts) request in
     let passed = c.in_ok-judge_put_keys-in-Three.ensures.passed page admitted c.args.version
     (subst (λ t. ActsIn page t c.args.domain admitted) (sym c.tables-in-Three.ensures.tables) acts) request checks in
-    let first = first_behind (PutKeyFails admitted) key_rules version_rules None before passed in
+    let first = first_behind ((command_form managed_put_key).fails admitted) key_rules version_rules None before passed in
     let judged = judged_by c.args.domain c.args.replaced c.args.version c.tables.result.now c.tables-in-Three.result.now c.args.records.now.tables c.args.keys.now
     (Three c.in-Three.first c.in-Three.second c.in-Three.third) c.tables.ensures.tables c.tables-in-Three.ensures.tables c.in-Three.is
     c.in_ok-judge_put_versions.ensures.known c.in_ok-judge_put_versions.ensures.free (c.in_ok-judge_put_keys-in-Three.ensures.roomy c.args.version) in

@@ -17,7 +17,7 @@ use Rattle.policy_rules.specs.declared.live.TheConstants.{CHANNELS}
 use Rattle.card_core.proofs.LoadsKept.{admitted_loading}
 use Rattle.load_session.specs.Loaded.{loaded}
 use Rattle.card_core.specs.Kept.{RepresentsSoundly}
-use Rattle.card_core.proofs.Passed.{goes_on, holds_passed, managed_served, opened_so, opened_stands, over_served, passed_as, passed_held, passed_there, place_told, placed, plain_stands, protects_so, read_at, refused_served, selected_same, session_of, written_at}
+use Rattle.card_core.proofs.Passed.{goes_on, holds_passed, managed_served, opened_kept, opened_so, opened_stands, over_served, passed_as, passed_held, passed_there, place_told, placed, plain_stands, protects_so, read_at, refused_served, selected_same, session_of, written_at}
 use Rattle.card_core.proofs.Serving.{admits_opened, admits_plain, rejected, carried_out, is_managed, not_managed, protected_one, unprotected_unmanaged}
 use Rattle.card_core.specs.SecureChannels.{RepresentsSecureChannel, IsInSession, without_offer_held}
 use Rattle.card_core.specs.Secured.{OpensAs}
@@ -209,6 +209,16 @@ act-served-requires-in-Ok-open_command-clause-passed g c =
       });
     }
 
+pub close_protected-requires-clause-secured : goal.close_protected-requires-clause-secured
+close_protected-requires-clause-secured g c =
+    let command : Apdu = apdu_of c.in-Ok.received.command in
+    let protected = protects_so command c.in-Ok.received.class c.is_protected.result true c.in-Ok.ensures.class c.is_protected.ensures c.if-not-is_protected.false in
+    let low = subst (λ (n : ℕ). n < CHANNELS) (sym c.in-Ok.ensures.channel) (channel_is_low c.in-Ok.received.command.class) in
+    let there = opened_kept c.args.held.now c.act-served-in-Ok-open_command.new.held c.from-channel.result c.in-Ok.received.channel c.check_class.new.held c.open_command.new.held c.index-held-channel-in-Ok-open_command.result
+    c.told-held low c.from-channel.ensures c.in-Ok-open_command.ensures.secured
+    (λ secured. c.act-served-in-Ok-open_command.ensures.kept secured (protected_one (class_of command.class) command.ins c.in-Ok.ensures.known protected)) in
+    subst IsInSession (sym there) c.in-Ok-open_command.ensures.secured
+
 pub returns-in-Ok-open_command-clause-served : goal.returns-in-Ok-open_command-clause-served
 returns-in-Ok-open_command-clause-served g c = λ page state whole all.
     let stands = all.on in
@@ -253,15 +263,9 @@ returns-in-Ok-open_command-clause-served g c = λ page state whole all.
           (c.as_ref-in-Ok-open_command.ensures.value ∙ c.take_place-place.ensures.place ins);
     }) in
     let low = subst (λ (n : ℕ). n < CHANNELS) (sym c.in-Ok.ensures.channel) (channel_is_low c.in-Ok.received.command.class) in
-    let opened_here = written_at (slice_set c.args.held.now c.from-channel.result c.check_class.new.held) c.in-Ok.received.channel c.in-Ok.received.channel c.open_command.new.held held.Nothing
-    (length-set c.args.held.now c.from-channel.result c.check_class.new.held ∙ c.told-held) low refl in
-    let in_session : IsInSession (slice_index_or (slice_set (slice_set c.args.held.now c.from-channel.result c.check_class.new.held) c.from-channel.result c.open_command.new.held)
-    c.in-Ok.received.channel held.Nothing) = rw c.from-channel.ensures (rw c.from-channel.ensures at (subst IsInSession (sym opened_here) c.in-Ok-open_command.ensures.secured)) in
-    let same = c.act-served-in-Ok-open_command.ensures.kept in_session (protected_one (class_of command.class) command.ins c.in-Ok.ensures.known protected) in
-    let there = ap (λ (all : List ChannelSession). slice_index_or all c.from-channel.result c.index-held-channel-in-Ok-open_command.result) same
-    ∙ written_at (slice_set c.args.held.now c.from-channel.result c.check_class.new.held) c.from-channel.result (channel_of command.class) c.open_command.new.held
-    c.index-held-channel-in-Ok-open_command.result (length-set c.args.held.now c.from-channel.result c.check_class.new.held ∙ c.told-held)
-    (channel_is_low command.class) here in
+    let there = opened_kept c.args.held.now c.act-served-in-Ok-open_command.new.held c.from-channel.result c.in-Ok.received.channel c.check_class.new.held c.open_command.new.held c.index-held-channel-in-Ok-open_command.result
+    c.told-held low c.from-channel.ensures c.in-Ok-open_command.ensures.secured
+    (λ secured. c.act-served-in-Ok-open_command.ensures.kept secured (protected_one (class_of command.class) command.ins c.in-Ok.ensures.known protected)) in
     let closed = c.close_protected.ensures.closed (accepting session command)
     (subst (λ (h : ChannelSession). RepresentsSecureChannel h (Secured (accepting session command))) (sym there) found.2.1) in
     let kept = ap (slice_set c.act-served-in-Ok-open_command.new.held c.from-channel.result) c.close_protected.ensures.same

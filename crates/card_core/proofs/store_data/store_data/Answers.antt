@@ -6,6 +6,7 @@ use Rattle.card_types.specs.InOrder.{IsInOrder}
 use Rattle.card_types.specs.Represents.{used}
 use Rattle.card_types.specs.Well.{IsObject}
 use Rattle.card_types.specs.declared.limits.TheConstants.{OBJECTS}
+use Rattle.policy_rules.proofs.ManagedLawful.{replied}
 use Rattle.policy_rules.proofs.StoreDataElements.{elements_behind, none_left}
 use Rattle.policy_rules.specs.Requests.{ActsIn}
 use Rattle.policy_rules.specs.ObjectsFound.{has_object_in, new_tags}
@@ -24,10 +25,11 @@ use Rattle.policy_rules.specs.Arranged.{IsArranged}
 use Rattle.policy_rules.specs.Commands.{TakesCommand, Judges}
 use Rattle.policy_rules.specs.State.{Effect}
 use Rattle.policy_rules.specs.DataObjects.{with_data, with_objects}
-use Rattle.policy_rules.specs.StoreData.{HasObjects, StoreDataEffect, StoreDataField, store_data}
+use Rattle.policy_rules.specs.StoreData.{HasObjects, StoreDataField, managed_store_data}
 use Rattle.card_core.specs.Manages.{IsManaged}
 use Rattle.card_types.specs.Registry as registry
 use Rattle.card_core.proofs.store_data.store_data.Goals as goal
+use Rattle.policy_rules.specs.ManagedForm.{ManagedEffect, command_form}
 
 -- the data objects of a command
 objects_of : (objects : List ℕ) (command : Apdu) → objects ≡ command.body → StoreDataField command.body
@@ -35,7 +37,7 @@ objects_of : (objects : List ℕ) (command : Apdu) → objects ≡ command.body 
 objects_of objects command same asks = (asks.0, subst (AreElements asks.0) (sym same) asks.1.spelled, asks.1)
 
 -- once all are put, the command has done what it does
-all_managed : (page : ℕ → List ℕ) (before now : Tables) (domain : ℕ) (admitted : Admitted) → ActsIn page before domain admitted → TakesCommand store_data admitted.command
+all_managed : (page : ℕ → List ℕ) (before now : Tables) (domain : ℕ) (admitted : Admitted) → ActsIn page before domain admitted → TakesCommand (command_form managed_store_data) admitted.command
     → Judges admitted None → (elements : List Element) → HasObjects admitted.command.body elements → ArePut before now domain elements [] → (status : Status) → status.0 ≡ 0x9000
     → IsManaged admitted page now [] status
 all_managed page before now domain admitted acts takes judges elements has put status done =
@@ -43,20 +45,15 @@ all_managed page before now domain admitted acts takes judges elements has put s
     let part = put.shows page said acts.says acts.well in
     let things = part.rest ∙ ap (λ (owner : List ℕ). with_objects owner said.objects elements) (sym acts.on) in
     let effect : Effect = record { state = record { registry = with_data said part.objects; volatile = admitted.at.volatile }; body = []; status = 0x9000 } in
-    let does : StoreDataEffect admitted effect = record {
-      elements = elements;
+    let does : ManagedEffect managed_store_data admitted effect = replied managed_store_data admitted elements (with_data said part.objects) has (record {
       objects = part.objects;
-      has = has;
       arranged = subst (λ (os : List registry.Object). IsArranged object_order os part.objects) things part.arranged;
       registry = refl;
-      volatile = refl;
-      body = refl;
-      status = refl;
-    } in
+    }) (λ no. no) in
     record {
       judges = judges;
       done = effect;
-      does = does_so store_data (λ holds here. inl here) admitted takes effect does;
+      does = does_so (command_form managed_store_data) (λ holds here. inl here) admitted takes effect does;
       volatile = refl;
       says = part.says;
       body_is = refl;

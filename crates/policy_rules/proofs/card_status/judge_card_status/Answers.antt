@@ -1,15 +1,16 @@
 use Rattle.std.proofs.Common.{[], ◌∷◌}
 use Rattle.std.proofs.lemmas.Bool.{iff_false}
-use Rattle.policy_rules.specs.CardStatus.{CardStatusFails}
 use Rattle.policy_rules.specs.declared.card_status.RuleSC.TheVariants.{SC1, SC2}
 use Rattle.policy_rules.specs.declared.rule.Rule.TheVariants.{SC}
 use Rattle.policy_rules.proofs.CardStatusJudging.{barred_first, codeless_first, of_card, step_passes, stepless_first}
 use Rattle.policy_rules.proofs.ManagementFirst.{setting_handed}
 use Rattle.policy_rules.proofs.card_status.judge_card_status.Goals as goal
+use Rattle.policy_rules.specs.CardStatus.{managed_card_status}
+use Rattle.policy_rules.specs.ManagedForm.{command_form}
 
 pub returns-in_err-judge_setting-clause-refused : goal.returns-in_err-judge_setting-clause-refused
 returns-in_err-judge_setting-clause-refused c page admitted acts is =
-    setting_handed (CardStatusFails admitted) (SC SC1 ∷ SC SC2 ∷ []) c.from_residual.result c.in_err-judge_setting.field-0.0 c.from_residual.ensures.1
+    setting_handed ((command_form managed_card_status).fails admitted) (SC SC1 ∷ SC SC2 ∷ []) c.from_residual.result c.in_err-judge_setting.field-0.0 c.from_residual.ensures.1
     (c.in_err-judge_setting.ensures.refused page admitted acts (of_card c.args.code admitted.command is))
 
 pub returns-in_default-clause-refused : goal.returns-in_default-clause-refused

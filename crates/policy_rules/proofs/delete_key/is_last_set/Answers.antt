@@ -4,7 +4,7 @@ use Rattle.std.proofs.lemmas.Bool.{false_from_ne_true, not-true, not_from_false}
 use Rattle.card_types.specs.Represents.{domain_slot}
 use Rattle.card_types.specs.declared.tables.Entry.{Entry}
 use Rattle.policy_rules.specs.KeyOrder.{holds_counter_but}
-use Rattle.policy_rules.proofs.LastSet.{last_set, root_slot, set_left}
+use Rattle.policy_rules.proofs.DeleteKeyLastSet.{last_set, root_slot, set_left}
 use Rattle.policy_rules.proofs.delete_key.is_last_set.Goals as goal
 
 pub returns-then-is_root : goal.returns-then-is_root

@@ -1,7 +1,7 @@
 use Rattle.std.proofs.Common.{inl, inr, Some, ap, sym, ◌∙◌}
 use Rattle.std.proofs.lemmas.Bool.{false≢true, not_from_false}
 use Rattle.policy_rules.proofs.ExtraditionJudging.{holds_told, lacks_told}
-use Rattle.policy_rules.proofs.InstallJudging.{manages, may_manage}
+use Rattle.policy_rules.proofs.InstallApplicationJudging.{manages, may_manage}
 use Rattle.policy_rules.proofs.delete_object.is_barred.Goals as goal
 
 pub returns-then-holds : goal.returns-then-holds

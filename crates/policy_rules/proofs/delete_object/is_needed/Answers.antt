@@ -1,9 +1,9 @@
 use Rattle.std.proofs.Common.{◌≡◌, inl, inr, Some, sym, subst}
 use Rattle.card_types.specs.Found.{aid_of}
 use Rattle.card_types.specs.declared.found.Found.{Found}
-use Rattle.policy_rules.proofs.DeletionJudging.{alone_needed, entry_needed, related_needed}
-use Rattle.policy_rules.proofs.DeletionSlots.{source_searched, unless}
-use Rattle.policy_rules.specs.DeletionFound.{HasNoneFrom, HasOthersIn, IsAlone, IsUnselected}
+use Rattle.policy_rules.proofs.DeleteObjectJudging.{alone_needed, entry_needed, related_needed}
+use Rattle.policy_rules.proofs.DeleteObjectSlots.{source_searched, unless}
+use Rattle.policy_rules.specs.DeleteObjectFound.{HasNoneFrom, HasOthersIn, IsAlone, IsUnselected}
 use Rattle.policy_rules.proofs.delete_object.is_needed.Goals as goal
 
 pub returns-in-Entry-clause-told : goal.returns-in-Entry-clause-told

@@ -4,7 +4,7 @@ use Rattle.card_types.specs.Found.{aid_of}
 use Rattle.card_types.specs.declared.found.Found.{Found}
 use Rattle.policy_rules.specs.Charge.{IsInCharge}
 use Rattle.policy_rules.specs.Management.{acting}
-use Rattle.policy_rules.proofs.DeletionJudging.{entry_outside, strangers_alike}
+use Rattle.policy_rules.proofs.DeleteObjectJudging.{entry_outside, strangers_alike}
 use Rattle.policy_rules.proofs.delete_object.is_out_of_charge.Goals as goal
 
 pub returns-then-not-has_charge : goal.returns-then-not-has_charge

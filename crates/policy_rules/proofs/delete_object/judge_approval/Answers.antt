@@ -1,9 +1,9 @@
 use Rattle.std.proofs.Common.{inr, None, Some, refl}
 use Rattle.std.proofs.lemmas.Bool.{iff_false}
 use Rattle.policy_rules.proofs.FirstLike.{if_err, none_first, on_ok, first_like}
-use Rattle.policy_rules.proofs.InstallJudging.{confirms}
+use Rattle.policy_rules.proofs.InstallApplicationJudging.{confirms}
 use Rattle.policy_rules.specs.DeleteObject.{IsDelegated}
-use Rattle.policy_rules.specs.DeletionFound.{DeletionApprovalFails}
+use Rattle.policy_rules.specs.DeleteObjectFound.{DeletionApprovalFails}
 use Rattle.policy_rules.specs.Delegation.{DelegatedFails, delegation_rules}
 use Rattle.policy_rules.specs.FirstFailing.{IsFirst}
 use Rattle.policy_rules.specs.HoldersFound.{approval_of}

@@ -1,5 +1,5 @@
 use Rattle.std.proofs.lemmas.Bool.{iff_false}
-use Rattle.policy_rules.proofs.DeletionJudging.{first_1, first_3, first_4, free, known, none_first, unknown}
+use Rattle.policy_rules.proofs.DeleteObjectJudging.{first_1, first_3, first_4, free, known, none_first, unknown}
 use Rattle.policy_rules.proofs.delete_object.judge_removal.Goals as goal
 
 pub returns-in_default-clause-refused : goal.returns-in_default-clause-refused

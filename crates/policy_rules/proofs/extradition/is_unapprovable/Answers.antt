@@ -17,7 +17,7 @@ returns-then-eq c page admitted acts is named = (
   λ so. (
     (holds_told page c.args.tables.now c.args.domain admitted acts _ c.holds.result (rw c.deref.ensures.value at c.holds.ensures)).0 c.if-not-holds.false,
     inl (one_thing page c.args.tables.now c.args.domain admitted acts c.args.request.now is
-        ((same_aid_decides c.args.request.now.domain c.args.request.now.aid).0 (sym c.eq.ensures ∙ c.if-eq.true))),
+        ((same_aid_decides c.args.request.now.to c.args.request.now.aid).0 (sym c.eq.ensures ∙ c.if-eq.true))),
   ),
   λ fails. refl,
 )
@@ -29,9 +29,9 @@ returns-in-Some c page admitted acts is named =
     let aid = domain_aid tables.entries.items c.in-Some.verifier in
     let key = key_of tables.entries.items c.in-Some.field-0-1.now in
     let told = approver_told page tables c.args.domain admitted acts request is
-    (λ same. (let hit = (same_aid_decides request.domain request.aid).1 same in let clash = sym hit ∙ sym c.eq.ensures ∙ c.if-eq.false in cc))
+    (λ same. (let hit = (same_aid_decides request.to request.aid).1 same in let clash = sym hit ∙ sym c.eq.ensures ∙ c.if-eq.false in cc))
     aid key (c.in-Some.ensures.some page admitted acts)
-    c.is_at_or_above.result (c.is_at_or_above.ensures page admitted.at.registry aid request.domain acts.says acts.well
+    c.is_at_or_above.result (c.is_at_or_above.ensures page admitted.at.registry aid request.to acts.says acts.well
     (named_by_slot tables c.in-Some.verifier c.in-Some.ensures.used) named) in (
       λ so. ((holds_told page tables c.args.domain admitted acts _ c.holds.result (rw c.deref.ensures.value at c.holds.ensures)).0 c.if-not-holds.false, told.0 so),
       λ fails. told.1 fails.1,

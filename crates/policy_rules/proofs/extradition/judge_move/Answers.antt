@@ -42,7 +42,7 @@ returns-then-is_unfit-clause-refused c page admitted acts is =
     let three = free page c.args.tables.now c.args.domain admitted acts c.args.request.now is (iff_false c.is_fixed.ensures c.if-is_fixed.false) in
     let named : aid_of c.args.tables.now c.in-Some.thing ≡ Some is.given.third = c.in-Some.ensures.some ∙ ap Some is.aid in
     let four : ExtraditingFails admitted is.given EX4 → ⊥ = (λ fails. fails (((c.has_charge.ensures page admitted is.given.third acts named).0) c.if-not-has_charge.false)) in
-    let into : aid_of c.args.tables.now (Entry c.in-Some-find_domain.to) ≡ Some is.given.first = c.in-Some-find_domain.ensures.some ∙ ap Some is.domain in
+    let into : aid_of c.args.tables.now (Entry c.in-Some-find_domain.to) ≡ Some is.given.first = c.in-Some-find_domain.ensures.some ∙ ap Some is.to in
     first_5 admitted is.given one two three four ((c.is_unfit.ensures page admitted is.given acts.says into).0 c.if-is_unfit.true)
 
 pub returns-then-is_over-clause-refused : goal.returns-then-is_over-clause-refused
@@ -52,7 +52,7 @@ returns-then-is_over-clause-refused c page admitted acts is =
     let three = free page c.args.tables.now c.args.domain admitted acts c.args.request.now is (iff_false c.is_fixed.ensures c.if-is_fixed.false) in
     let named : aid_of c.args.tables.now c.in-Some.thing ≡ Some is.given.third = c.in-Some.ensures.some ∙ ap Some is.aid in
     let four : ExtraditingFails admitted is.given EX4 → ⊥ = (λ fails. fails (((c.has_charge.ensures page admitted is.given.third acts named).0) c.if-not-has_charge.false)) in
-    let into : aid_of c.args.tables.now (Entry c.in-Some-find_domain.to) ≡ Some is.given.first = c.in-Some-find_domain.ensures.some ∙ ap Some is.domain in
+    let into : aid_of c.args.tables.now (Entry c.in-Some-find_domain.to) ≡ Some is.given.first = c.in-Some-find_domain.ensures.some ∙ ap Some is.to in
     let five = iff_false (c.is_unfit.ensures page admitted is.given acts.says into) c.if-is_unfit.false in
     first_6 admitted is.given one two three four five
     ((c.is_over.ensures page admitted.at.registry is.given.third is.given.first acts.says acts.well named into).0 c.if-is_over.true)
@@ -64,7 +64,7 @@ returns-then-is_barred-clause-refused c page admitted acts is =
     let three = free page c.args.tables.now c.args.domain admitted acts c.args.request.now is (iff_false c.is_fixed.ensures c.if-is_fixed.false) in
     let named : aid_of c.args.tables.now c.in-Some.thing ≡ Some is.given.third = c.in-Some.ensures.some ∙ ap Some is.aid in
     let four : ExtraditingFails admitted is.given EX4 → ⊥ = (λ fails. fails (((c.has_charge.ensures page admitted is.given.third acts named).0) c.if-not-has_charge.false)) in
-    let into : aid_of c.args.tables.now (Entry c.in-Some-find_domain.to) ≡ Some is.given.first = c.in-Some-find_domain.ensures.some ∙ ap Some is.domain in
+    let into : aid_of c.args.tables.now (Entry c.in-Some-find_domain.to) ≡ Some is.given.first = c.in-Some-find_domain.ensures.some ∙ ap Some is.to in
     let five = iff_false (c.is_unfit.ensures page admitted is.given acts.says into) c.if-is_unfit.false in
     let six = iff_false (c.is_over.ensures page admitted.at.registry is.given.third is.given.first acts.says acts.well named into) c.if-is_over.false in
     first_7 admitted is.given one two three four five six ((c.is_barred.ensures page admitted acts is c.in-Some-find_domain.ensures.some).0 c.if-is_barred.true)
@@ -76,7 +76,7 @@ returns-clause-passed c page admitted acts is =
     let three = free page c.args.tables.now c.args.domain admitted acts c.args.request.now is (iff_false c.is_fixed.ensures c.if-is_fixed.false) in
     let named : aid_of c.args.tables.now c.in-Some.thing ≡ Some is.given.third = c.in-Some.ensures.some ∙ ap Some is.aid in
     let four : ExtraditingFails admitted is.given EX4 → ⊥ = (λ fails. fails (((c.has_charge.ensures page admitted is.given.third acts named).0) c.if-not-has_charge.false)) in
-    let into : aid_of c.args.tables.now (Entry c.in-Some-find_domain.to) ≡ Some is.given.first = c.in-Some-find_domain.ensures.some ∙ ap Some is.domain in
+    let into : aid_of c.args.tables.now (Entry c.in-Some-find_domain.to) ≡ Some is.given.first = c.in-Some-find_domain.ensures.some ∙ ap Some is.to in
     let five = iff_false (c.is_unfit.ensures page admitted is.given acts.says into) c.if-is_unfit.false in
     let six = iff_false (c.is_over.ensures page admitted.at.registry is.given.third is.given.first acts.says acts.well named into) c.if-is_over.false in
     let seven = iff_false (c.is_barred.ensures page admitted acts is c.in-Some-find_domain.ensures.some) c.if-is_barred.false in

@@ -36,12 +36,12 @@ returns-clause-some c =
       given = given_of fields;
       asks = record {
         fields = c.in_ok-fields.ensures.some;
-        domain = c.in_ok-domain.ensures.length;
+        domain = c.in_ok-to.ensures.length;
         no_module = nil_from_length fields.second.now (eqb-true (length fields.second.now) 0 (sym c.is_empty.ensures ∙ c.if-not-is_empty.false));
         aid = c.in_ok-aid.ensures.length;
         no_privileges = nil_from_length fields.privileges.now (eqb-true (length fields.privileges.now) 0 (sym c.is_empty-else-not-is_empty.ensures ∙ c.if-not-is_empty-2.false));
       };
-      domain = c.in_ok-domain.ensures.some;
+      to = c.in_ok-to.ensures.some;
       aid = c.in_ok-aid.ensures.some;
       parameters = (refl, refl);
       approval = (λ i. record { before = before i; token = fields.token.now });

@@ -5,7 +5,7 @@ use Rattle.card_types.specs.declared.found.Found.{Found}
 use Rattle.card_types.specs.declared.tables.Entry.{Entry}
 use Rattle.policy_rules.specs.GetStatus.{IsInTree, Thing}
 use Rattle.policy_rules.specs.Management.{acting}
-use Rattle.policy_rules.specs.StatusRequests.{IsThingAt}
+use Rattle.policy_rules.specs.GetStatusRequests.{IsThingAt}
 use Rattle.policy_rules.proofs.ThingsFound.{acting_named}
 use Rattle.policy_rules.proofs.get_status.is_in_tree.Goals as goal
 

@@ -1,7 +1,7 @@
 use Rattle.std.proofs.Common.{ap, sym, ◌∙◌}
 use Rattle.std.specs.Prelude.{nat_eq, option_copied}
 use Rattle.std.specs.List.{starts_with}
-use Rattle.policy_rules.proofs.StatusListed.{listed_begins, listed_from}
+use Rattle.policy_rules.proofs.GetStatusListed.{listed_begins, listed_from}
 use Rattle.policy_rules.proofs.get_status.listed_aid.Goals.{then-not-starts_with-via-then-not-starts_with, then-not-starts_with-via-else-not-starts_with+then-not-sees}
 use Rattle.policy_rules.proofs.get_status.listed_aid.Goals as goal
 

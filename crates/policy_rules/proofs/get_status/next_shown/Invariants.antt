@@ -3,8 +3,8 @@ use Rattle.std.specs.Prelude.{IfSome, option_copied}
 use Rattle.card_types.specs.Found.{aid_of}
 use Rattle.policy_rules.specs.Admission.{Admitted}
 use Rattle.policy_rules.specs.Requests.{ActsIn}
-use Rattle.policy_rules.specs.StatusRequests.{IsListedAt}
-use Rattle.policy_rules.proofs.StatusListed.{IsLeastBefore}
+use Rattle.policy_rules.specs.GetStatusRequests.{IsListedAt}
+use Rattle.policy_rules.proofs.GetStatusListed.{IsLeastBefore}
 use Rattle.policy_rules.proofs.get_status.next_shown.Given as goal
 
 abbrev pub invariant-loop-slot : goal.invariant-loop-slot

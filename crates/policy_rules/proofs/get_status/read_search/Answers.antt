@@ -1,7 +1,7 @@
 use Rattle.std.proofs.Common.{inl, inr, length, sym, subst, ◌∙◌}
 use Rattle.std.proofs.lemmas.Bool.{eqb-false, eqb-true}
 use Rattle.bertlv.specs.Spelling.{BeginsWith}
-use Rattle.policy_rules.proofs.StatusSearch.{no_search, other_rest, other_search, search_with, unread_rest}
+use Rattle.policy_rules.proofs.GetStatusSearch.{no_search, other_rest, other_search, search_with, unread_rest}
 use Rattle.policy_rules.proofs.get_status.read_search.Goals.{then-partial-ne79-via-then-partial-ne79, then-partial-ne79-via-else-partial-ne79+then-partial-gt16, then-tags-ne92-via-then-tags-ne92, then-tags-ne92-via-else-tags-ne92+then-not-is_empty}
 use Rattle.policy_rules.proofs.get_status.read_search.Goals as goal
 

@@ -1,8 +1,8 @@
 use Rattle.std.proofs.Common.{rules, ◌≡◌, inl, inr, Some, sym, ◌∙◌}
 use Rattle.std.specs.List.{list_any}
 use Rattle.card_types.specs.Slots.{held}
-use Rattle.policy_rules.proofs.DeletionSlots.{entries_searched, files_searched, others_found}
-use Rattle.policy_rules.specs.DeletionFound.{is_file_of, is_other_of}
+use Rattle.policy_rules.proofs.DeleteObjectSlots.{entries_searched, files_searched, others_found}
+use Rattle.policy_rules.specs.DeleteObjectFound.{is_file_of, is_other_of}
 use Rattle.policy_rules.proofs.in_use.has_others.Goals as goal
 
 pub returns-then-has_other_entry : goal.returns-then-has_other_entry

@@ -1,5 +1,5 @@
 use Rattle.std.proofs.Common.{ℕ, ◌<◌}
-use Rattle.policy_rules.specs.DeletionFound.{IsFrom, IsInUseIn}
+use Rattle.policy_rules.specs.DeleteObjectFound.{IsFrom, IsInUseIn}
 use Rattle.policy_rules.proofs.in_use.has_user.Given as goal
 
 abbrev pub invariant-loop-slot : goal.invariant-loop-slot

@@ -1,5 +1,5 @@
 use Rattle.std.proofs.Common.{inl, inr, sym, ◌∙◌}
-use Rattle.policy_rules.proofs.DeletionSlots.{selected_searched}
+use Rattle.policy_rules.proofs.DeleteObjectSlots.{selected_searched}
 use Rattle.policy_rules.proofs.in_use.is_in_use.Goals.{then-is_selected, else-is_selected}
 use Rattle.policy_rules.proofs.in_use.is_in_use.Goals as goal
 

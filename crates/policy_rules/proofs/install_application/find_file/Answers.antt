@@ -1,5 +1,5 @@
 use Rattle.card_types.proofs.FoundNames.{none_found_none_named}
-use Rattle.policy_rules.proofs.InstallJudging.{entry_no_file}
+use Rattle.policy_rules.proofs.InstallApplicationJudging.{entry_no_file}
 use Rattle.policy_rules.proofs.install_application.find_file.Goals as goal
 
 pub returns-in-Some-Entry-clause-none : goal.returns-in-Some-Entry-clause-none

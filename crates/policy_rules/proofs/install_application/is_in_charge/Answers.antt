@@ -6,7 +6,7 @@ use Rattle.card_types.specs.Slots.{held}
 use Rattle.card_types.specs.declared.tables.LoadFile.{LoadFile}
 use Rattle.policy_rules.specs.Charge.{IsFileInCharge}
 use Rattle.policy_rules.specs.Management.{acting}
-use Rattle.policy_rules.proofs.InstallJudging.{by_slots, file_below}
+use Rattle.policy_rules.proofs.InstallApplicationJudging.{by_slots, file_below}
 use Rattle.policy_rules.proofs.Lawful.{some_same}
 use Rattle.policy_rules.proofs.install_application.is_in_charge.Goals as goal
 

@@ -1,5 +1,5 @@
 use Rattle.std.proofs.Common.{sym, ◌∙◌}
-use Rattle.policy_rules.proofs.InstallJudging.{charge_told}
+use Rattle.policy_rules.proofs.InstallApplicationJudging.{charge_told}
 use Rattle.policy_rules.proofs.install_application.is_out_of_charge.Goals as goal
 
 pub returns-then-not-is_factory_file : goal.returns-then-not-is_factory_file

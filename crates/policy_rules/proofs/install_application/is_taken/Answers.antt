@@ -1,5 +1,5 @@
 use Rattle.std.proofs.Common.{inl, inr, sym, ◌∙◌}
-use Rattle.policy_rules.proofs.InstallJudging.{loaded, none_found, not_there, there}
+use Rattle.policy_rules.proofs.InstallApplicationJudging.{loaded, none_found, not_there, there}
 use Rattle.policy_rules.proofs.install_application.is_taken.Goals as goal
 
 pub returns-then-is_some-clause-taken : goal.returns-then-is_some-clause-taken

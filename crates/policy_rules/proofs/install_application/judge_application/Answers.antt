@@ -1,7 +1,7 @@
 use Rattle.std.proofs.Common.{inl, inr, refl, sym}
 use Rattle.std.proofs.lemmas.Bool.{iff_false}
 use Rattle.policy_rules.specs.InstallApplication.{entry_made}
-use Rattle.policy_rules.proofs.InstallJudging.{exceeds, free, full, in_charge, managing, no_file, no_module, out_of_charge, roomy, source, taken, unmanaged, within}
+use Rattle.policy_rules.proofs.InstallApplicationJudging.{exceeds, free, full, in_charge, managing, no_file, no_module, out_of_charge, roomy, source, taken, unmanaged, within}
 use Rattle.policy_rules.proofs.install_application.judge_application.Goals as goal
 
 pub returns-then-not-may_manage-clause-refused : goal.returns-then-not-may_manage-clause-refused

@@ -1,11 +1,11 @@
 use Rattle.std.proofs.Common.{inr, None, Some, refl, sym, ◌∙◌}
 use Rattle.policy_rules.proofs.FirstLike.{if_err, none_first, on_ok, first_like}
-use Rattle.policy_rules.proofs.InstallJudging.{confirms, holds_named}
+use Rattle.policy_rules.proofs.InstallApplicationJudging.{confirms, holds_named}
 use Rattle.card_types.specs.Privileges.{delegated_management}
 use Rattle.policy_rules.specs.Delegation.{DelegatedFails, Holds, delegation_rules}
 use Rattle.policy_rules.specs.FirstFailing.{IsFirst}
 use Rattle.policy_rules.specs.HoldersFound.{approval_of}
-use Rattle.policy_rules.specs.InstallRequests.{ApprovalFails}
+use Rattle.policy_rules.specs.InstallApplicationRequests.{ApprovalFails}
 use Rattle.policy_rules.proofs.install_application.judge_approval.Goals as goal
 
 pub returns-then-not-holds-clause-passed : goal.returns-then-not-holds-clause-passed

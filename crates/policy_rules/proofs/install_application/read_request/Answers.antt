@@ -5,7 +5,7 @@ use Rattle.card_types.specs.Privileges.{ArePrivilegeBytes}
 use Rattle.policy_rules.specs.FieldsRead.{given_of}
 use Rattle.policy_rules.specs.InstallApplication.{AreInstallParameters}
 use Rattle.policy_rules.specs.InstallFields.{InstallData}
-use Rattle.policy_rules.proofs.InstallAsking.{same_given}
+use Rattle.policy_rules.proofs.InstallApplicationAsking.{same_given}
 use Rattle.policy_rules.proofs.install_application.read_request.Goals as goal
 
 pub returns-in_err-module-clause-none : goal.returns-in_err-module-clause-none

@@ -1,6 +1,6 @@
 use Rattle.std.proofs.Common.{None, Some, sym, ◌∙◌}
 use Rattle.policy_rules.proofs.FirstLike.{first_like, if_err, none_first, on_ok}
-use Rattle.policy_rules.proofs.InstallJudging.{holds_named}
+use Rattle.policy_rules.proofs.InstallApplicationJudging.{holds_named}
 use Rattle.policy_rules.specs.Delegation.{TokenFails, token_rules}
 use Rattle.policy_rules.specs.FirstFailing.{IsFirst}
 use Rattle.policy_rules.specs.HoldersFound.{approval_of}

@@ -1,6 +1,6 @@
 use Rattle.std.proofs.Common.{inl, inr, refl, sym, ◌∙◌}
 use Rattle.std.proofs.lemmas.Bool.{iff_false}
-use Rattle.policy_rules.proofs.InstallJudging.{none_found}
+use Rattle.policy_rules.proofs.InstallApplicationJudging.{none_found}
 use Rattle.policy_rules.proofs.InstallLoadJudging.{free, full, idle, loading, managed, roomy, taken, unmanaged, within}
 use Rattle.policy_rules.proofs.ThingsFound.{acting_named}
 use Rattle.policy_rules.proofs.install_load.judge_loading.Goals as goal

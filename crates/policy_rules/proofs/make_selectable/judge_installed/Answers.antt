@@ -5,7 +5,7 @@ use Rattle.card_types.specs.Slots.{held}
 use Rattle.domain_tree.proofs.AboveNamed.{free_of_loops}
 use Rattle.domain_tree.specs.Above.{Above}
 use Rattle.policy_rules.proofs.MakeSelectableJudging.{elsewhere_first, other_life_first, others_first, own_passes, unknown_first, unmanaged_first}
-use Rattle.policy_rules.proofs.InstallJudging.{manages, may_manage}
+use Rattle.policy_rules.proofs.InstallApplicationJudging.{manages, may_manage}
 use Rattle.policy_rules.proofs.make_selectable.judge_installed.Goals as goal
 
 pub returns-then-not-may_manage-clause-refused : goal.returns-then-not-may_manage-clause-refused

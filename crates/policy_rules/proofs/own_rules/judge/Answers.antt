@@ -4,24 +4,22 @@ use Rattle.std.specs.Option.{option_map}
 use Rattle.std.proofs.lemmas.List.{get_or_default}
 use Rattle.policy_rules.specs.declared.live.TheConstants.{CHANNELS}
 use Rattle.policy_rules.specs.Commands.{Judges}
-use Rattle.policy_rules.specs.CardStatus.{CardStatusFails, card_status, card_status_rules}
-use Rattle.policy_rules.specs.DeleteObject.{DeleteObjectFails, delete_object, delete_object_rules}
-use Rattle.policy_rules.specs.EntryStatus.{EntryStatusFails, entry_status, entry_status_rules}
-use Rattle.policy_rules.specs.StatusSetRequests.{IsCardStatusOf}
-use Rattle.policy_rules.specs.Extradition.{ExtraditionFails, extradition, extradition_rules}
+use Rattle.policy_rules.specs.CardStatus.{managed_card_status}
+use Rattle.policy_rules.specs.DeleteObject.{managed_delete_object}
+use Rattle.policy_rules.specs.EntryStatus.{managed_entry_status}
+use Rattle.policy_rules.specs.SetStatusRequests.{IsCardStatusOf}
+use Rattle.policy_rules.specs.Extradition.{managed_extradition}
 use Rattle.policy_rules.specs.FirstFailing.{IsFirst}
-use Rattle.policy_rules.specs.InstallApplication.{InstallFails, install_application, install_rules}
-use Rattle.policy_rules.specs.InstallLoad.{InstallLoadFails, install_load_rules}
+use Rattle.policy_rules.specs.InstallApplication.{managed_install}
 use Rattle.policy_rules.specs.Load.{LoadFails, front_rules}
 use Rattle.policy_rules.specs.LoadFound.{IsForLoad}
-use Rattle.policy_rules.specs.MakeSelectable.{MakeSelectableFails, make_selectable, selectable_rules}
-use Rattle.policy_rules.specs.PutKey.{PutKeyFails, put_rules}
+use Rattle.policy_rules.specs.MakeSelectable.{managed_selectable}
 use Rattle.policy_rules.specs.GetStatus.{GetStatusFails, get_status, get_status_rules}
 use Rattle.policy_rules.specs.KeptPlaces.{place_of}
 use Rattle.policy_rules.specs.Requests.{ActsIn}
 use Rattle.card_types.specs.Represents.{Represents}
 use Rattle.card_types.specs.Well.{Well}
-use Rattle.policy_rules.specs.StatusRequests.{IsPlaceBefore}
+use Rattle.policy_rules.specs.GetStatusRequests.{IsPlaceBefore}
 use Rattle.policy_rules.specs.Volatile.{channel_at, place_in, selected_on}
 use Rattle.policy_rules.proofs.DataAsked.{asked_for, asks, has_data}
 use Rattle.policy_rules.proofs.GetDataLaws.{get_passes, get_refused}
@@ -33,17 +31,21 @@ use Rattle.policy_rules.proofs.PutKeyLaws.{put_judged}
 use Rattle.policy_rules.proofs.SelectLaws.{select_passes, select_refused}
 use Rattle.policy_rules.proofs.Selected.{selected_acts, selected_entry}
 use Rattle.policy_rules.proofs.own_rules.judge.Goals as goal
+use Rattle.policy_rules.specs.CommandForm.{FailsFirst}
+use Rattle.policy_rules.specs.InstallLoad.{install_load}
+use Rattle.policy_rules.specs.PutKey.{managed_put_key}
+use Rattle.policy_rules.specs.ManagedForm.{command_form}
 
 pub returns-in-Ok-clause-judged : goal.returns-in-Ok-clause-judged
 returns-in-Ok-clause-judged c page admitted says sound here request behind checks =
     let asked = rw c.in-Select.is at request in
-    (select_passes admitted c.in-Select.partial.now asked.form asked.means _
+    (select_passes admitted c.in-Select.prefix.now asked.form asked.means _
     (c.in-Ok.ensures.found page admitted.at.registry says.registry)).0
 
 pub returns-in-Err-clause-judged : goal.returns-in-Err-clause-judged
 returns-in-Err-clause-judged c page admitted says sound here request behind checks =
     let asked = rw c.in-Select.is at request in
-    select_refused admitted c.in-Select.partial.now asked.form asked.means c.in-Err.rule (c.in-Err.ensures.none page admitted.at.registry says.registry)
+    select_refused admitted c.in-Select.prefix.now asked.form asked.means c.in-Err.rule (c.in-Err.ensures.none page admitted.at.registry says.registry)
 
 pub returns-in-Ok-judge_more_channel-clause-judged : goal.returns-in-Ok-judge_more_channel-clause-judged
 returns-in-Ok-judge_more_channel-clause-judged c page admitted says sound here request behind checks =
@@ -103,7 +105,7 @@ returns-in-PutKey-clause-judged c page admitted says sound here request behind c
     let is : slice_index_or c.args.live.now.selected c.args.channel None ≡ Some c.unwrap-domain.result = search rules in
     let acts = selected_acts page c.args.tables.now c.args.live.now admitted c.args.channel c.unwrap-domain.result says sound c.requires.channel is here in
     put_judged admitted _ asked.form
-    (rw c.err.ensures.value (by_err (λ found. IsFirst (PutKeyFails admitted) put_rules found) c.judge_put_key.result
+    (rw c.err.ensures.value (by_err (FailsFirst (command_form managed_put_key) admitted) c.judge_put_key.result
     (c.judge_put_key.ensures.passed page admitted acts asked (checks asked.form.0)) (c.judge_put_key.ensures.refused page admitted acts asked (checks asked.form.0))))
 
 pub returns-in-Store-clause-judged : goal.returns-in-Store-clause-judged
@@ -132,8 +134,8 @@ returns-in-DeleteObject-clause-judged c page admitted says sound here request be
     let asked = rw c.in-DeleteObject.is at request in
     let is : slice_index_or c.args.live.now.selected c.args.channel None ≡ Some c.unwrap-domain.result = search rules in
     let acts = selected_acts page c.args.tables.now c.args.live.now admitted c.args.channel c.unwrap-domain.result says sound c.requires.channel is here in
-    judged delete_object (λ holds here. inr (inl here)) admitted asked.form refl _
-    (rw c.err-in-DeleteObject.ensures.value (by_err (λ found. IsFirst (DeleteObjectFails admitted) delete_object_rules found) c.judge_deletion.result
+    judged (command_form managed_delete_object) (λ holds here. inr (inl here)) admitted asked.form refl _
+    (rw c.err-in-DeleteObject.ensures.value (by_err (FailsFirst (command_form managed_delete_object) admitted) c.judge_deletion.result
     (c.judge_deletion.ensures.passed page admitted acts says sound.fits.channels asked.means)
     (c.judge_deletion.ensures.refused page admitted acts says sound.fits.channels asked.means)))
 
@@ -147,8 +149,8 @@ returns-in-Install-clause-judged c page admitted says sound here request behind 
     let asked = rw c.in-Install.is at request in
     let is : slice_index_or c.args.live.now.selected c.args.channel None ≡ Some c.unwrap-domain.result = search rules in
     let acts = selected_acts page c.args.tables.now c.args.live.now admitted c.args.channel c.unwrap-domain.result says sound c.requires.channel is here in
-    judged install_application (λ holds here. inl here) admitted asked.form refl _
-    (rw c.err-in-Install.ensures.value (by_err (λ found. IsFirst (InstallFails admitted) install_rules found) c.judge_install.result
+    judged (command_form managed_install) (λ holds here. inl here) admitted asked.form refl _
+    (rw c.err-in-Install.ensures.value (by_err (FailsFirst (command_form managed_install) admitted) c.judge_install.result
     (c.judge_install.ensures.passed page admitted acts says.load asked.means) (c.judge_install.ensures.refused page admitted acts says.load asked.means)))
 
 pub judge_selectable-requires-clause-short : goal.judge_selectable-requires-clause-short
@@ -161,8 +163,8 @@ returns-in-MakeSelectable-clause-judged c page admitted says sound here request 
     let asked = rw c.in-MakeSelectable.is at request in
     let is : slice_index_or c.args.live.now.selected c.args.channel None ≡ Some c.unwrap-domain.result = search rules in
     let acts = selected_acts page c.args.tables.now c.args.live.now admitted c.args.channel c.unwrap-domain.result says sound c.requires.channel is here in
-    judged make_selectable (λ holds here. inr (inl here)) admitted asked.form refl _
-    (rw c.err-in-MakeSelectable.ensures.value (by_err (λ found. IsFirst (MakeSelectableFails admitted) selectable_rules found) c.judge_selectable.result
+    judged (command_form managed_selectable) (λ holds here. inr (inl here)) admitted asked.form refl _
+    (rw c.err-in-MakeSelectable.ensures.value (by_err (FailsFirst (command_form managed_selectable) admitted) c.judge_selectable.result
     (c.judge_selectable.ensures.passed page admitted acts asked.means) (c.judge_selectable.ensures.refused page admitted acts asked.means)))
 
 pub judge_extradition-requires-clause-short : goal.judge_extradition-requires-clause-short
@@ -175,22 +177,22 @@ returns-in-Extradite-clause-judged c page admitted says sound here request behin
     let asked = rw c.in-Extradite.is at request in
     let is : slice_index_or c.args.live.now.selected c.args.channel None ≡ Some c.unwrap-domain.result = search rules in
     let acts = selected_acts page c.args.tables.now c.args.live.now admitted c.args.channel c.unwrap-domain.result says sound c.requires.channel is here in
-    judged extradition (λ holds here. inr (inr (inl here))) admitted asked.form refl _
-    (rw c.err-in-Extradite.ensures.value (by_err (λ found. IsFirst (ExtraditionFails admitted) extradition_rules found) c.judge_extradition.result
+    judged (command_form managed_extradition) (λ holds here. inr (inr (inl here))) admitted asked.form refl _
+    (rw c.err-in-Extradite.ensures.value (by_err (FailsFirst (command_form managed_extradition) admitted) c.judge_extradition.result
     (c.judge_extradition.ensures.passed page admitted acts asked.means) (c.judge_extradition.ensures.refused page admitted acts asked.means)))
 
 pub judge_load_install-requires-clause-short : goal.judge_load_install-requires-clause-short
 judge_load_install-requires-clause-short c =
-    let meant = rw c.in-BeginLoad.is at c.requires.meant in
+    let meant = rw c.in-InstallLoad.is at c.requires.meant in
     omega (arith, meant.3.short, meant.4)
 
-pub returns-in-BeginLoad-clause-judged : goal.returns-in-BeginLoad-clause-judged
-returns-in-BeginLoad-clause-judged c page admitted says sound here request behind checks =
-    let asked = rw c.in-BeginLoad.is at request in
+pub returns-in-InstallLoad-clause-judged : goal.returns-in-InstallLoad-clause-judged
+returns-in-InstallLoad-clause-judged c page admitted says sound here request behind checks =
+    let asked = rw c.in-InstallLoad.is at request in
     let is : slice_index_or c.args.live.now.selected c.args.channel None ≡ Some c.unwrap-domain.result = search rules in
     let acts = selected_acts page c.args.tables.now c.args.live.now admitted c.args.channel c.unwrap-domain.result says sound c.requires.channel is here in
     load_install_judged admitted _ asked.form
-    (rw c.err-in-BeginLoad.ensures.value (by_err (λ found. IsFirst (InstallLoadFails admitted) install_load_rules found) c.judge_load_install.result
+    (rw c.err-in-InstallLoad.ensures.value (by_err (FailsFirst install_load admitted) c.judge_load_install.result
     (c.judge_load_install.ensures.passed page admitted acts says.load asked.means) (c.judge_load_install.ensures.refused page admitted acts says.load asked.means)))
 
 pub returns-in-CardStatus-clause-judged : goal.returns-in-CardStatus-clause-judged
@@ -198,9 +200,9 @@ returns-in-CardStatus-clause-judged c page admitted says sound here request behi
     let asked = rw c.in-CardStatus.is at request in
     let is : slice_index_or c.args.live.now.selected c.args.channel None ≡ Some c.unwrap-domain.result = search rules in
     let acts = selected_acts page c.args.tables.now c.args.live.now admitted c.args.channel c.unwrap-domain.result says sound c.requires.channel is here in
-    let means : IsCardStatusOf c.in-CardStatus.code admitted.command = record { parameters = asked.form.1; code_is = asked.means } in
-    judged card_status (λ holds here. inl here) admitted asked.form refl _
-    (rw c.err-in-CardStatus.ensures.value (by_err (λ found. IsFirst (CardStatusFails admitted) card_status_rules found) c.judge_card_status.result
+    let means : IsCardStatusOf c.in-CardStatus.life admitted.command = record { parameters = asked.form.1; code_is = asked.means } in
+    judged (command_form managed_card_status) (λ holds here. inl here) admitted asked.form refl _
+    (rw c.err-in-CardStatus.ensures.value (by_err (FailsFirst (command_form managed_card_status) admitted) c.judge_card_status.result
     (c.judge_card_status.ensures.passed page admitted acts means) (c.judge_card_status.ensures.refused page admitted acts means)))
 
 pub returns-in-EntryStatus-clause-judged : goal.returns-in-EntryStatus-clause-judged
@@ -208,18 +210,18 @@ returns-in-EntryStatus-clause-judged c page admitted says sound here request beh
     let asked = rw c.in-EntryStatus.is at request in
     let is : slice_index_or c.args.live.now.selected c.args.channel None ≡ Some c.unwrap-domain.result = search rules in
     let acts = selected_acts page c.args.tables.now c.args.live.now admitted c.args.channel c.unwrap-domain.result says sound c.requires.channel is here in
-    judged entry_status (λ holds here. inr (inl here)) admitted asked.form refl _
-    (rw c.err-in-EntryStatus.ensures.value (by_err (λ found. IsFirst (EntryStatusFails admitted) entry_status_rules found) c.judge_entry_status.result
+    judged (command_form managed_entry_status) (λ holds here. inr (inl here)) admitted asked.form refl _
+    (rw c.err-in-EntryStatus.ensures.value (by_err (FailsFirst (command_form managed_entry_status) admitted) c.judge_entry_status.result
     (c.judge_entry_status.ensures.passed page admitted acts asked.means) (c.judge_entry_status.ensures.refused page admitted acts asked.means)))
 
-pub returns-in-ListStatus-clause-judged : goal.returns-in-ListStatus-clause-judged
-returns-in-ListStatus-clause-judged c page admitted says sound here request behind checks =
-    let asked = rw c.in-ListStatus.is at request in
+pub returns-in-List-clause-judged : goal.returns-in-List-clause-judged
+returns-in-List-clause-judged c page admitted says sound here request behind checks =
+    let asked = rw c.in-List.is at request in
     absurd (behind.1 asked.form.0)
 
-pub returns-in-ListStatus-clause-listed : goal.returns-in-ListStatus-clause-listed
-returns-in-ListStatus-clause-listed c page admitted says sound here before request ins =
-    let asked = rw c.in-ListStatus.is at request in
+pub returns-in-List-clause-listed : goal.returns-in-List-clause-listed
+returns-in-List-clause-listed c page admitted says sound here before request ins =
+    let asked = rw c.in-List.is at request in
     let tables = c.args.tables.now in
     let slot = c.unwrap-domain.result in
     let at : slice_index_or c.args.live.now.selected c.args.channel None ≡ Some slot = search rules in
@@ -233,12 +235,12 @@ returns-in-ListStatus-clause-listed c page admitted says sound here before reque
     } in
     let four : length c.args.live.now.places ≡ CHANNELS = search rules in
     let copied : option_copied c.as_ref-place.result ≡ slice_index_or c.args.live.now.places c.args.channel None =
-    c.as_ref-place.ensures.value ∙ ap (λ (n : ℕ). slice_index_or c.args.live.now.places n c.index-live-from.result) c.from-in-ListStatus.ensures
+    c.as_ref-place.ensures.value ∙ ap (λ (n : ℕ). slice_index_or c.args.live.now.places n c.index-live-from.result) c.from-in-List.ensures
     ∙ get_or_default c.args.live.now.places c.args.channel c.index-live-from.result None (subst (λ (n : ℕ). c.args.channel < n) (sym four) c.requires.channel) in
     let place : IsPlaceBefore (option_copied c.as_ref-place.result) admitted =
     ap (option_map place_of) copied ∙ says.places c.args.channel c.requires.channel ∙ ap (λ (n : ℕ). place_in (channel_at admitted.before.volatile n)) here in
     judged get_status (λ holds here. inl here) admitted asked.form refl _
-    (rw c.err-in-ListStatus.ensures.value (by_err (λ found. IsFirst (GetStatusFails admitted) get_status_rules found) c.judge_status.result
+    (rw c.err-in-List.ensures.value (by_err (λ found. IsFirst (GetStatusFails admitted) get_status_rules found) c.judge_status.result
     (c.judge_status.ensures.passed page admitted acts place asked.means) (c.judge_status.ensures.refused page admitted acts place asked.means)))
 
 pub returns-in-Load-clause-judged : goal.returns-in-Load-clause-judged

@@ -3,24 +3,25 @@ use Rattle.key_sets.specs.PutFails.{PutFails}
 use Rattle.policy_rules.proofs.FirstJoined.{passed_behind, refused_behind, refused_within}
 use Rattle.policy_rules.proofs.PutKeyJudging.{roomy_ok}
 use Rattle.policy_rules.specs.Requests.{sent_keys}
-use Rattle.policy_rules.specs.PutKey.{PutKeyFails}
-use Rattle.policy_rules.specs.PutRules.{key_rules, version_rules}
+use Rattle.policy_rules.specs.PutKeyRules.{key_rules, version_rules}
 use Rattle.policy_rules.proofs.put_key.judge_put_key.Goals as goal
+use Rattle.policy_rules.specs.PutKey.{managed_put_key}
+use Rattle.policy_rules.specs.ManagedForm.{command_form}
 
 pub returns-in_err-judge_put_versions-clause-refused : goal.returns-in_err-judge_put_versions-clause-refused
 returns-in_err-judge_put_versions-clause-refused c page admitted acts request checks =
-    refused_within (PutKeyFails admitted) key_rules version_rules c.from_residual.result c.in_err-judge_put_versions.field-0.0 c.from_residual.ensures.1
+    refused_within ((command_form managed_put_key).fails admitted) key_rules version_rules c.from_residual.result c.in_err-judge_put_versions.field-0.0 c.from_residual.ensures.1
     (c.in_err-judge_put_versions.ensures.refused page admitted c.args.keys.now acts request)
 
 pub returns-clause-passed : goal.returns-clause-passed
 returns-clause-passed c page admitted acts request checks =
-    passed_behind (PutKeyFails admitted) key_rules version_rules c.judge_put_keys.result
+    passed_behind ((command_form managed_put_key).fails admitted) key_rules version_rules c.judge_put_keys.result
     (c.in_ok-judge_put_versions.ensures.passed page admitted c.args.keys.now acts request)
     (c.judge_put_keys.ensures.passed page admitted c.args.version acts request checks)
 
 pub returns-clause-refused : goal.returns-clause-refused
 returns-clause-refused c page admitted acts request checks =
-    refused_behind (PutKeyFails admitted) key_rules version_rules c.judge_put_keys.result
+    refused_behind ((command_form managed_put_key).fails admitted) key_rules version_rules c.judge_put_keys.result
     (c.in_ok-judge_put_versions.ensures.passed page admitted c.args.keys.now acts request)
     (c.judge_put_keys.ensures.refused page admitted c.args.version acts request checks)
 

@@ -1,14 +1,15 @@
 use Rattle.std.proofs.Common.{[], ◌∷◌}
 use Rattle.policy_rules.proofs.ManagementFirst.{management_handed}
 use Rattle.policy_rules.proofs.PutKeyJudging.{taken_first, unknown_first, versions_pass}
-use Rattle.policy_rules.specs.PutKey.{PutKeyFails}
 use Rattle.policy_rules.specs.declared.put_key.RulePK.TheVariants.{PK1, PK2}
 use Rattle.policy_rules.specs.declared.rule.Rule.TheVariants.{PK}
 use Rattle.policy_rules.proofs.put_key.judge_put_versions.Goals as goal
+use Rattle.policy_rules.specs.PutKey.{managed_put_key}
+use Rattle.policy_rules.specs.ManagedForm.{command_form}
 
 pub returns-in_err-judge_management-clause-refused : goal.returns-in_err-judge_management-clause-refused
 returns-in_err-judge_management-clause-refused c page admitted keys acts request =
-    management_handed (PutKeyFails admitted) (PK PK1 ∷ PK PK2 ∷ []) c.from_residual.result c.in_err-judge_management.field-0.0 c.from_residual.ensures.1
+    management_handed ((command_form managed_put_key).fails admitted) (PK PK1 ∷ PK PK2 ∷ []) c.from_residual.result c.in_err-judge_management.field-0.0 c.from_residual.ensures.1
     (c.in_err-judge_management.ensures.refused page admitted acts)
 
 pub returns-then-lacks_replaced-clause-refused : goal.returns-then-lacks_replaced-clause-refused

@@ -2,15 +2,16 @@ use Rattle.std.proofs.Common.{[], ◌∷◌, None, Some, inl, refl, arith}
 use Rattle.policy_rules.proofs.Judging.{err_judged}
 use Rattle.policy_rules.proofs.ManagementFirst.{management_handed}
 use Rattle.policy_rules.proofs.StoreDataLaws.{full_first, none_first, store_judged}
-use Rattle.policy_rules.specs.StoreData.{StoreDataFails, store_data}
+use Rattle.policy_rules.specs.StoreData.{managed_store_data}
 use Rattle.policy_rules.specs.declared.rule.Rule.TheVariants.{SD}
 use Rattle.policy_rules.specs.declared.store_data.RuleSD.TheVariants.{SD1}
 use Rattle.policy_rules.proofs.store_data.judge_store_data.Goals as goal
+use Rattle.policy_rules.specs.ManagedForm.{command_form}
 
 pub returns-in_err-judge_management-clause-refused : goal.returns-in_err-judge_management-clause-refused
 returns-in_err-judge_management-clause-refused c page admitted acts request =
-    err_judged store_data (λ holds is. inl is) admitted request.form refl c.from_residual.result
-    (management_handed (StoreDataFails admitted) (SD SD1 ∷ []) c.from_residual.result c.in_err-judge_management.field-0.0 c.from_residual.ensures.1
+    err_judged (command_form managed_store_data) (λ holds is. inl is) admitted request.form refl c.from_residual.result
+    (management_handed ((command_form managed_store_data).fails admitted) (SD SD1 ∷ []) c.from_residual.result c.in_err-judge_management.field-0.0 c.from_residual.ensures.1
     (c.in_err-judge_management.ensures.refused page admitted acts))
 
 pub returns-then-used-count_new-gt-OBJECTS-clause-refused : goal.returns-then-used-count_new-gt-OBJECTS-clause-refused

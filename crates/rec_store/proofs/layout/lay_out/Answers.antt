@@ -1,4 +1,4 @@
-use Rattle.std.proofs.Common.{refl}
+use Rattle.std.proofs.Common.{refl, ◌∙◌, arith}
 use Rattle.flash_core.specs.Device.{Only}
 use Rattle.rec_store.specs.Reopens.{Keeps, load_page}
 use Rattle.rec_store.proofs.LaidOut.{laid_out}
@@ -10,10 +10,9 @@ pub returns-clause-keeps : goal.returns-clause-keeps
 returns-clause-keeps g c told tables registry first card says =
     let F = g.F.Flash in
     let written = F.pages c.write_tables.new.flash in
-    let shut = F.pages c.write.new.self in
     let device = c.sync.new.self in
-    let gate = c.in_ok-write.ensures in
+    let laid = c.in_ok-write_tables.ensures in
     let synced = c.sync.ensures in
-    on_ok c.sync.result (Only shut (F.may_leave device)) (Keeps F device registry)
-    (λ only. laid_out written shut (F.pages device) _ (F.may_leave device) tables registry (c.in_ok-write_tables.ensures.held told tables first) (gate.torn told) (gate.written told) refl (synced.torn told) only (card_of_said (load_page (F.pages device)) tables registry card says))
+    on_ok c.sync.result (Only written (F.may_leave device)) (Keeps F device registry)
+    (λ only. laid_out written (F.pages device) _ (F.may_leave device) tables registry (laid.held told tables first) (laid.others told 45 (omega arith) ∙ c.in_ok-write-2.ensures.written told) refl (synced.torn told) only (card_of_said (load_page (F.pages device)) tables registry card says))
     (synced.written told)

@@ -1,12 +1,11 @@
 -- The rules of DELETE of an object behind its form, by its request.
-use Rattle.std.proofs.Common.{◌≡◌, ◌≢◌, ◌↔◌, ◌⊎◌, inl, inr, ℕ, true, false, List, ◌++◌, length, Option, None, Some, refl, ap, sym, subst, ◌∙◌, arith}
-use Rattle.std.specs.Prelude.{IsSome, MatchOption, map}
+use Rattle.std.proofs.Common.{◌≡◌, ◌≢◌, ◌↔◌, ◌⊎◌, inl, inr, ℕ, true, false, List, length, Option, None, Some, refl, ap, sym, subst, ◌∙◌, arith}
+use Rattle.std.specs.Prelude.{IsSome, MatchOption}
 use Rattle.std.specs.Option.{option_map}
 use Rattle.std.proofs.lemmas.Bool.{eqb-false, eqb-true}
 use Rattle.card_types.proofs.FoundNames.{found_entry_named, found_file_named, none_found_none_named}
 use Rattle.card_types.specs.Found.{aid_of}
 use Rattle.card_types.specs.Registry as registry
-use Rattle.card_types.specs.Registry.{entry_named, file_named}
 use Rattle.card_types.specs.Represents.{domain_slot}
 use Rattle.card_types.specs.Slots.{held}
 use Rattle.card_types.specs.declared.factory.TheConstants.{FACTORY_FILE, ISSUER}
@@ -17,67 +16,22 @@ use Rattle.card_types.specs.declared.tables.Tables.{Tables}
 use Rattle.domain_tree.specs.Above.{Above}
 use Rattle.policy_rules.specs.Admission.{Admitted}
 use Rattle.policy_rules.specs.Charge.{IsFileInCharge, IsInCharge}
-use Rattle.policy_rules.specs.Delegation.{delegation_rules}
-use Rattle.policy_rules.specs.DeleteObject.{AsksToDelete, ComesFrom, DeleteObjectFails, DeletingFails, DeletionAsked, DeletionAskedFails, IsInUse, IsToGo, delete_object_rules}
-use Rattle.policy_rules.specs.DeletionFound.{DeletionApprovalFails, IsFrom, IsInUseIn}
-use Rattle.policy_rules.specs.DeletionRequests.{IsDeletionOf, own_deletion_rules}
+use Rattle.policy_rules.specs.DeleteObject.{ComesFrom, DeletingFails, DeletionAsked, IsInUse, IsToGo, managed_delete_object}
+use Rattle.policy_rules.specs.DeleteObjectFound.{IsFrom, IsInUseIn}
+use Rattle.policy_rules.specs.DeleteObjectRequests.{IsDeletionOf}
 use Rattle.policy_rules.specs.FirstFailing.{IsFirst}
-use Rattle.policy_rules.specs.Management.{ManagementFails, acting}
+use Rattle.policy_rules.specs.Management.{acting}
 use Rattle.policy_rules.specs.Requests.{ActsIn, RepresentsState}
 use Rattle.policy_rules.specs.declared.delete_object.DeletionRequest.{DeletionRequest}
 use Rattle.policy_rules.specs.declared.delete_object.RuleDO.{RuleDO}
 use Rattle.policy_rules.specs.declared.delete_object.RuleDO.TheVariants.{DO1, DO2, DO3, DO4}
 use Rattle.policy_rules.specs.declared.live.Live.{Live}
 use Rattle.policy_rules.specs.declared.live.TheConstants.{CHANNELS}
-use Rattle.policy_rules.specs.declared.management.RuleM.TheVariants.{M1, M2}
-use Rattle.policy_rules.specs.declared.rule.Rule.{Rule}
-use Rattle.policy_rules.specs.declared.rule.Rule.TheVariants.{DO}
 use Rattle.policy_rules.proofs.ChargeNamed.{above_alike}
-use Rattle.policy_rules.proofs.DeletionAsking.{one_deletion}
-use Rattle.policy_rules.proofs.DeletionNames.{entry_no_source, file_alone, file_unloaded, file_unselected, from_named, from_slots, loaded_named, others_named, selected_named}
-use Rattle.policy_rules.proofs.DeletionSlots.{from_used}
-use Rattle.policy_rules.proofs.FirstJoined.{first_behind, first_within}
-use Rattle.policy_rules.proofs.FirstLike.{first_like, first_of_group}
-use Rattle.policy_rules.proofs.InstallJudging.{entry_no_file}
-use Rattle.policy_rules.proofs.ManagementFirst.{behind_management}
+use Rattle.policy_rules.proofs.DeleteObjectNames.{entry_no_source, file_alone, file_unloaded, file_unselected, from_named, from_slots, loaded_named, others_named, selected_named}
+use Rattle.policy_rules.proofs.DeleteObjectSlots.{from_used}
+use Rattle.policy_rules.proofs.InstallApplicationJudging.{entry_no_file}
 use Rattle.policy_rules.proofs.ThingsFound.{acting_named, entry_at}
-
--- the rules of its own, and those on its approval, are rules of the command
-module _ (admitted : Admitted) (asked : DeletionAsked) (asks : AsksToDelete admitted.command.body asked) where
-  abbrev FailsAsked : Rule → Type 0
-  FailsAsked rule = (other : DeletionAsked) × AsksToDelete admitted.command.body other × DeletionAskedFails admitted other rule
-
-  of_command : (rules : List Rule) (found : Option Rule) → IsFirst (DeletionAskedFails admitted asked) rules found → IsFirst FailsAsked rules found
-  of_command rules found first =
-      first_like (DeletionAskedFails admitted asked) FailsAsked (λ rule fails. (asked, asks, fails))
-      (λ rule fails.
-      (let same = one_deletion fails.0 asked admitted.command.body fails.1 asks in
-      subst (λ (a : DeletionAsked). DeletionAskedFails admitted a rule) same fails.2))
-      rules found first
-
-  own_first : (found : Option RuleDO) → IsFirst (DeletingFails admitted asked) own_deletion_rules found
-      → IsFirst (DeleteObjectFails admitted) (map DO own_deletion_rules) (option_map DO found)
-  own_first found first =
-      of_command (map DO own_deletion_rules) (option_map DO found) (first_of_group DO (DeletionAskedFails admitted asked) own_deletion_rules found first)
-
-  approval_first : (found : Option Rule) → IsFirst (DeletionApprovalFails admitted asked.approval) delegation_rules found
-      → IsFirst (DeleteObjectFails admitted) delegation_rules found
-  approval_first found first = of_command delegation_rules found first
-
-  module _ (managed : (ManagementFails admitted M1 → ⊥) × (ManagementFails admitted M2 → ⊥)) where
-    -- a rule of its own fails first
-    pub own_refuses : (rule : RuleDO) → IsFirst (DeletingFails admitted asked) own_deletion_rules (Some rule)
-        → IsFirst (DeleteObjectFails admitted) delete_object_rules (Some (DO rule))
-    own_refuses rule first =
-        behind_management (DeleteObjectFails admitted) (map DO own_deletion_rules ++ delegation_rules) (Some (DO rule)) managed.0 managed.1
-        (first_within (DeleteObjectFails admitted) delegation_rules (map DO own_deletion_rules) (DO rule) (own_first (Some rule) first))
-
-    -- none of its own fails, and its approval decides
-    pub approval_decides : (found : Option Rule) → IsFirst (DeletingFails admitted asked) own_deletion_rules None
-        → IsFirst (DeletionApprovalFails admitted asked.approval) delegation_rules found → IsFirst (DeleteObjectFails admitted) delete_object_rules found
-    approval_decides found none first =
-        behind_management (DeleteObjectFails admitted) (map DO own_deletion_rules ++ delegation_rules) found managed.0 managed.1
-        (first_behind (DeleteObjectFails admitted) delegation_rules (map DO own_deletion_rules) found (own_first None none) (approval_first found first))
 
 -- which of its own rules is the first
 module _ (admitted : Admitted) (asked : DeletionAsked) where
@@ -88,7 +42,7 @@ module _ (admitted : Admitted) (asked : DeletionAsked) where
   Passes rule = Fails rule → ⊥
 
   abbrev First : Option RuleDO → Type 0
-  First found = IsFirst Fails own_deletion_rules found
+  First found = IsFirst Fails managed_delete_object.judged.own_rules found
 
   pub first_1 : Fails DO1 → First (Some DO1)
   first_1 fails = inl (fails, refl)

@@ -1,8 +1,7 @@
 -- What the judgement of an INSTALL [for install] finds by slots is what its rules say by names.
-use Rattle.std.proofs.Common.{◌≡◌, ◌≢◌, ◌⊎◌, ◌↔◌, inl, inr, ℕ, List, ◌++◌, Bool, true, false, not, ◌||◌, Option, None, Some, length, refl, sym, ap, subst, ◌∙◌, arith}
-use Rattle.std.specs.Prelude.{Contains, Err, IfNone, IfOk, IfSome, IsSome, Ok, Result, IsTrue, MatchOption, is_some, map}
+use Rattle.std.proofs.Common.{◌≡◌, ◌≢◌, ◌⊎◌, ◌↔◌, inl, inr, ℕ, List, Bool, true, false, not, ◌||◌, Option, None, Some, length, refl, sym, ap, subst, ◌∙◌, arith}
+use Rattle.std.specs.Prelude.{Contains, Err, IfNone, IfOk, IfSome, IsSome, Ok, Result, IsTrue, MatchOption, is_some}
 use Rattle.std.specs.List.{list_any}
-use Rattle.std.specs.Option.{option_map}
 use Rattle.std.proofs.lemmas.Bool.{and_from, and_parts, not-true, not_from_false, false_from_ne_true}
 use Rattle.std.proofs.lemmas.List.Elements.{All-contains}
 use Rattle.card_types.proofs.Domains.{file_domain_is_used, same_domain}
@@ -32,29 +31,21 @@ use Rattle.domain_tree.proofs.AboveNamed.{above_in_slots, above_named}
 use Rattle.domain_tree.specs.Above.{Above}
 use Rattle.domain_tree.specs.Holders.{entry_has}
 use Rattle.policy_rules.proofs.Filtered.{any_there, there_any}
-use Rattle.policy_rules.proofs.FirstJoined.{first_behind, first_within}
-use Rattle.policy_rules.proofs.FirstLike.{first_like, first_of_group}
-use Rattle.policy_rules.proofs.InstallAsking.{one_asked}
-use Rattle.policy_rules.proofs.ManagementFirst.{behind_management}
 use Rattle.policy_rules.proofs.NearestHolder.{privilege_named}
 use Rattle.policy_rules.specs.Admission.{Admitted}
 use Rattle.policy_rules.specs.Charge.{IsFileInCharge, is_privileged}
-use Rattle.policy_rules.specs.Delegation.{Holds, MayManage, delegation_rules}
-use Rattle.policy_rules.specs.FirstFailing.{IsFirst}
+use Rattle.policy_rules.specs.Delegation.{Holds, MayManage}
 use Rattle.policy_rules.specs.HoldersFound.{FindsConfirmer, FindsReceipter}
-use Rattle.policy_rules.specs.InstallApplication.{AskedFails, AsksToInstall, InstallAsked, InstallFails, InstallingFails, IsTakenAid, guarded_privileges, install_rules}
-use Rattle.policy_rules.specs.InstallFields.{approval_in}
-use Rattle.policy_rules.specs.InstallRequests.{ApprovalFails, IsInstallOf, IsOutOfCharge, application_rules, exceeds_by, is_loaded_as, may_manage_by}
-use Rattle.policy_rules.specs.Management.{ManagementFails, acting}
+use Rattle.policy_rules.specs.InstallApplication.{InstallingFails, IsTakenAid, guarded_privileges}
+use Rattle.policy_rules.specs.InstallApplicationRequests.{IsInstallOf, IsOutOfCharge, exceeds_by, is_loaded_as, may_manage_by}
+use Rattle.policy_rules.specs.Management.{acting}
 use Rattle.policy_rules.specs.Requests.{ActsIn, IsLoadNamed}
 use Rattle.policy_rules.specs.Volatile.{LoadSession}
 use Rattle.policy_rules.specs.declared.install_application.InstallRequest.{InstallRequest}
 use Rattle.policy_rules.specs.declared.install_application.RuleII.{RuleII}
 use Rattle.policy_rules.specs.declared.install_application.RuleII.TheVariants.{II1, II2, II3, II4, II6, II7}
 use Rattle.policy_rules.specs.declared.install_application.TheConstants.{GUARDED}
-use Rattle.policy_rules.specs.declared.management.RuleM.TheVariants.{M1, M2}
 use Rattle.policy_rules.specs.declared.rule.Rule.{Rule}
-use Rattle.policy_rules.specs.declared.rule.Rule.TheVariants.{II}
 use Rattle.policy_rules.specs.declared.live.LoadName.{LoadName}
 
 one_true : (a b : Bool) → (a || b) ≡ true → (a ≡ true) ⊎ (b ≡ true)
@@ -249,40 +240,6 @@ module _ (page : ℕ → List ℕ) (tables : Tables) (domain : ℕ) (admitted : 
 
       pub roomy : (slot : ℕ) → IsFirstFree tables.entries.items slot → Fails II7 → ⊥
       roomy slot first fails = (let below = entry_room page tables admitted.at.registry acts.says slot first.within first.free in omega (arith, below, whole, fails))
-
--- the rules of the application, and those on its approval, are rules of the command
-module _ (admitted : Admitted) (asked : InstallAsked) (asks : AsksToInstall admitted.command.body asked) where
-  abbrev FailsAsked : Rule → Type 0
-  FailsAsked rule = (other : InstallAsked) × AsksToInstall admitted.command.body other × AskedFails admitted other rule
-
-  of_command : (rules : List Rule) (found : Option Rule) → IsFirst (AskedFails admitted asked) rules found → IsFirst FailsAsked rules found
-  of_command rules found first =
-      first_like (AskedFails admitted asked) FailsAsked (λ rule fails. (asked, asks, fails))
-      (λ rule fails. subst (λ (a : InstallAsked). AskedFails admitted a rule) (one_asked fails.0 asked admitted.command.body fails.1 asks) fails.2) rules found first
-
-  pub application_first : (found : Option RuleII) → IsFirst (InstallingFails admitted asked) application_rules found
-      → IsFirst (InstallFails admitted) (map II application_rules) (option_map II found)
-  application_first found first =
-      of_command (map II application_rules) (option_map II found) (first_of_group II (AskedFails admitted asked) application_rules found first)
-
-  pub approval_first : (found : Option Rule) → IsFirst (ApprovalFails admitted (approval_in asked.given)) delegation_rules found
-      → IsFirst (InstallFails admitted) delegation_rules found
-  approval_first found first = of_command delegation_rules found first
-
-  module _ (managed : (ManagementFails admitted M1 → ⊥) × (ManagementFails admitted M2 → ⊥)) where
-    -- a rule of the application fails first
-    pub refused_first : (rule : RuleII) → IsFirst (InstallingFails admitted asked) application_rules (Some rule)
-        → IsFirst (InstallFails admitted) install_rules (Some (II rule))
-    refused_first rule first =
-        behind_management (InstallFails admitted) (map II application_rules ++ delegation_rules) (Some (II rule)) managed.0 managed.1
-        (first_within (InstallFails admitted) delegation_rules (map II application_rules) (II rule) (application_first (Some rule) first))
-
-    -- none of them does
-    pub behind_application : (found : Option Rule) → IsFirst (InstallingFails admitted asked) application_rules None
-        → IsFirst (ApprovalFails admitted (approval_in asked.given)) delegation_rules found → IsFirst (InstallFails admitted) install_rules found
-    behind_application found none first =
-        behind_management (InstallFails admitted) (map II application_rules ++ delegation_rules) found managed.0 managed.1
-        (first_behind (InstallFails admitted) delegation_rules (map II application_rules) found (application_first None none) (approval_first found first))
 
 -- who confirms a delegated command
 pub confirms : (delegated : Type 0) (tables : Tables) (admitted : Admitted) → delegated → (result : Result (Option ℕ) Rule)

@@ -1,5 +1,5 @@
 -- What the code reads of an INSTALL [for install], and what it finds.
-use Rattle.std.specs.Prelude.{◌≡◌, ◌⊎◌, ℕ, ◌≤◌, ◌==◌, ◌&&◌, List, [], ◌∷◌, Bool, false, not, Option, None, Some, MatchOption, ◌≢◌, ◌||◌, length}
+use Rattle.std.specs.Prelude.{◌≡◌, ◌⊎◌, ℕ, ◌≤◌, ◌==◌, ◌&&◌, List, Bool, false, not, Option, None, Some, MatchOption, ◌≢◌, ◌||◌, length}
 use Rattle.apdu_core.specs.Apdu.{Apdu}
 use Rattle.card_types.specs.AidOrder.{same_aid}
 use Rattle.card_types.specs.Privileges.{authorized_management, bits_of, delegated_management, has}
@@ -17,8 +17,6 @@ use Rattle.policy_rules.specs.InstallApplication.{AsksToInstall, InstallAsked}
 use Rattle.policy_rules.specs.InstallFields.{approval_in}
 use Rattle.policy_rules.specs.Management.{acting}
 use Rattle.policy_rules.specs.declared.install_application.InstallRequest.{InstallRequest}
-use Rattle.policy_rules.specs.declared.install_application.RuleII.{RuleII}
-use Rattle.policy_rules.specs.declared.install_application.RuleII.TheVariants.{II1, II2, II3, II4, II5, II6, II7}
 use Rattle.policy_rules.specs.declared.live.LoadName.{LoadName}
 use Rattle.policy_rules.specs.declared.rule.Rule.{Rule}
 use Rattle.policy_rules.specs.declared.rule.Rule.TheVariants.{PS}
@@ -46,10 +44,6 @@ pub record IsInstallRequest (request : InstallRequest) (p1 p2 : ℕ) (body : Lis
 -- and that of this command
 abbrev pub IsInstallOf : InstallRequest → Apdu → Type 0
 IsInstallOf request command = IsInstallRequest request command.p1 command.p2 command.body
-
--- its rules but for those on its approval
-abbrev pub application_rules : List RuleII
-application_rules = II1 ∷ II2 ∷ II3 ∷ II4 ∷ II5 ∷ II6 ∷ II7 ∷ []
 
 -- the load session is for this AID
 abbrev pub is_loaded_as : List ℕ → Option LoadName → Bool

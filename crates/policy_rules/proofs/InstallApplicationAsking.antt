@@ -6,12 +6,13 @@ use Rattle.bertlv.specs.Spelling.{AreElements, BeginsWith, Element, Spelling}
 use Rattle.card_types.proofs.PrivilegeFacts.{bits_of-bytes}
 use Rattle.card_types.specs.Privileges.{ArePrivilegeBytes, IsNamed, bits_of, privilege_bytes}
 use Rattle.card_types.specs.declared.privileges.Privileges.{Privileges}
-use Rattle.policy_rules.specs.InstallApplication.{AreInstallParameters, AsksToInstall, InstallAsked}
+use Rattle.policy_rules.specs.InstallApplication.{AreInstallParameters, AsksToInstall, InstallAsked, managed_install}
 use Rattle.policy_rules.specs.InstallFields.{InstallData, IsInstallData}
 use Rattle.policy_rules.specs.ObjectsFound.{has_tag_in}
 use Rattle.policy_rules.proofs.Filtered.{any_there, there_any}
 use Rattle.policy_rules.proofs.LengthFields.{one_data}
 use Rattle.policy_rules.proofs.StoreDataElements.{elements_behind, elements_with, none_left, one_list}
+use Rattle.policy_rules.proofs.ManagedJudging.{IsJudgeable, delegation_asked}
 
 abbrev pub AreSome : List ℕ → Type 0
 AreSome bytes = (elements : List Element) × AreElements elements bytes
@@ -69,3 +70,11 @@ one_asked a b body one other =
     let given = one_data a.given b.given body one.fields other.fields in
     let privileges = one_privileges a.privileges b.privileges b.given.privileges (subst (λ (g : InstallData). ArePrivilegeBytes a.privileges g.privileges) given one.privileges) other.privileges in
     (λ i. record { given = given i; privileges = privileges i })
+
+pub install_judgeable : IsJudgeable managed_install.judged
+install_judgeable = record {
+  one_asked = λ p1 p2 body a b one other. one_asked a b body one other;
+  own = λ rule. tt;
+  one_rule = λ a b same. cc;
+  approving = delegation_asked;
+}

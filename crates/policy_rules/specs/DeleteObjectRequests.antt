@@ -1,12 +1,10 @@
 -- What the code reads of a DELETE of an object.
-use Rattle.std.specs.Prelude.{◌≡◌, ℕ, ◌≤◌, ◌==◌, List, [], ◌∷◌, length}
+use Rattle.std.specs.Prelude.{◌≡◌, ℕ, ◌≤◌, ◌==◌, List, length}
 use Rattle.apdu_core.specs.Apdu.{Apdu}
 use Rattle.policy_rules.specs.DeleteKey.{DeleteParameters}
 use Rattle.policy_rules.specs.DeleteObject.{AsksToDelete, DeletionAsked}
 use Rattle.policy_rules.specs.HoldersFound.{approval_of}
 use Rattle.policy_rules.specs.declared.delete_object.DeletionRequest.{DeletionRequest}
-use Rattle.policy_rules.specs.declared.delete_object.RuleDO.{RuleDO}
-use Rattle.policy_rules.specs.declared.delete_object.RuleDO.TheVariants.{DO1, DO2, DO3, DO4}
 
 -- The request is that of a command with this P1, P2 and data field.
 pub record IsDeletionRequest (request : DeletionRequest) (p1 p2 : ℕ) (body : List ℕ) : Type 0 where
@@ -22,7 +20,3 @@ pub record IsDeletionRequest (request : DeletionRequest) (p1 p2 : ℕ) (body : L
 -- and that of this command
 abbrev pub IsDeletionOf : DeletionRequest → Apdu → Type 0
 IsDeletionOf request command = IsDeletionRequest request command.p1 command.p2 command.body
-
--- its rules but for those of management and on its approval
-abbrev pub own_deletion_rules : List RuleDO
-own_deletion_rules = DO1 ∷ DO2 ∷ DO3 ∷ DO4 ∷ []

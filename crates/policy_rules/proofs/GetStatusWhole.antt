@@ -18,9 +18,9 @@ use Rattle.card_types.specs.declared.tables.Tables.{Tables}
 use Rattle.policy_rules.specs.Admission.{Admitted}
 use Rattle.policy_rules.specs.GetStatus.{BeginsAbove, IsListed, IsListing, IsSearch, IsToBeShown, Thing, aid_in, last_aid}
 use Rattle.policy_rules.specs.Management.{acting}
-use Rattle.policy_rules.specs.StatusRequests.{IsNextListed, NoneListed}
+use Rattle.policy_rules.specs.GetStatusRequests.{IsNextListed, NoneListed}
 use Rattle.policy_rules.proofs.GetStatusJudging.{one_beginning, one_search}
-use Rattle.policy_rules.proofs.StatusListing.{first_of_sorted, listed_in_order, sorted_none, sorted_one}
+use Rattle.policy_rules.proofs.GetStatusListing.{first_of_sorted, listed_in_order, sorted_none, sorted_one}
 
 -- below what is below a third, or at it
 below_third : (a b c : List ℕ) → NotAbove a b → aid_order b c ≡ Less → aid_order a c ≡ Less

@@ -1,5 +1,5 @@
 -- What the code reads of a SET STATUS, and what it finds.
-use Rattle.std.specs.Prelude.{◌≡◌, ◌≢◌, ◌↔◌, ◌⊎◌, ℕ, ◌==◌, Bool, IsTrue, List, [], ◌∷◌, false, true, MatchOption, Option}
+use Rattle.std.specs.Prelude.{◌≡◌, ◌≢◌, ◌↔◌, ◌⊎◌, ℕ, ◌==◌, Bool, IsTrue, List, false, true, MatchOption, Option}
 use Rattle.apdu_core.specs.Apdu.{Apdu}
 use Rattle.card_types.specs.Aid.{IsAid}
 use Rattle.card_types.specs.Privileges.{has, security_domain}
@@ -20,8 +20,6 @@ use Rattle.policy_rules.specs.Management.{acting}
 use Rattle.policy_rules.specs.declared.card_status.CardStep.{CardStep}
 use Rattle.policy_rules.specs.declared.card_status.CardStep.TheVariants.{Prepare, Lock, Terminate}
 use Rattle.policy_rules.specs.declared.entry_status.EntryStatusRequest.{EntryStatusRequest}
-use Rattle.policy_rules.specs.declared.entry_status.RuleSS.{RuleSS}
-use Rattle.policy_rules.specs.declared.entry_status.RuleSS.TheVariants.{SS1, SS2, SS3, SS4}
 use Rattle.policy_rules.specs.declared.entry_status.StatusChange.{StatusChange}
 use Rattle.policy_rules.specs.declared.entry_status.StatusChange.TheVariants.{One, Tree}
 
@@ -51,16 +49,12 @@ pub record IsEntryStatusRequest (request : EntryStatusRequest) (p1 p2 : ℕ) (bo
   pub parameters : EntryStatusParameters p1 p2
   pub field : IsAid body
   pub tree : request.tree ≡ (p1 == 0x60)
-  pub code : request.code ≡ p2
+  pub life : request.life ≡ p2
   pub aid : request.aid ≡ body
 
 -- and that of this command
 abbrev pub IsEntryStatusOf : EntryStatusRequest → Apdu → Type 0
 IsEntryStatusOf request command = IsEntryStatusRequest request command.p1 command.p2 command.body
-
--- its rules but for those of management
-abbrev pub own_status_rules : List RuleSS
-own_status_rules = SS1 ∷ SS2 ∷ SS3 ∷ SS4 ∷ []
 
 -- the acting domain may set the entry
 abbrev pub MaySet : Admitted → Type 0
@@ -70,8 +64,8 @@ MaySet admitted =
 -- the steps of the entry in a slot: another lock mark, or a security domain is personalized
 abbrev pub IsSlotStep : EntryStatusRequest → Entry → LifeMark → Type 0
 IsSlotStep request entry life =
-    (Marks request.code life.locked × (entry.life.locked ≡ life.locked → ⊥) × (life.life ≡ entry.life.life))
-    ⊎ ((request.tree ≡ false) × (request.code ≡ 0x0F) × (has security_domain entry.privileges ≡ true)
+    (Marks request.life life.locked × (entry.life.locked ≡ life.locked → ⊥) × (life.life ≡ entry.life.life))
+    ⊎ ((request.tree ≡ false) × (request.life ≡ 0x0F) × (has security_domain entry.privileges ≡ true)
     × (entry.life ≡ record { life = Selectable; locked = false }) × (life ≡ is_personalized))
 
 -- the slot of what is set

@@ -22,7 +22,7 @@ use Rattle.policy_rules.specs.declared.live.Place.{Place}
 -- The request is that of a command with this P1, P2 and data field.
 pub record IsListRequest (request : ListRequest) (p1 p2 : ℕ) (body : List ℕ) : Type 0 where
   pub parameters : StatusParameters p1 p2
-  pub search : IsSearch body request.partial.now
+  pub search : IsSearch body request.prefix.now
   pub kind : request.kind ≡ p1
   pub next : request.next ≡ (p2 == 0x03)
   pub whole : request.body.now ≡ body
@@ -58,7 +58,7 @@ NoneListed admitted p1 partial after = (thing : Thing) → IsListed admitted.at.
 pub record IsFirstShown (page : ℕ → List ℕ) (tables : Tables) (admitted : Admitted) (request : ListRequest) (found : Found) : Type 0 where
   pub after : Option (List ℕ)
   pub begins : BeginsAbove admitted after
-  pub next : IsNextListed page tables admitted request.kind request.partial.now after found
+  pub next : IsNextListed page tables admitted request.kind request.prefix.now after found
 
 -- what has this AID is of the kind that P1 names, by the slot that it is in
 abbrev pub IsListedAs : ℕ → Found → List ℕ → Type 0

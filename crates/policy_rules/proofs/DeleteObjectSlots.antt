@@ -12,7 +12,7 @@ use Rattle.card_types.specs.Slots.{held}
 use Rattle.card_types.specs.declared.tables.Entry.{Entry}
 use Rattle.card_types.specs.declared.tables.Tables.{Tables}
 use Rattle.policy_rules.proofs.AnySlot.{passing_slot, slot_passes}
-use Rattle.policy_rules.specs.DeletionFound.{HasOthersIn, HasSelected, IsFrom, comes_from_slot, has_slot, is_file_of, is_other_of}
+use Rattle.policy_rules.specs.DeleteObjectFound.{HasOthersIn, HasSelected, IsFrom, comes_from_slot, has_slot, is_file_of, is_other_of}
 use Rattle.policy_rules.specs.declared.live.Live.{Live}
 use Rattle.policy_rules.specs.declared.live.TheConstants.{CHANNELS}
 

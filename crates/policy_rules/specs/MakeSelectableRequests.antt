@@ -1,5 +1,5 @@
 -- What the code reads of an INSTALL [for make selectable], and what it finds.
-use Rattle.std.specs.Prelude.{◌≡◌, ℕ, ◌≤◌, List, [], ◌∷◌, Option, None, Some, MatchOption, length}
+use Rattle.std.specs.Prelude.{◌≡◌, ℕ, ◌≤◌, List, [], Option, None, Some, MatchOption, length}
 use Rattle.apdu_core.specs.Apdu.{Apdu}
 use Rattle.card_types.specs.Privileges.{ArePrivilegeBytes}
 use Rattle.card_types.specs.declared.privileges.Privileges.{Privileges}
@@ -7,8 +7,6 @@ use Rattle.card_types.specs.declared.tables.Entry.{Entry}
 use Rattle.policy_rules.specs.HoldersFound.{approval_of}
 use Rattle.policy_rules.specs.InstallFields.{InstallData, approval_in}
 use Rattle.policy_rules.specs.MakeSelectable.{AsksToMakeSelectable, is_installed}
-use Rattle.policy_rules.specs.declared.make_selectable.RuleMS.{RuleMS}
-use Rattle.policy_rules.specs.declared.make_selectable.RuleMS.TheVariants.{MS1, MS2, MS3, MS4, MS5}
 use Rattle.policy_rules.specs.declared.make_selectable.SelectableRequest.{SelectableRequest}
 
 -- no privileges are given, or these
@@ -29,10 +27,6 @@ pub record IsSelectableRequest (request : SelectableRequest) (p1 p2 : ℕ) (body
 -- and that of this command
 abbrev pub IsSelectableOf : SelectableRequest → Apdu → Type 0
 IsSelectableOf request command = IsSelectableRequest request command.p1 command.p2 command.body
-
--- its rules but for those of management and on its approval
-abbrev pub own_selectable_rules : List RuleMS
-own_selectable_rules = MS1 ∷ MS2 ∷ MS3 ∷ MS4 ∷ MS5 ∷ []
 
 -- the slot holds the entry with this AID, which is just installed
 abbrev pub IsInstalledWith : List ℕ → Option Entry → Type 0
