@@ -16,6 +16,7 @@ pub mod ListedSlots
 pub mod MillEnding
 pub mod MilledLines
 pub mod One
+pub mod OneMill
 pub mod Spaces
 pub mod Spelled
 pub mod Moments

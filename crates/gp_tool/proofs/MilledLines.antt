@@ -1,10 +1,11 @@
 -- A workload that is played line by line.
-use Rattle.std.proofs.Common.{◌≡◌, ℕ, zero, suc, ◌+◌, ◌*◌, List, [], ◌∷◌, ◌++◌, length, refl, sym, ap, subst, ◌∙◌, arith, append_assoc}
+use Rattle.std.proofs.Common.{◌≡◌, ℕ, zero, suc, false, ◌+◌, ◌*◌, List, [], ◌∷◌, ◌++◌, length, refl, sym, ap, subst, ◌∙◌, arith, append_assoc}
 use Rattle.std.specs.Prelude.{flat_map}
 use Rattle.std.proofs.lemmas.List.{append-nil}
 use Rattle.card_core.specs.Card.{CardRepresents}
 use Rattle.flash_core.specs.declared.flash.Flash.{Ghosts as Flash}
 use Rattle.policy_rules.specs.State.{State}
+use Rattle.policy_rules.specs.Step.{Outcome}
 use Rattle.rand_chacha.specs.ChaCha.{ChaCha}
 use Rattle.script_tool.specs.Host.{first_host}
 use Rattle.script_tool.specs.Kept.{RepresentsHost}
@@ -12,11 +13,16 @@ use Rattle.script_tool.specs.Mill.{after_round, generator, rounds, workload}
 use Rattle.script_tool.specs.Round.{lines_of}
 use Rattle.script_tool.specs.declared.host_state.HostState.{HostState}
 use Rattle.gp_tool.proofs.Counting.{count_more}
-use Rattle.gp_tool.proofs.RunsMore.{runs_more}
+use Rattle.gp_tool.proofs.Moments.{has_failed, has_run}
+use Rattle.gp_tool.proofs.RunsMore.{leaves_further, runs_more}
+use Rattle.gp_tool.specs.Device.{LeavesOneOf, registries}
 use Rattle.gp_tool.specs.Effects.{joined, nothing}
-use Rattle.gp_tool.specs.Mill.{with_text, with_texts}
+use Rattle.gp_tool.specs.Mill.{PlaysSome, with_text, with_texts}
 use Rattle.gp_tool.specs.Milling.{Milled, Milling, MillsLine}
 use Rattle.gp_tool.specs.RunsLines.{RunsLines, start}
+use Rattle.gp_tool.specs.Script.{BreaksScript}
+use Rattle.gp_tool.specs.Serve.{BreaksLine}
+use Rattle.gp_tool.specs.Standing.{standing}
 use Rattle.gp_tool.specs.declared.card_end.CardEnd as the_end
 use Rattle.gp_tool.specs.declared.tally.Tally.{Tally}
 use Rattle.gp_tool.specs.declared.verb.Verb.TheVariants.{Play}
@@ -36,10 +42,11 @@ counts_all : (some more : List (List ℕ)) (tally : Tally) → with_texts more (
 counts_all [] more tally = refl
 counts_all (text ∷ some) more tally = counts_all some more (with_text text tally)
 
-module _ {F : Type 0} (device : Flash F) (work : Workload) (first : State) where
+module _ {F : Type 0} (device : Flash F) (work : Workload) (first : State) (from : F) where
   pub milling_first : (end : the_end.CardEnd F) (player : HostState) (tally : Tally) (left : List (List ℕ)) → CardRepresents device end.card first → RepresentsHost player first_host
-      → end.done ≡ 0 → tally ≡ record { success = 0; other = 0 } → left ≡ workload work.seed work.rounds → Milling device work first end player tally left
-  milling_first end player tally left stands host none zero_tally all = record {
+      → LeavesOneOf device from end.card.flash (first.registry ∷ []) → end.done ≡ 0 → tally ≡ record { success = 0; other = 0 } → left ≡ workload work.seed work.rounds
+      → Milling device work first from end player tally left
+  milling_first end player tally left stands host leaves none zero_tally all = record {
     given = [];
     effect = nothing;
     place = start Play first;
@@ -47,38 +54,68 @@ module _ {F : Type 0} (device : Flash F) (work : Workload) (first : State) where
     plays = (refl, refl);
     stands = stands;
     host = host;
+    leaves = leaves;
     done = omega (arith, none);
     tally_is = zero_tally;
   }
 
-  -- one line more
-  pub milling_more : (old new : the_end.CardEnd F) (player player' : HostState) (tally tally' : Tally) (line : List ℕ) (left left' : List (List ℕ)) → left ≡ line ∷ left'
-      → (milling : Milling device work first old player tally left) → MillsLine device line old new player player' tally tally' milling.place
-      → Milling device work first new player' tally' left'
-  milling_more old new player player' tally tally' line left left' is milling mills =
-      let run = mills.runs in
-      let stands = run.stands in
-      record {
-        given = milling.given ++ line ∷ [];
-        effect = joined milling.effect run.effect;
-        place = run.next;
-        all = append_assoc milling.given (line ∷ []) left' ∙ ap (λ l. milling.given ++ l) (sym is) ∙ milling.all;
-        plays = runs_more Play 1 (1 + length milling.given) milling.given line (start Play first) milling.place run.next milling.effect run.effect refl milling.plays run.plays;
-        stands = stands.0;
-        host = stands.1;
-        done = count_more old.done new.done milling.effect.outcomes run.effect.outcomes milling.done run.done;
-        tally_is = mills.tally_is ∙ ap (with_texts run.effect.texts) milling.tally_is ∙ counts_all milling.effect.texts run.effect.texts (record { success = 0; other = 0 });
-      }
+  module _ (old : the_end.CardEnd F) (player : HostState) (tally : Tally) (line : List ℕ) (left left' : List (List ℕ)) (is : left ≡ line ∷ left')
+      (milling : Milling device work first from old player tally left) (new : the_end.CardEnd F) where
+    leaves_more : (more : List Outcome) → LeavesOneOf device old.card.flash new.card.flash (registries milling.place.state more)
+        → LeavesOneOf device from new.card.flash (registries first (milling.effect.outcomes ++ more))
+    leaves_more more leaves =
+        leaves_further Play device milling.given (start Play first) milling.place milling.effect milling.plays from old.card.flash new.card.flash more milling.leaves leaves
+
+    -- one line more
+    pub milling_more : (player' : HostState) (tally' : Tally) → MillsLine device line old new player player' tally tally' milling.place → Milling device work first from new player' tally' left'
+    milling_more player' tally' mills =
+        let run = mills.runs in
+        let stands = run.stands in
+        record {
+          given = milling.given ++ line ∷ [];
+          effect = joined milling.effect run.effect;
+          place = run.next;
+          all = append_assoc milling.given (line ∷ []) left' ∙ ap (λ l. milling.given ++ l) (sym is) ∙ milling.all;
+          plays = runs_more Play 1 (1 + length milling.given) milling.given line (start Play first) milling.place run.next milling.effect run.effect refl milling.plays run.plays;
+          stands = stands.0;
+          host = stands.1;
+          leaves = leaves_more run.effect.outcomes run.leaves;
+          done = count_more old.done new.done milling.effect.outcomes run.effect.outcomes milling.done run.done;
+          tally_is = mills.tally_is ∙ ap (with_texts run.effect.texts) milling.tally_is ∙ counts_all milling.effect.texts run.effect.texts (record { success = 0; other = 0 });
+        }
+
+    -- or the device failed in it
+    pub milling_broken : (player' : HostState) → BreaksLine (BreaksScript line) device (standing old player false) (standing new player' false) milling.place
+        → PlaysSome device work from first new.card.flash new.done
+    milling_broken player' breaks = record {
+      given = milling.given;
+      line = line;
+      rest = left';
+      lines_are = sym milling.all ∙ ap (λ l. milling.given ++ l) is;
+      effect = milling.effect;
+      last = milling.place;
+      plays = milling.plays;
+      begun = breaks.begun;
+      mid = breaks.mid;
+      next = breaks.next;
+      fails = breaks.fails;
+      failed = has_failed device Play from new.card.flash first new.done (milling.effect.outcomes ++ breaks.begun) breaks.mid breaks.next
+          (count_more old.done new.done milling.effect.outcomes breaks.begun milling.done breaks.done) breaks.left
+          (subst (λ (os : List Outcome). LeavesOneOf device from new.card.flash (registries first os)) (sym (append_assoc milling.effect.outcomes breaks.begun (breaks.next ∷ [])))
+          (leaves_more (breaks.begun ++ breaks.next ∷ []) breaks.leaves));
+    }
 
   -- none is left
-  pub milled : (end : the_end.CardEnd F) (player : HostState) (tally : Tally) (left : List (List ℕ)) → left ≡ [] → Milling device work first end player tally left → Milled device work first end tally
+  pub milled : (end : the_end.CardEnd F) (player : HostState) (tally : Tally) (left : List (List ℕ)) → left ≡ [] → Milling device work first from end player tally left
+      → Milled device work first from end tally
   milled end player tally left none milling =
       let all : milling.given ≡ workload work.seed work.rounds = sym (append-nil milling.given) ∙ ap (λ l. milling.given ++ l) (sym none) ∙ milling.all in
+      let run = has_run device Play from end.card first end.done milling.effect.outcomes milling.place.state milling.done milling.stands milling.leaves in
       record {
         effect = milling.effect;
         last = milling.place;
         plays = subst (λ (lines : List (List ℕ)). RunsLines Play 1 lines (start Play first) milling.effect milling.place) all milling.plays;
         stands = milling.stands;
-        done = milling.done;
+        run = run.0;
         tally_is = milling.tally_is;
       }

@@ -12,8 +12,8 @@ use Rattle.policy_rules.specs.State.{State}
 use Rattle.policy_rules.specs.Step.{Outcome}
 use Rattle.gp_tool.proofs.ComeFirst.{come_more, lines_come}
 use Rattle.gp_tool.proofs.Counting.{count_more, counts_from}
-use Rattle.gp_tool.proofs.Moments.{among_first, among_more, joins, has_run, has_failed}
-use Rattle.gp_tool.proofs.RunsMore.{runs_end, runs_more}
+use Rattle.gp_tool.proofs.Moments.{has_run, has_failed}
+use Rattle.gp_tool.proofs.RunsMore.{leaves_further, runs_more}
 use Rattle.gp_tool.specs.AtMost.{IsAtMost}
 use Rattle.gp_tool.specs.Counted.{CountsOn, counted}
 use Rattle.gp_tool.specs.Device.{HasFailed, HasRun, LeavesOneOf, registries}
@@ -92,11 +92,7 @@ module _ {F : Type 0} (verb : Verb) (device : Flash F) (reads writes : Type 0) (
     -- what power lost may leave behind the commands of one line more
     leaves_more : (mid new : F) (more : List Outcome) → LeavesOneOf device from mid (registries first going.effect.outcomes)
         → LeavesOneOf device mid new (registries going.place.state more) → LeavesOneOf device from new (registries first (going.effect.outcomes ++ more))
-    leaves_more mid new more since leaves =
-        joins device from mid new (registries first going.effect.outcomes) (registries going.place.state more) (registries first (going.effect.outcomes ++ more))
-        (among_first first going.effect.outcomes more)
-        (among_more first going.effect.outcomes more going.place.state (runs_end verb 1 going.given (start verb first) going.place going.effect going.plays))
-        since leaves
+    leaves_more mid new more since leaves = leaves_further verb device going.given (start verb first) going.place going.effect going.plays from mid new more since leaves
 
     done_more : (more : List Outcome) (count : ℕ) → CountsOn at.done count (length more) → count ≡ counted (length (going.effect.outcomes ++ more))
     done_more more count done = count_more at.done count going.effect.outcomes more going.done done
@@ -188,10 +184,9 @@ module _ {F : Type 0} (verb : Verb) (device : Flash F) (reads writes : Type 0) (
 
     -- the last text was cut
     last_cut : (n : ℕ) (text : List ℕ) → writes → later.sink.written ≡ now.sink.written ++ take n text
-        → later.sink.written ≡ before.sink.written ++ (concat going.effect.texts ++ take n (concat (text ∷ [])))
+        → later.sink.written ≡ before.sink.written ++ (concat going.effect.texts ++ take n text)
     last_cut n text told wrote =
         all_written before.sink.written (concat going.effect.texts) (take n text) now.sink.written later.sink.written (going.written told) wrote
-        ∙ ap (λ t. before.sink.written ++ (concat going.effect.texts ++ take n t)) (sym (append-nil text))
 
     -- the input is at its end
     course_read : (reads → ahead old now.source.left ≡ []) → (reads → 0 < room old) → (reads → later.source.left ≡ [])
@@ -284,12 +279,17 @@ module _ {F : Type 0} (verb : Verb) (device : Flash F) (reads writes : Type 0) (
         record {
           course = course_more line.0 later.source.left takes (taken_there line.0 later.source.left line.5);
           ends = inl (
-            inl flushes,
-            going.effect.texts,
-            line.2 ∷ [],
-            ap (λ t. going.effect.texts ++ t) line.3,
-            omega arith,
-            λ told. (let part = line.4 told in (part.0, last_cut part.0 line.2 told part.1)),
+            record {
+              lines = going.given;
+              line = takes.line;
+              given_are = refl;
+              before = going.effect;
+              place = going.place;
+              plays = going.plays;
+              text = line.2;
+              texts_are = ap (λ t. going.effect.texts ++ t) line.3;
+            },
+            (flushes, λ told. (let part = line.4 told in (part.0, last_cut part.0 line.2 told part.1))),
           );
           rests = λ other.
               has_run device verb from at'.card first at'.done (going.effect.outcomes ++ played.effect.outcomes) played.next.state
@@ -298,18 +298,14 @@ module _ {F : Type 0} (verb : Verb) (device : Flash F) (reads writes : Type 0) (
         }
     going_ends few WriteFault (inr (same, (bad, refuses, taken))) flushes = record {
       course = course_here (ahead old now.source.left) later.source.left going.reached (taken_there (ahead old now.source.left) later.source.left taken);
-      ends = inr (
+      ends = inr (inl (
         bad_there bad,
         (
-          inl flushes,
-          going.effect.texts,
-          bad_line (length going.given + 1) ∷ [],
-          refl,
-          omega arith,
+          flushes,
           λ told.
               (let part = refuses told in
               (part.0, last_cut part.0 (bad_line (length going.given + 1)) told (part.1 ∙ ap (λ n. now.sink.written ++ take part.0 (bad_line (n + 1))) going.number))),
         ),
-      );
+      ));
       rests = λ other. rested few same;
     }

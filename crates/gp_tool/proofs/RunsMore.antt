@@ -4,9 +4,11 @@ use Rattle.std.specs.Prelude.{Contains}
 use Rattle.std.proofs.Math.Bool.{or-false, or_assoc}
 use Rattle.std.proofs.lemmas.List.{append-nil}
 use Rattle.card_types.proofs.Members.{contains_first}
-use Rattle.gp_tool.proofs.Moments.{among_more}
+use Rattle.flash_core.specs.declared.flash.Flash.{Ghosts as Flash}
+use Rattle.policy_rules.specs.Step.{Outcome}
+use Rattle.gp_tool.proofs.Moments.{among_first, among_more, joins}
 use Rattle.gp_tool.proofs.One.{Same, line_ends, line_once}
-use Rattle.gp_tool.specs.Device.{registries}
+use Rattle.gp_tool.specs.Device.{LeavesOneOf, registries}
 use Rattle.gp_tool.specs.Effects.{Effect, Place, joined, nothing}
 use Rattle.gp_tool.specs.RunsLines.{Memory, PlaysLine, RunsLines}
 use Rattle.gp_tool.specs.declared.verb.Verb.{Verb}
@@ -61,3 +63,11 @@ module _ (verb : Verb) where
       let more = runs_end (number + 1) lines some.1 last some.2 some.4 in
       subst (λ (e : Effect). Contains (registries at.state e.outcomes) last.state.registry) (sym some.5)
       (among_more at.state some.0.outcomes some.2.outcomes some.1.state there last.state.registry more)
+
+  -- what power lost may leave after the commands of one line more
+  pub leaves_further : {F : Type 0} (device : Flash F) (lines : List (List ℕ)) (at last : Place (Memory verb)) (effect : Effect) → RunsLines verb 1 lines at effect last
+      → (from mid new : F) (more : List Outcome) → LeavesOneOf device from mid (registries at.state effect.outcomes)
+      → LeavesOneOf device mid new (registries last.state more) → LeavesOneOf device from new (registries at.state (effect.outcomes ++ more))
+  leaves_further device lines at last effect runs from mid new more since leaves =
+      joins device from mid new (registries at.state effect.outcomes) (registries last.state more) (registries at.state (effect.outcomes ++ more))
+      (among_first at.state effect.outcomes more) (among_more at.state effect.outcomes more last.state (runs_end 1 lines at last effect runs)) since leaves

@@ -10,7 +10,7 @@ use Rattle.policy_rules.specs.State.{State}
 use Rattle.policy_rules.specs.Step.{Outcome}
 use Rattle.gp_tool.specs.Around.{Around}
 use Rattle.gp_tool.specs.Effects.{Effect, Place}
-use Rattle.gp_tool.specs.Flush.{FlushesLast, IsHandedOn}
+use Rattle.gp_tool.specs.Flush.{IsHandedOn}
 use Rattle.gp_tool.specs.RunsLines.{FailsLine, HasForm, Memory, RunsLines, bad_line, start}
 use Rattle.gp_tool.specs.declared.ending.Ending.{Ending}
 use Rattle.gp_tool.specs.declared.ending.Ending.TheVariants.{Finished, Differs, BadLine, FlashFault, ReadFault, WriteFault, InputTooLong}
@@ -78,11 +78,21 @@ IsRead input given ahead = (lines input ≡ given) × (ahead ≡ []) × (length 
 abbrev pub Wrote : Type 0 → List (List ℕ) → Outside → Outside → Type 0
 Wrote writes texts old new = writes → new.sink.written ≡ old.sink.written ++ concat texts
 
--- A write or the flush was refused: no more than the last one of the texts is missing or cut.
-abbrev pub CutsLast : Type 0 → List (List ℕ) → Outside → Outside → Type 0
-CutsLast writes texts old new =
-    FlushesLast writes old.sink (concat texts) new.sink × (before last : List (List ℕ)) × (texts ≡ before ++ last) × (length last ≤ 1)
-    × (writes → (count : ℕ) × (new.sink.written ≡ old.sink.written ++ (concat before ++ take count (concat last))))
+-- The last line given writes the last text, and those before it the others.
+pub record WritesLast (verb : Verb) (first : State) (given texts : List (List ℕ)) : Type 0 where
+  pub lines : List (List ℕ)
+  pub line : List ℕ
+  pub given_are : given ≡ lines ++ line ∷ []
+  pub before : Effect
+  pub place : Place (Memory verb)
+  pub plays : RunsLines verb 1 lines (start verb first) before place
+  pub text : List ℕ
+  pub texts_are : texts ≡ before.texts ++ text ∷ []
+
+-- A text was refused after those before it: it is missing or cut, and nothing was flushed.
+abbrev pub CutsText : Type 0 → List (List ℕ) → List ℕ → Outside → Outside → Type 0
+CutsText writes before text old new =
+    (new.sink.flushes ≡ old.sink.flushes) × (writes → (count : ℕ) × (new.sink.written ≡ old.sink.written ++ (concat before ++ take count text)))
 
 -- The device failed in a command of the next line, behind the outcomes of those before it in the line.
 abbrev pub FailsNext : (verb : Verb) → Type 0 → (List Outcome → State → Outcome → Type 0) → Place (Memory verb) → ℕ → List ℕ → Type 0
@@ -94,22 +104,29 @@ FailsNext verb reads Fails at room ahead =
 abbrev pub with_bad_line : List (List ℕ) → Effect → List (List ℕ)
 with_bad_line given effect = effect.texts ++ bad_line (length given + 1) ∷ []
 
--- What holds at each ending behind the course: why no further line was given, and what was written.
-abbrev pub EndsAt : (verb : Verb) (reads writes : Type 0) → (List Outcome → State → Outcome → Type 0) → (first : State) (old new : Outside) → Course verb reads first old.source.left new.source.left → Ending → Type 0
-EndsAt verb reads writes Fails first old new course Finished =
+-- What holds after the course where nothing has failed: why no further line was given, and what was written.
+abbrev pub EndsFaultless : (verb : Verb) (reads writes : Type 0) (first : State) (old new : Outside) → Course verb reads first old.source.left new.source.left → Ending → Type 0
+EndsFaultless verb reads writes first old new course Finished =
     (course.effect.differs ≡ false) × (reads → IsRead old.source.left course.given course.ahead) × Wrote writes course.effect.texts old new
-EndsAt verb reads writes Fails first old new course Differs =
+EndsFaultless verb reads writes first old new course Differs =
     (course.effect.differs ≡ true) × (reads → IsRead old.source.left course.given course.ahead) × Wrote writes course.effect.texts old new
-EndsAt verb reads writes Fails first old new course BadLine =
+EndsFaultless verb reads writes first old new course BadLine =
     (reads → IsBad verb course.last.memory (room_ahead old.source.left course.ahead) course.ahead) × Wrote writes (with_bad_line course.given course.effect) old new
-EndsAt verb reads writes Fails first old new course ReadFault = (reads → HoldsNoLine course.ahead new.source.left) × Wrote writes course.effect.texts old new
-EndsAt verb reads writes Fails first old new course InputTooLong =
+EndsFaultless verb reads writes first old new course InputTooLong =
     (reads → IsShortCut (room_ahead old.source.left course.ahead) course.ahead) × Wrote writes course.effect.texts old new
+EndsFaultless verb reads writes first old new course ending = ⊥
+
+-- The same at each ending. At a refused write or flush the text of the last line given was refused, or that of a bad line after
+-- it, or the run had ended without a fault and its flush was refused.
+abbrev pub EndsAt : (verb : Verb) (reads writes : Type 0) → (List Outcome → State → Outcome → Type 0) → (first : State) (old new : Outside) → Course verb reads first old.source.left new.source.left → Ending → Type 0
 EndsAt verb reads writes Fails first old new course FlashFault =
     FailsNext verb reads (λ begun. Fails (course.effect.outcomes ++ begun)) course.last (room_ahead old.source.left course.ahead) course.ahead × Wrote writes course.effect.texts old new
+EndsAt verb reads writes Fails first old new course ReadFault = (reads → HoldsNoLine course.ahead new.source.left) × Wrote writes course.effect.texts old new
 EndsAt verb reads writes Fails first old new course WriteFault =
-    CutsLast writes course.effect.texts old new
-    ⊎ ((reads → IsBad verb course.last.memory (room_ahead old.source.left course.ahead) course.ahead) × CutsLast writes (with_bad_line course.given course.effect) old new)
+    ((last : WritesLast verb first course.given course.effect.texts) × CutsText writes last.before.texts last.text old new)
+    ⊎ ((reads → IsBad verb course.last.memory (room_ahead old.source.left course.ahead) course.ahead) × CutsText writes course.effect.texts (bad_line (length course.given + 1)) old new)
+    ⊎ ((other : Ending) × EndsFaultless verb reads writes first old new course other × (new.sink.flushes ≡ next_count old.sink.flushes))
+EndsAt verb reads writes Fails first old new course ending = EndsFaultless verb reads writes first old new course ending
 
 -- how a run from a first state ends
 pub record Ends (verb : Verb) (reads writes : Type 0) (Rests : List Outcome → State → Type 0) (Fails : List Outcome → State → Outcome → Type 0) (first : State) (ending : Ending) (old new : Outside) : Type 0 where

@@ -1,12 +1,19 @@
 -- The laws of runs over lines.
-use Rattle.std.specs.Prelude.{◌≡◌, ℕ, List}
+use Rattle.std.specs.Prelude.{◌≡◌, ◌++◌, ℕ, List}
+use Rattle.card_types.specs.Registry.{Registry}
+use Rattle.flash_core.specs.declared.flash.Flash.{Ghosts as Flash}
+use Rattle.io_edge.specs.declared.sink.Sink.{Ghosts as Sink}
 use Rattle.policy_rules.specs.State.{State}
+use Rattle.rec_store.specs.Reopens.{Keeps}
+use Rattle.gp_tool.specs.Around.{Around}
 use Rattle.gp_tool.specs.Effects.{Effect, Place}
 use Rattle.gp_tool.specs.Ends.{Ends, Outside}
 use Rattle.gp_tool.specs.RunsLines.{Memory, RunsLines, start}
+use Rattle.gp_tool.specs.Verbs.{MillsCard}
 use Rattle.gp_tool.specs.declared.ending.Ending.{Ending}
 use Rattle.gp_tool.specs.declared.ending.Ending.TheVariants.{FlashFault, ReadFault, WriteFault}
 use Rattle.gp_tool.specs.declared.verb.Verb.{Verb}
+use Rattle.gp_tool.specs.declared.workload.Workload.{Workload}
 
 -- what the same lines from one state have in common
 abbrev pub OfLines : (Effect → State → Effect → State → Type 0) → Type 0
@@ -46,3 +53,15 @@ OneEnding = OfRuns (λ ending new another other. ending ≡ another)
 -- and have written the same
 abbrev pub OneWritten : Type 0
 OneWritten = OfRuns (λ ending new another other. new.sink.written ≡ other.sink.written)
+
+-- A call has written a text, and left a registry.
+pub record HasLeft {K F : Type 0} (sink : Sink K) (device : Flash F) (text : List ℕ) (registry : Registry) (old new : Around (Unit {0}) K F) : Type 0 where
+  pub written : (sink.state new.sink).written ≡ (sink.state old.sink).written ++ text
+  pub keeps : Keeps device new.flash registry
+
+-- wherever one workload was played to its end, it wrote one text and left one registry, by as many commands
+abbrev pub OneMill : {K F : Type 0} → Sink K → Flash F → Type 0
+OneMill {K} {F} sink device =
+    (work : Workload) (count counted : ℕ) (old new before after : Around (Unit {0}) K F) → sink.tells → device.tells
+    → MillsCard work sink device 0 count old new → MillsCard work sink device 0 counted before after
+    → (text : List ℕ) × (registry : Registry) × HasLeft sink device text registry old new × HasLeft sink device text registry before after × (count ≡ counted)

@@ -10,14 +10,14 @@ use Rattle.faults.specs.Faults.{Rose}
 use Rattle.flash_core.specs.declared.flash.Flash.{Ghosts as Flash}
 use Rattle.io_edge.specs.Streams.{SinkState}
 use Rattle.policy_rules.specs.GetData.{IsSequenceCounter}
-use Rattle.policy_rules.specs.State.{powered_on}
-use Rattle.rec_store.specs.Reopens.{Keeps}
+use Rattle.policy_rules.specs.State.{State}
+use Rattle.policy_rules.specs.Step.{Outcome}
 use Rattle.script_tool.specs.Host.{Host}
 use Rattle.script_tool.specs.Mill.{workload}
-use Rattle.gp_tool.specs.Counted.{Counts}
+use Rattle.gp_tool.specs.Device.{HasFailed, HasRun, LeftOneOf}
 use Rattle.gp_tool.specs.Effects.{Effect, Place}
 use Rattle.gp_tool.specs.Flush.{WritesText}
-use Rattle.gp_tool.specs.RunsLines.{RunsLines, start}
+use Rattle.gp_tool.specs.RunsLines.{FailsLine, RunsLines, start}
 use Rattle.gp_tool.specs.declared.ending.Ending.{Ending}
 use Rattle.gp_tool.specs.declared.ending.Ending.TheVariants.{FlashFault}
 use Rattle.gp_tool.specs.declared.tally.Tally.{Tally}
@@ -70,25 +70,39 @@ summary work tally counter =
     workload_line work ++ count_line (codes "rounds") work.rounds ++ count_line (codes "9000") tally.success ++ count_line (codes "other") tally.other
     ++ codes "counter " ++ counter ++ 10 ∷ []
 
--- The lines of the workload were played from the factory card on, and the text is the summary of what they wrote.
-pub record PlaysAll {F : Type 0} (device : Flash F) (work : Workload) (new : F) (count : ℕ) (text : List ℕ) : Type 0 where
-  pub registry : Registry
-  pub factory : device.tells → registry ≡ factory_registry
+-- The lines of the workload were played from a first state on, and the text is the summary of what they wrote. `made` is the
+-- device at the first state.
+pub record PlaysAll {F : Type 0} (device : Flash F) (work : Workload) (made : F) (first : State) (new : F) (count : ℕ) (text : List ℕ) : Type 0 where
   pub effect : Effect
   pub last : Place Host
-  pub plays : RunsLines Play 1 (workload work.seed work.rounds) (start Play (powered_on registry)) effect last
-  pub done : Counts Play count (length effect.outcomes)
-  pub keeps : device.tells → Keeps device new last.state.registry
+  pub plays : RunsLines Play 1 (workload work.seed work.rounds) (start Play first) effect last
+  pub run : HasRun Play device made new first count effect.outcomes last.state
   pub counter : List ℕ
   pub counted : IsCounterText last.state.registry counter
   pub text_is : text ≡ summary work (tally_of effect.texts) counter
 
--- what is written at each ending
-abbrev pub MillEnds : {F : Type 0} → Flash F → Type 0 → Workload → Ending → F → ℕ → SinkState → SinkState → Type 0
-MillEnds device writes work FlashFault new count old new' = writes → new'.written ≡ old.written
-MillEnds device writes work ending new count old new' = (text : List ℕ) × PlaysAll device work new count text × WritesText writes text ending old new'
+-- The device failed in a command of the line after the first ones.
+pub record PlaysSome {F : Type 0} (device : Flash F) (work : Workload) (made : F) (first : State) (new : F) (count : ℕ) : Type 0 where
+  pub given : List (List ℕ)
+  pub line : List ℕ
+  pub rest : List (List ℕ)
+  pub lines_are : workload work.seed work.rounds ≡ given ++ line ∷ rest
+  pub effect : Effect
+  pub last : Place Host
+  pub plays : RunsLines Play 1 given (start Play first) effect last
+  pub begun : List Outcome
+  pub mid : State
+  pub next : Outcome
+  pub fails : FailsLine Play line last begun mid next
+  pub failed : HasFailed Play device made new first count (effect.outcomes ++ begun) mid next
 
--- The card was not powered on behind `format`: the device failed, or it does not tell what it holds.
+-- what was played and written at each ending
+abbrev pub MillEnds : {F : Type 0} → Flash F → Type 0 → Workload → F → State → Ending → F → ℕ → SinkState → SinkState → Type 0
+MillEnds device writes work made first FlashFault new count old new' = PlaysSome device work made first new count × (writes → new'.written ≡ old.written)
+MillEnds device writes work made first ending new count old new' = (text : List ℕ) × PlaysAll device work made first new count text × WritesText writes text ending old new'
+
+-- The card was made, and not powered on: the device failed, or it does not tell what it holds. Power lost leaves the factory card.
 pub record IsNotMilled {F : Type 0} (device : Flash F) (status count : ℕ) (old new : F) : Type 0 where
   pub none : count ≡ 0
   pub why : ((status ≡ 3) × Rose (device.faults old) (device.faults new)) ⊎ ((status ≡ 4) × (device.tells → ⊥))
+  pub left : LeftOneOf device new (factory_registry ∷ [])

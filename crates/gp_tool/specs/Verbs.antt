@@ -1,6 +1,7 @@
 -- How each verb ends. `source`, `sink` and `device` are what contracts see of a source, a sink and a device.
 use Rattle.std.specs.Prelude.{◌≡◌, ◌⊎◌, ℕ, ◌<◌, List, length}
 use Rattle.std.specs.Str.Lines.{lines}
+use Rattle.card_types.specs.Factory.{factory_registry}
 use Rattle.card_types.specs.Registry.{Registry}
 use Rattle.faults.specs.Faults.{Rose}
 use Rattle.flash_core.specs.declared.flash.Flash.{Ghosts as Flash}
@@ -12,7 +13,7 @@ use Rattle.rec_store.specs.Reopens.{Reopens}
 use Rattle.gp_tool.specs.Around.{Around, around}
 use Rattle.gp_tool.specs.Device.{HasFailed, HasRun, HoldsCard, IsNotPowered}
 use Rattle.gp_tool.specs.Ends.{EndCause, Ends, Flushes, exit_status, outside}
-use Rattle.gp_tool.specs.Formatted.{FormatEnds}
+use Rattle.gp_tool.specs.Formatted.{FormatEnds, IsFactoryCard, KeepsPastGate}
 use Rattle.gp_tool.specs.Mill.{IsNotMilled, MillEnds}
 use Rattle.gp_tool.specs.RunsLines.{AreServable, start}
 use Rattle.gp_tool.specs.Shown.{HasShown, ShowEnds}
@@ -72,11 +73,13 @@ abbrev pub Completes : {S K F : Type 0} → Verb → Source S → Sink K → Fla
 Completes verb source sink device status old new =
     source.tells → device.tells → HoldsCard device old.flash → IsGoodInput verb (source.state old.source).left → NoFault source sink device old new → IsDone verb status ⊎ (status ≡ 7)
 
--- no command is processed, and the device is the card as it leaves the factory unless it failed
+-- No command is processed, and the device is the card as it leaves the factory unless it failed. Also then no page past the
+-- gate has changed.
 pub record EndsFormat {K F : Type 0} (sink : Sink K) (device : Flash F) (status count : ℕ) (old new : Around (Unit {0}) K F) : Type 0 where
   pub none : count ≡ 0
   pub ending : Ending
   pub ended : HasEnded sink device ending status 0 0 old new
+  pub past_gate : KeepsPastGate device old.flash new.flash
   pub ends : FormatEnds device sink.tells ending new.flash (sink.state old.sink) (sink.state new.sink)
 
 -- The card was powered on with a registry, which was written, and the device keeps it.
@@ -93,14 +96,19 @@ abbrev pub EndsShow : {K F : Type 0} → Sink K → Flash F → ℕ → ℕ → 
 EndsShow sink device status count old new =
     (count ≡ 0) × ((IsNotPowered device status count old.flash new.flash × (new.sink ≡ old.sink)) ⊎ ShowsCard sink device status old new)
 
--- The device was made the factory card, and a workload was played on it, up to an ending. At that of a device that failed, in
--- making the card too, nothing is written.
+-- The device was made the factory card, which was powered on, and a workload was played on it, up to an ending.
 pub record MillsCard {K F : Type 0} (work : Workload) (sink : Sink K) (device : Flash F) (status count : ℕ) (old new : Around (Unit {0}) K F) : Type 0 where
+  pub made : F
+  pub factory : IsFactoryCard device made
+  pub registry : Registry
+  pub same : device.tells → registry ≡ factory_registry
   pub ending : Ending
   pub ended : HasEnded sink device ending status 0 0 old new
-  pub ends : MillEnds device sink.tells work ending new.flash count (sink.state old.sink) (sink.state new.sink)
+  pub ends : MillEnds device sink.tells work made (powered_on registry) ending new.flash count (sink.state old.sink) (sink.state new.sink)
 
--- It was, or the card was not powered on, and the sink is what it was.
+-- It was; or the card could not be made, as by `format`; or it was not powered on, and the sink is what it was.
 abbrev pub EndsMill : {K F : Type 0} → Workload → Sink K → Flash F → ℕ → ℕ → Around (Unit {0}) K F → Around (Unit {0}) K F → Type 0
 EndsMill work sink device status count old new =
-    (IsNotMilled device status count old.flash new.flash × (new.sink ≡ old.sink)) ⊎ MillsCard work sink device status count old new
+    MillsCard work sink device status count old new
+    ⊎ ((status ≡ 3) × EndsFormat sink device status count old new)
+    ⊎ (IsNotMilled device status count old.flash new.flash × (new.sink ≡ old.sink))

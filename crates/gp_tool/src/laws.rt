@@ -1,6 +1,9 @@
 //! The laws of runs over lines, as functions that do nothing when they run.
 
-ghost use Rattle.gp_tool.specs.Laws.{OneEnding, OneLast, OneText, OneWritten};
+ghost use Rattle.gp_tool.specs.Laws.{OneEnding, OneLast, OneMill, OneText, OneWritten};
+
+use flash_core::Flash;
+use io_edge::Sink;
 
 /// From one state of the card the same lines write one text and lead to one state.
 pub fn one_text()
@@ -12,4 +15,9 @@ pub fn one_text()
 pub fn one_ending()
     ensures ending { OneEnding }
     ensures written { OneWritten }
+{}
+
+/// One workload writes one text and leaves one registry, whatever the device held.
+pub fn one_mill<K: Sink, F: Flash>()
+    ensures { OneMill K.Sink F.Flash }
 {}

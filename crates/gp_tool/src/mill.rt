@@ -1,14 +1,17 @@
 //! The lines of a workload over a card.
 
-ghost use Rattle.std.specs.Prelude.{◌≡◌, ◌≤◌, ◌<◌, ◌+◌, ◌^◌, IfOk, OnOk, OnErr, true};
+ghost use Rattle.std.specs.Prelude.{◌≡◌, ◌≤◌, ◌<◌, ◌+◌, ◌^◌, IfOk, OnOk, OnErr, true, false};
 ghost use Rattle.card_core.specs.Card.{CardRepresents};
 ghost use Rattle.faults.specs.Faults.{Rose};
 ghost use Rattle.policy_rules.specs.State.{State};
 ghost use Rattle.script_tool.specs.Host.{Host};
 ghost use Rattle.script_tool.specs.Kept.{RepresentsHost};
 ghost use Rattle.gp_tool.specs.Effects.{Place};
+ghost use Rattle.gp_tool.specs.Mill.{PlaysSome};
 ghost use Rattle.gp_tool.specs.Milling.{Milled, MillsLine};
-ghost use Rattle.gp_tool.specs.Script.{IsScript};
+ghost use Rattle.gp_tool.specs.Script.{BreaksScript, IsScript};
+ghost use Rattle.gp_tool.specs.Serve.{BreaksLine};
+ghost use Rattle.gp_tool.specs.Standing.{standing};
 
 use crate::card_end::CardEnd;
 use crate::play::{has_printed, printed_line};
@@ -32,6 +35,8 @@ fn mill_line<F: Flash>(
     requires room { tally.old.success + tally.old.other < 2 ^ 32 }
     ensures played { (place : Place Host) → CardRepresents F.Flash end.old.card place.state → RepresentsHost player.old place.memory
         → OnOk result (MillsLine F.Flash line.now end.old end.new player.old player.new tally.old tally.new place) }
+    ensures broken { (place : Place Host) → CardRepresents F.Flash end.old.card place.state → RepresentsHost player.old place.memory
+        → OnErr result (BreaksLine (BreaksScript line.now) F.Flash (standing end.old player.old false) (standing end.new player.new false) place) }
     ensures few { tally.new.success + tally.new.other ≤ tally.old.success + tally.old.other + 1 }
     ensures live { OnOk result (end.new.card.live ≡ true) }
     ensures cause { OnErr result (Rose (F.faults end.old.card.flash) (F.faults end.new.card.flash)) }
@@ -59,7 +64,8 @@ pub fn mill_lines<F: Flash>(work: Workload, end: &mut CardEnd<F>) -> Result<Tall
     requires live { end.old.card.live ≡ true }
     requires none { end.old.done ≡ 0 }
     requires few { work.rounds ≤ 10_000 }
-    ensures milled { (first : State) → CardRepresents F.Flash end.old.card first → IfOk result (Milled F.Flash work first end.new) }
+    ensures milled { (first : State) → CardRepresents F.Flash end.old.card first → IfOk result (Milled F.Flash work first end.old.card.flash end.new) }
+    ensures broken { (first : State) → CardRepresents F.Flash end.old.card first → OnErr result (PlaysSome F.Flash work end.old.card.flash first end.new.card.flash end.new.done) }
     ensures live { OnOk result (end.new.card.live ≡ true) }
     ensures cause { OnErr result (Rose (F.faults end.old.card.flash) (F.faults end.new.card.flash)) }
     ensures later { F.faults end.old.card.flash ≤ F.faults end.new.card.flash }

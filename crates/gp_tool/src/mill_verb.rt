@@ -2,15 +2,13 @@
 
 ghost use Rattle.std.specs.Prelude.{◌≡◌, ◌≢◌, ◌≤◌, ◌⊎◌, true};
 ghost use Rattle.card_core.specs.Card.{CardRepresents};
-ghost use Rattle.card_types.specs.Factory.{factory_registry};
-ghost use Rattle.card_types.specs.Registry.{Registry};
 ghost use Rattle.faults.specs.Faults.{Rose};
-ghost use Rattle.policy_rules.specs.State.{powered_on};
+ghost use Rattle.policy_rules.specs.State.{State};
 ghost use Rattle.gp_tool.specs.Around.{around};
 ghost use Rattle.gp_tool.specs.Ends.{EndCause, Flushes};
 ghost use Rattle.gp_tool.specs.Formatted.{IsFactoryCard};
-ghost use Rattle.gp_tool.specs.Mill.{MillEnds};
-ghost use Rattle.gp_tool.specs.Verbs.{EndsMill};
+ghost use Rattle.gp_tool.specs.Mill.{IsNotMilled, MillEnds};
+ghost use Rattle.gp_tool.specs.Verbs.{EndsMill, MillsCard};
 
 use crate::card_end::CardEnd;
 use crate::ended::Ended;
@@ -30,8 +28,8 @@ fn mill_card<K: Sink, F: Flash>(work: Workload, end: &mut CardEnd<F>, sink: &mut
     requires live { end.old.card.live ≡ true }
     requires none { end.old.done ≡ 0 }
     requires few { work.rounds ≤ 10_000 }
-    ensures ends { (registry : Registry) → CardRepresents F.Flash end.old.card (powered_on registry) → (F.tells → registry ≡ factory_registry)
-        → MillEnds F.Flash K.tells work result end.new.card.flash end.new.done (K.state sink.old) (K.state sink.new) }
+    ensures ends { (first : State) → CardRepresents F.Flash end.old.card first
+        → MillEnds F.Flash K.tells work end.old.card.flash first result end.new.card.flash end.new.done (K.state sink.old) (K.state sink.new) }
     ensures flushes { Flushes K.tells result (K.state sink.old) (K.state sink.new) }
     ensures cause { EndCause result (around 0 (K.state sink.old).faults (F.faults end.old.card.flash)) (around 0 (K.state sink.new).faults (F.faults end.new.card.flash)) }
     ensures later { F.faults end.old.card.flash ≤ F.faults end.new.card.flash }
@@ -59,7 +57,8 @@ fn mill_factory_card<K: Sink, F: Flash>(
     requires factory { IsFactoryCard F.Flash flash }
     requires few { work.rounds ≤ 10_000 }
     ensures memory { result.status ≡ 7 → (sink.new ≡ sink.old) × (result.done ≡ 0) × (result.flash ≡ flash) }
-    ensures mill { result.status ≢ 7 → EndsMill work K.Sink F.Flash result.status result.done (around tt sink.old flash) (around tt sink.new result.flash) }
+    ensures mill { result.status ≢ 7 → MillsCard work K.Sink F.Flash result.status result.done (around tt sink.old flash) (around tt sink.new result.flash)
+        ⊎ (IsNotMilled F.Flash result.status result.done flash result.flash × (sink.new ≡ sink.old)) }
     ensures complete { F.tells → (Rose (K.state sink.old).faults (K.state sink.new).faults → ⊥) → (Rose (F.faults flash) (F.faults result.flash) → ⊥)
         → (result.status ≡ 0) ⊎ (result.status ≡ 7) }
     ensures later { F.faults flash ≤ F.faults result.flash }

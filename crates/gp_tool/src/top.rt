@@ -71,7 +71,7 @@ pub fn gp<S: Source, K: Sink, F: Flash>(
         (around source.old sink.old flash) (around source.new sink.new result.flash) }
 
     // `format`: nothing is read or written, no command is processed, and the device is the card as it leaves the factory
-    // unless it failed.
+    // unless it failed. Also then no page past the gate has changed.
     ensures format { AreOf Format words.now
         → (source.new ≡ source.old) × EndsFormat K.Sink F.Flash result.status result.done (around tt sink.old flash) (around tt sink.new result.flash) }
 
@@ -80,8 +80,8 @@ pub fn gp<S: Source, K: Sink, F: Flash>(
     ensures show { AreOf Show words.now → result.status ≢ 7
         → (source.new ≡ source.old) × EndsShow K.Sink F.Flash result.status result.done (around tt sink.old flash) (around tt sink.new result.flash) }
 
-    // `mill`: nothing is read. The device became the factory card, but for one that failed, and a workload was played on it. The
-    // status is that of an ending, which says what was written and handed on, and what the device holds.
+    // `mill`: nothing is read. The device could not be made the factory card, or that was not powered on. Or a workload was
+    // played on it, and the status is that of an ending, which says what was written and handed on, and what the device holds.
     ensures mill { (work : Workload) → AreOf (Mill work) words.now → result.status ≢ 7
         → (source.new ≡ source.old) × EndsMill work K.Sink F.Flash result.status result.done (around tt sink.old flash) (around tt sink.new result.flash) }
 

@@ -20,6 +20,7 @@ returns-clause-format g c =
             none = refl;
             ending = end.result;
             ended = record { status_is = c.status.ensures; cause = (rw w.ending-is at cause) (refl, refl); flushes = flushes };
+            past_gate = c.format.ensures.others;
             ends = format_done F K.tells c.format.new.flash before (K.state end.new.sink) end.ensures.same end.result (rw w.ending-is at end.ensures.ending)
                 (λ told. rw w.in-Ok.is at (c.format.ensures.keeps told));
           }
@@ -32,6 +33,7 @@ returns-clause-format g c =
               cause = (rw w.ending-is at cause) (refl, inl refl, (rw w.in-Err.is at c.format.ensures.cause).failed);
               flushes = flushes;
             };
+            past_gate = c.format.ensures.others;
             ends = format_failed F K.tells c.format.new.flash before (K.state end.new.sink) end.ensures.same end.result (rw w.ending-is at end.ensures.ending);
           }
     ]

@@ -1,5 +1,5 @@
 use Rattle.std.proofs.Common.{Err, false, refl, sym, ap, ◌∙◌}
-use Rattle.gp_tool.proofs.PlayedLines.{runs_printing, runs_silently}
+use Rattle.gp_tool.proofs.PlayedLines.{line_breaks, runs_printing, runs_silently}
 use Rattle.gp_tool.specs.Kinds.{is_difference_kind}
 use Rattle.gp_tool.specs.Mill.{with_text, with_texts}
 use Rattle.gp_tool.specs.Standing.{standing}
@@ -38,3 +38,10 @@ returns-else-has_printed-clause-played g c place stands host =
       runs = run.0;
       tally_is = ap (λ texts. with_texts texts c.args.tally.now) (sym run.1);
     }
+
+pub returns-in-Err-LinkFailed-clause-broken : goal.returns-in-Err-LinkFailed-clause-broken
+returns-in-Err-LinkFailed-clause-broken g c place stands host =
+    let form = c.requires.form in
+    line_breaks g.F.Flash c.args.line.now (standing c.args.end.now c.args.player.now false) (standing c.step_card.new.end c.step_card.new.player false)
+    (counting c.args.end.now) (counting c.step_card.new.end) refl refl refl refl place form.0 form.1
+    (rw c.in-Err-LinkFailed.field-0-is at (c.in-Err-LinkFailed.ensures.played place.memory place.state form.0 host stands form.1))

@@ -4,7 +4,8 @@ use Rattle.script_tool.proofs.WorkloadLines.{workload_lines}
 use Rattle.script_tool.specs.Line.{SaysLine}
 use Rattle.script_tool.specs.Workload.{AreLines}
 use Rattle.script_tool.specs.declared.line.ScriptLine.{ScriptLine}
-use Rattle.gp_tool.proofs.MilledLines.{milled, milling_first, milling_more, workload_long}
+use Rattle.gp_tool.proofs.MilledLines.{milled, milling_broken, milling_first, milling_more, workload_long}
+use Rattle.gp_tool.proofs.Moments.{nothing_done}
 use Rattle.gp_tool.proofs.Powered.{rose_since}
 use Rattle.gp_tool.proofs.mill.mill_lines.Goals as goal
 
@@ -22,7 +23,9 @@ loop-mill-init g c =
       later = omega arith;
       lines = subst AreLines (sym all) (workload_lines work.seed work.rounds);
       room = (let long = ap length all ∙ workload_long work.seed work.rounds in omega (arith, long));
-      milling = λ first stands. milling_first g.F.Flash work first c.args.end.now c.new-player.result _ _ stands c.new-player.ensures c.requires.none refl all;
+      milling = λ first stands.
+          milling_first g.F.Flash work first c.args.end.now.card.flash c.args.end.now c.new-player.result _ _ stands c.new-player.ensures
+          (nothing_done g.F.Flash g.met.F.Flash.only_now c.args.end.now.card first stands) c.requires.none refl all;
     }
 
 pub mill_line-requires-clause-live : goal.mill_line-requires-clause-live
@@ -59,9 +62,18 @@ loop-mill-preserved g c =
       milling = λ first stands.
           (let milling = before.milling first stands in
           let at = milling.place in
-          milling_more g.F.Flash c.args.work first c.loop-mill.end c.mill_line.new.end c.loop-mill.player c.mill_line.new.player c.loop-mill.tally c.mill_line.new.tally
-          _ _ _ next milling (rw line at (after.played at milling.stands milling.host)));
+          milling_more g.F.Flash c.args.work first c.args.end.now.card.flash c.loop-mill.end c.loop-mill.player c.loop-mill.tally _ _ _ next milling c.mill_line.new.end
+          c.mill_line.new.player c.mill_line.new.tally (rw line at (after.played at milling.stands milling.host)));
     }
+
+pub returns-in_err-mill_line-clause-broken : goal.returns-in_err-mill_line-clause-broken
+returns-in_err-mill_line-clause-broken g c first stands =
+    let next = c.loop-mill-test.ensures.line refl in
+    let line = c.deref.ensures.0 in
+    let milling = c.loop-mill.invariant.milling first stands in
+    on_err c.from_residual.result
+    (milling_broken g.F.Flash c.args.work first c.args.end.now.card.flash c.loop-mill.end c.loop-mill.player c.loop-mill.tally _ _ _ next milling c.mill_line.new.end
+    c.mill_line.new.player (rw line at (c.in_err-mill_line.ensures.broken milling.place milling.stands milling.host)))
 
 pub returns-in_err-mill_line-clause-cause : goal.returns-in_err-mill_line-clause-cause
 returns-in_err-mill_line-clause-cause g c =
@@ -78,7 +90,7 @@ returns-in_err-mill_line-clause-later g c =
 pub returns-clause-milled : goal.returns-clause-milled
 returns-clause-milled g c first stands =
     let none = c.loop-mill-test.ensures.all.0 refl in
-    milled g.F.Flash c.args.work first c.loop-mill.end c.loop-mill.player c.loop-mill.tally _ none (c.loop-mill.invariant.milling first stands)
+    milled g.F.Flash c.args.work first c.args.end.now.card.flash c.loop-mill.end c.loop-mill.player c.loop-mill.tally _ none (c.loop-mill.invariant.milling first stands)
 
 pub returns-clause-live : goal.returns-clause-live
 returns-clause-live g c = c.loop-mill.invariant.live

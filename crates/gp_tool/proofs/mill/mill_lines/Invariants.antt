@@ -12,7 +12,7 @@ invariant-loop-mill g l = record {
   later : g.F.Flash.faults l.fn.end.card.flash ≤ g.F.Flash.faults l.end.card.flash;
   lines : AreLines (to_come l.mill);
   room : l.tally.success + l.tally.other + length (to_come l.mill) ≤ 10 * l.fn.work.rounds;
-  milling : (first : State) → CardRepresents g.F.Flash l.fn.end.card first → Milling g.F.Flash l.fn.work first l.end l.player l.tally (to_come l.mill);
+  milling : (first : State) → CardRepresents g.F.Flash l.fn.end.card first → Milling g.F.Flash l.fn.work first l.fn.end.card.flash l.end l.player l.tally (to_come l.mill);
 }
 
 abbrev pub decreases-loop-mill : goal.decreases-loop-mill
