@@ -5,25 +5,10 @@
 //! want of memory for the words 7 too, with nothing written.
 #![tactic(auto)]
 
-use flash_core::FileFlash;
-use gp_tool::gp;
-use io_edge::{StdSink, StdSource};
+use gp_process::process;
 use std::env;
-use std::io::ErrorKind;
 use std::process::ExitCode;
 
 fn main(rt: HostRuntime) -> ExitCode {
-    let words = match env::args(&rt) {
-        Ok(words) => words,
-        Err(error) if error.kind() == ErrorKind::OutOfMemory => return ExitCode::from(7),
-        Err(_) => return ExitCode::from(1),
-    };
-    let Ok(words) = words.skip(1).collect::<Vec<String>>(rt.alloc()) else {
-        return ExitCode::from(7);
-    };
-    let mut source = StdSource::new(rt.reader());
-    let mut sink = StdSink::new(std::io::writer(&rt));
-    let flash = FileFlash::new(&rt, "card.img");
-    let ended = gp(rt.alloc(), &words, &mut source, &mut sink, flash);
-    ExitCode::from(ended.status)
+    process(&rt, env::args(&rt))
 }

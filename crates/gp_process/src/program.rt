@@ -1,0 +1,50 @@
+//! A process of the program.
+
+ghost use Rattle.std.specs.Prelude.{◌≡◌, ◌≢◌, ◌⊎◌, IfErr};
+ghost use Rattle.std.specs.IoError.{error_kind};
+ghost use Rattle.std.specs.Process.{exit_status};
+ghost use Rattle.gp_tool.specs.Words.{HaveForm};
+
+use flash_core::FileFlash;
+use gp_tool::gp;
+use io_edge::{StdSink, StdSource};
+use std::alloc::{AllocError, Global};
+use std::env::Args;
+use std::fs::{File, Files};
+use std::io::{self, ErrorKind, Input, Print};
+use std::process::ExitCode;
+
+// The words behind the program's name.
+fn words_of(alloc: Global, args: Args) -> Result<Vec<String>, AllocError> {
+    args.skip(1).collect(alloc)
+}
+
+// Does what the words say, over the standard streams and the file, and answers the status.
+fn run<R: Files<File = File> + Input + Print + AllocGlobal>(rt: &R, words: &[String]) -> u8
+    ensures usage { (HaveForm words.now → ⊥) → (result ≡ 1) ⊎ (result ≡ 6) }
+{
+    let mut source = StdSource::new(rt.reader());
+    let mut sink = StdSink::new(io::writer(rt));
+    let flash = FileFlash::new(rt, "card.img");
+    gp(rt.alloc(), words, &mut source, &mut sink, flash).status
+}
+
+/// Does what the words of the process say, and answers its status: that of `gp_tool::gp`. Where the words can't be had
+/// nothing is written, and it is 7 for want of memory, as also for words of their own, and 1 for a word that is no UTF-8.
+pub fn process<R: Files<File = File> + Input + Print + AllocGlobal>(
+    rt: &R,
+    args: io::Result<Args>,
+) -> ExitCode
+    ensures memory { IfErr args (λ error. error_kind error ≡ ErrorKind.OutOfMemory → exit_status result ≡ 7) }
+    ensures no_text { IfErr args (λ error. error_kind error ≢ ErrorKind.OutOfMemory → exit_status result ≡ 1) }
+{
+    let args = match args {
+        Ok(args) => args,
+        Err(error) if error.kind() == ErrorKind::OutOfMemory => return ExitCode::from(7),
+        Err(_) => return ExitCode::from(1),
+    };
+    match words_of(rt.alloc(), args) {
+        Ok(words) => ExitCode::from(run(rt, &words)),
+        Err(_) => ExitCode::from(7),
+    }
+}
