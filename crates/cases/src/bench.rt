@@ -3,6 +3,7 @@
 mod answers;
 
 use crate::act::Act;
+use crate::bench::answers::write_workload;
 use crate::case_error::CaseError;
 use crate::counted::Calls;
 use crate::device::{Device, Faults, failing, memory};
@@ -126,8 +127,10 @@ impl<'a> Bench<'a> {
             Line::Sweep(kind) => self.sweep(*kind, out),
             Line::Counts => self.write_counts(out),
             Line::Sent => self.write_sent(out),
+            Line::Rule => self.write_rule(out),
             Line::Calls => self.write_calls(out),
             Line::Count(word) => self.write_count(word, out),
+            Line::Mill { seed, rounds } => write_workload(*seed, *rounds, out),
             Line::Look {
                 number,
                 place,

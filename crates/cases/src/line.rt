@@ -91,11 +91,20 @@ pub enum Line<'a> {
     /// What the last line of a script sent.
     Sent,
 
+    /// The rule that refused the last command of a script.
+    Rule,
+
     /// How many calls the last call of `gp` or line of a script made on the device.
     Calls,
 
     /// How many lines of the registry begin with a word.
     Count(&'a [u8]),
+
+    /// The lines of a workload.
+    Mill {
+        seed: u64,
+        rounds: u32,
+    },
 
     /// So many bytes from a place in a page on.
     Look {
@@ -140,6 +149,7 @@ impl<'a> Line<'a> {
                 b"gp" => Some(Line::Gp(Some(text(rest)?))),
                 b"page" => read_page(rest),
                 b"look" => read_look(rest),
+                b"mill" => read_mill(rest),
                 _ => match device_line(verb, rest) {
                     Some(line) => Some(line),
                     None => stream_line(verb, rest),
@@ -162,6 +172,7 @@ fn lone_word(word: &[u8]) -> Option<Line<'_>> {
         b"gp" => Some(Line::Gp(None)),
         b"counts" => Some(Line::Counts),
         b"sent" => Some(Line::Sent),
+        b"rule" => Some(Line::Rule),
         b"calls" => Some(Line::Calls),
         b"commit" => Some(Line::Commit),
         _ => None,
@@ -198,6 +209,15 @@ fn read_look(words: &[u8]) -> Option<Line<'_>> {
         number: number(page)?,
         place: number(place)?,
         count: number(count)?,
+    })
+}
+
+// SEED ROUNDS
+fn read_mill(words: &[u8]) -> Option<Line<'_>> {
+    let (seed, rounds) = cut(words)?;
+    Some(Line::Mill {
+        seed: long_number(seed)?,
+        rounds: number(rounds)?,
     })
 }
 

@@ -2,8 +2,15 @@
 
 use crate::bench::{Bench, Power, place_of, write_line};
 use crate::case_error::CaseError;
+use crate::device::Device;
 use crate::image::Image;
+use crate::script::Player;
 use crate::tool::{Streams, call};
+use arrayvec::ArrayVec;
+use script_tool::Mill;
+
+/// How many lines a round of a workload has.
+const ROUND_LINES: u64 = 10;
 
 impl<'a> Bench<'a> {
     pub(super) fn write_counts(&self, out: &mut Vec<u8>) -> Result<(), CaseError> {
@@ -18,11 +25,20 @@ impl<'a> Bench<'a> {
         write_line(out, &[text.as_bytes()])
     }
 
+    // The host and the card, which is on.
+    fn player(&self) -> Result<&Player<Device<'a>>, CaseError> {
+        match &self.power {
+            Power::On(player) => Ok(player),
+            _ => Err(CaseError::NoForm),
+        }
+    }
+
+    pub(super) fn write_rule(&self, out: &mut Vec<u8>) -> Result<(), CaseError> {
+        write_line(out, &[self.player()?.rule_name().as_bytes()])
+    }
+
     pub(super) fn write_sent(&self, out: &mut Vec<u8>) -> Result<(), CaseError> {
-        let Power::On(player) = &self.power else {
-            return Err(CaseError::NoForm);
-        };
-        let digits = hex::encode(self.alloc, player.sent())?;
+        let digits = hex::encode(self.alloc, self.player()?.sent())?;
         write_line(out, &[digits.as_bytes()])
     }
 
@@ -61,6 +77,19 @@ impl<'a> Bench<'a> {
         let text = format!(in self.alloc; "{count}")?;
         write_line(out, &[text.as_bytes()])
     }
+}
+
+// The lines of the workload of a seed, and one more if it has more than it should.
+pub(super) fn write_workload(seed: u64, rounds: u32, out: &mut Vec<u8>) -> Result<(), CaseError> {
+    let mut mill = Mill::new(seed, rounds);
+    let mut line = ArrayVec::new();
+    for _ in 0..=u64::from(rounds) * ROUND_LINES {
+        if !mill.next_line(&mut line) {
+            break;
+        }
+        write_line(out, &[&line])?;
+    }
+    Ok(())
 }
 
 // How many lines begin with this word and a space.

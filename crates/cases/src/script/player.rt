@@ -39,6 +39,11 @@ impl<F: Flash> Player<F> {
         self.card.sent()
     }
 
+    /// The name of the rule that refused the command that was sent last, or `-`.
+    pub fn rule_name(&self) -> &'static str {
+        self.card.rule_name()
+    }
+
     /// Does a line, and answers what it prints, or nothing where it has no form. `why` prints what `raw` does, and behind a
     /// status the rule that refused the command, or `-`.
     pub fn step(&mut self, line: &[u8]) -> Option<Text> {
