@@ -1,6 +1,7 @@
 #!/usr/bin/env bash
 # What the merge gate costs: it runs `rt ci` from nothing in a copy, and prints for each crate the
-# processor seconds of the prover: proofs, tests, and must-fail edits.
+# processor seconds of the prover: proofs, tests, and must-fail edits. Where the gate passes it writes the
+# table to bench/costs.txt, which tools/prove reads.
 #
 # It looks twice a second, so what a process does in its last half second is not counted. It
 # ends as the gate does, and prints the gate's last lines where that fails.
@@ -43,13 +44,13 @@ wait "$gate" || status=$?
 
 for what in "${!spent[@]}"; do
     echo "$what ${spent[$what]}"
-done | awk -v minutes="$((SECONDS / 60))" '
+done | awk '
     { spent[$1, $2] += $4; crates[$1] }
     function row(crate, proofs, tests, edits) {
-        return sprintf("%-14s %8d %8d %8d %8d", crate, proofs, tests, edits, proofs + tests + edits)
+        return sprintf("%-15s %6d %6d %6d %6d", crate, proofs, tests, edits, proofs + tests + edits)
     }
     END {
-        printf "%-14s %8s %8s %8s %8s\n", "crate", "proofs", "tests", "edits", "sum"
+        printf "%-15s %6s %6s %6s %6s\n", "crate", "proofs", "tests", "edits", "sum"
         fflush()
         for (crate in crates) {
             print row(crate, spent[crate, "proofs"], spent[crate, "tests"], spent[crate, "edits"]) | "sort"
@@ -59,7 +60,12 @@ done | awk -v minutes="$((SECONDS / 60))" '
         }
         close("sort")
         print row("all", proofs, tests, edits)
-        print "minutes", minutes
-    }'
-if ((status == 0)); then tail -n 1 tmp/log; else tail -n 40 tmp/log >&2; fi
+    }' | tee tmp/costs
+echo "minutes $((SECONDS / 60))"
+if ((status == 0)); then
+    cp tmp/costs "$top/bench/costs.txt"
+    tail -n 1 tmp/log
+else
+    tail -n 40 tmp/log >&2
+fi
 exit "$status"

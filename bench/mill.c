@@ -116,8 +116,11 @@ static void make_card(void)
 
     remove("c.img");
     open_device("c.img");
-    for (int i = 0; i < USED_PAGES; i++)
+    put(0, page);
+    put(GATE, page);
+    for (int i = 1; i < GATE; i++)
         put(i, page);
+    put(0, page);
     sync_file();
 }
 

@@ -1,5 +1,6 @@
 #!/usr/bin/env bash
-# Checks that README.md stays short, and that the clauses which README.md and docs/PROOFS.md cite are there.
+# Checks that README.md stays short, that the clauses which README.md and docs/PROOFS.md cite are there, and by
+# tests/citations.py that definitions stand where README.md and docs/ say.
 #
 # A citation is a code span of a crate, a function and one or more labels: `card_core Card::process step changes`. The
 # function stands with its type or trait, where it has one. It is there where the crate's src has that function with a
@@ -52,6 +53,10 @@ citations() {
 
 bytes=$(wc -c <README.md)
 judge "$((bytes > most_bytes))" "README.md has $bytes bytes, more than $most_bytes"
+
+misplaced=0
+tests/citations.py || misplaced=1
+judge "$misplaced" "a definition stands elsewhere"
 
 declare -A there
 while read -r clause; do
