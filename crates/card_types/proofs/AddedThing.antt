@@ -17,6 +17,12 @@ use Rattle.card_types.specs.Registry.{Entry, LoadFile, Registry, domain_of, entr
 use Rattle.card_types.specs.Well.{IsFactoryFile, IsIssuerDomain, IsWellEntry, IsWellFile, LeadsToRoot, pages_of}
 use Rattle.card_types.specs.declared.factory.TheConstants.{ISSUER, FACTORY_FILE}
 
+-- steps from another thing are as before
+pub other_step : (entry : Entry) (before : Registry) (entries : List Entry) → IsOfCard before → IsPut (λ a b. aid_order a.aid b.aid) entry before.entries entries
+    → (aid : List ℕ) → aid ≢ entry.aid → domain_of (record before { entries = entries }) aid ≡ domain_of before aid
+other_step entry before entries of put aid other =
+    ap (option_map (λ e. e.domain)) (beside_found (λ (e : Entry). e.aid) entry before.entries entries of.ascending.entries put aid (λ same. other (sym same)))
+
 module _ (entry : Entry) (before : Registry) (entries : List Entry) (of : IsOfCard before) (may : MayAddEntry before entry)
     (put : IsPut (λ a b. aid_order a.aid b.aid) entry before.entries entries) where
   abbrev with_entry : Registry
@@ -24,10 +30,6 @@ module _ (entry : Entry) (before : Registry) (entries : List Entry) (of : IsOfCa
 
   still : (P : Entry → Type 0) (aid : List ℕ) → MatchOption (entry_named before aid) ⊥ P → MatchOption (entry_named with_entry aid) ⊥ P
   still P aid is = still_found (λ (e : Entry). e.aid) entry before.entries entries of.ascending.entries put may.free.no_entry P aid is
-
-  pub other_step : (aid : List ℕ) → aid ≢ entry.aid → domain_of with_entry aid ≡ domain_of before aid
-  other_step aid other =
-      ap (option_map (λ e. e.domain)) (beside_found (λ (e : Entry). e.aid) entry before.entries entries of.ascending.entries put aid (λ same. other (sym same)))
 
   pub new_step : domain_of with_entry entry.aid ≡ Some entry.domain
   new_step = ap (option_map (λ e. e.domain)) (new_found (λ (e : Entry). e.aid) entry before.entries entries of.ascending.entries put)
@@ -38,7 +40,7 @@ module _ (entry : Entry) (before : Registry) (entries : List Entry) (of : IsOfCa
       subst (λ (o : Option Entry). MatchOption o ⊥ (λ e. is_domain e ≡ true)) (ap (entry_named before) same ∙ may.free.no_entry) may.domain
 
   line_still : (aid : List ℕ) → LeadsToRoot before aid → LeadsToRoot with_entry aid
-  line_still aid leads = leads_put (domain_of before) (domain_of with_entry) entry.aid (ap (option_map (λ e. e.domain)) may.free.no_entry) other_step aid leads
+  line_still aid leads = leads_put (domain_of before) (domain_of with_entry) entry.aid (ap (option_map (λ e. e.domain)) may.free.no_entry) (other_step entry before entries of put) aid leads
 
   new_well : IsWellEntry with_entry entry
   new_well = record {

@@ -28,7 +28,7 @@ sum_mapped size f alike [] = refl
 sum_mapped size f alike (x ∷ xs) =
     omega (arith, alike x, sum_mapped size f alike xs, sum_by-cons size (f x) (map f xs), sum_by-cons size x xs)
 
-module _ (registry : Registry) (aid domain : List ℕ) (of : IsOfCard registry) (may : MayMove registry aid domain) where
+module _ (registry : Registry) (aid domain : List ℕ) where
   abbrev in_domain : Entry → Entry
   in_domain entry = record entry { domain = domain }
 
@@ -47,28 +47,6 @@ module _ (registry : Registry) (aid domain : List ℕ) (of : IsOfCard registry) 
   keeps : KeepsNames some
   keeps = some_keep (λ other. same_aid other aid) in_domain (record { aid = λ _. refl; file = λ _. refl; privileges = λ _. refl })
 
-  proper : (entry : Entry) → Contains registry.entries entry → IsProperEntry (some entry)
-  proper entry there =
-      let is = (All-contains (IsWellEntry registry) registry.entries entry of.well.entries there).proper in
-      cond_both (same_aid entry.aid aid) (in_domain entry) entry IsProperEntry
-      (λ hit. record {
-        aid = is.aid;
-        module_ = is.module_;
-        kind = is.kind;
-        domain_module = is.domain_module;
-        life = is.life;
-        named_privileges = is.named_privileges;
-        domain_privileges = is.domain_privileges;
-        one_management = is.one_management;
-        receipts = is.receipts;
-      })
-      (λ missed. is)
-
-  domains : (entry : Entry) → Contains registry.entries entry → IsDomainNamed registry (some entry).domain
-  domains entry there =
-      cond_both (same_aid entry.aid aid) (in_domain entry) entry (λ (e : Entry). IsDomainNamed registry e.domain) (λ hit. may.into)
-      (λ missed. (All-contains (IsWellEntry registry) registry.entries entry of.well.entries there).domain)
-
   -- steps from another thing are as before
   pub step_other : (x : List ℕ) → x ≢ aid → domain_of (moved registry aid domain) x ≡ domain_of registry x
   step_other x other = ap (option_map (λ e. e.domain)) (entry_changed registry some files keeps x) ∙ by (entry_named registry x) refl
@@ -80,91 +58,114 @@ module _ (registry : Registry) (aid domain : List ℕ) (of : IsOfCard registry) 
           cond_both (same_aid entry.aid aid) (in_domain entry) entry (λ (e : Entry). Some e.domain ≡ Some entry.domain)
           (λ hit. absurd (other (sym named ∙ (same_aid_decides entry.aid aid).0 hit))) (λ missed. refl))
 
-  -- and from an entry that is moved to its new domain
-  pub step_thing : (entry : Entry) → entry_named registry aid ≡ Some entry → domain_of (moved registry aid domain) aid ≡ Some domain
-  step_thing entry at =
-      let hit = (found_fits (λ (e : Entry). same_aid e.aid aid) registry.entries entry at).1 in
-      ap (option_map (λ e. e.domain)) (entry_changed registry some files keeps aid ∙ ap (option_map some) at)
-      ∙ cond_both (same_aid entry.aid aid) (in_domain entry) entry (λ (e : Entry). Some e.domain ≡ Some domain) (λ _. refl) (λ missed. (let clash = sym hit ∙ missed in cc))
+  module _ (of : IsOfCard registry) (may : MayMove registry aid domain) where
+    -- and from an entry that is moved to its new domain
+    pub step_thing : (entry : Entry) → entry_named registry aid ≡ Some entry → domain_of (moved registry aid domain) aid ≡ Some domain
+    step_thing entry at =
+        let hit = (found_fits (λ (e : Entry). same_aid e.aid aid) registry.entries entry at).1 in
+        ap (option_map (λ e. e.domain)) (entry_changed registry some files keeps aid ∙ ap (option_map some) at)
+        ∙ cond_both (same_aid entry.aid aid) (in_domain entry) entry (λ (e : Entry). Some e.domain ≡ Some domain) (λ _. refl) (λ missed. (let clash = sym hit ∙ missed in cc))
 
-  lines : (x : List ℕ) → LeadsToRoot registry x → LeadsToRoot after x
-  lines x leads = by (entry_named registry aid) refl
-    where
-      by : (o : Option Entry) → entry_named registry aid ≡ o → LeadsToRoot after x
-      by None at =
-          leads_kept (domain_of registry) (domain_of after) x leads (λ y _. elim (aid_cases y aid) [
-            | inr other ↦ step_other y other
-            | inl same ↦
-                (let before : entry_named registry y ≡ None = ap (entry_named registry) same ∙ at in
-                ap (option_map (λ e. e.domain)) (entry_changed registry some files keeps y ∙ ap (option_map some) before ∙ sym before))
-          ])
-      by (Some entry) at =
-          leads_moved (domain_of registry) (domain_of after) aid step_other (λ y. aid_cases y aid)
-          (elim (aid_cases domain aid) [
-            | inl same ↦ (aid ∷ [], (refl, step_thing entry at ∙ ap Some same))
-            | inr other ↦
-                (let up = domain_leads registry of domain may.into in
-                leads_thing (domain_of registry) (domain_of after) aid step_other (λ y. aid_cases y aid) domain (step_thing entry at) other up
-                (λ there. other (may.not_below up.0 up.1 there)))
-          ])
-          x leads
+    proper : (entry : Entry) → Contains registry.entries entry → IsProperEntry (some entry)
+    proper entry there =
+        let is = (All-contains (IsWellEntry registry) registry.entries entry of.well.entries there).proper in
+        cond_both (same_aid entry.aid aid) (in_domain entry) entry IsProperEntry
+        (λ hit. record {
+          aid = is.aid;
+          module_ = is.module_;
+          kind = is.kind;
+          domain_module = is.domain_module;
+          life = is.life;
+          named_privileges = is.named_privileges;
+          domain_privileges = is.domain_privileges;
+          one_management = is.one_management;
+          receipts = is.receipts;
+        })
+        (λ missed. is)
 
-  issuer : (entry : Entry) → entry.aid ≡ ISSUER → IsIssuerDomain entry → IsIssuerDomain (some entry)
-  issuer entry named is =
-      cond_both (same_aid entry.aid aid) (in_domain entry) entry IsIssuerDomain
-      (λ hit. absurd (may.other (sym ((same_aid_decides entry.aid aid).0 hit) ∙ named))) (λ missed. is)
+    domains : (entry : Entry) → Contains registry.entries entry → IsDomainNamed registry (some entry).domain
+    domains entry there =
+        cond_both (same_aid entry.aid aid) (in_domain entry) entry (λ (e : Entry). IsDomainNamed registry e.domain) (λ hit. may.into)
+        (λ missed. (All-contains (IsWellEntry registry) registry.entries entry of.well.entries there).domain)
 
-  file_aid : (file : LoadFile) → (file_in file).aid ≡ file.aid
-  file_aid file = cond_both (same_aid file.aid aid) (record file { domain = domain }) file (λ (f : LoadFile). f.aid ≡ file.aid) (λ _. refl) (λ _. refl)
+    lines : (x : List ℕ) → LeadsToRoot registry x → LeadsToRoot after x
+    lines x leads = by (entry_named registry aid) refl
+      where
+        by : (o : Option Entry) → entry_named registry aid ≡ o → LeadsToRoot after x
+        by None at =
+            leads_kept (domain_of registry) (domain_of after) x leads (λ y _. elim (aid_cases y aid) [
+              | inr other ↦ step_other y other
+              | inl same ↦
+                  (let before : entry_named registry y ≡ None = ap (entry_named registry) same ∙ at in
+                  ap (option_map (λ e. e.domain)) (entry_changed registry some files keeps y ∙ ap (option_map some) before ∙ sym before))
+            ])
+        by (Some entry) at =
+            leads_moved (domain_of registry) (domain_of after) aid step_other (λ y. aid_cases y aid)
+            (elim (aid_cases domain aid) [
+              | inl same ↦ (aid ∷ [], (refl, step_thing entry at ∙ ap Some same))
+              | inr other ↦
+                  (let up = domain_leads registry of domain may.into in
+                  leads_thing (domain_of registry) (domain_of after) aid step_other (λ y. aid_cases y aid) domain (step_thing entry at) other up
+                  (λ there. other (may.not_below up.0 up.1 there)))
+            ])
+            x leads
 
-  file_size : (file : LoadFile) → pages_of (length (file_in file).bytes) ≡ pages_of (length file.bytes)
-  file_size file =
-      cond_both (same_aid file.aid aid) (record file { domain = domain }) file (λ (f : LoadFile). pages_of (length f.bytes) ≡ pages_of (length file.bytes)) (λ _. refl) (λ _. refl)
+    issuer : (entry : Entry) → entry.aid ≡ ISSUER → IsIssuerDomain entry → IsIssuerDomain (some entry)
+    issuer entry named is =
+        cond_both (same_aid entry.aid aid) (in_domain entry) entry IsIssuerDomain
+        (λ hit. absurd (may.other (sym ((same_aid_decides entry.aid aid).0 hit) ∙ named))) (λ missed. is)
 
-  file_found : (x : List ℕ) → file_named after x ≡ option_map file_in (file_named registry x)
-  file_found x = find_mapped file_in (λ (f : LoadFile). same_aid f.aid x) (λ f. ap (λ (a : List ℕ). same_aid a x) (file_aid f)) registry.files
+    file_aid : (file : LoadFile) → (file_in file).aid ≡ file.aid
+    file_aid file = cond_both (same_aid file.aid aid) (record file { domain = domain }) file (λ (f : LoadFile). f.aid ≡ file.aid) (λ _. refl) (λ _. refl)
 
-  loaded : (x : List ℕ) → IsSome (file_named registry x) → IsSome (file_named after x)
-  loaded x is = subst IsSome (sym (file_found x)) (by (file_named registry x) is)
-    where
-      by : (o : Option LoadFile) → IsSome o → IsSome (option_map file_in o)
-      by None is = is
-      by (Some file) is = is
+    file_size : (file : LoadFile) → pages_of (length (file_in file).bytes) ≡ pages_of (length file.bytes)
+    file_size file =
+        cond_both (same_aid file.aid aid) (record file { domain = domain }) file (λ (f : LoadFile). pages_of (length f.bytes) ≡ pages_of (length file.bytes)) (λ _. refl) (λ _. refl)
 
-  factory : MatchOption (file_named after FACTORY_FILE) ⊥ IsFactoryFile
-  factory = subst (λ (o : Option LoadFile). MatchOption o ⊥ IsFactoryFile) (sym (file_found FACTORY_FILE)) (by (file_named registry FACTORY_FILE) refl of.well.factory_file)
-    where
-      by : (o : Option LoadFile) → file_named registry FACTORY_FILE ≡ o → MatchOption o ⊥ IsFactoryFile → MatchOption (option_map file_in o) ⊥ IsFactoryFile
-      by None at is = is
-      by (Some file) at is =
-          (let named = (same_aid_decides file.aid FACTORY_FILE).0 (found_fits (λ (f : LoadFile). same_aid f.aid FACTORY_FILE) registry.files file at).1 in
-          cond_both (same_aid file.aid aid) (record file { domain = domain }) file IsFactoryFile
-          (λ hit. absurd (may.other_file (sym ((same_aid_decides file.aid aid).0 hit) ∙ named))) (λ missed. is))
+    file_found : (x : List ℕ) → file_named after x ≡ option_map file_in (file_named registry x)
+    file_found x = find_mapped file_in (λ (f : LoadFile). same_aid f.aid x) (λ f. ap (λ (a : List ℕ). same_aid a x) (file_aid f)) registry.files
 
-  file_well : (file : LoadFile) → IsWellFile registry file → IsWellFile after (file_in file)
-  file_well file is =
-      let apart = unnamed_still registry some files keeps file.aid is.apart in
-      cond_both (same_aid file.aid aid) (record file { domain = domain }) file (IsWellFile after)
-      (λ hit. record { aid = is.aid; apart = apart; domain = domain_still registry some files keeps domain may.into; size = is.size })
-      (λ missed. record { aid = is.aid; apart = apart; domain = domain_still registry some files keeps file.domain is.domain; size = is.size })
+    loaded : (x : List ℕ) → IsSome (file_named registry x) → IsSome (file_named after x)
+    loaded x is = subst IsSome (sym (file_found x)) (by (file_named registry x) is)
+      where
+        by : (o : Option LoadFile) → IsSome o → IsSome (option_map file_in o)
+        by None is = is
+        by (Some file) is = is
 
-  pub moved_is : IsOfCard (moved registry aid domain)
-  moved_is = record {
-    well = changed_well registry some files keeps of.well proper domains lines (issuer_still registry some files keeps issuer of.well.issuer) loaded factory
-        (length-map registry.files file_in) (sum_mapped (λ file. pages_of (length file.bytes)) file_in file_size registry.files)
-        (All-weaker (Contains files) (IsWellFile after)
-        (λ file there.
-        (let from = mapped file_in registry.files file there in
-        subst (IsWellFile after) from.2 (file_well from.0 (All-contains (IsWellFile registry) registry.files from.0 of.well.files from.1))))
-        files (All-contains_itself files));
-    ascending = record {
-      entries = subst (IsStrictlySortedBy aid_order) (sym (names_mapped some (λ (e : Entry). e.aid) keeps.aid registry.entries)) of.ascending.entries;
-      files = subst (IsStrictlySortedBy aid_order) (sym (names_mapped file_in (λ (f : LoadFile). f.aid) file_aid registry.files)) of.ascending.files;
-      keys = of.ascending.keys;
-      counters = of.ascending.counters;
-      objects = of.ascending.objects;
-    };
-  }
+    factory : MatchOption (file_named after FACTORY_FILE) ⊥ IsFactoryFile
+    factory = subst (λ (o : Option LoadFile). MatchOption o ⊥ IsFactoryFile) (sym (file_found FACTORY_FILE)) (by (file_named registry FACTORY_FILE) refl of.well.factory_file)
+      where
+        by : (o : Option LoadFile) → file_named registry FACTORY_FILE ≡ o → MatchOption o ⊥ IsFactoryFile → MatchOption (option_map file_in o) ⊥ IsFactoryFile
+        by None at is = is
+        by (Some file) at is =
+            (let named = (same_aid_decides file.aid FACTORY_FILE).0 (found_fits (λ (f : LoadFile). same_aid f.aid FACTORY_FILE) registry.files file at).1 in
+            cond_both (same_aid file.aid aid) (record file { domain = domain }) file IsFactoryFile
+            (λ hit. absurd (may.other_file (sym ((same_aid_decides file.aid aid).0 hit) ∙ named))) (λ missed. is))
+
+    file_well : (file : LoadFile) → IsWellFile registry file → IsWellFile after (file_in file)
+    file_well file is =
+        let apart = unnamed_still registry some files keeps file.aid is.apart in
+        cond_both (same_aid file.aid aid) (record file { domain = domain }) file (IsWellFile after)
+        (λ hit. record { aid = is.aid; apart = apart; domain = domain_still registry some files keeps domain may.into; size = is.size })
+        (λ missed. record { aid = is.aid; apart = apart; domain = domain_still registry some files keeps file.domain is.domain; size = is.size })
+
+    pub moved_is : IsOfCard (moved registry aid domain)
+    moved_is = record {
+      well = changed_well registry some files keeps of.well proper domains lines (issuer_still registry some files keeps issuer of.well.issuer) loaded factory
+          (length-map registry.files file_in) (sum_mapped (λ file. pages_of (length file.bytes)) file_in file_size registry.files)
+          (All-weaker (Contains files) (IsWellFile after)
+          (λ file there.
+          (let from = mapped file_in registry.files file there in
+          subst (IsWellFile after) from.2 (file_well from.0 (All-contains (IsWellFile registry) registry.files from.0 of.well.files from.1))))
+          files (All-contains_itself files));
+      ascending = record {
+        entries = subst (IsStrictlySortedBy aid_order) (sym (names_mapped some (λ (e : Entry). e.aid) keeps.aid registry.entries)) of.ascending.entries;
+        files = subst (IsStrictlySortedBy aid_order) (sym (names_mapped file_in (λ (f : LoadFile). f.aid) file_aid registry.files)) of.ascending.files;
+        keys = of.ascending.keys;
+        counters = of.ascending.counters;
+        objects = of.ascending.objects;
+      };
+    }
 
 pub moved_keeps : MovedKeeps
 moved_keeps registry aid domain of may = moved_is registry aid domain of may

@@ -30,18 +30,20 @@ sum_kept keep size xs = omega (arith, sum_by-filter_both keep (λ x. not (keep x
 fewer_kept : {X : Type 0} (p keep : X → Bool) (xs : List X) → length (filter p (filter keep xs)) ≤ length (filter p xs)
 fewer_kept p keep xs = omega (arith, length-filter p (filter keep xs), length-filter p xs, sum_kept keep (λ x. cond (p x) 1 0) xs)
 
+-- other entries are found as before, and steps from them lead where they led
+module _ (registry : Registry) (aid name : List ℕ) (other : name ≢ aid) where
+  found_still : entry_named (without_entry registry aid) name ≡ entry_named registry name
+  found_still = rest_found (λ (e : Entry). e.aid) aid name other registry.entries
+
+  pub other_step : domain_of (without_entry registry aid) name ≡ domain_of registry name
+  other_step = ap (option_map (λ e. e.domain)) found_still
+
 module _ (registry : Registry) (aid : List ℕ) (of : IsOfCard registry) (may : MayRemoveEntry registry aid) where
   abbrev after : Registry
   after = without_entry registry aid
 
-  found_still : (name : List ℕ) → name ≢ aid → entry_named after name ≡ entry_named registry name
-  found_still name other = rest_found (λ (e : Entry). e.aid) aid name other registry.entries
-
   named_still : (P : Entry → Type 0) (name : List ℕ) → name ≢ aid → MatchOption (entry_named registry name) ⊥ P → MatchOption (entry_named after name) ⊥ P
-  named_still P name other is = subst (λ (o : Option Entry). MatchOption o ⊥ P) (sym (found_still name other)) is
-
-  pub other_step : (name : List ℕ) → name ≢ aid → domain_of (without_entry registry aid) name ≡ domain_of registry name
-  other_step name other = ap (option_map (λ e. e.domain)) (found_still name other)
+  named_still P name other is = subst (λ (o : Option Entry). MatchOption o ⊥ P) (sym (found_still registry aid name other)) is
 
   -- nothing else steps to it
   pub none_steps : (x next : List ℕ) → x ≢ aid → domain_of registry x ≡ Some next → next ≢ aid
@@ -81,7 +83,7 @@ module _ (registry : Registry) (aid : List ℕ) (of : IsOfCard registry) (may : 
       record {
         proper = is.proper;
         domain = named_still (λ e. is_domain e ≡ true) entry.domain (λ same. other (may.no_entry entry there same)) is.domain;
-        line = leads_removed (domain_of registry) (domain_of after) aid none_steps other_step entry.aid other is.line;
+        line = leads_removed (domain_of registry) (domain_of after) aid none_steps (other_step registry aid) entry.aid other is.line;
         loaded = is.loaded;
       }
 

@@ -1,52 +1,29 @@
 -- What is above what after a change, over any steps and of a registry.
-use Rattle.std.proofs.Common.{◌≡◌, ◌≢◌, ◌⊎◌, inl, inr, ℕ, Bool, true, cond, List, [], ◌∷◌, Option, None, Some, refl, ap, sym, subst, ◌∙◌}
-use Rattle.std.specs.Prelude.{◌↔◌, Contains, IsSome, MatchOption}
+use Rattle.std.proofs.Common.{◌≡◌, ◌≢◌, ◌⊎◌, inl, inr, ℕ, true, List, [], ◌∷◌, Option, None, Some, refl, ap, sym, subst, ◌∙◌}
+use Rattle.std.specs.Prelude.{◌↔◌, IsSome, MatchOption}
 use Rattle.std.specs.Option.{option_map}
-use Rattle.std.proofs.lemmas.Bool.{cond_both}
 use Rattle.std.proofs.lemmas.List.Elements.{All-contains}
 use Rattle.card_types.proofs.AddedThing.{new_step, other_domain}
 use Rattle.card_types.proofs.AddedThing as added
 use Rattle.card_types.proofs.LeastOfList.{found_fits}
-use Rattle.card_types.proofs.MappedEntries.{find_mapped}
-use Rattle.card_types.proofs.Members.{contains_first, contains_later}
-use Rattle.card_types.proofs.MovedThing.{step_other, step_thing}
+use Rattle.card_types.proofs.MovedThing.{step_thing}
 use Rattle.card_types.proofs.NamedThings.{aid_cases, domain_leads}
 use Rattle.card_types.proofs.RemovedThing.{none_steps}
-use Rattle.card_types.proofs.RemovedThing as removed
 use Rattle.card_types.specs.AidOrder.{same_aid}
 use Rattle.card_types.specs.ChangeLaws.{IsOfCard, MayAddEntry, MayMove}
-use Rattle.card_types.specs.Hierarchy.{IsLine, IsPath}
+use Rattle.card_types.specs.Hierarchy.{IsPath}
 use Rattle.card_types.specs.Registry.{Entry, Registry, domain_of, entry_named, is_domain}
 use Rattle.card_types.specs.RegistryChange.{IsEntryAdded, moved, with_entries, without_entry}
 use Rattle.card_types.specs.Well.{IsDomainNamed, IsWellEntry}
-use Rattle.domain_tree.proofs.Paths.{root_alone}
+use Rattle.domain_tree.proofs.DomainsStay.{domains_after_change, domains_after_entry, domains_after_move}
+use Rattle.domain_tree.proofs.LinesStay.{above_while, same_above}
+use Rattle.domain_tree.proofs.Paths.{path_on_line, root_alone}
 use Rattle.domain_tree.specs.Above.{Above}
 use Rattle.domain_tree.specs.AboveLaws.{AboveAdded, AboveChanged, AboveMoved, AboveOthersOfAdded, AboveOthersOfMoved, AboveRemoved, NoneAboveRoot}
 
 module _ {A : Type 0} where
-  -- a path through things whose steps are as before
-  module _ (step step' : A → Option A) (Q : A → Type 0) (on : (x next : A) → Q x → step x ≡ Some next → Q next) (alike : (x : A) → Q x → step' x ≡ step x) where
-    path_while : (from to : A) (path : List A) → Q from → IsPath step from path to → IsPath step' from path to × Q to
-    path_while from to [] q leads = (leads, subst Q leads q)
-    path_while from to (next ∷ path) q leads =
-        let rest = path_while next to path (on from next q leads.0) leads.1 in
-        ((alike from q ∙ leads.0, rest.0), rest.1)
-
-    above_while : (a b : A) → Q b → Above step a b → Above step' a b × Q a
-    above_while a b q above =
-        let path = path_while b a above.path q above.leads in
-        (record { other = above.other; path = above.path; leads = path.0 }, path.1)
-
-  -- and the same the other way round
-  same_above : (step step' : A → Option A) (Q : A → Type 0) → ((x next : A) → Q x → step x ≡ Some next → Q next) → ((x : A) → Q x → step' x ≡ step x)
-      → (a b : A) → Q b → Above step' a b ↔ Above step a b
-  same_above step step' Q on alike a b q = (
-    λ above. (above_while step' step Q (λ x next here steps. on x next here (sym (alike x here) ∙ steps)) (λ x here. sym (alike x here)) a b q above).0,
-    λ above. (above_while step step' Q on alike a b q above).0,
-  )
-
   -- above one that steps to another are that one and those above it
-  above_step : (step : A → Option A) (cases : (x y : A) → (x ≡ y) ⊎ (x ≢ y)) (a b next : A) → step b ≡ Some next → Above step a b → (a ≡ next) ⊎ Above step a next
+  pub above_step : (step : A → Option A) (cases : (x y : A) → (x ≡ y) ⊎ (x ≢ y)) (a b next : A) → step b ≡ Some next → Above step a b → (a ≡ next) ⊎ Above step a next
   above_step step cases a b next steps above = by above.path above.leads
     where
       by : (path : List A) → IsPath step b path a → (a ≡ next) ⊎ Above step a next
@@ -63,7 +40,7 @@ module _ {A : Type 0} where
   step_above step a b next steps other (inr above) = record { other = other; path = next ∷ above.path; leads = (steps, above.leads) }
 
 -- a step leads to a domain that is there
-step_to_domain : (registry : Registry) → IsOfCard registry → (x next : List ℕ) → domain_of registry x ≡ Some next → IsDomainNamed registry next
+pub step_to_domain : (registry : Registry) → IsOfCard registry → (x next : List ℕ) → domain_of registry x ≡ Some next → IsDomainNamed registry next
 step_to_domain registry of x next steps = by (entry_named registry x) refl steps
   where
     by : (o : Option Entry) → entry_named registry x ≡ o → option_map (λ (e : Entry). e.domain) o ≡ Some next → IsDomainNamed registry next
@@ -83,7 +60,7 @@ module _ (entry : Entry) (before after : Registry) (of : IsOfCard before) (may :
 
   others_alike : (a b : List ℕ) → b ≢ entry.aid → Above (domain_of with_entry) a b ↔ Above (domain_of before) a b
   others_alike a b other =
-      same_above (domain_of before) (domain_of with_entry) (λ x. x ≢ entry.aid) to_others (added.other_step entry before after.entries of may is.entries) a b other
+      same_above (domain_of before) (domain_of with_entry) (λ x. x ≢ entry.aid) to_others (added.other_step entry before after.entries of is.entries) a b other
 
   above_new : (a : List ℕ) → Above (domain_of with_entry) a entry.aid ↔ ((a ≡ entry.domain) ⊎ Above (domain_of before) a entry.domain)
   above_new a =
@@ -97,7 +74,7 @@ module _ (entry : Entry) (before after : Registry) (of : IsOfCard before) (may :
           | inl same ↦ step_above (domain_of with_entry) a entry.aid entry.domain steps (λ alike. apart (sym same ∙ alike)) (inl same)
           | inr higher ↦
               step_above (domain_of with_entry) a entry.aid entry.domain steps
-              (above_while (domain_of before) (domain_of with_entry) (λ x. x ≢ entry.aid) to_others (added.other_step entry before after.entries of may is.entries) a entry.domain apart higher).1
+              (above_while (domain_of before) (domain_of with_entry) (λ x. x ≢ entry.aid) to_others (added.other_step entry before after.entries of is.entries) a entry.domain apart higher).1
               (inr ((others_alike a entry.domain apart).1 higher))
         ],
       )
@@ -111,34 +88,14 @@ pub above_others_of_added : AboveOthersOfAdded
 above_others_of_added entry before after of may is a b other =
     subst (λ (r : Registry). Above (domain_of r) a b ↔ Above (domain_of before) a b) (sym is.same) (others_alike entry before after of may is a b other)
 
-module _ (registry : Registry) (these : List ℕ → Bool) (change : Entry → Entry)
-    (keeps : (entry : Entry) → ((change entry).aid ≡ entry.aid) × ((change entry).domain ≡ entry.domain)) where
-  abbrev some : Entry → Entry
-  some entry = cond (these entry.aid) (change entry) entry
-
-  some_aid : (entry : Entry) → (some entry).aid ≡ entry.aid
-  some_aid entry = cond_both (these entry.aid) (change entry) entry (λ (e : Entry). e.aid ≡ entry.aid) (λ _. (keeps entry).0) (λ _. refl)
-
-  some_domain : (entry : Entry) → (some entry).domain ≡ entry.domain
-  some_domain entry = cond_both (these entry.aid) (change entry) entry (λ (e : Entry). e.domain ≡ entry.domain) (λ _. (keeps entry).1) (λ _. refl)
-
-  steps_alike : (x : List ℕ) → domain_of (with_entries registry these change) x ≡ domain_of registry x
-  steps_alike x =
-      ap (option_map (λ e. e.domain)) (find_mapped some (λ (e : Entry). same_aid e.aid x) (λ e. ap (λ (n : List ℕ). same_aid n x) (some_aid e)) registry.entries)
-      ∙ by (entry_named registry x)
-    where
-      by : (o : Option Entry) → option_map (λ (e : Entry). e.domain) (option_map some o) ≡ option_map (λ e. e.domain) o
-      by None = refl
-      by (Some entry) = ap Some (some_domain entry)
-
 pub above_changed : AboveChanged
 above_changed registry these change keeps a b =
     same_above (domain_of registry) (domain_of (with_entries registry these change)) (λ _. Unit {0}) (λ x next here steps. tt)
-    (λ x here. steps_alike registry these change keeps x) a b tt
+    (λ x here. domains_after_change registry these change keeps x) a b tt
 
 pub above_removed : AboveRemoved
 above_removed registry aid of may a b other =
-    same_above (domain_of registry) (domain_of (without_entry registry aid)) (λ x. x ≢ aid) (none_steps registry aid of may) (removed.other_step registry aid of may) a b other
+    same_above (domain_of registry) (domain_of (without_entry registry aid)) (λ x. x ≢ aid) (none_steps registry aid of may) (domains_after_entry registry aid) a b other
 
 module _ (registry : Registry) (aid domain : List ℕ) (of : IsOfCard registry) (may : MayMove registry aid domain) where
   -- a thing that is neither the one that is moved nor below it
@@ -154,21 +111,11 @@ module _ (registry : Registry) (aid domain : List ℕ) (of : IsOfCard registry) 
 
   elsewhere_alike : (a b : List ℕ) → IsElsewhere b → Above (domain_of (moved registry aid domain)) a b ↔ Above (domain_of registry) a b
   elsewhere_alike a b is =
-      same_above (domain_of registry) (domain_of (moved registry aid domain)) IsElsewhere stays_elsewhere (λ x here. step_other registry aid domain of may x here.other) a b is
+      same_above (domain_of registry) (domain_of (moved registry aid domain)) IsElsewhere stays_elsewhere (λ x here. domains_after_move registry aid domain x here.other) a b is
 
 pub above_others_of_moved : AboveOthersOfMoved
 above_others_of_moved registry aid domain of may a b other not_below =
     elsewhere_alike registry aid domain of may a b (record { other = other; not_below = not_below })
-
--- what a path leads to is on the line
-path_on_line : {A : Type 0} (step : A → Option A) (from to : A) (line path : List A) → IsLine step from line → IsPath step from path to → Contains line to
-path_on_line step from to [] path is leads = absurd is
-path_on_line step from to (x ∷ []) path is leads =
-    subst (Contains (x ∷ [])) (is.0 ∙ root_alone step from to path is.1 leads) (contains_first x [])
-path_on_line step from to (x ∷ y ∷ line) [] is leads = subst (Contains (x ∷ y ∷ line)) (is.0 ∙ leads) (contains_first x (y ∷ line))
-path_on_line {A} step from to (x ∷ y ∷ line) (next ∷ path) is leads =
-    let same : next ≡ y = (let up = is.2 in let on = leads.0 in cc) in
-    contains_later x (y ∷ line) to (path_on_line step y to (y ∷ line) path is.3 (subst (λ (n : A). IsPath step n path to) same leads.1))
 
 module _ (registry : Registry) (aid domain : List ℕ) (of : IsOfCard registry) (may : MayMove registry aid domain) where
   moved_steps : IsSome (entry_named registry aid) → domain_of (moved registry aid domain) aid ≡ Some domain
@@ -199,7 +146,7 @@ module _ (registry : Registry) (aid domain : List ℕ) (of : IsOfCard registry) 
           | inl same ↦ step_above (domain_of (moved registry aid domain)) a aid domain steps (λ itself. other (sym same ∙ itself)) (inl same)
           | inr higher ↦
               (let there = above_while (domain_of registry) (domain_of (moved registry aid domain)) (IsElsewhere registry aid domain of may)
-              (stays_elsewhere registry aid domain of may) (λ x here. step_other registry aid domain of may x here.other) a domain (new_elsewhere other) higher in
+              (stays_elsewhere registry aid domain of may) (λ x here. domains_after_move registry aid domain x here.other) a domain (new_elsewhere other) higher in
               step_above (domain_of (moved registry aid domain)) a aid domain steps there.1.other (inr there.0))
         ],
       )

@@ -13,15 +13,15 @@ use Rattle.domain_tree.specs.Slots.{IsFreeOfLoops}
 use Rattle.domain_tree.proofs.LineLength.{line_length}
 use Rattle.domain_tree.proofs.Paths.{lead_to_each_other, path_more, root_alone}
 
-module _ (step : ℕ → Option ℕ) where
-  -- below what is above something there is a step
-  pub steps_from : (a b : ℕ) → Above step a b → (next : ℕ) × (step b ≡ Some next)
-  steps_from a b above = by above.path above.leads
-    where
-      by : (path : List ℕ) → IsPath step b path a → (next : ℕ) × (step b ≡ Some next)
-      by [] leads = absurd (above.other (sym leads))
-      by (next ∷ path) leads = (next, leads.0)
+-- below what is above something there is a step
+pub steps_from : {A : Type 0} (step : A → Option A) (a b : A) → Above step a b → (next : A) × (step b ≡ Some next)
+steps_from {A} step a b above = by above.path above.leads
+  where
+    by : (path : List A) → IsPath step b path a → (next : A) × (step b ≡ Some next)
+    by [] leads = absurd (above.other (sym leads))
+    by (next ∷ path) leads = (next, leads.0)
 
+module _ (step : ℕ → Option ℕ) where
   -- what is above one is the next or above the next
   pub above_next : (a b next : ℕ) → step b ≡ Some next → Above step a b → (a ≡ next) ⊎ Above step a next
   above_next a b next steps above = by above.path above.leads

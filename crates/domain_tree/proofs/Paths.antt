@@ -4,12 +4,19 @@ use Rattle.std.specs.Prelude.{Contains}
 use Rattle.card_types.specs.Hierarchy.{IsLine, IsPath}
 use Rattle.card_types.proofs.Lines.{one_line}
 use Rattle.domain_tree.specs.Above.{Above, IsFirstAbove}
-use Rattle.card_types.proofs.Members.{contains_cases}
+use Rattle.card_types.proofs.Members.{contains_cases, contains_first, contains_later}
 
 module _ {A : Type 0} (step : A → Option A) where
   pub path_more : (from at next : A) (path : List A) → IsPath step from path at → step at ≡ Some next → IsPath step from (path ++ next ∷ []) next
   path_more from at next [] leads steps = (ap step leads ∙ steps, refl)
   path_more from at next (first ∷ path) leads steps = (leads.0, path_more first at next path leads.1 steps)
+
+  -- a path goes on from the end of another
+  pub path_joined : (from at to : A) (up on : List A) → IsPath step from up at → IsPath step at on to → (path : List A) × IsPath step from path to
+  path_joined from at to [] on leads further = (on, subst (λ (a : A). IsPath step a on to) (sym leads) further)
+  path_joined from at to (next ∷ up) on leads further =
+      let rest = path_joined next at to up on leads.1 further in
+      (next ∷ rest.0, (leads.0, rest.1))
 
   -- all that a root leads to is the root
   pub root_alone : (root to : A) (path : List A) → step root ≡ Some root → IsPath step root path to → root ≡ to
@@ -84,6 +91,16 @@ module _ {A : Type 0} (step : A → Option A) where
     | inl same ↦ ([], sym is.0 ∙ same)
     | inr later ↦ (let rest = path_to_member y (y ∷ line) member is.3 later in (y ∷ rest.0, (is.2, rest.1)))
   ]
+
+  -- and what a path leads to is on the line
+  pub path_on_line : (from to : A) (line path : List A) → IsLine step from line → IsPath step from path to → Contains line to
+  path_on_line from to [] path is leads = absurd is
+  path_on_line from to (x ∷ []) path is leads =
+      subst (Contains (x ∷ [])) (is.0 ∙ root_alone from to path is.1 leads) (contains_first x [])
+  path_on_line from to (x ∷ y ∷ line) [] is leads = subst (Contains (x ∷ y ∷ line)) (is.0 ∙ leads) (contains_first x (y ∷ line))
+  path_on_line from to (x ∷ y ∷ line) (next ∷ path) is leads =
+      let same : next ≡ y = (let up = is.2 in let on = leads.0 in cc) in
+      contains_later x (y ∷ line) to (path_on_line y to (y ∷ line) path is.3 (subst (λ (n : A). IsPath step n path to) same leads.1))
 
   -- one that is neither this one nor above it is not on its line
   pub off_line : (from other : A) (line : List A) → IsLine step from line → from ≢ other → (Above step other from → ⊥) → Contains line other → ⊥

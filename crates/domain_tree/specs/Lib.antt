@@ -1,4 +1,5 @@
 pub mod Above
 pub mod AboveLaws
 pub mod Holders
+pub mod LineLaws
 pub mod Slots

@@ -7,5 +7,8 @@ mod laws;
 mod walk;
 
 pub use holders::nearest;
-pub use laws::{above_added, above_changed, above_moved, above_removed};
+pub use laws::{
+    above_added, above_changed, above_moved, above_removed, domains_stay, lines_compared,
+    lines_stay,
+};
 pub use walk::{Wanted, above, first_above, would_loop};
