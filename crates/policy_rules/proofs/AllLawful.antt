@@ -33,6 +33,24 @@ abbrev pub AllOf : (CommandForm → Type 0) → List CommandForm → Type 0
 AllOf holds [] = Unit {0}
 AllOf holds (form ∷ forms) = holds form × AllOf holds forms
 
+-- it holds of each of these forms: of none, of one, of one beside others, and of those that are listed
+pub record HoldsOfEach (holds : CommandForm → Type 0) (forms : List CommandForm) : Type 0 where
+  pub each : AllOf holds forms
+
+module _ (holds : CommandForm → Type 0) where
+  pub of_none : HoldsOfEach holds []
+  of_none = record { each = tt }
+
+  pub of_beside : (form : CommandForm) (forms : List CommandForm) → holds form → HoldsOfEach holds forms → HoldsOfEach holds (form ∷ forms)
+  of_beside form forms is others = record { each = (is, others.each) }
+
+  pub of_only : (form : CommandForm) → holds form → HoldsOfEach holds (form ∷ [])
+  of_only form is = of_beside form [] is of_none
+
+  pub of_listed : (test : Bool) (these others : List CommandForm) → HoldsOfEach holds these → HoldsOfEach holds others → HoldsOfEach holds (listed test these others)
+  of_listed true these others these_are others_are = these_are
+  of_listed false these others these_are others_are = others_are
+
 -- each of these forms is lawful, and one of them at most takes a command
 pub record AreLawful (forms : List CommandForm) : Type 0 where
   pub each : AllOf IsLawful forms

@@ -10,7 +10,6 @@ use Rattle.policy_rules.specs.Commands.{TakesCommand, Judges}
 use Rattle.policy_rules.specs.FirstFailing.{IsFirst}
 use Rattle.policy_rules.specs.declared.rule.Rule.{Rule}
 use Rattle.std.proofs.Common.{Option}
-use Rattle.policy_rules.specs.declared.rule.RulePS.TheVariants.{P}
 use Rattle.card_types.specs.Registry.{Registry}
 use Rattle.policy_rules.proofs.ManagedJudging.{IsJudgeable}
 use Rattle.policy_rules.proofs.ManagedLawful.{IsManagedLawful, IsPassedFor, MayFollow, may_follow}

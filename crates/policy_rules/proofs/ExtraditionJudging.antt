@@ -33,7 +33,6 @@ use Rattle.policy_rules.specs.declared.extradition.RuleEX.TheVariants.{EX1, EX2,
 use Rattle.policy_rules.proofs.Approved.{one_holder}
 use Rattle.policy_rules.proofs.InstallApplicationJudging.{holds_named, manages, may_manage}
 use Rattle.policy_rules.proofs.ThingsFound.{entry_at, named_as}
-use Rattle.policy_rules.specs.declared.rule.RulePS.TheVariants.{P}
 
 -- what a negated test tells
 pub not_told : {P : Type 0} (is : Bool) → IsTrue is ↔ P → IsTrue (not is) ↔ (P → ⊥)

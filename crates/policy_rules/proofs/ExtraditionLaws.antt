@@ -32,7 +32,7 @@ domain_stable (Some entry) other = elim (cases_Bool (is_domain entry)) [
 module _ (admitted : Admitted) (given : InstallData) (known : ExtraditingFails admitted given EX2 → ⊥) (movable : ExtraditingFails admitted given EX3 → ⊥)
     (not_below : ExtraditingFails admitted given EX6 → ⊥) where
   -- the thing may be moved to its new domain
-  may_move : MayMove admitted.at.registry given.third given.first
+  pub may_move : MayMove admitted.at.registry given.third given.first
   may_move = record {
     other = λ same. movable (inl same);
     other_file = λ same. movable (inr same);

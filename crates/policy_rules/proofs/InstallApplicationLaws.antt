@@ -144,7 +144,7 @@ module _ (admitted : Admitted) (asked : InstallAsked) (passes : (rule : RuleII) 
         (beside_found (λ (e : Entry). e.aid) made admitted.at.registry.entries changed.entries of.ascending.entries added.entries l.aid (λ same. other (sym same)) ∙ free)
 
 -- each of its own rules passes
-passing : (admitted : Admitted) (asked : InstallAsked) → ((rule : RuleII) → Contains managed_install.judged.own_rules rule → InstallingFails admitted asked rule → ⊥)
+pub passing : (admitted : Admitted) (asked : InstallAsked) → ((rule : RuleII) → Contains managed_install.judged.own_rules rule → InstallingFails admitted asked rule → ⊥)
     → (rule : RuleII) → InstallingFails admitted asked rule → ⊥
 passing admitted asked own rule = own rule (among rule)
   where

@@ -5,7 +5,7 @@ use Rattle.std.proofs.lemmas.Bool.Decides.{eqb_tells}
 use Rattle.card_types.specs.Aid.{IsAid}
 use Rattle.card_types.specs.Registry.{Registry, entry_named, file_named}
 use Rattle.card_types.specs.Well.{IsDomainNamed}
-use Rattle.policy_rules.specs.Admission.{Admitted, without_place}
+use Rattle.policy_rules.specs.Admission.{Admitted}
 use Rattle.policy_rules.specs.Classes.{managing}
 use Rattle.policy_rules.specs.Commands.{Judges, JudgesAs, TakesCommand}
 use Rattle.policy_rules.specs.FirstFailing.{IsFirst}
@@ -23,7 +23,6 @@ use Rattle.policy_rules.proofs.Judging.{judged}
 use Rattle.policy_rules.proofs.Lawful.{HasNoPlaceOn, IsLawful, IsReady, managed_apart, sound_with}
 use Rattle.policy_rules.proofs.LengthFields.{one_load_data}
 use Rattle.policy_rules.proofs.SameEffect.{effect_same, state_same}
-use Rattle.policy_rules.specs.declared.rule.RulePS.TheVariants.{P}
 use Rattle.policy_rules.proofs.ManagedJudging.{IsJudgeable, own_pass}
 
 -- what is not there

@@ -36,7 +36,7 @@ starts_sound registry well ascending = record {
   fits = record { channels = refl; basic = refl; each = first_channels registry well; load = tt };
 }
 
-admitted_is_ready : (state : State) (bytes : List ℕ) (admitted : Admitted) → IsSound state → Admits state bytes admitted → IsReady admitted
+pub admitted_is_ready : (state : State) (bytes : List ℕ) (admitted : Admitted) → IsSound state → Admits state bytes admitted → IsReady admitted
 admitted_is_ready state bytes admitted sound admits =
     let command = admits.1.0 in
     let taken = admits.1.2 in

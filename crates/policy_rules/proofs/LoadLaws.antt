@@ -14,7 +14,7 @@ use Rattle.card_types.specs.Registry.{LoadFile, Registry}
 use Rattle.card_types.specs.RegistryChange.{IsFileAdded}
 use Rattle.card_types.specs.Well.{pages_of}
 use Rattle.card_types.specs.declared.limits.TheConstants.{FILE_LIMIT, LOAD_PAGES}
-use Rattle.policy_rules.specs.Admission.{Admitted, without_place}
+use Rattle.policy_rules.specs.Admission.{Admitted}
 use Rattle.policy_rules.specs.Classes.{managing}
 use Rattle.policy_rules.specs.Commands.{JudgesAs}
 use Rattle.policy_rules.specs.Delegation.{Holds, IsAnswered, ReceiptFails, unconfirmed}
@@ -53,7 +53,7 @@ module _ (before : Registry) (files : List LoadFile) (volatile : Volatile) where
   }
 
 -- none of its own rules fails where none fails
-no_rule : (admitted : Admitted) → IsFirst (LoadFails admitted) load_rules None → (rule : RuleLO) → LoadingFails admitted rule → ⊥
+pub no_rule : (admitted : Admitted) → IsFirst (LoadFails admitted) load_rules None → (rule : RuleLO) → LoadingFails admitted rule → ⊥
 no_rule admitted first rule fails = none_fails (LoadFails admitted) load_rules (LO rule) (among rule) first fails
   where
     among : (rule : RuleLO) → Contains load_rules (LO rule)

@@ -5,7 +5,7 @@ use Rattle.std.proofs.lemmas.Bool.{ltb-true}
 use Rattle.card_types.specs.ChangeLaws.{IsOfCard}
 use Rattle.card_types.specs.Registry.{Registry}
 use Rattle.card_types.specs.Well.{IsDomainNamed}
-use Rattle.policy_rules.specs.Admission.{Admitted, without_place}
+use Rattle.policy_rules.specs.Admission.{Admitted}
 use Rattle.policy_rules.specs.Classes.{managing}
 use Rattle.policy_rules.specs.Commands.{JudgesAs}
 use Rattle.policy_rules.specs.Delegation.{IsAnswered, ReceiptFails, delegation_rules}
@@ -50,7 +50,7 @@ pub record IsManagedLawful (form : ManagedForm) : Type 0 where
       → form.becomes admitted asked a → form.becomes admitted asked b → a ≡ b
 
 module _ (form : ManagedForm) (lawful : IsManagedLawful form) (managed : Contains managing form.judged.instruction) where
-  passed_for : (admitted : Admitted) (done : Effect) → IsReady admitted → JudgesAs (command_form form) admitted None → (does : ManagedEffect form admitted done)
+  pub passed_for : (admitted : Admitted) (done : Effect) → IsReady admitted → JudgesAs (command_form form) admitted None → (does : ManagedEffect form admitted done)
       → IsPassedFor form.judged admitted does.asked
   passed_for admitted done ready (takes, first) does =
       let high = ltb-true 0xD7 form.judged.instruction (each_byte (λ byte. nat_lt 0xD7 byte) managing refl form.judged.instruction managed) in

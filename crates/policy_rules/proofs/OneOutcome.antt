@@ -1,5 +1,5 @@
 -- From one state the same bytes have at most one outcome.
-use Rattle.std.proofs.Common.{◌≡◌, ◌⊎◌, ℕ, List, [], ◌∷◌, false, Option, None, Some, refl, sym, ap, subst, ◌∙◌, inl, inr, true}
+use Rattle.std.proofs.Common.{◌≡◌, ◌⊎◌, ℕ, List, [], ◌∷◌, false, Option, None, Some, refl, sym, ap, subst, ◌∙◌, inl, inr}
 use Rattle.std.specs.Prelude.{MatchOption}
 use Rattle.apdu_core.proofs.OneSpelling.{one_command}
 use Rattle.apdu_core.specs.Apdu.{Apdu, Short}
@@ -22,7 +22,6 @@ use Rattle.policy_rules.proofs.FormTaken.{by_form}
 use Rattle.policy_rules.proofs.Lawful.{some_same}
 use Rattle.policy_rules.specs.Run.{Run}
 use Rattle.policy_rules.specs.Run as run
-use Rattle.policy_rules.specs.declared.rule.RulePS.TheVariants.{P}
 use Rattle.std.proofs.lemmas.Bool.{true≢false}
 
 -- the bytes are one command
@@ -71,7 +70,7 @@ taken_one state command (Some a) None p q one other = absurd (true≢false (sym 
 taken_one state command (Some a) (Some b) p q one other =
     (let same = opened_one command (session_for state command) a b p q one.1 other.1 in (ap Some same.0, same.1))
 
-admits_one : (state : State) (bytes : List ℕ) (a b : Admitted) → Admits state bytes a → Admits state bytes b → a ≡ b
+pub admits_one : (state : State) (bytes : List ℕ) (a b : Admitted) → Admits state bytes a → Admits state bytes b → a ≡ b
 admits_one state bytes a b one other =
     let command = one.1.0 in
     let first = one.1.2 in

@@ -67,5 +67,6 @@ external_authenticate = record {
   takes_field = λ p1 p2. ExternalAuthenticateField;
   rules = external_authenticate_rules;
   fails = ExternalAuthenticateFails;
+  confirms = λ admitted aids. ⊥;
   does = ExternalAuthenticateEffect;
 }

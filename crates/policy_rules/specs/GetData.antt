@@ -78,5 +78,6 @@ get_data = record {
   takes_field = λ p1 p2. GetDataField;
   rules = get_data_rules;
   fails = GetDataFails;
+  confirms = λ admitted aids. ⊥;
   does = GetDataEffect;
 }

@@ -212,5 +212,6 @@ get_status = record {
   takes_field = λ p1 p2 body. (partial : List ℕ) × IsSearch body partial;
   rules = get_status_rules;
   fails = GetStatusFails;
+  confirms = λ admitted aids. ⊥;
   does = GetStatusEffect;
 }

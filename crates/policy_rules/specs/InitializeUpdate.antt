@@ -90,5 +90,6 @@ initialize_update = record {
   takes_field = λ p1 p2. InitializeUpdateField;
   rules = offer_rules;
   fails = InitializeUpdateFails;
+  confirms = λ admitted aids. ⊥;
   does = InitializeUpdateEffect;
 }

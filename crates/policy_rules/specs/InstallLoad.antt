@@ -125,4 +125,4 @@ pub record InstallLoadEffect (admitted : Admitted) (done : Effect) : Type 0 wher
 
 -- INSTALL [for load]
 abbrev pub install_load : CommandForm
-install_load = judged_form judged_install_load InstallLoadEffect
+install_load = judged_form judged_install_load (λ admitted aids. ⊥) InstallLoadEffect

@@ -1,5 +1,5 @@
 -- The laws of the policy machine.
-use Rattle.std.specs.Prelude.{◌≡◌, ◌≢◌, ◌⊎◌, ℕ, List, Bool, true, false, None, MatchOption, map}
+use Rattle.std.specs.Prelude.{◌≡◌, ◌≢◌, ℕ, List, Bool, true, false, None, MatchOption, map}
 use Rattle.card_types.specs.Ascending.{IsAscending}
 use Rattle.card_types.specs.Registry.{Registry}
 use Rattle.card_types.specs.Well.{Well}
@@ -7,6 +7,7 @@ use Rattle.policy_rules.specs.Admission.{Of}
 use Rattle.policy_rules.specs.Changes.{Changes, OpensInSession, without_number}
 use Rattle.policy_rules.specs.Classes.{channel_of}
 use Rattle.policy_rules.specs.Commands.{AtMostOne, Takes, forms_of}
+use Rattle.policy_rules.specs.Receipts.{CountsReceipts}
 use Rattle.policy_rules.specs.Run.{Input, Run}
 use Rattle.policy_rules.specs.Sound.{IsSound}
 use Rattle.policy_rules.specs.State.{State, powered_on}
@@ -74,3 +75,7 @@ abbrev pub PlacesAreForgotten : Type 0
 PlacesAreForgotten =
     (state : State) (bytes : List ℕ) (outcome : Outcome) → Step state bytes outcome → MatchOption outcome.rule (Unit {0}) (λ rule. is_later rule ≡ true)
     → Of bytes (λ command. command.ins ≢ GET_STATUS → place_in (channel_at outcome.state.volatile (channel_of command.class)) ≡ None)
+
+-- each command counts receipts so
+abbrev pub NumbersRise : Type 0
+NumbersRise = (state : State) (bytes : List ℕ) (outcome : Outcome) → IsSound state → Step state bytes outcome → CountsReceipts state bytes outcome

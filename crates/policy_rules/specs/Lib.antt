@@ -29,6 +29,7 @@ pub mod InstallApplicationRequests
 pub mod InstallFields
 pub mod InstallLoad
 pub mod InstallLoadRequests
+pub mod Isolation
 pub mod KeptPlaces
 pub mod KeyFields
 pub mod KeyOrder
@@ -48,14 +49,17 @@ pub mod Management
 pub mod ObjectsFound
 pub mod PutKey
 pub mod PutKeyRules
+pub mod Receipts
 pub mod Refusal
 pub mod Requests
 pub mod Rules
 pub mod Run
+pub mod RunsApart
 pub mod Select
 pub mod SetStatusRequests
 pub mod Sound
 pub mod State
 pub mod Step
 pub mod StoreData
+pub mod Trees
 pub mod Volatile

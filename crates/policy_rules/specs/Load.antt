@@ -88,6 +88,14 @@ LoadFails admitted rule = ⊥
 abbrev pub file_of_load : LoadSession → LoadFile
 file_of_load load = record { aid = load.aid; domain = load.domain; bytes = load.bytes }
 
+-- the AIDs that a receipt of the last block names
+abbrev pub about_load : LoadSession → List (List ℕ)
+about_load load = load.aid ∷ load.domain ∷ []
+
+-- it is the last block of a delegated load, and a receipt names these
+abbrev pub LoadConfirms : Admitted → List (List ℕ) → Type 0
+LoadConfirms admitted aids = Holds admitted delegated_management × (admitted.command.p1 ≡ 0x80) × InLoad admitted (λ load. aids ≡ about_load load)
+
 -- More blocks come: the load session goes on as this one, and the registry stays as it is.
 pub record GoesOn (admitted : Admitted) (load : LoadSession) (done : Effect) : Type 0 where
   pub more : admitted.command.p1 ≡ 0x00
@@ -100,7 +108,7 @@ pub record EndsLoad (admitted : Admitted) (load : LoadSession) (done : Effect) :
   pub last : admitted.command.p1 ≡ 0x80
   pub changed : Registry
   pub added : IsFileAdded (file_of_load load) admitted.at.registry changed
-  pub answered : IsAnswered (Holds admitted delegated_management) admitted (load.aid ∷ load.domain ∷ []) changed unconfirmed done
+  pub answered : IsAnswered (Holds admitted delegated_management) admitted (about_load load) changed unconfirmed done
   pub volatile : done.state.volatile ≡ without_load admitted.at.volatile admitted.channel
 
 -- The block is counted and its bytes go behind those that came.
@@ -121,5 +129,6 @@ loading = record {
   takes_field = λ p1 p2 body. body ≢ [];
   rules = load_rules;
   fails = LoadFails;
+  confirms = LoadConfirms;
   does = LoadEffect;
 }

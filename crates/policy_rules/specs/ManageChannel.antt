@@ -72,5 +72,6 @@ manage_channel = record {
   takes_field = λ p1 p2. ManageChannelField;
   rules = manage_channel_rules;
   fails = ManageChannelFails;
+  confirms = λ admitted aids. ⊥;
   does = ManageChannelEffect;
 }

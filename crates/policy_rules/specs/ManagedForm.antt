@@ -57,14 +57,15 @@ abbrev pub JudgedFails : JudgedForm → Admitted → Rule → Type 0
 JudgedFails form admitted (M rule) = ManagementFails admitted rule
 JudgedFails form admitted rule = (asked : form.Asked) × CommandAsks form admitted asked × AskedFails form admitted asked rule
 
--- the command that is judged so, and does this
-abbrev pub judged_form : JudgedForm → (Admitted → Effect → Type 0) → CommandForm
-judged_form form does = record {
+-- the command that is judged so, may have a receipt that names these, and does this
+abbrev pub judged_form : JudgedForm → (Admitted → List (List ℕ) → Type 0) → (Admitted → Effect → Type 0) → CommandForm
+judged_form form confirms does = record {
   instruction = form.instruction;
   takes = form.takes;
   takes_field = λ p1 p2 body. (asked : form.Asked) × form.asks p1 p2 body asked;
   rules = map M form.first_rules ++ map form.group form.own_rules ++ form.delegation.rules;
   fails = JudgedFails form;
+  confirms = confirms;
   does = does;
 }
 
@@ -85,8 +86,14 @@ pub record ManagedEffect (form : ManagedForm) (admitted : Admitted) (done : Effe
   pub volatile : done.state.volatile ≡ admitted.at.volatile
   pub status : done.status ≡ 0x9000
 
+-- it is delegated, and a receipt names these
+abbrev pub ManagedConfirms : (form : ManagedForm) → Admitted → List (List ℕ) → Type 0
+ManagedConfirms form admitted aids =
+    form.judged.delegation.is_delegated admitted
+    × ((asked : form.judged.Asked) × CommandAsks form.judged admitted asked × (aids ≡ form.judged.delegation.about admitted asked))
+
 abbrev pub command_form : ManagedForm → CommandForm
-command_form form = judged_form form.judged (ManagedEffect form)
+command_form form = judged_form form.judged (ManagedConfirms form) (ManagedEffect form)
 
 -- the first of a form's own rules that fails for what is asked, or none
 abbrev pub OwnFirst : (form : JudgedForm) → Admitted → form.Asked → Option form.Own → Type 0

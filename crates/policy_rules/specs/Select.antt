@@ -98,5 +98,6 @@ select = record {
   takes_field = λ p1 p2. SelectField;
   rules = select_rules;
   fails = SelectFails;
+  confirms = λ admitted aids. ⊥;
   does = SelectEffect;
 }

@@ -1,7 +1,8 @@
 //! The laws of the policy machine, as functions that do nothing when they run.
 
 ghost use Rattle.card_types.specs.Registry.{Registry};
-ghost use Rattle.policy_rules.specs.Laws.{ChangesAreOpened, OneForm, OneOutcome, OneRun, OthersAreChanges, PlacesAreForgotten, RefusalsDropOffers, StartsSound, StepsKeepSound};
+ghost use Rattle.policy_rules.specs.Laws.{ChangesAreOpened, NumbersRise, OneForm, OneOutcome, OneRun, OthersAreChanges, PlacesAreForgotten, RefusalsDropOffers, StartsSound, StepsKeepSound};
+ghost use Rattle.policy_rules.specs.RunsApart.{RootsGetNothing, TreesStay, TreesStayInRuns};
 
 /// A card that is powered on is sound, and each step keeps it so.
 pub fn steps_keep_sound()
@@ -40,4 +41,17 @@ pub fn others_are_changes()
 /// STATUS.
 pub fn places_are_forgotten()
     ensures { PlacesAreForgotten }
+{}
+
+/// Providers are apart: a command that acts for a domain without power over another one leaves the tree of that one as it was, but for
+/// what a delegated extradition brings into it. So does a run of such commands. Into the tree of a root nothing is brought.
+pub fn trees_stay()
+    ensures step { TreesStay }
+    ensures run { TreesStayInRuns }
+    ensures root { RootsGetNothing }
+{}
+
+/// A receipt number rises by one with each command that its domain confirms, and with no other.
+pub fn numbers_rise()
+    ensures { NumbersRise }
 {}

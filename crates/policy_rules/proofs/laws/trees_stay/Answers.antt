@@ -1,0 +1,12 @@
+use Rattle.policy_rules.proofs.TreesStayInRuns.{roots_get_nothing, trees_stay_in_runs}
+use Rattle.policy_rules.proofs.TreesStayed.{trees_stay}
+use Rattle.policy_rules.proofs.laws.trees_stay.Goals as goal
+
+pub returns-clause-step : goal.returns-clause-step
+returns-clause-step c = trees_stay
+
+pub returns-clause-run : goal.returns-clause-run
+returns-clause-run c = trees_stay_in_runs
+
+pub returns-clause-root : goal.returns-clause-root
+returns-clause-root c = roots_get_nothing
