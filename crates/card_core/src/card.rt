@@ -12,6 +12,8 @@ ghost use Rattle.card_types.specs.Registry.{Registry};
 ghost use Rattle.faults.specs.Faults.{HasCause};
 ghost use Rattle.page_journal.specs.Moments.{Always, LeavesOnly};
 ghost use Rattle.policy_rules.specs.Changes.{Changes, OpensInSession};
+ghost use Rattle.policy_rules.specs.Receipts.{CountsReceipts};
+ghost use Rattle.policy_rules.specs.RunsApart.{KeepsTrees};
 ghost use Rattle.policy_rules.specs.State.{State, powered_on};
 ghost use Rattle.policy_rules.specs.Step.{Outcome, Step};
 ghost use Rattle.rec_store.specs.Contents.{IsUnwritten};
@@ -119,6 +121,11 @@ impl<F: Flash> Card<F> {
         // channel: its C-MAC is the next of the chain.
         ensures changes { (state next : State) → CardRepresents F.Flash self.old state → CardRepresents F.Flash self.new next
             → IfOk result (λ rule. F.tells → Changes state.registry next.registry → (rule ≡ None) × OpensInSession state command.now) }
+        // Providers are apart, and receipts are counted.
+        ensures apart { (state : State) → CardRepresents F.Flash self.old state → (outcome : Outcome) → Step state command.now outcome
+            → KeepsTrees state command.now outcome }
+        ensures receipts { (state : State) → CardRepresents F.Flash self.old state → (outcome : Outcome) → Step state command.now outcome
+            → CountsReceipts state command.now outcome }
         // A command that a rule refuses makes no call on the device, and no other but INITIALIZE UPDATE and those of card
         // content management makes one.
         ensures refused { IfOk result (λ rule. IsSome rule → self.new.flash ≡ self.old.flash) }

@@ -1,5 +1,7 @@
 use Rattle.std.proofs.Common.{refl, sym, ap, subst, ◌∙◌}
+use Rattle.policy_rules.proofs.NumbersRisen.{numbers_rise}
 use Rattle.policy_rules.proofs.Opened.{changes_are_opened}
+use Rattle.policy_rules.proofs.TreesStayed.{trees_stay}
 use Rattle.policy_rules.specs.Changes.{Changes}
 use Rattle.load_session.proofs.Loading.{pages_stay_whole}
 use Rattle.load_session.specs.Loaded.{loaded}
@@ -85,3 +87,15 @@ returns-in-Ok-clause-changes g c state next stands after told changes =
     let same = registry_told F _ did.0.state next did.3.0 after told in
     let opened = changes_are_opened state c.args.command.now did.0 did.1 (subst (Changes state.registry) (sym same) changes) in
     (did.3.2 ∙ opened.0, opened.1)
+
+pub returns-in-Ok-clause-apart : goal.returns-in-Ok-clause-apart
+returns-in-Ok-clause-apart g c state stands outcome step = trees_stay state c.args.command.now outcome stands.on.sound step
+
+pub returns-in-Ok-clause-receipts : goal.returns-in-Ok-clause-receipts
+returns-in-Ok-clause-receipts g c state stands outcome step = numbers_rise state c.args.command.now outcome stands.on.sound step
+
+pub returns-in-Err-clause-apart : goal.returns-in-Err-clause-apart
+returns-in-Err-clause-apart g c state stands outcome step = trees_stay state c.args.command.now outcome stands.on.sound step
+
+pub returns-in-Err-clause-receipts : goal.returns-in-Err-clause-receipts
+returns-in-Err-clause-receipts g c state stands outcome step = numbers_rise state c.args.command.now outcome stands.on.sound step
