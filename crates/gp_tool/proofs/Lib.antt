@@ -36,3 +36,4 @@ pub mod StepsOver
 pub mod Turns
 pub mod WorkloadWords
 pub mod Written
+pub mod LinesAreRuns

@@ -13,6 +13,7 @@ pub mod Give
 pub mod Going
 pub mod Kinds
 pub mod Laws
+pub mod LinesApart
 pub mod Listing
 pub mod Mill
 pub mod Milling

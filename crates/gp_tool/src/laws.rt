@@ -1,6 +1,7 @@
 //! The laws of runs over lines, as functions that do nothing when they run.
 
 ghost use Rattle.gp_tool.specs.Laws.{OneEnding, OneLast, OneMill, OneText, OneWritten};
+ghost use Rattle.gp_tool.specs.LinesApart.{LinesKeepTrees};
 
 use flash_core::Flash;
 use io_edge::Sink;
@@ -20,4 +21,9 @@ pub fn one_ending()
 /// One workload writes one text and leaves one registry, whatever the device held.
 pub fn one_mill<K: Sink, F: Flash>()
     ensures { OneMill K.Sink F.Flash }
+{}
+
+/// What lines make of a card is a run of the policy machine, and keeps the trees of the domains that each of its commands spares.
+pub fn lines_keep_trees()
+    ensures { LinesKeepTrees }
 {}

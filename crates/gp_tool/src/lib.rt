@@ -51,7 +51,7 @@ mod workspace;
 
 pub use ended::Ended;
 pub use ending::Ending;
-pub use laws::{one_ending, one_text};
+pub use laws::{lines_keep_trees, one_ending, one_mill, one_text};
 pub use literals::constants;
 pub use serving::{Served, serve};
 pub use top::gp;

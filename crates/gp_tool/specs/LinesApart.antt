@@ -1,0 +1,26 @@
+-- Providers apart, over the lines that a run gives to a card.
+use Rattle.std.specs.Prelude.{ℕ, List}
+use Rattle.card_types.specs.Well.{IsDomainNamed}
+use Rattle.policy_rules.specs.Run.{Input, Run}
+use Rattle.policy_rules.specs.RunsApart.{AllNewIsBrought, EachSpares}
+use Rattle.policy_rules.specs.Sound.{IsSound}
+use Rattle.policy_rules.specs.State.{State}
+use Rattle.policy_rules.specs.Step.{Outcome}
+use Rattle.policy_rules.specs.Trees.{TreeStays}
+use Rattle.gp_tool.specs.Effects.{Effect, Place}
+use Rattle.gp_tool.specs.RunsLines.{Memory, RunsLines}
+use Rattle.gp_tool.specs.declared.verb.Verb.{Verb}
+
+-- The outcomes are those of a run of the policy machine. The tree of a domain that each of its commands spares stays, and what is new
+-- in it was brought by delegated extraditions.
+pub record RunsApart (first : State) (outcomes : List Outcome) (last : State) : Type 0 where
+  pub inputs : List Input
+  pub run : Run first inputs outcomes last
+  pub trees : (domain : List ℕ) → IsDomainNamed first.registry domain → EachSpares first inputs outcomes domain
+      → TreeStays first.registry last.registry domain × AllNewIsBrought first inputs outcomes domain
+
+-- so it is of the lines of each verb that gives lines to a card
+abbrev pub LinesKeepTrees : Type 0
+LinesKeepTrees =
+    (verb : Verb) (number : ℕ) (lines : List (List ℕ)) (at last : Place (Memory verb)) (effect : Effect) → IsSound at.state
+    → RunsLines verb number lines at effect last → RunsApart at.state effect.outcomes last.state
