@@ -103,7 +103,9 @@ pub record GivesLine (tells : Type 0) (old new : Reading) (left left' : List ℕ
   pub few : IsFew old new
   pub line : tells → IsNextLine (room old) (ahead old left) given.text.now (ahead new left')
   pub lines : tells → lines (ahead old left) ≡ given.text.now ∷ lines (ahead new left')
+  -- a byte is passed, and as many as the line has
   pub further : old.passed < new.passed
+  pub spent : old.passed + length given.text.now ≤ new.passed
   pub passed : tells → new.passed + length (ahead new left') ≡ old.passed + length (ahead old left)
 
 -- The reading after a stop: no byte is lost.

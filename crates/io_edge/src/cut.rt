@@ -21,6 +21,7 @@ pub fn cut_whole(
     ensures line { (left : List ℕ) → OnOk result (IsNextLine room (buffer.old.held ++ left) buffer.new.text (buffer.new.held ++ left)) }
     ensures text { OnOk result (length buffer.new.text ≤ LINE_LIMIT) }
     ensures count { IfOk result (λ n. (0 < n) × (n + length buffer.new.held ≡ length buffer.old.held)) }
+    ensures spent { IfOk result (λ n. length buffer.new.text ≤ n) }
     ensures stop { (left : List ℕ) → IfErr result (Stops room number (buffer.old.held ++ left)) }
     ensures numbered { IfErr result (IsNumbered number) }
     ensures known { IfErr result (λ stop. stop ≢ LineStop.ReadFailed) }
@@ -40,6 +41,7 @@ pub fn cut_last(buffer: &mut Buffer, room: usize, number: u32) -> Result<usize, 
     ensures line { OnOk result (IsNextLine room buffer.old.held buffer.new.text buffer.new.held) }
     ensures text { OnOk result (length buffer.new.text ≤ LINE_LIMIT) }
     ensures count { IfOk result (λ n. (0 < n) × (n + length buffer.new.held ≡ length buffer.old.held)) }
+    ensures spent { IfOk result (λ n. length buffer.new.text ≤ n) }
     ensures stop { IfErr result (Stops room number buffer.old.held) }
     ensures numbered { IfErr result (IsNumbered number) }
     ensures known { IfErr result (λ stop. stop ≢ LineStop.ReadFailed) }

@@ -48,6 +48,7 @@ fn advance<S: Source>(
     ensures few_with { IfOk result (λ n. n + length buffer.new.held ≤ HELD_LIMIT) }
     ensures count { IfOk result (λ n. (0 < n) × (n + length buffer.new.held ≤ room)
         × (S.tells → n + length (buffer.new.held ++ (S.state source.new).left) ≡ length (buffer.old.held ++ (S.state source.old).left))) }
+    ensures spent { IfOk result (λ n. length buffer.new.text ≤ n) }
     ensures stop { S.tells → IfErr result (Stops room number (buffer.old.held ++ (S.state source.old).left)) }
     ensures numbered { IfErr result (IsNumbered number) }
     ensures clear { IfErr result (λ stop. stop ≡ LineStop.ReadFailed → NoNewline buffer.new.held) }
