@@ -1,6 +1,8 @@
 pub mod Blocks
 pub mod DataField
 pub mod Digits
+pub mod FewBlocks
+pub mod FewCommands
 pub mod FitsBlocks
 pub mod HostRules
 pub mod LinkRules
@@ -17,10 +19,12 @@ pub mod Plainly
 pub mod PlayedRules
 pub mod Protecting
 pub mod RoundLines
+pub mod SendsAtMost
 pub mod ShortCommand
 pub mod Spelled
 pub mod Split
 pub mod TalkRules
 pub mod Verbs
+pub mod WideWords
 pub mod Workload
 pub mod WorkloadLines

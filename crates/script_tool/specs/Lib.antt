@@ -1,6 +1,7 @@
 pub mod Channel
 pub mod Command
 pub mod Control
+pub mod Count
 pub mod Delete
 pub mod Exchange
 pub mod Extradite

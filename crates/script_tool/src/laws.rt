@@ -1,4 +1,5 @@
 //! The laws of lines, as functions that do nothing when they run.
+ghost use Rattle.script_tool.specs.Count.{FewCommands};
 ghost use Rattle.script_tool.specs.Line.{OneLine};
 ghost use Rattle.script_tool.specs.Once.{OneTalk};
 ghost use Rattle.script_tool.specs.Workload.{WorkloadLines};
@@ -16,4 +17,9 @@ pub fn one_talk()
 /// Each line of the workload has a form, and fits a line.
 pub fn workload_lines()
     ensures { WorkloadLines }
+{}
+
+/// However a card answers, a line makes at most 60 commands for each of its bytes.
+pub fn few_commands()
+    ensures { FewCommands }
 {}

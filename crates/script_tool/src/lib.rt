@@ -84,7 +84,7 @@ pub use exchange::Exchange;
 pub use extradition::Extradition;
 pub use install::Installation;
 pub use keys::{Key, Keys, OfSize, Trio};
-pub use laws::{one_line, one_talk, workload_lines};
+pub use laws::{few_commands, one_line, one_talk, workload_lines};
 pub use life::LifeChange;
 pub use line::ScriptLine;
 pub use link::{CardLink, LinkFailed};
