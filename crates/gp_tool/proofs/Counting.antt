@@ -1,10 +1,6 @@
 -- Counts of commands.
-use Rattle.std.proofs.Common.{◌≡◌, ℕ, ◌+◌, ◌<◌, ◌≤◌, List, ◌++◌, length, ap, sym, ◌∙◌, arith, length-append}
-use Rattle.io_edge.specs.declared.line.TheConstants.{INPUT_LIMIT}
-use Rattle.gp_tool.specs.AtMost.{IsAtMost}
-use Rattle.gp_tool.specs.Counted.{Counts, CountsOn, counted}
-use Rattle.gp_tool.specs.declared.verb.Verb.{Verb}
-use Rattle.gp_tool.specs.declared.verb.Verb.TheVariants.{Run, Why, Replay, Play}
+use Rattle.std.proofs.Common.{◌≡◌, ℕ, ◌+◌, ◌^◌, ◌<◌, List, ◌++◌, length, ap, sym, ◌∙◌, arith, length-append}
+use Rattle.gp_tool.specs.Counted.{CountsOn, counted}
 
 -- none more
 pub few_none : (count count' : ℕ) → count' ≡ count → CountsOn count count' 0
@@ -28,29 +24,6 @@ pub count_more : {A : Type 0} (count count' : ℕ) (some more : List A) → coun
     → count' ≡ counted (length (some ++ more))
 count_more count count' some more is then = then (length some) is ∙ ap counted (sym (length-append some more))
 
--- a count that is at most that of the bytes of an input has not come to its end
-pub counts_from : (verb : Verb) (count n : ℕ) → IsAtMost verb count (INPUT_LIMIT + 1) → count ≡ counted n → Counts verb count n
-counts_from Run count n few is = omega (arith, few, is)
-counts_from Why count n few is = omega (arith, few, is)
-counts_from Replay count n few is = omega (arith, few, is)
-counts_from Play count n few is = is
-
--- at the start, behind a line, and at the end
-pub few_first : (verb : Verb) (count : ℕ) → count ≡ 0 → IsAtMost verb count 0
-few_first Run count none = omega (arith, none)
-few_first Why count none = omega (arith, none)
-few_first Replay count none = omega (arith, none)
-few_first Play count none = tt
-
-pub few_further : (verb : Verb) (count count' passed passed' : ℕ) → IsAtMost verb count passed → IsAtMost verb count' (count + 1) → passed < passed' → IsAtMost verb count' passed'
-few_further Run count count' passed passed' few more further = omega (arith, few, more, further)
-few_further Why count count' passed passed' few more further = omega (arith, few, more, further)
-few_further Replay count count' passed passed' few more further = omega (arith, few, more, further)
-few_further Play count count' passed passed' few more further = tt
-
-pub few_last : (verb : Verb) (count count' passed held : ℕ) → IsAtMost verb count passed → IsAtMost verb count' (count + 1) → passed + held ≤ INPUT_LIMIT
-    → IsAtMost verb count' (INPUT_LIMIT + 1)
-few_last Run count count' passed held few more within = omega (arith, few, more, within)
-few_last Why count count' passed held few more within = omega (arith, few, more, within)
-few_last Replay count count' passed held few more within = omega (arith, few, more, within)
-few_last Play count count' passed held few more within = tt
+-- a count that has not come to its end is exact
+pub exactly : (count n : ℕ) → count ≡ counted n → n < 2 ^ 32 → count ≡ n
+exactly count n is small = omega (arith, is, small)

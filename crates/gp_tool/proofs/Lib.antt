@@ -5,6 +5,7 @@ pub mod CounterText
 pub mod Counting
 pub mod RunSoFar
 pub mod Exclusive
+pub mod FewOutcomes
 pub mod FileLine
 pub mod FilesInOrder
 pub mod Flush

@@ -31,7 +31,6 @@ use Rattle.gp_tool.specs.declared.card_end.CardEnd as the_end
 use Rattle.gp_tool.specs.declared.ending.Ending.{Ending}
 use Rattle.gp_tool.specs.declared.ending.Ending.TheVariants.{Finished, Differs, BadLine, FlashFault, ReadFault, WriteFault, InputTooLong}
 use Rattle.gp_tool.specs.declared.tally.Tally.{Tally}
-use Rattle.gp_tool.specs.declared.verb.Verb.TheVariants.{Play}
 use Rattle.gp_tool.specs.declared.workload.Workload.{Workload}
 
 module _ {F : Type 0} (device : Flash F) (work : Workload) (made : F) (first : State) where
@@ -84,7 +83,7 @@ module _ {F : Type 0} (device : Flash F) (made : F) (card : CardOver F) (first :
     effect = plays.effect;
     last = plays.last;
     plays = plays.plays;
-    run = run_since Play device made card first stands powered new count plays.effect.outcomes plays.last.state plays.run;
+    run = run_since device made card first stands powered new count plays.effect.outcomes plays.last.state plays.run;
     counter = plays.counter;
     counted = plays.counted;
     text_is = plays.text_is;
@@ -103,7 +102,7 @@ module _ {F : Type 0} (device : Flash F) (made : F) (card : CardOver F) (first :
     mid = plays.mid;
     next = plays.next;
     fails = plays.fails;
-    failed = failed_since Play device made card first stands powered new count (plays.effect.outcomes ++ plays.begun) plays.mid plays.next plays.failed;
+    failed = failed_since device made card first stands powered new count (plays.effect.outcomes ++ plays.begun) plays.mid plays.next plays.failed;
   }
 
   pub mill_since : (writes : Type 0) (ending : Ending) (old last : SinkState) → MillEnds device writes work card.flash first ending new count old last

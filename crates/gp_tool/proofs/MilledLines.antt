@@ -1,18 +1,22 @@
 -- A workload that is played line by line.
-use Rattle.std.proofs.Common.{◌≡◌, ℕ, zero, suc, false, ◌+◌, ◌*◌, List, [], ◌∷◌, ◌++◌, length, refl, sym, ap, subst, ◌∙◌, arith, append_assoc}
+use Rattle.std.proofs.Common.{◌≡◌, ◌≤◌, ℕ, zero, suc, false, ◌+◌, ◌*◌, List, [], ◌∷◌, ◌++◌, length, refl, sym, ap, subst, ◌∙◌, arith, append_assoc, length-append}
 use Rattle.std.specs.Prelude.{flat_map}
 use Rattle.std.proofs.lemmas.List.{append-nil}
 use Rattle.card_core.specs.Card.{CardRepresents}
 use Rattle.flash_core.specs.declared.flash.Flash.{Ghosts as Flash}
+use Rattle.io_edge.specs.declared.line.TheConstants.{LINE_LIMIT}
 use Rattle.policy_rules.specs.State.{State}
 use Rattle.policy_rules.specs.Step.{Outcome}
 use Rattle.rand_chacha.specs.ChaCha.{ChaCha}
 use Rattle.script_tool.specs.Host.{first_host}
+use Rattle.script_tool.proofs.WorkloadLines.{workload_lines}
 use Rattle.script_tool.specs.Kept.{RepresentsHost}
 use Rattle.script_tool.specs.Mill.{after_round, generator, rounds, workload}
 use Rattle.script_tool.specs.Round.{lines_of}
+use Rattle.script_tool.specs.Workload.{AreLines}
 use Rattle.script_tool.specs.declared.host_state.HostState.{HostState}
-use Rattle.gp_tool.proofs.Counting.{count_more}
+use Rattle.gp_tool.proofs.Counting.{count_more, exactly}
+use Rattle.gp_tool.proofs.FewOutcomes.{begun_few, front_short, runs_few}
 use Rattle.gp_tool.proofs.Moments.{has_failed, has_run}
 use Rattle.gp_tool.proofs.RunsMore.{leaves_further, runs_more}
 use Rattle.gp_tool.specs.Device.{LeavesOneOf, registries}
@@ -59,6 +63,16 @@ module _ {F : Type 0} (device : Flash F) (work : Workload) (first : State) (from
     tally_is = zero_tally;
   }
 
+  -- ten thousand rounds make fewer commands than a count holds
+  few_milled : (end : the_end.CardEnd F) (player : HostState) (tally : Tally) (left : List (List ℕ)) → work.rounds ≤ 10_000
+      → (milling : Milling device work first from end player tally left) → length milling.effect.outcomes ≤ 3_132_100_000
+  few_milled end player tally left rounds milling =
+      let short = front_short milling.given left (subst AreLines (sym milling.all) (workload_lines work.seed work.rounds)) in
+      let few = runs_few Play 1 milling.given (start Play first) milling.place milling.effect short milling.plays in
+      let long = ap (λ (lines : List (List ℕ)). length lines) milling.all ∙ workload_long work.seed work.rounds in
+      let parts = length-append milling.given left in
+      omega (arith, few, long, parts, rounds)
+
   module _ (old : the_end.CardEnd F) (player : HostState) (tally : Tally) (line : List ℕ) (left left' : List (List ℕ)) (is : left ≡ line ∷ left')
       (milling : Milling device work first from old player tally left) (new : the_end.CardEnd F) where
     leaves_more : (more : List Outcome) → LeavesOneOf device old.card.flash new.card.flash (registries milling.place.state more)
@@ -85,9 +99,9 @@ module _ {F : Type 0} (device : Flash F) (work : Workload) (first : State) (from
         }
 
     -- or the device failed in it
-    pub milling_broken : (player' : HostState) → BreaksLine (BreaksScript line) device (standing old player false) (standing new player' false) milling.place
+    pub milling_broken : (player' : HostState) → work.rounds ≤ 10_000 → length line ≤ LINE_LIMIT → BreaksLine (BreaksScript line) device (standing old player false) (standing new player' false) milling.place
         → PlaysSome device work from first new.card.flash new.done
-    milling_broken player' breaks = record {
+    milling_broken player' rounds fits breaks = record {
       given = milling.given;
       line = line;
       rest = left';
@@ -99,18 +113,24 @@ module _ {F : Type 0} (device : Flash F) (work : Workload) (first : State) (from
       mid = breaks.mid;
       next = breaks.next;
       fails = breaks.fails;
-      failed = has_failed device Play from new.card.flash first new.done (milling.effect.outcomes ++ breaks.begun) breaks.mid breaks.next
-          (count_more old.done new.done milling.effect.outcomes breaks.begun milling.done breaks.done) breaks.left
+      failed = has_failed device from new.card.flash first new.done (milling.effect.outcomes ++ breaks.begun) breaks.mid breaks.next
+          (let few = few_milled old player tally left rounds milling in
+          let begun = begun_few line milling.place breaks.begun breaks.mid breaks.next breaks.fails in
+          let all = length-append milling.effect.outcomes breaks.begun in
+          exactly new.done (length (milling.effect.outcomes ++ breaks.begun))
+          (count_more old.done new.done milling.effect.outcomes breaks.begun milling.done breaks.done) (omega (arith, few, begun, all, fits))) breaks.left
           (subst (λ (os : List Outcome). LeavesOneOf device from new.card.flash (registries first os)) (sym (append_assoc milling.effect.outcomes breaks.begun (breaks.next ∷ [])))
           (leaves_more (breaks.begun ++ breaks.next ∷ []) breaks.leaves));
     }
 
   -- none is left
-  pub milled : (end : the_end.CardEnd F) (player : HostState) (tally : Tally) (left : List (List ℕ)) → left ≡ [] → Milling device work first from end player tally left
+  pub milled : (end : the_end.CardEnd F) (player : HostState) (tally : Tally) (left : List (List ℕ)) → work.rounds ≤ 10_000 → left ≡ [] → Milling device work first from end player tally left
       → Milled device work first from end tally
-  milled end player tally left none milling =
+  milled end player tally left rounds none milling =
       let all : milling.given ≡ workload work.seed work.rounds = sym (append-nil milling.given) ∙ ap (λ l. milling.given ++ l) (sym none) ∙ milling.all in
-      let run = has_run device Play from end.card first end.done milling.effect.outcomes milling.place.state milling.done milling.stands milling.leaves in
+      let few = few_milled end player tally left rounds milling in
+      let count = exactly end.done (length milling.effect.outcomes) milling.done (omega (arith, few)) in
+      let run = has_run device from end.card first end.done milling.effect.outcomes milling.place.state count milling.stands milling.leaves in
       record {
         effect = milling.effect;
         last = milling.place;

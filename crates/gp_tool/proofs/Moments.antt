@@ -1,5 +1,5 @@
 -- What power lost in a run may leave, from command to command.
-use Rattle.std.proofs.Common.{◌⊎◌, ◌≤◌, ℕ, List, [], ◌∷◌, ◌++◌, length, sym, ap, subst, inl, inr, ⊎_elim}
+use Rattle.std.proofs.Common.{◌≡◌, ◌⊎◌, ◌≤◌, ℕ, List, [], ◌∷◌, ◌++◌, length, sym, ap, subst, inl, inr, ⊎_elim}
 use Rattle.std.specs.Prelude.{Contains, map}
 use Rattle.std.proofs.lemmas.List.{map-append}
 use Rattle.std.proofs.lemmas.List.Elements.{Contains-append_left, Contains-append_right}
@@ -14,9 +14,7 @@ use Rattle.policy_rules.specs.State.{State, powered_on}
 use Rattle.policy_rules.specs.Step.{Outcome}
 use Rattle.rec_store.proofs.Leaving.{joined, unmoved, weaker}
 use Rattle.rec_store.specs.Reopens.{Reopens, ReopensAsOne}
-use Rattle.gp_tool.specs.Counted.{Counts}
 use Rattle.gp_tool.specs.Device.{HasFailed, HasRun, LeavesOneOf, LeftOneOf, registries}
-use Rattle.gp_tool.specs.declared.verb.Verb.{Verb}
 
 -- each of some registries is one of all
 abbrev pub Among : List Registry → List Registry → Type 0
@@ -81,10 +79,10 @@ module _ {F : Type 0} (device : Flash F) where
       (λ c reopens. ⊎_elim (λ was. (before, contains_first before (after ∷ []), was))
       (λ is. (after, contains_later before (after ∷ []) after (contains_first after []), is)) reopens)
 
-  pub has_run : (verb : Verb) (old : F) (card : CardOver F) (first : State) (count : ℕ) (outcomes : List Outcome) (last : State) → Counts verb count (length outcomes)
+  pub has_run : (old : F) (card : CardOver F) (first : State) (count : ℕ) (outcomes : List Outcome) (last : State) → count ≡ length outcomes
       → CardRepresents device card last → LeavesOneOf device old card.flash (registries first outcomes)
-      → HasRun verb device old card.flash first count outcomes last × CardRepresents device card last
-  has_run verb old card first count outcomes last done stands leaves =
+      → HasRun device old card.flash first count outcomes last × CardRepresents device card last
+  has_run old card first count outcomes last done stands leaves =
       (record { done = done; keeps = stands.keeps; moments = λ told before. leaves told }, stands)
 
   -- power lost now leaves what power lost since a moment before leaves
@@ -94,8 +92,8 @@ module _ {F : Type 0} (device : Flash F) where
       let since = leaves told in
       since.each c (counts new (device.moment old) c told since.later possible)
 
-  pub has_failed : (verb : Verb) (old new : F) (first : State) (count : ℕ) (outcomes : List Outcome) (last : State) (next : Outcome) → Counts verb count (length outcomes)
+  pub has_failed : (old new : F) (first : State) (count : ℕ) (outcomes : List Outcome) (last : State) (next : Outcome) → count ≡ length outcomes
       → LeftOneOf device new (last.registry ∷ next.state.registry ∷ [])
       → LeavesOneOf device old new (registries first (outcomes ++ next ∷ []))
-      → HasFailed verb device old new first count outcomes last next
-  has_failed verb old new first count outcomes last next done left since = record { done = done; left = left; moments = λ told before. since told }
+      → HasFailed device old new first count outcomes last next
+  has_failed old new first count outcomes last next done left since = record { done = done; left = left; moments = λ told before. since told }

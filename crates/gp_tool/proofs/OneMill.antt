@@ -14,7 +14,6 @@ use Rattle.script_tool.specs.Host.{Host}
 use Rattle.script_tool.specs.Mill.{workload}
 use Rattle.gp_tool.proofs.RunsMore.{runs_once}
 use Rattle.gp_tool.specs.Around.{Around}
-use Rattle.gp_tool.specs.Counted.{counted}
 use Rattle.gp_tool.specs.Effects.{Effect, Place}
 use Rattle.gp_tool.specs.Ends.{exit_status}
 use Rattle.gp_tool.specs.Laws.{OneMill}
@@ -63,7 +62,7 @@ module _ {F : Type 0} (device : Flash F) (work : Workload) (first : State) (made
   same_count =
       let run = plays.run in
       let run' = again.run in
-      run.done ∙ ap (λ (e : Effect). counted (length e.outcomes)) same_effect ∙ sym run'.done
+      run.done ∙ ap (λ (e : Effect). length e.outcomes) same_effect ∙ sym run'.done
 
   pub same_mill : (text ≡ text') × (plays.last.state.registry ≡ again.last.state.registry) × (count ≡ count')
   same_mill = (same_text, ap (λ (last : Place Host). last.state.registry) same_last, same_count)

@@ -35,7 +35,7 @@ cause_since ReadFault source sink before device new less cause = cause
 cause_since WriteFault source sink before device new less cause = cause
 cause_since InputTooLong source sink before device new less cause = cause
 
-module _ {F : Type 0} (verb : Verb) (device : Flash F) (old : F) (card : CardOver F) (first : State) (stands : CardRepresents device card first)
+module _ {F : Type 0} (device : Flash F) (old : F) (card : CardOver F) (first : State) (stands : CardRepresents device card first)
     (powered : device.tells → (all : List Registry) → Always (device.may_leave old) (ReopensAsOne all) → LeavesOnly device old card.flash (ReopensAsOne all)) where
   since : (new : F) (outcomes : List Outcome)
       → (device.tells → Always (device.may_leave card.flash) (λ outcome. Reopens outcome first.registry) → LeavesOnly device card.flash new (ReopensAsOne (registries first outcomes)))
@@ -47,11 +47,11 @@ module _ {F : Type 0} (verb : Verb) (device : Flash F) (old : F) (card : CardOve
       (moments told keeps.reopens) (λ c reopens. reopens)
 
   pub run_since : (new : F) (count : ℕ) (outcomes : List Outcome) (last : State)
-      → HasRun verb device card.flash new first count outcomes last → HasRun verb device old new first count outcomes last
+      → HasRun device card.flash new first count outcomes last → HasRun device old new first count outcomes last
   run_since new count outcomes last run = record { done = run.done; keeps = run.keeps; moments = since new outcomes run.moments }
 
   pub failed_since : (new : F) (count : ℕ) (outcomes : List Outcome) (last : State) (next : Outcome)
-      → HasFailed verb device card.flash new first count outcomes last next → HasFailed verb device old new first count outcomes last next
+      → HasFailed device card.flash new first count outcomes last next → HasFailed device old new first count outcomes last next
   failed_since new count outcomes last next failed = record { done = failed.done; left = failed.left; moments = since new (outcomes ++ next ∷ []) failed.moments }
 
 -- a count that rose has risen since a moment before
@@ -68,12 +68,12 @@ module _ {S K F : Type 0} (verb : Verb) (source : Source S) (sink : Sink K) (dev
     ending = serves.ending;
     ended = (let ended = serves.ended in record { status_is = ended.status_is; cause = cause_since serves.ending _ _ _ _ _ later ended.cause; flushes = ended.flushes });
     ends = said_else verb source.tells sink.tells
-        (λ outcomes last. HasRun verb device card.flash new first count outcomes last × Stands last)
-        (λ outcomes last. HasRun verb device old new first count outcomes last × Unit {0})
-        (HasFailed verb device card.flash new first count)
-        (HasFailed verb device old new first count)
-        (λ outcomes last run. (run_since verb device old card first stands powered new count outcomes last run.0, tt))
-        (failed_since verb device old card first stands powered new count)
+        (λ outcomes last. HasRun device card.flash new first count outcomes last × Stands last)
+        (λ outcomes last. HasRun device old new first count outcomes last × Unit {0})
+        (HasFailed device card.flash new first count)
+        (HasFailed device old new first count)
+        (λ outcomes last run. (run_since device old card first stands powered new count outcomes last run.0, tt))
+        (failed_since device old card first stands powered new count)
         first _ _ serves.ending serves.ends;
   }
 

@@ -1,20 +1,20 @@
 -- The course of a run, from line to line and to its end.
-use Rattle.std.proofs.Common.{◌≡◌, ℕ, ◌+◌, ◌-◌, ◌<◌, ◌≤◌, false, ◌||◌, List, [], ◌∷◌, ◌++◌, length, take, None, refl, sym, ap, subst, ◌∙◌, inl, inr, append_assoc, arith, length-append}
+use Rattle.std.proofs.Common.{◌≡◌, ℕ, ◌+◌, ◌-◌, ◌*◌, ◌<◌, ◌≤◌, false, ◌||◌, List, [], ◌∷◌, ◌++◌, length, take, None, refl, sym, ap, subst, ◌∙◌, inl, inr, append_assoc, arith, length-append}
 use Rattle.std.proofs.lemmas.List.{append-nil}
 use Rattle.std.proofs.lemmas.List.Folds.{concat-append}
 use Rattle.std.specs.List.{concat}
 use Rattle.std.specs.Str.Lines.{lines}
 use Rattle.card_core.specs.Card.{CardOver, CardRepresents}
 use Rattle.flash_core.specs.declared.flash.Flash.{Ghosts as Flash}
-use Rattle.io_edge.specs.Lines.{Reading, ahead, room, IsNextLine}
+use Rattle.io_edge.specs.Lines.{IsNextLine, IsWithin, Reading, ahead, room}
 use Rattle.io_edge.specs.declared.line.TheConstants.{INPUT_LIMIT, LINE_LIMIT}
 use Rattle.policy_rules.specs.State.{State}
 use Rattle.policy_rules.specs.Step.{Outcome}
 use Rattle.gp_tool.proofs.ComeFirst.{come_more, lines_come}
-use Rattle.gp_tool.proofs.Counting.{count_more, counts_from}
+use Rattle.gp_tool.proofs.Counting.{count_more, exactly}
+use Rattle.gp_tool.proofs.FewOutcomes.{breaks_few, line_few}
 use Rattle.gp_tool.proofs.Moments.{has_run, has_failed}
 use Rattle.gp_tool.proofs.RunsMore.{leaves_further, runs_more}
-use Rattle.gp_tool.specs.AtMost.{IsAtMost}
 use Rattle.gp_tool.specs.Counted.{CountsOn, counted}
 use Rattle.gp_tool.specs.Device.{HasFailed, HasRun, LeavesOneOf, registries}
 use Rattle.gp_tool.specs.Effects.{Effect, Place, joined, nothing}
@@ -62,6 +62,7 @@ module _ {F : Type 0} (verb : Verb) (device : Flash F) (reads writes : Type 0) (
     stands = (stands, means);
     leaves = leaves;
     done = omega (arith, none);
+    few = omega arith;
     differs = refl;
     written = λ _. sym (append-nil before.sink.written);
   }
@@ -96,6 +97,27 @@ module _ {F : Type 0} (verb : Verb) (device : Flash F) (reads writes : Type 0) (
 
     done_more : (more : List Outcome) (count : ℕ) → CountsOn at.done count (length more) → count ≡ counted (length (going.effect.outcomes ++ more))
     done_more more count done = count_more at.done count going.effect.outcomes more going.done done
+
+    -- a line that goes on passes its bytes, and one at least
+    further_few : (line : List ℕ) (more : List Outcome) (passed passed' : ℕ) → length more ≤ 60 * length line + 1 → length going.effect.outcomes ≤ 61 * passed
+        → passed + length line ≤ passed' → passed < passed' → length (going.effect.outcomes ++ more) ≤ 61 * passed'
+    further_few line more passed passed' one few spent further = (let all = length-append going.effect.outcomes more in omega (arith, all, one, few, spent, further))
+
+    -- the count has not come to its end, so it is exact
+    exact_here : IsWithin old → at.done ≡ length going.effect.outcomes
+    exact_here within =
+        let few = going.few in
+        let passed : old.passed + length old.held ≤ INPUT_LIMIT = within in
+        exactly at.done (length going.effect.outcomes) going.done (omega (arith, few, passed))
+
+    -- nor has it with a line more
+    exact_more : IsWithin old → (line : List ℕ) (more : List Outcome) (count : ℕ) → length line ≤ LINE_LIMIT → length more ≤ 60 * length line + 1
+        → CountsOn at.done count (length more) → count ≡ length (going.effect.outcomes ++ more)
+    exact_more within line more count fits one done =
+        let few = going.few in
+        let passed : old.passed + length old.held ≤ INPUT_LIMIT = within in
+        let all = length-append going.effect.outcomes more in
+        exactly count (length (going.effect.outcomes ++ more)) (done_more more count done) (omega (arith, few, passed, all, one, fits))
 
     plays_more : (line : List ℕ) (next : Place (Memory verb)) (one : Effect) → PlaysLine verb (old.number + 1) line going.place one next
         → RunsLines verb 1 (going.given ++ line ∷ []) (start verb first) (joined going.effect one) next
@@ -150,26 +172,26 @@ module _ {F : Type 0} (verb : Verb) (device : Flash F) (reads writes : Type 0) (
           stands = played.stands;
           leaves = leaves_more at.card.flash at'.card.flash played.effect.outcomes going.leaves played.leaves;
           done = done_more played.effect.outcomes at'.done played.done;
+          few = further_few takes.line played.effect.outcomes old.passed new.passed (line_few verb (old.number + 1) takes.line going.place played.next played.effect played.plays) going.few line.1 on.further;
           differs = played.differs ∙ ap (λ d. d || played.effect.differs) going.differs;
           written = λ told.
-              all_written before.sink.written (concat going.effect.texts) (concat played.effect.texts) now.sink.written later.sink.written (going.written told) (line.1 told)
+              all_written before.sink.written (concat going.effect.texts) (concat played.effect.texts) now.sink.written later.sink.written (going.written told) (line.2 told)
               ∙ ap (λ t. before.sink.written ++ t) (sym (concat-append going.effect.texts played.effect.texts));
         }
 
     -- what holds of the device and the card behind some commands
     abbrev pub Rests : List Outcome → State → Type 0
-    Rests outcomes last = HasRun verb device from at'.card.flash first at'.done outcomes last × CardRepresents device at'.card last
+    Rests outcomes last = HasRun device from at'.card.flash first at'.done outcomes last × CardRepresents device at'.card last
 
     abbrev pub Fails : List Outcome → State → Outcome → Type 0
-    Fails outcomes last next = HasFailed verb device from at'.card.flash first at'.done outcomes last next
+    Fails outcomes last next = HasFailed device from at'.card.flash first at'.done outcomes last next
 
     -- nothing was done on the card
-    rested : IsAtMost verb at'.done (INPUT_LIMIT + 1) → at' ≡ at → Rests going.effect.outcomes going.place.state
-    rested few same =
+    rested : IsWithin old → at' ≡ at → Rests going.effect.outcomes going.place.state
+    rested within same =
         let stands = going.stands in
-        let little : IsAtMost verb at.done (INPUT_LIMIT + 1) = subst (λ (a : Standing F (Held verb)). IsAtMost verb a.done (INPUT_LIMIT + 1)) same few in
-        subst (λ (a : Standing F (Held verb)). HasRun verb device from a.card.flash first a.done going.effect.outcomes going.place.state × CardRepresents device a.card going.place.state) (sym same)
-        (has_run device verb from at.card first at.done going.effect.outcomes going.place.state (counts_from verb at.done (length going.effect.outcomes) little going.done) stands.0 going.leaves)
+        subst (λ (a : Standing F (Held verb)). HasRun device from a.card.flash first a.done going.effect.outcomes going.place.state × CardRepresents device a.card going.place.state) (sym same)
+        (has_run device from at.card first at.done going.effect.outcomes going.place.state (exact_here within) stands.0 going.leaves)
 
     -- the texts so far, and nothing more
     so_far : (writes → later.sink.written ≡ now.sink.written) → writes → later.sink.written ≡ before.sink.written ++ concat going.effect.texts
@@ -212,32 +234,32 @@ module _ {F : Type 0} (verb : Verb) (device : Flash F) (reads writes : Type 0) (
           ),
         )
 
-    pub going_ends : IsAtMost verb at'.done (INPUT_LIMIT + 1) → (ending : Ending) → EndsWith verb device reads writes at at' old now later ending → later.sink.flushes ≡ before.sink.flushes
+    pub going_ends : IsWithin old → (ending : Ending) → EndsWith verb device reads writes at at' old now later ending → later.sink.flushes ≡ before.sink.flushes
         → Ends verb reads writes Rests Fails first ending before later
     unfolding course_here course_more
-    going_ends few Finished (same, equal, (over, some, none, silent)) flushes =
+    going_ends within Finished (same, equal, (over, some, none, silent)) flushes =
         let read = course_read over some none in
         record {
           course = read.0;
           ends = (ap (λ (e : Effect). e.differs) read.1 ∙ sym going.differs ∙ equal, read.3, λ told. so_far silent told ∙ ap (λ (e : Effect). before.sink.written ++ concat e.texts) (sym read.1));
-          rests = λ other. rw (read.1, read.2) (rested few same);
+          rests = λ other. rw (read.1, read.2) (rested within same);
         }
-    going_ends few Differs (same, equal, (over, some, none, silent)) flushes =
+    going_ends within Differs (same, equal, (over, some, none, silent)) flushes =
         let read = course_read over some none in
         record {
           course = read.0;
           ends = (ap (λ (e : Effect). e.differs) read.1 ∙ sym going.differs ∙ equal, read.3, λ told. so_far silent told ∙ ap (λ (e : Effect). before.sink.written ++ concat e.texts) (sym read.1));
-          rests = λ other. rw (read.1, read.2) (rested few same);
+          rests = λ other. rw (read.1, read.2) (rested within same);
         }
-    going_ends few BadLine (same, (bad, refuses, taken)) flushes = record {
+    going_ends within BadLine (same, (bad, refuses, taken)) flushes = record {
       course = course_here (ahead old now.source.left) later.source.left going.reached (taken_there (ahead old now.source.left) later.source.left taken);
       ends = (
         bad_there bad,
         λ told. with_bad bad_line refuses told ∙ ap (λ t. before.sink.written ++ t) (sym (concat_more going.effect.texts (bad_line (length going.given + 1)))),
       );
-      rests = λ other. rested few same;
+      rests = λ other. rested within same;
     }
-    going_ends few FlashFault (silent, taken, breaks) flushes =
+    going_ends within FlashFault (silent, taken, breaks) flushes =
         let next = breaks going.place going.stands in
         let b = next.breaks in
         record {
@@ -253,7 +275,8 @@ module _ {F : Type 0} (verb : Verb) (device : Flash F) (reads writes : Type 0) (
               b.mid,
               b.next,
               b.fails,
-              has_failed device verb from at'.card.flash first at'.done (going.effect.outcomes ++ b.begun) b.mid b.next (counts_from verb at'.done (length (going.effect.outcomes ++ b.begun)) few (done_more b.begun at'.done b.done)) b.left
+              has_failed device from at'.card.flash first at'.done (going.effect.outcomes ++ b.begun) b.mid b.next
+                  (exact_more within next.line b.begun at'.done next.fits (breaks_few verb next.line going.place b.begun b.mid b.next b.fails) b.done) b.left
                   (subst (λ (os : List Outcome). LeavesOneOf device from at'.card.flash (registries first os)) (sym (append_assoc going.effect.outcomes b.begun (b.next ∷ [])))
                   (leaves_more at.card.flash at'.card.flash (b.begun ++ b.next ∷ []) going.leaves b.leaves)),
             ),
@@ -261,17 +284,17 @@ module _ {F : Type 0} (verb : Verb) (device : Flash F) (reads writes : Type 0) (
           );
           rests = λ other. absurd (other refl);
         }
-    going_ends few ReadFault (same, holds, silent, taken) flushes = record {
+    going_ends within ReadFault (same, holds, silent, taken) flushes = record {
       course = course_here (ahead old now.source.left) later.source.left going.reached (taken_there (ahead old now.source.left) later.source.left taken);
       ends = (holds, so_far silent);
-      rests = λ other. rested few same;
+      rests = λ other. rested within same;
     }
-    going_ends few InputTooLong (same, cut, silent, taken) flushes = record {
+    going_ends within InputTooLong (same, cut, silent, taken) flushes = record {
       course = course_here (ahead old now.source.left) later.source.left going.reached (taken_there (ahead old now.source.left) later.source.left taken);
       ends = (λ told. subst (λ (n : ℕ). IsShortCut n (ahead old now.source.left)) (room_is told) (cut told), so_far silent);
-      rests = λ other. rested few same;
+      rests = λ other. rested within same;
     }
-    going_ends few WriteFault (inl fault) flushes =
+    going_ends within WriteFault (inl fault) flushes =
         let line = fault going.place going.stands in
         let takes = line.1 in
         let played = takes.played in
@@ -292,11 +315,11 @@ module _ {F : Type 0} (verb : Verb) (device : Flash F) (reads writes : Type 0) (
             (flushes, λ told. (let part = line.4 told in (part.0, last_cut part.0 line.2 told part.1))),
           );
           rests = λ other.
-              has_run device verb from at'.card first at'.done (going.effect.outcomes ++ played.effect.outcomes) played.next.state
-              (counts_from verb at'.done (length (going.effect.outcomes ++ played.effect.outcomes)) few (done_more played.effect.outcomes at'.done played.done)) stands.0
+              has_run device from at'.card first at'.done (going.effect.outcomes ++ played.effect.outcomes) played.next.state
+              (exact_more within takes.line played.effect.outcomes at'.done takes.fits (line_few verb (old.number + 1) takes.line going.place played.next played.effect played.plays) played.done) stands.0
               (leaves_more at.card.flash at'.card.flash played.effect.outcomes going.leaves played.leaves);
         }
-    going_ends few WriteFault (inr (same, (bad, refuses, taken))) flushes = record {
+    going_ends within WriteFault (inr (same, (bad, refuses, taken))) flushes = record {
       course = course_here (ahead old now.source.left) later.source.left going.reached (taken_there (ahead old now.source.left) later.source.left taken);
       ends = inr (inl (
         bad_there bad,
@@ -307,5 +330,5 @@ module _ {F : Type 0} (verb : Verb) (device : Flash F) (reads writes : Type 0) (
               (part.0, last_cut part.0 (bad_line (length going.given + 1)) told (part.1 ∙ ap (λ n. now.sink.written ++ take part.0 (bad_line (n + 1))) going.number))),
         ),
       ));
-      rests = λ other. rested few same;
+      rests = λ other. rested within same;
     }

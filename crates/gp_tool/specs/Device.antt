@@ -10,8 +10,6 @@ use Rattle.policy_rules.specs.State.{State}
 use Rattle.policy_rules.specs.Step.{Outcome}
 use Rattle.rec_store.specs.Contents.{IsNoCard}
 use Rattle.rec_store.specs.Reopens.{Keeps, Reopens, ReopensAsOne}
-use Rattle.gp_tool.specs.Counted.{Counts}
-use Rattle.gp_tool.specs.declared.verb.Verb.{Verb}
 
 -- the registries that a run goes through: the one before it, and the one after each command
 abbrev pub registries : State → List Outcome → List Registry
@@ -42,16 +40,16 @@ pub record IsNotPowered {F : Type 0} (device : Flash F) (status count : ℕ) (ol
   pub why : ((status ≡ 3) × Rose (device.faults old) (device.faults new)) ⊎ ((status ≡ 4) × (device.tells → IsNoCard device old new))
   pub moments : device.tells → (all : List Registry) → Always (device.may_leave old) (ReopensAsOne all) → LeavesOnly device old new (ReopensAsOne all)
 
--- The device after a run of commands: power lost now leaves the last registry, and left at no moment one that is not of the
--- run.
-pub record HasRun {F : Type 0} (verb : Verb) (device : Flash F) (old new : F) (first : State) (count : ℕ) (outcomes : List Outcome) (last : State) : Type 0 where
-  pub done : Counts verb count (length outcomes)
+-- The device after a run of commands, all of which were counted: power lost now leaves the last registry, and left at no
+-- moment one that is not of the run.
+pub record HasRun {F : Type 0} (device : Flash F) (old new : F) (first : State) (count : ℕ) (outcomes : List Outcome) (last : State) : Type 0 where
+  pub done : count ≡ length outcomes
   pub keeps : device.tells → Keeps device new last.registry
   pub moments : device.tells → Always (device.may_leave old) (λ outcome. Reopens outcome first.registry) → LeavesOnly device old new (ReopensAsOne (registries first outcomes))
 
 -- The device failed in the command after them: power lost now leaves the registry from before that command or the one after
 -- it.
-pub record HasFailed {F : Type 0} (verb : Verb) (device : Flash F) (old new : F) (first : State) (count : ℕ) (outcomes : List Outcome) (last : State) (next : Outcome) : Type 0 where
-  pub done : Counts verb count (length outcomes)
+pub record HasFailed {F : Type 0} (device : Flash F) (old new : F) (first : State) (count : ℕ) (outcomes : List Outcome) (last : State) (next : Outcome) : Type 0 where
+  pub done : count ≡ length outcomes
   pub left : LeftOneOf device new (last.registry ∷ next.state.registry ∷ [])
   pub moments : device.tells → Always (device.may_leave old) (λ outcome. Reopens outcome first.registry) → LeavesOnly device old new (ReopensAsOne (registries first (outcomes ++ next ∷ [])))

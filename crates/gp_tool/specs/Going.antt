@@ -1,5 +1,5 @@
 -- A run that goes on, between two lines.
-use Rattle.std.specs.Prelude.{◌≡◌, ℕ, ◌+◌, ◌≤◌, List, ◌++◌, length}
+use Rattle.std.specs.Prelude.{◌≡◌, ℕ, ◌+◌, ◌*◌, ◌≤◌, List, ◌++◌, length}
 use Rattle.std.specs.List.{AllByRecursion, concat}
 use Rattle.flash_core.specs.declared.flash.Flash.{Ghosts as Flash}
 use Rattle.io_edge.specs.Lines.{Reading, ahead}
@@ -23,7 +23,7 @@ abbrev pub Reached : List ℕ → List (List ℕ) → List ℕ → Type 0
 Reached input given ahead = ComeFirst INPUT_LIMIT input given ahead
 
 -- The lines that were given have their texts written, and the reading and the card stand behind them. `from` is the device before
--- the first line.
+-- the first line. A line makes at most 60 commands for each of its bytes, or one.
 pub record Going {F : Type 0} (verb : Verb) (device : Flash F) (reads writes : Type 0) (first : State) (from : F) (at : Standing F (Held verb)) (before now : Outside) (reading : Reading) : Type 0 where
   pub given : List (List ℕ)
   pub effect : Effect
@@ -36,5 +36,6 @@ pub record Going {F : Type 0} (verb : Verb) (device : Flash F) (reads writes : T
   pub stands : StandsAt (Means verb) device at place
   pub leaves : LeavesOneOf device from at.card.flash (registries first effect.outcomes)
   pub done : at.done ≡ counted (length effect.outcomes)
+  pub few : length effect.outcomes ≤ 61 * reading.passed
   pub differs : at.differs ≡ effect.differs
   pub written : writes → now.sink.written ≡ before.sink.written ++ concat effect.texts

@@ -1,5 +1,4 @@
 pub mod Around
-pub mod AtMost
 pub mod CardEnd
 pub mod Compare
 pub mod Counted

@@ -76,7 +76,7 @@ pub record PlaysAll {F : Type 0} (device : Flash F) (work : Workload) (made : F)
   pub effect : Effect
   pub last : Place Host
   pub plays : RunsLines Play 1 (workload work.seed work.rounds) (start Play first) effect last
-  pub run : HasRun Play device made new first count effect.outcomes last.state
+  pub run : HasRun device made new first count effect.outcomes last.state
   pub counter : List ℕ
   pub counted : IsCounterText last.state.registry counter
   pub text_is : text ≡ summary work (tally_of effect.texts) counter
@@ -94,7 +94,7 @@ pub record PlaysSome {F : Type 0} (device : Flash F) (work : Workload) (made : F
   pub mid : State
   pub next : Outcome
   pub fails : FailsLine Play line last begun mid next
-  pub failed : HasFailed Play device made new first count (effect.outcomes ++ begun) mid next
+  pub failed : HasFailed device made new first count (effect.outcomes ++ begun) mid next
 
 -- what was played and written at each ending
 abbrev pub MillEnds : {F : Type 0} → Flash F → Type 0 → Workload → F → State → Ending → F → ℕ → SinkState → SinkState → Type 0

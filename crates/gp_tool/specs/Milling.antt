@@ -45,5 +45,5 @@ pub record Milled {F : Type 0} (device : Flash F) (work : Workload) (first : Sta
   pub last : Place Host
   pub plays : RunsLines Play 1 (workload work.seed work.rounds) (start Play first) effect last
   pub stands : CardRepresents device end.card last.state
-  pub run : HasRun Play device from end.card.flash first end.done effect.outcomes last.state
+  pub run : HasRun device from end.card.flash first end.done effect.outcomes last.state
   pub tally_is : tally ≡ tally_of effect.texts

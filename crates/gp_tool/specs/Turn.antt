@@ -37,6 +37,7 @@ pub record GoesOn {F : Type 0} (verb : Verb) (device : Flash F) (reads writes : 
   pub passed : reads → new.passed + length (ahead new now.source.left) ≡ old.passed + length (ahead old before.source.left)
   pub line : (place : Place (Memory verb)) → StandsAt (Means verb) device at place
       → (takes : TakesLine verb device reads (old.number + 1) at at' place (room old) (ahead old before.source.left) (ahead new now.source.left))
+      × (old.passed + length takes.line ≤ new.passed)
       × (writes → now.sink.written ≡ before.sink.written ++ concat takes.played.effect.texts)
 
 -- how many bytes an input has of which so many were passed

@@ -32,7 +32,7 @@ pub record HasEnded {S K F : Type 0} (sink : Sink K) (device : Flash F) (ending 
 -- device failed.
 abbrev pub RunEnds : {S K F : Type 0} → Verb → Source S → Sink K → Flash F → (State → Type 0) → State → Ending → ℕ → Around S K F → Around S K F → Type 0
 RunEnds verb source sink device Stands first ending count old new =
-    Ends verb source.tells sink.tells (λ outcomes last. HasRun verb device old.flash new.flash first count outcomes last × Stands last) (HasFailed verb device old.flash new.flash first count) first ending
+    Ends verb source.tells sink.tells (λ outcomes last. HasRun device old.flash new.flash first count outcomes last × Stands last) (HasFailed device old.flash new.flash first count) first ending
     (outside (source.state old.source) (sink.state old.sink)) (outside (source.state new.source) (sink.state new.sink))
 
 -- A card was served from a first state, up to an ending.

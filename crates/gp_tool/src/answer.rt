@@ -1,6 +1,6 @@
 //! A line of the verbs `run` and `why`.
 
-ghost use Rattle.std.specs.Prelude.{◌≡◌, ◌≢◌, ◌≤◌, ◌+◌, Bool, true, length};
+ghost use Rattle.std.specs.Prelude.{◌≡◌, ◌≢◌, ◌≤◌, Bool, true, length};
 ghost use Rattle.gp_tool.specs.Form.{FailsCommand, IsForCard};
 ghost use Rattle.gp_tool.specs.Replies.{Replies};
 ghost use Rattle.gp_tool.specs.Serve.{IsHeld, ServesLine, ServeCause};
@@ -28,7 +28,6 @@ pub fn answer_line<K: Sink, F: Flash>(
     ensures served { (differs : Bool) → ServesLine IsHeld (Replies explains line.now) (λ memory. IsForCard line.now) (FailsCommand line.now) F.Flash K.tells
         (standing end.old tt differs) (standing end.new tt differs) (K.state sink.old).written (K.state sink.new).written result }
     ensures live { result ≢ FlashFault → end.new.card.live ≡ true }
-    ensures few { end.new.done ≤ end.old.done + 1 }
     ensures flushes { (K.state sink.new).flushes ≡ (K.state sink.old).flushes }
     ensures later { F.faults end.old.card.flash ≤ F.faults end.new.card.flash }
     ensures cause { ServeCause (K.state sink.old).faults (K.state sink.new).faults (F.faults end.old.card.flash) (F.faults end.new.card.flash) result }

@@ -1,6 +1,6 @@
 //! A line that is given to a card.
 
-ghost use Rattle.std.specs.Prelude.{◌≡◌, ◌≢◌, ◌≤◌, ◌+◌, true, length};
+ghost use Rattle.std.specs.Prelude.{◌≡◌, ◌≢◌, ◌≤◌, true, length};
 ghost use Rattle.faults.specs.Faults.{Rose};
 ghost use Rattle.gp_tool.specs.Give.{GivesLine};
 ghost use Rattle.gp_tool.specs.declared.give.Given.TheVariants.{FlashFault};
@@ -39,7 +39,6 @@ pub fn give_line<F: Flash>(
     ensures given { GivesLine line.now F.Flash card.old card.new done.old done.new space.old.reply.items space.new.reply.items result }
     ensures has_reply { space.new.has_reply ≡ space.old.has_reply }
     ensures live { result ≢ FlashFault → card.new.live ≡ true }
-    ensures few { done.new ≤ done.old + 1 }
     ensures later { F.faults card.old.flash ≤ F.faults card.new.flash }
     ensures cause { result ≡ FlashFault → Rose (F.faults card.old.flash) (F.faults card.new.flash) }
 {

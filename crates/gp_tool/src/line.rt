@@ -1,7 +1,6 @@
 //! What is done with one line.
 
-ghost use Rattle.std.specs.Prelude.{◌≡◌, ◌≢◌, ◌≤◌, ◌+◌, true, length};
-ghost use Rattle.gp_tool.specs.AtMost.{IsAtMost};
+ghost use Rattle.std.specs.Prelude.{◌≡◌, ◌≢◌, ◌≤◌, true, length};
 ghost use Rattle.gp_tool.specs.Serve.{ServeCause};
 ghost use Rattle.gp_tool.specs.Standing.{ServesVerb, standing_in};
 ghost use Rattle.gp_tool.specs.declared.line.LineEnd.TheVariants.{FlashFault};
@@ -44,7 +43,6 @@ pub fn serve_line<K: Sink, F: Flash>(
         (standing_in verb end.old space.old differs.old) (standing_in verb end.new space.new differs.new)
         (K.state sink.old).written (K.state sink.new).written result }
     ensures live { result ≢ FlashFault → end.new.card.live ≡ true }
-    ensures few { IsAtMost verb end.new.done (end.old.done + 1) }
     ensures flushes { (K.state sink.new).flushes ≡ (K.state sink.old).flushes }
     ensures later { F.faults end.old.card.flash ≤ F.faults end.new.card.flash }
     ensures cause { ServeCause (K.state sink.old).faults (K.state sink.new).faults (F.faults end.old.card.flash) (F.faults end.new.card.flash) result }

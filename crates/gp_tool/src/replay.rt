@@ -1,6 +1,6 @@
 //! A line of the verb `replay`.
 
-ghost use Rattle.std.specs.Prelude.{◌≡◌, ◌≢◌, ◌≤◌, ◌+◌, ◌++◌, ◌∷◌, ℕ, Bool, List, true, take, length, IfSome, IsTrue, MatchOption, ◌↔◌};
+ghost use Rattle.std.specs.Prelude.{◌≡◌, ◌≢◌, ◌≤◌, ◌++◌, ◌∷◌, ℕ, Bool, List, true, take, length, IfSome, IsTrue, MatchOption, ◌↔◌};
 ghost use Rattle.gp_tool.specs.Compare.{ComparesLine, KeepsLine, SkipsSpaces, keeping};
 ghost use Rattle.gp_tool.specs.Form.{FailsCommand};
 ghost use Rattle.gp_tool.specs.Replay.{IsForReplay, Replays, Wants};
@@ -110,7 +110,6 @@ fn keep_reply<F: Flash>(
     requires live { card.old.live ≡ true }
     ensures kept { (differs : Bool) → KeepsLine line.now F.Flash (keeping card.old (kept_in space.old) done.old differs) (keeping card.new (kept_in space.new) done.new differs) result }
     ensures live { result ≢ FlashFault → card.new.live ≡ true }
-    ensures few { done.new ≤ done.old + 1 }
     ensures later { F.faults card.old.flash ≤ F.faults card.new.flash }
     ensures cause { (sink : ℕ) → ServeCause sink sink (F.faults card.old.flash) (F.faults card.new.flash) result }
 {
@@ -144,7 +143,6 @@ pub fn replay_line<K: Sink, F: Flash>(
         (standing end.old (kept_in space.old) differs.old) (standing end.new (kept_in space.new) differs.new)
         (K.state sink.old).written (K.state sink.new).written result }
     ensures live { result ≢ FlashFault → end.new.card.live ≡ true }
-    ensures few { end.new.done ≤ end.old.done + 1 }
     ensures flushes { (K.state sink.new).flushes ≡ (K.state sink.old).flushes }
     ensures later { F.faults end.old.card.flash ≤ F.faults end.new.card.flash }
     ensures cause { ServeCause (K.state sink.old).faults (K.state sink.new).faults (F.faults end.old.card.flash) (F.faults end.new.card.flash) result }

@@ -1,10 +1,9 @@
 //! A run over the lines of a source.
 
-ghost use Rattle.std.specs.Prelude.{◌≡◌, ◌≢◌, ◌≤◌, ◌+◌, ℕ, None, true, IfNone, IfSome};
+ghost use Rattle.std.specs.Prelude.{◌≡◌, ◌≢◌, ◌≤◌, ℕ, None, true, IfNone, IfSome};
 ghost use Rattle.card_core.specs.Card.{CardRepresents};
 ghost use Rattle.policy_rules.specs.State.{State};
 ghost use Rattle.gp_tool.specs.Around.{Around, around};
-ghost use Rattle.gp_tool.specs.AtMost.{IsAtMost};
 ghost use Rattle.gp_tool.specs.Ends.{EndCause, Flushes, outside};
 ghost use Rattle.gp_tool.specs.Flush.{AfterFlush};
 ghost use Rattle.gp_tool.specs.declared.ending.Ending.TheVariants.{FlashFault};
@@ -66,7 +65,6 @@ fn take_turn<S: Source, K: Sink, F: Flash>(
         (outside (S.state source.old) (K.state sink.old)) (outside (S.state source.new) (K.state sink.new))) }
     ensures live { IfNone result (end.new.card.live ≡ true) }
     ensures ends_live { IfSome result (λ ending. ending ≢ FlashFault → end.new.card.live ≡ true) }
-    ensures few { IsAtMost verb end.new.done (end.old.done + 1) }
     ensures flushes { (K.state sink.new).flushes ≡ (K.state sink.old).flushes }
     ensures quiet { IfNone result (((S.state source.new).faults ≡ (S.state source.old).faults) × ((K.state sink.new).faults ≡ (K.state sink.old).faults)) }
     ensures later { F.faults end.old.card.flash ≤ F.faults end.new.card.flash }

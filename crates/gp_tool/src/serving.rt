@@ -19,7 +19,7 @@ pub struct Served<F: Flash> {
     /// The status of a program that ends so.
     pub status: u8,
 
-    /// How many commands the card has answered, at most 4,294,967,295.
+    /// How many commands the card has answered.
     pub done: u32,
     pub card: Card<F>,
 }

@@ -9,17 +9,5 @@ returns-in-Why-clause-served g c = rw c.in-Why.is (c.answer_line-in-Why.ensures.
 pub returns-in-Replay-clause-served : goal.returns-in-Replay-clause-served
 returns-in-Replay-clause-served g c = rw c.in-Replay.is c.replay_line.ensures.served
 
-pub returns-in-Run-clause-few : goal.returns-in-Run-clause-few
-returns-in-Run-clause-few g c = rw c.in-Run.is c.answer_line.ensures.few
-
-pub returns-in-Why-clause-few : goal.returns-in-Why-clause-few
-returns-in-Why-clause-few g c = rw c.in-Why.is c.answer_line-in-Why.ensures.few
-
-pub returns-in-Replay-clause-few : goal.returns-in-Replay-clause-few
-returns-in-Replay-clause-few g c = rw c.in-Replay.is c.replay_line.ensures.few
-
 pub returns-in-Play-clause-served : goal.returns-in-Play-clause-served
 returns-in-Play-clause-served g c = rw c.in-Play.is c.play_line.ensures.served
-
-pub returns-in-Play-clause-few : goal.returns-in-Play-clause-few
-returns-in-Play-clause-few g c = rw c.in-Play.is tt

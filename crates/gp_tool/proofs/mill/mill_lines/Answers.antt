@@ -71,9 +71,10 @@ returns-in_err-mill_line-clause-broken g c first stands =
     let next = c.loop-mill-test.ensures.line refl in
     let line = c.deref.ensures.0 in
     let milling = c.loop-mill.invariant.milling first stands in
+    let is_line = (subst AreLines next c.loop-mill.invariant.lines).0 in
     on_err c.from_residual.result
     (milling_broken g.F.Flash c.args.work first c.args.end.now.card.flash c.loop-mill.end c.loop-mill.player c.loop-mill.tally _ _ _ next milling c.mill_line.new.end
-    c.mill_line.new.player (rw line at (c.in_err-mill_line.ensures.broken milling.place milling.stands milling.host)))
+    c.mill_line.new.player c.requires.few is_line.1 (rw line at (c.in_err-mill_line.ensures.broken milling.place milling.stands milling.host)))
 
 pub returns-in_err-mill_line-clause-cause : goal.returns-in_err-mill_line-clause-cause
 returns-in_err-mill_line-clause-cause g c =
@@ -90,7 +91,7 @@ returns-in_err-mill_line-clause-later g c =
 pub returns-clause-milled : goal.returns-clause-milled
 returns-clause-milled g c first stands =
     let none = c.loop-mill-test.ensures.all.0 refl in
-    milled g.F.Flash c.args.work first c.args.end.now.card.flash c.loop-mill.end c.loop-mill.player c.loop-mill.tally _ none (c.loop-mill.invariant.milling first stands)
+    milled g.F.Flash c.args.work first c.args.end.now.card.flash c.loop-mill.end c.loop-mill.player c.loop-mill.tally _ c.requires.few none (c.loop-mill.invariant.milling first stands)
 
 pub returns-clause-live : goal.returns-clause-live
 returns-clause-live g c = c.loop-mill.invariant.live

@@ -14,8 +14,8 @@ returns-clause-ends g c first stands =
     let from = c.args.end.now.card.flash in
     let new = c.take_lines-ending.new.end.card.flash in
     after_flush c.args.verb g.S.Source.tells g.K.Sink.tells
-    (λ outcomes last. HasRun c.args.verb F from new first c.take_lines-ending.new.end.done outcomes last × CardRepresents F c.take_lines-ending.new.end.card last)
-    (HasFailed c.args.verb F from new first c.take_lines-ending.new.end.done)
+    (λ outcomes last. HasRun F from new first c.take_lines-ending.new.end.done outcomes last × CardRepresents F c.take_lines-ending.new.end.card last)
+    (HasFailed F from new first c.take_lines-ending.new.end.done)
     first _ (g.S.Source.state c.take_lines-ending.new.source) (g.K.Sink.state c.take_lines-ending.new.sink) _
     c.flush_at_end.ensures.same
     c.take_lines-ending.result c.flush_at_end.result

@@ -1,7 +1,6 @@
 use Rattle.std.proofs.Common.{refl, arith, ◌∙◌}
 use Rattle.gp_tool.proofs.RunSoFar.{going_first, going_further, going_ends}
 use Rattle.gp_tool.proofs.Moments.{nothing_done}
-use Rattle.gp_tool.proofs.Counting.{few_first, few_further, few_last}
 use Rattle.gp_tool.proofs.Kept.{means_first}
 use Rattle.gp_tool.specs.Standing.{held_in, standing_in}
 use Rattle.gp_tool.proofs.run.take_lines.Goals as goal
@@ -13,7 +12,6 @@ loop-ending-init g c =
       stop = refl;
       within = omega arith;
       live = c.requires.live;
-      few = few_first c.args.verb c.args.end.now.done c.requires.none;
       reads = refl;
       writes = refl;
       later = omega arith;
@@ -34,8 +32,7 @@ returns-in-Some-clause-ends g c first stands =
     (standing_in verb c.loop-ending.end c.loop-ending.space c.loop-ending.differs)
     (standing_in verb c.take_turn.new.end c.take_turn.new.space c.take_turn.new.differs)
     _ _ c.loop-ending.lines (c.loop-ending.invariant.going first stands)
-    (few_last verb c.loop-ending.end.done c.take_turn.new.end.done c.loop-ending.lines.passed _ c.loop-ending.invariant.few c.in-Some.ensures.few c.loop-ending.invariant.within)
-    c.in-Some.ending c.in-Some.ensures.ends (c.in-Some.ensures.flushes ∙ c.loop-ending.invariant.flushes)
+    c.loop-ending.invariant.within c.in-Some.ending c.in-Some.ensures.ends (c.in-Some.ensures.flushes ∙ c.loop-ending.invariant.flushes)
 
 pub loop-ending-preserved : goal.loop-ending-preserved
 loop-ending-preserved g c =
@@ -48,7 +45,6 @@ loop-ending-preserved g c =
       stop = on.stop;
       within = on.within;
       live = c.in_default.ensures.live;
-      few = few_further verb c.loop-ending.end.done c.take_turn.new.end.done c.loop-ending.lines.passed c.take_turn.new.lines.passed kept.few c.in_default.ensures.few on.further;
       reads = quiet.0 ∙ kept.reads;
       writes = quiet.1 ∙ kept.writes;
       later = omega (arith, kept.later, c.in_default.ensures.later);

@@ -2,7 +2,6 @@ use Rattle.std.proofs.Common.{◌≡◌, ◌-◌, ◌≤◌, None, true}
 use Rattle.io_edge.specs.Lines.{IsWithin}
 use Rattle.card_core.specs.Card.{CardRepresents}
 use Rattle.policy_rules.specs.State.{State}
-use Rattle.gp_tool.specs.AtMost.{IsAtMost}
 use Rattle.gp_tool.specs.Ends.{outside}
 use Rattle.gp_tool.specs.Going.{Going}
 use Rattle.gp_tool.specs.Standing.{standing_in}
@@ -13,7 +12,6 @@ invariant-loop-ending g l = record {
   stop : l.lines.stop ≡ None;
   within : IsWithin l.lines;
   live : l.end.card.live ≡ true;
-  few : IsAtMost l.verb l.end.done l.lines.passed;
   reads : (g.S.Source.state l.source).faults ≡ (g.S.Source.state l.fn.source).faults;
   writes : (g.K.Sink.state l.sink).faults ≡ (g.K.Sink.state l.fn.sink).faults;
   later : g.F.Flash.faults l.fn.end.card.flash ≤ g.F.Flash.faults l.end.card.flash;

@@ -16,7 +16,7 @@ returns-in-Done-clause-goes_on g c =
       passed = gives.passed;
       line = λ place stands.
           (let served = (rw c.in-Ok.ensures.number at c.in-Done.ensures.served) place stands in
-          (given_line c.args.verb g.F.Flash g.S.Source.tells _ _ _ place _ _ _ _ c.in-Ok.line gives c.in-Ok.ensures.text served.0, served.1));
+          (given_line c.args.verb g.F.Flash g.S.Source.tells _ _ _ place _ _ _ _ c.in-Ok.line gives c.in-Ok.ensures.text served.0, gives.spent, served.1));
     }
 
 pub returns-in-NoForm-clause-ends : goal.returns-in-NoForm-clause-ends
