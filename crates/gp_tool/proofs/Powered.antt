@@ -13,12 +13,14 @@ use Rattle.policy_rules.specs.State.{State}
 use Rattle.policy_rules.specs.Step.{Outcome}
 use Rattle.rec_store.specs.Reopens.{Reopens, ReopensAsOne}
 use Rattle.rec_store.proofs.Leaving.{joined}
+use Rattle.gp_tool.proofs.LinesAreRuns.{lines_keep_trees}
 use Rattle.gp_tool.specs.Device.{HasFailed, HasRun, IsNotPowered, refusal_status, registries}
 use Rattle.io_edge.specs.declared.sink.Sink.{Ghosts as Sink}
 use Rattle.io_edge.specs.declared.source.Source.{Ghosts as Source}
 use Rattle.gp_tool.proofs.SaidElse.{said_else}
 use Rattle.gp_tool.specs.Around.{Around, around}
 use Rattle.gp_tool.specs.Ends.{EndCause}
+use Rattle.gp_tool.specs.RunsLines.{start}
 use Rattle.gp_tool.specs.Verbs.{Serves}
 use Rattle.gp_tool.specs.declared.verb.Verb.{Verb}
 use Rattle.gp_tool.specs.declared.ending.Ending.{Ending}
@@ -64,18 +66,22 @@ module _ {S K F : Type 0} (verb : Verb) (source : Source S) (sink : Sink K) (dev
   pub serves_since : (Stands : State → Type 0) (status count : ℕ) (s s' : S) (k k' : K) (new : F)
       → Serves verb source sink device Stands first status count (around s k card.flash) (around s' k' new)
       → Serves verb source sink device (λ last. Unit {0}) first status count (around s k old) (around s' k' new)
-  serves_since Stands status count s s' k k' new serves = record {
-    ending = serves.ending;
-    ended = (let ended = serves.ended in record { status_is = ended.status_is; cause = cause_since serves.ending _ _ _ _ _ later ended.cause; flushes = ended.flushes });
-    ends = said_else verb source.tells sink.tells
-        (λ outcomes last. HasRun device card.flash new first count outcomes last × Stands last)
-        (λ outcomes last. HasRun device old new first count outcomes last × Unit {0})
-        (HasFailed device card.flash new first count)
-        (HasFailed device old new first count)
-        (λ outcomes last run. (run_since device old card first stands powered new count outcomes last run.0, tt))
-        (failed_since device old card first stands powered new count)
-        first _ _ serves.ending serves.ends;
-  }
+  serves_since Stands status count s s' k k' new serves =
+      let ends = said_else verb source.tells sink.tells
+      (λ outcomes last. HasRun device card.flash new first count outcomes last × Stands last)
+      (λ outcomes last. HasRun device old new first count outcomes last × Unit {0})
+      (HasFailed device card.flash new first count)
+      (HasFailed device old new first count)
+      (λ outcomes last run. (run_since device old card first stands powered new count outcomes last run.0, tt))
+      (failed_since device old card first stands powered new count)
+      first _ _ serves.ending serves.ends in
+      let course = ends.course in
+      record {
+        ending = serves.ending;
+        ended = (let ended = serves.ended in record { status_is = ended.status_is; cause = cause_since serves.ending _ _ _ _ _ later ended.cause; flushes = ended.flushes });
+        ends = ends;
+        apart = lines_keep_trees verb 1 course.given (start verb first) course.last course.effect stands.on.sound course.plays;
+      }
 
 -- where the device holds a card and doesn't fail, want of memory alone is left
 pub no_other_cause : {F : Type 0} (device : Flash F) (old new : F) (cause : PowerCause) (status : ℕ)

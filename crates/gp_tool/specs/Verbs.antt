@@ -14,6 +14,7 @@ use Rattle.gp_tool.specs.Around.{Around, around}
 use Rattle.gp_tool.specs.Device.{HasFailed, HasRun, HoldsCard, IsNotPowered}
 use Rattle.gp_tool.specs.Ends.{EndCause, Ends, Flushes, exit_status, outside}
 use Rattle.gp_tool.specs.Formatted.{FormatEnds, IsFactoryCard, KeepsPastGate}
+use Rattle.gp_tool.specs.LinesApart.{RunsApart}
 use Rattle.gp_tool.specs.Mill.{IsNotMilled, MillEnds}
 use Rattle.gp_tool.specs.RunsLines.{AreServable, start}
 use Rattle.gp_tool.specs.Shown.{HasShown, ShowEnds}
@@ -35,11 +36,13 @@ RunEnds verb source sink device Stands first ending count old new =
     Ends verb source.tells sink.tells (λ outcomes last. HasRun device old.flash new.flash first count outcomes last × Stands last) (HasFailed device old.flash new.flash first count) first ending
     (outside (source.state old.source) (sink.state old.sink)) (outside (source.state new.source) (sink.state new.sink))
 
--- A card was served from a first state, up to an ending.
+-- A card was served from a first state, up to an ending. What came of the lines that it was given is a run of the policy machine, which
+-- keeps the trees of the security domains that each of its commands spares.
 pub record Serves {S K F : Type 0} (verb : Verb) (source : Source S) (sink : Sink K) (device : Flash F) (Stands : State → Type 0) (first : State) (status count : ℕ) (old new : Around S K F) : Type 0 where
   pub ending : Ending
   pub ended : HasEnded sink device ending status (source.state old.source).faults (source.state new.source).faults old new
   pub ends : RunEnds verb source sink device Stands first ending count old new
+  pub apart : RunsApart first ends.course.effect.outcomes ends.course.last.state
 
 -- The card was powered on with a registry, and served.
 pub record RunsCard {S K F : Type 0} (verb : Verb) (source : Source S) (sink : Sink K) (device : Flash F) (status count : ℕ) (old new : Around S K F) : Type 0 where

@@ -1,17 +1,22 @@
 use Rattle.std.proofs.Common.{ap, ◌∙◌}
 use Rattle.policy_rules.specs.State.{powered_on}
 use Rattle.gp_tool.proofs.Complete.{is_done}
+use Rattle.gp_tool.proofs.LinesAreRuns.{lines_keep_trees}
 use Rattle.gp_tool.proofs.Statuses.{never_others}
 use Rattle.gp_tool.specs.Ends.{exit_status}
+use Rattle.gp_tool.specs.RunsLines.{start}
 use Rattle.gp_tool.proofs.serving.serve.Goals as goal
 
 pub returns-clause-run : goal.returns-clause-run
 returns-clause-run g c state stands =
     let again = c.reset.ensures.stands state stands in
+    let ends = c.run-ending.ensures.ends (powered_on state.registry) again in
+    let course = ends.course in
     rw (← c.reset.ensures.same.0) (record {
       ending = c.run-ending.result;
       ended = record { status_is = c.status.ensures; cause = c.run-ending.ensures.cause; flushes = c.run-ending.ensures.flushes };
-      ends = c.run-ending.ensures.ends (powered_on state.registry) again;
+      ends = ends;
+      apart = lines_keep_trees c.args.verb 1 course.given (start c.args.verb (powered_on state.registry)) course.last course.effect again.on.sound course.plays;
     })
 
 pub returns-clause-never : goal.returns-clause-never
