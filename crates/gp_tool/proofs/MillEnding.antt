@@ -1,5 +1,5 @@
 -- How the verb `mill` ends.
-use Rattle.std.proofs.Common.{◌≡◌, ◌≢◌, ◌≤◌, ◌++◌, ℕ, List, [], ◌∷◌, length, take, refl, sym, ap, subst, ◌∙◌, ◌⊎◌, inl, inr, ⊎_elim}
+use Rattle.std.proofs.Common.{◌≡◌, ◌≢◌, ◌≤◌, ◌++◌, ℕ, List, [], ◌∷◌, length, take, refl, sym, ap, subst, ◌∙◌, ◌⊎◌, inl, inr, arith}
 use Rattle.std.proofs.Math.Seq.{take-length}
 use Rattle.card_core.specs.Card.{CardOver, CardRepresents}
 use Rattle.card_core.specs.PowerOn.{PowerFails}
@@ -10,17 +10,15 @@ use Rattle.card_types.specs.Factory.{factory_registry}
 use Rattle.card_types.specs.Registry.{Registry}
 use Rattle.faults.specs.Faults.{Rose}
 use Rattle.flash_core.specs.declared.flash.Flash.{Ghosts as Flash}
-use Rattle.flash_core.specs.declared.page.Page.{Page}
 use Rattle.io_edge.specs.Streams.{SinkState}
 use Rattle.io_edge.specs.declared.sink.Sink.{Ghosts as Sink}
 use Rattle.page_journal.specs.Moments.{Always, LeavesOnly}
 use Rattle.policy_rules.specs.State.{State}
 use Rattle.rec_store.proofs.OneRegistry.{one_registry}
 use Rattle.rec_store.specs.Reopens.{Reopens, ReopensAsOne, load_page, store_page}
-use Rattle.gp_tool.proofs.Moments.{left_now}
-use Rattle.gp_tool.proofs.Powered.{cause_since, failed_since, rose_since, run_since}
+use Rattle.gp_tool.proofs.Powered.{cause_since, failed_since, run_since}
 use Rattle.gp_tool.specs.Around.{Around, around}
-use Rattle.gp_tool.specs.Device.{LeftOneOf, refusal_status}
+use Rattle.gp_tool.specs.Device.{LeavesOneOf, LeftOneOf, refusal_status}
 use Rattle.gp_tool.specs.Ends.{EndCause, exit_status}
 use Rattle.gp_tool.specs.Flush.{AfterFlush}
 use Rattle.gp_tool.specs.Formatted.{IsFactoryCard}
@@ -126,23 +124,28 @@ is_factory device flash registry factory reopens told =
 
 -- the card was not powered on, but for want of memory
 pub not_milled : {F : Type 0} (device : Flash F) (old new : F) (cause : PowerCause) (status : ℕ) → IsFactoryCard device old → PowerFails device old cause new
-    → LeftOneOf device new (factory_registry ∷ []) → status ≡ refusal_status cause → status ≢ 7 → IsNotMilled device status 0 old new
-not_milled device old new (Memory refused) status factory fails left is other = absurd (other is)
-not_milled device old new FlashFailed status factory fails left is other = record { none = refl; why = inl (is, fails); left = left }
-not_milled device old new NotACard status factory fails left is other = record {
+    → LeftOneOf device new (factory_registry ∷ []) → LeavesOneOf device old new (factory_registry ∷ []) → status ≡ refusal_status cause → status ≢ 7
+    → IsNotMilled device status 0 old new
+not_milled device old new (Memory refused) status factory fails left moments is other = absurd (other is)
+not_milled device old new FlashFailed status factory fails left moments is other =
+    record { made = old; factory = factory; faultless = refl; none = refl; why = inl (is, fails); left = left; moments = moments }
+not_milled device old new NotACard status factory fails left moments is other = record {
+  made = old;
+  factory = factory;
+  faultless = refl;
   none = refl;
   why = inr (is, λ told. (let none = fails told in let keeps = factory told in none.none factory_registry keeps.now));
   left = left;
+  moments = moments;
 }
 
--- power lost where it was not leaves the factory card
-pub left_made : {F : Type 0} (device : Flash F) (made new : F) → IsFactoryCard device made
-    → ((f : F) (t : ℕ) (c : List Page) → device.tells → t ≤ device.moment f → device.may_leave f c → device.left_since f t c)
+-- power lost since it was made leaves the factory card, where it was not powered on
+pub leaves_made : {F : Type 0} (device : Flash F) (made new : F) → IsFactoryCard device made
     → (device.tells → (all : List Registry) → Always (device.may_leave made) (ReopensAsOne all) → LeavesOnly device made new (ReopensAsOne all))
-    → LeftOneOf device new (factory_registry ∷ [])
-left_made device made new factory counts moments =
-    left_now device counts made new (factory_registry ∷ []) (λ told. (let keeps = factory told in
-    moments told (factory_registry ∷ []) (λ c possible. (factory_registry, contains_first factory_registry [], keeps.reopens c possible))))
+    → LeavesOneOf device made new (factory_registry ∷ [])
+leaves_made device made new factory moments told =
+    (let keeps = factory told in
+    moments told (factory_registry ∷ []) (λ c possible. (factory_registry, contains_first factory_registry [], keeps.reopens c possible)))
 
 -- where nothing fails all is done
 pub mills_all : {F : Type 0} (device : Flash F) (writes : Type 0) (work : Workload) (made : F) (first : State) (ending : Ending) (new : F) (count : ℕ) (old last : SinkState) (before after : Around ℕ ℕ ℕ)
@@ -156,9 +159,12 @@ mills_all device writes work made first WriteFault new count old last before aft
 mills_all device writes work made first InputTooLong new count old last before after ends cause no_sink no_device = absurd ends.2
 
 -- the same since a moment before the card was made
-module _ {K F : Type 0} (work : Workload) (sink : Sink K) (device : Flash F) (status count : ℕ) (before mid new : F) (old now : K) (less : device.faults before ≤ device.faults mid) where
+module _ {K F : Type 0} (work : Workload) (sink : Sink K) (device : Flash F) (status count : ℕ) (before mid new : F) (old now : K) (same : device.faults mid ≡ device.faults before) where
   abbrev since : F → Around (Unit {0}) K F
   since flash = around tt old flash
+
+  no_less : device.faults before ≤ device.faults mid
+  no_less = omega (arith, same)
 
   pub mills_from : MillsCard work sink device status count (since mid) (around tt now new) ⊎ (IsNotMilled device status count mid new × (now ≡ old))
       → EndsMill work sink device status count (since before) (around tt now new)
@@ -168,14 +174,18 @@ module _ {K F : Type 0} (work : Workload) (sink : Sink K) (device : Flash F) (st
     registry = card.registry;
     same = card.same;
     ending = card.ending;
-    ended = (let ended = card.ended in record { status_is = ended.status_is; cause = cause_since card.ending _ _ _ _ _ less ended.cause; flushes = ended.flushes });
+    ended = (let ended = card.ended in record { status_is = ended.status_is; cause = cause_since card.ending _ _ _ _ _ no_less ended.cause; flushes = ended.flushes });
     ends = card.ends;
   })
-  mills_from (inr (milled, same)) = inr (inr (
+  mills_from (inr (milled, unwritten)) = inr (inr (
     record {
+      made = milled.made;
+      factory = milled.factory;
+      faultless = milled.faultless ∙ same;
       none = milled.none;
-      why = ⊎_elim (λ failed. inl (failed.0, rose_since _ _ _ less failed.1)) (λ untold. inr untold) milled.why;
+      why = milled.why;
       left = milled.left;
+      moments = milled.moments;
     },
-    same,
+    unwritten,
   ))

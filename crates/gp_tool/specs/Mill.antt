@@ -14,9 +14,10 @@ use Rattle.policy_rules.specs.State.{State}
 use Rattle.policy_rules.specs.Step.{Outcome}
 use Rattle.script_tool.specs.Host.{Host}
 use Rattle.script_tool.specs.Mill.{workload}
-use Rattle.gp_tool.specs.Device.{HasFailed, HasRun, LeftOneOf}
+use Rattle.gp_tool.specs.Device.{HasFailed, HasRun, LeavesOneOf, LeftOneOf}
 use Rattle.gp_tool.specs.Effects.{Effect, Place}
 use Rattle.gp_tool.specs.Flush.{WritesText}
+use Rattle.gp_tool.specs.Formatted.{IsFactoryCard}
 use Rattle.gp_tool.specs.RunsLines.{FailsLine, RunsLines, start}
 use Rattle.gp_tool.specs.declared.ending.Ending.{Ending}
 use Rattle.gp_tool.specs.declared.ending.Ending.TheVariants.{FlashFault}
@@ -101,8 +102,13 @@ abbrev pub MillEnds : {F : Type 0} → Flash F → Type 0 → Workload → F →
 MillEnds device writes work made first FlashFault new count old new' = PlaysSome device work made first new count × (writes → new'.written ≡ old.written)
 MillEnds device writes work made first ending new count old new' = (text : List ℕ) × PlaysAll device work made first new count text × WritesText writes text ending old new'
 
--- The card was made, and not powered on: the device failed, or it does not tell what it holds. Power lost leaves the factory card.
+-- The card was made, without a fault, and not powered on: the device failed then, or it does not tell what it holds. Power lost
+-- at any moment since leaves the factory card.
 pub record IsNotMilled {F : Type 0} (device : Flash F) (status count : ℕ) (old new : F) : Type 0 where
+  pub made : F
+  pub factory : IsFactoryCard device made
+  pub faultless : device.faults made ≡ device.faults old
   pub none : count ≡ 0
-  pub why : ((status ≡ 3) × Rose (device.faults old) (device.faults new)) ⊎ ((status ≡ 4) × (device.tells → ⊥))
+  pub why : ((status ≡ 3) × Rose (device.faults made) (device.faults new)) ⊎ ((status ≡ 4) × (device.tells → ⊥))
   pub left : LeftOneOf device new (factory_registry ∷ [])
+  pub moments : LeavesOneOf device made new (factory_registry ∷ [])

@@ -1,6 +1,7 @@
-use Rattle.std.proofs.Common.{◌∙◌, refl, inl, inr}
+use Rattle.std.proofs.Common.{[], ◌∷◌, ◌∙◌, refl, inl, inr}
 use Rattle.policy_rules.specs.State.{powered_on}
-use Rattle.gp_tool.proofs.MillEnding.{is_factory, left_made, mill_since, mills_all, not_milled}
+use Rattle.gp_tool.proofs.MillEnding.{is_factory, leaves_made, mill_since, mills_all, not_milled}
+use Rattle.gp_tool.proofs.Moments.{left_now}
 use Rattle.gp_tool.proofs.Powered.{cause_since, no_other_cause}
 use Rattle.card_types.specs.Factory.{factory_registry}
 use Rattle.gp_tool.proofs.mill_verb.mill_factory_card.Goals as goal
@@ -42,9 +43,11 @@ pub returns-in-Err-clause-mill : goal.returns-in-Err-clause-mill
 returns-in-Err-clause-mill g c other =
     let F = g.F.Flash in
     let e = c.in-Err.ensures in
+    let new = c.in-Err.refused.flash in
+    let leaves = leaves_made F c.args.flash new c.requires.factory e.err_moments in
     inr (
       not_milled F c.args.flash c.in-Err.refused.flash c.in-Err.refused.cause c.refusal.result c.requires.factory e.err
-          (left_made F c.args.flash c.in-Err.refused.flash c.requires.factory g.met.F.Flash.counts_now e.err_moments) c.refusal.ensures other,
+          (left_now F g.met.F.Flash.counts_now c.args.flash new (factory_registry ∷ []) leaves) leaves c.refusal.ensures other,
       refl,
     )
 

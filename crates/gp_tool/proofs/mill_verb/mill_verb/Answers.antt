@@ -9,7 +9,7 @@ use Rattle.gp_tool.proofs.mill_verb.mill_verb.Goals as goal
 
 pub returns-in-Ok-clause-mill : goal.returns-in-Ok-clause-mill
 returns-in-Ok-clause-mill g c other =
-    mills_from c.args.work g.K.Sink g.F.Flash _ _ c.args.flash c.format.new.flash _ c.args.sink.now _ c.format.ensures.cause.later (c.mill_factory_card.ensures.mill other)
+    mills_from c.args.work g.K.Sink g.F.Flash _ _ c.args.flash c.format.new.flash _ c.args.sink.now _ c.in-Ok.ensures.cause.ok (c.mill_factory_card.ensures.mill other)
 
 pub returns-in-Err-clause-mill : goal.returns-in-Err-clause-mill
 returns-in-Err-clause-mill g c other =
