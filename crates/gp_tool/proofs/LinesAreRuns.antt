@@ -1,5 +1,6 @@
 -- What lines make of a card is a run of the policy machine.
 use Rattle.std.proofs.Common.{◌≡◌, inl, inr, ℕ, ◌+◌, List, [], ◌∷◌, ◌++◌, ap, sym, subst}
+use Rattle.policy_rules.proofs.NumbersRisen.{numbers_rise_in_runs}
 use Rattle.policy_rules.proofs.TreesStayInRuns.{trees_stay_in_runs}
 use Rattle.policy_rules.specs.Run as input
 use Rattle.policy_rules.specs.Run.{Input, Run}
@@ -77,4 +78,5 @@ lines_keep_trees verb number lines at last effect sound is =
       inputs = done.0;
       run = done.1;
       trees = λ domain named spares. trees_stay_in_runs at.state done.0 effect.outcomes last.state domain sound done.1 named spares;
+      receipts = numbers_rise_in_runs at.state done.0 effect.outcomes last.state sound done.1;
     }

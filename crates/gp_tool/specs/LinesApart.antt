@@ -1,6 +1,7 @@
 -- Providers apart, over the lines that a run gives to a card.
 use Rattle.std.specs.Prelude.{ℕ, List}
 use Rattle.card_types.specs.Well.{IsDomainNamed}
+use Rattle.policy_rules.specs.Receipts.{AllCountReceipts}
 use Rattle.policy_rules.specs.Run.{Input, Run}
 use Rattle.policy_rules.specs.RunsApart.{AllNewIsBrought, EachSpares}
 use Rattle.policy_rules.specs.Sound.{IsSound}
@@ -12,12 +13,13 @@ use Rattle.gp_tool.specs.RunsLines.{Memory, RunsLines}
 use Rattle.gp_tool.specs.declared.verb.Verb.{Verb}
 
 -- The outcomes are those of a run of the policy machine. The tree of a domain that each of its commands spares stays, and what is new
--- in it was brought by delegated extraditions.
+-- in it was brought by delegated extraditions. Each command counts receipts.
 pub record RunsApart (first : State) (outcomes : List Outcome) (last : State) : Type 0 where
   pub inputs : List Input
   pub run : Run first inputs outcomes last
   pub trees : (domain : List ℕ) → IsDomainNamed first.registry domain → EachSpares first inputs outcomes domain
       → TreeStays first.registry last.registry domain × AllNewIsBrought first inputs outcomes domain
+  pub receipts : AllCountReceipts first inputs outcomes
 
 -- so it is of the lines of each verb that gives lines to a card
 abbrev pub LinesKeepTrees : Type 0

@@ -6,16 +6,17 @@ use Rattle.policy_rules.specs.Admission.{Admitted}
 use Rattle.policy_rules.specs.CommandForm.{CommandForm}
 use Rattle.policy_rules.specs.Commands.{OneOf, TakesCommand, forms_of}
 use Rattle.policy_rules.specs.Delegation.{IsReceipter, unique_data}
-use Rattle.policy_rules.specs.Laws.{NumbersRise}
+use Rattle.policy_rules.specs.Laws.{NumbersRise, NumbersRiseInRuns}
 use Rattle.policy_rules.specs.Management.{acting}
 use Rattle.policy_rules.specs.Receipts.{Confirms, IsReceiptedBy, RepliesReceipt, number_of}
+use Rattle.policy_rules.specs.Run.{Command, Reset}
 use Rattle.policy_rules.specs.Sound.{IsSound}
-use Rattle.policy_rules.specs.State.{Effect, State}
+use Rattle.policy_rules.specs.State.{Effect, State, powered_on}
 use Rattle.policy_rules.specs.Step.{IsAccepted, Outcome, sent}
 use Rattle.policy_rules.specs.declared.rule.Rule.{Rule}
 use Rattle.policy_rules.proofs.AllRising.{all_rising}
 use Rattle.policy_rules.proofs.FormTaken.{Accepts, accepting_form, join_forms, pick_form}
-use Rattle.policy_rules.proofs.KeepsSound.{admitted_is_ready}
+use Rattle.policy_rules.proofs.KeepsSound.{admitted_is_ready, starts_sound, steps_keep_sound}
 use Rattle.policy_rules.proofs.Lawful.{IsReady, some_same}
 use Rattle.policy_rules.proofs.OneOutcome.{admits_one}
 use Rattle.policy_rules.proofs.RisingForms.{IsRising}
@@ -125,3 +126,11 @@ numbers_rise state bytes outcome sound (inl rejected) domain before after was is
 numbers_rise state bytes outcome sound (inr (inl refuses)) domain before after was is =
     refused_told state bytes outcome domain before after (ap (λ (o : Outcome). o.rule) refuses.outcome_is) (ap (λ (o : Outcome). o.state.registry) refuses.outcome_is) was is
 numbers_rise state bytes outcome sound (inr (inr accepts)) domain before after was is = told_accepted state bytes outcome domain before after sound accepts was is
+
+pub numbers_rise_in_runs : NumbersRiseInRuns
+numbers_rise_in_runs state [] outcomes last sound run = tt
+numbers_rise_in_runs state (Command bytes ∷ inputs) [] last sound run = tt
+numbers_rise_in_runs state (Command bytes ∷ inputs) (outcome ∷ outcomes) last sound run =
+    (numbers_rise state bytes outcome sound run.0, numbers_rise_in_runs outcome.state inputs outcomes last (steps_keep_sound state bytes outcome sound run.0) run.1)
+numbers_rise_in_runs state (Reset ∷ inputs) outcomes last sound run =
+    numbers_rise_in_runs (powered_on state.registry) inputs outcomes last (starts_sound state.registry sound.well sound.ascending) run

@@ -46,8 +46,8 @@ module _ (admitted : Admitted) (domain : List ℕ) (apart : AreApart admitted do
       back (AnObject object) is at = objects.back object is (another object.owner at)
 
 -- a list that stays
-pub same_list : {X : Type 0} (owner : X → List ℕ) (acting : List ℕ) (before after : List X) → after ≡ before → SameOfOthers owner acting before after
-same_list {X} owner acting before after same = record {
+pub same_list : {X : Type 0} (owner : X → List ℕ) (acting : List ℕ) (old new : List X) → new ≡ old → SameOfOthers owner acting old new
+same_list {X} owner acting old new same = record {
   there = λ x is other. subst (λ (xs : List X). Contains xs x) (sym same) is;
   back = λ x is other. subst (λ (xs : List X). Contains xs x) same is;
 }

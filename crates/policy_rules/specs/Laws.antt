@@ -7,7 +7,7 @@ use Rattle.policy_rules.specs.Admission.{Of}
 use Rattle.policy_rules.specs.Changes.{Changes, OpensInSession, without_number}
 use Rattle.policy_rules.specs.Classes.{channel_of}
 use Rattle.policy_rules.specs.Commands.{AtMostOne, Takes, forms_of}
-use Rattle.policy_rules.specs.Receipts.{CountsReceipts}
+use Rattle.policy_rules.specs.Receipts.{AllCountReceipts, CountsReceipts}
 use Rattle.policy_rules.specs.Run.{Input, Run}
 use Rattle.policy_rules.specs.Sound.{IsSound}
 use Rattle.policy_rules.specs.State.{State, powered_on}
@@ -76,6 +76,10 @@ PlacesAreForgotten =
     (state : State) (bytes : List ℕ) (outcome : Outcome) → Step state bytes outcome → MatchOption outcome.rule (Unit {0}) (λ rule. is_later rule ≡ true)
     → Of bytes (λ command. command.ins ≢ GET_STATUS → place_in (channel_at outcome.state.volatile (channel_of command.class)) ≡ None)
 
--- each command counts receipts so
+-- each command counts receipts so, and each of a run
 abbrev pub NumbersRise : Type 0
 NumbersRise = (state : State) (bytes : List ℕ) (outcome : Outcome) → IsSound state → Step state bytes outcome → CountsReceipts state bytes outcome
+
+abbrev pub NumbersRiseInRuns : Type 0
+NumbersRiseInRuns =
+    (state : State) (inputs : List Input) (outcomes : List Outcome) (last : State) → IsSound state → Run state inputs outcomes last → AllCountReceipts state inputs outcomes

@@ -1,5 +1,5 @@
 -- Which commands are confirmed, and by which receipt.
-use Rattle.std.specs.Prelude.{◌≡◌, ℕ, ◌+◌, List, None, Option, Some}
+use Rattle.std.specs.Prelude.{◌≡◌, ℕ, ◌+◌, List, ◌∷◌, None, Option, Some}
 use Rattle.std.specs.Option.{option_map}
 use Rattle.card_types.specs.Registry.{Key, Registry, entry_named}
 use Rattle.tokens_receipts.specs.Receipt.{receipt}
@@ -7,7 +7,8 @@ use Rattle.policy_rules.specs.Admission.{Admits, Admitted}
 use Rattle.policy_rules.specs.Commands.{OneOf, TakesCommand, forms_of}
 use Rattle.policy_rules.specs.Delegation.{IsReceipter, unique_data}
 use Rattle.policy_rules.specs.Management.{acting}
-use Rattle.policy_rules.specs.State.{State}
+use Rattle.policy_rules.specs.Run.{Command, Input, Reset}
+use Rattle.policy_rules.specs.State.{State, powered_on}
 use Rattle.policy_rules.specs.Step.{Outcome, sent}
 
 -- the number of the domain's last receipt
@@ -40,3 +41,9 @@ CountsReceipts state bytes outcome =
     (domain : List ℕ) (before after : ℕ) → number_of state.registry domain ≡ Some before → number_of outcome.state.registry domain ≡ Some after
     → ((is : IsReceiptedBy state bytes outcome domain) → (after ≡ before + 1) × RepliesReceipt is after)
     × ((IsReceiptedBy state bytes outcome domain → ⊥) → after ≡ before)
+
+-- so it is with each command of a run
+abbrev pub AllCountReceipts : State → List Input → List Outcome → Type 0
+AllCountReceipts state (Command bytes ∷ inputs) (outcome ∷ outcomes) = CountsReceipts state bytes outcome × AllCountReceipts outcome.state inputs outcomes
+AllCountReceipts state (Reset ∷ inputs) outcomes = AllCountReceipts (powered_on state.registry) inputs outcomes
+AllCountReceipts state inputs outcomes = Unit {0}

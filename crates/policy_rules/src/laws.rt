@@ -1,7 +1,7 @@
 //! The laws of the policy machine, as functions that do nothing when they run.
 
 ghost use Rattle.card_types.specs.Registry.{Registry};
-ghost use Rattle.policy_rules.specs.Laws.{ChangesAreOpened, NumbersRise, OneForm, OneOutcome, OneRun, OthersAreChanges, PlacesAreForgotten, RefusalsDropOffers, StartsSound, StepsKeepSound};
+ghost use Rattle.policy_rules.specs.Laws.{ChangesAreOpened, NumbersRise, NumbersRiseInRuns, OneForm, OneOutcome, OneRun, OthersAreChanges, PlacesAreForgotten, RefusalsDropOffers, StartsSound, StepsKeepSound};
 ghost use Rattle.policy_rules.specs.RunsApart.{RootsGetNothing, TreesStay, TreesStayInRuns};
 
 /// A card that is powered on is sound, and each step keeps it so.
@@ -53,5 +53,6 @@ pub fn trees_stay()
 
 /// A receipt number rises by one with each command that its domain confirms, and with no other.
 pub fn numbers_rise()
-    ensures { NumbersRise }
+    ensures step { NumbersRise }
+    ensures run { NumbersRiseInRuns }
 {}
