@@ -3,7 +3,7 @@ use Rattle.std.specs.Prelude.{ℕ, List}
 use Rattle.card_types.specs.Well.{IsDomainNamed}
 use Rattle.policy_rules.specs.Receipts.{AllCountReceipts}
 use Rattle.policy_rules.specs.Run.{Input, Run}
-use Rattle.policy_rules.specs.RunsApart.{AllNewIsBrought, EachSpares}
+use Rattle.policy_rules.specs.RunsApart.{AllNewIsBrought, EachSpares, StaysThrough}
 use Rattle.policy_rules.specs.Sound.{IsSound}
 use Rattle.policy_rules.specs.State.{State}
 use Rattle.policy_rules.specs.Step.{Outcome}
@@ -18,7 +18,7 @@ pub record RunsApart (first : State) (outcomes : List Outcome) (last : State) : 
   pub inputs : List Input
   pub run : Run first inputs outcomes last
   pub trees : (domain : List ℕ) → IsDomainNamed first.registry domain → EachSpares first inputs outcomes domain
-      → TreeStays first.registry last.registry domain × AllNewIsBrought first inputs outcomes domain
+      → StaysThrough first.registry outcomes domain × TreeStays first.registry last.registry domain × AllNewIsBrought first inputs outcomes domain
   pub receipts : AllCountReceipts first inputs outcomes
 
 -- so it is of the lines of each verb that gives lines to a card

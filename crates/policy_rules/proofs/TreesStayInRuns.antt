@@ -12,8 +12,9 @@ use Rattle.domain_tree.proofs.Paths.{root_alone}
 use Rattle.domain_tree.specs.AboveLaws.{IsAboveIn}
 use Rattle.policy_rules.specs.Admission.{Admitted}
 use Rattle.policy_rules.specs.Run.{Command, Reset}
-use Rattle.policy_rules.specs.RunsApart.{RootsGetNothing, TreesStayInRuns}
+use Rattle.policy_rules.specs.RunsApart.{RootsGetNothing, StaysThrough, TreesStayInRuns}
 use Rattle.policy_rules.specs.State.{State, powered_on}
+use Rattle.policy_rules.specs.Step.{Outcome}
 use Rattle.policy_rules.specs.Trees.{AnEntry, TreeStays}
 use Rattle.policy_rules.proofs.KeepsSound.{starts_sound, steps_keep_sound}
 use Rattle.policy_rules.proofs.TreesStayed.{trees_stay}
@@ -29,20 +30,36 @@ still_named before after domain of stays named = by (entry_named before domain) 
         let member = stays.members (AnEntry entry) (found.0, inl ((same_aid_decides entry.aid domain).0 found.1)) in
         subst (λ (o : Option Entry). MatchOption o ⊥ (λ e. is_domain e ≡ true)) (sym (member_named after of entry member.0 domain found.1)) is)
 
+-- a tree that stays, and then stays
+stays_on : (first mid last : Registry) (domain : List ℕ) → TreeStays first mid domain → TreeStays mid last domain → TreeStays first last domain
+stays_on first mid last domain one other = record {
+  members = λ member in_it. other.members member (one.members member in_it);
+  line = λ line is. other.line line (one.line line is);
+}
+
+stays_further : (first mid : Registry) (outcomes : List Outcome) (domain : List ℕ) → TreeStays first mid domain → StaysThrough mid outcomes domain
+    → StaysThrough first outcomes domain
+stays_further first mid [] domain one through = tt
+stays_further first mid (outcome ∷ outcomes) domain one through =
+    (stays_on first mid outcome.state.registry domain one through.0, stays_further first mid outcomes domain one through.1)
+
 pub trees_stay_in_runs : TreesStayInRuns
-trees_stay_in_runs state [] outcomes last domain sound run named spares =
-    (subst (λ (s : State). TreeStays state.registry s.registry domain) (sym run.1) (record { members = λ member in_it. in_it; line = λ line is. is }), tt)
+trees_stay_in_runs state [] outcomes last domain sound run named spares = (
+  subst (λ (os : List Outcome). StaysThrough state.registry os domain) (sym run.0) tt,
+  subst (λ (s : State). TreeStays state.registry s.registry domain) (sym run.1) (record { members = λ member in_it. in_it; line = λ line is. is }),
+  tt,
+)
 trees_stay_in_runs state (Command bytes ∷ inputs) [] last domain sound run named spares = absurd run
 trees_stay_in_runs state (Command bytes ∷ inputs) (outcome ∷ outcomes) last domain sound run named spares =
     let next = steps_keep_sound state bytes outcome sound run.0 in
     let one = trees_stay state bytes outcome sound run.0 domain named spares.0 in
     let of : IsOfCard outcome.state.registry = record { well = next.well; ascending = next.ascending } in
-    let rest = trees_stay_in_runs outcome.state inputs outcomes last domain next run.1 (still_named state.registry outcome.state.registry domain of one.0 named) spares.1 in (
-      record {
-        members = λ member in_it. rest.0.members member (one.0.members member in_it);
-        line = λ line is. rest.0.line line (one.0.line line is);
-      },
-      (one.1, rest.1),
+    let still = still_named state.registry outcome.state.registry domain of one.0 named in
+    let rest = trees_stay_in_runs outcome.state inputs outcomes last domain next run.1 still spares.1 in
+    (
+      (one.0, stays_further state.registry outcome.state.registry outcomes domain one.0 rest.0),
+      stays_on state.registry outcome.state.registry last.registry domain one.0 rest.1,
+      (one.1, rest.2),
     )
 trees_stay_in_runs state (Reset ∷ inputs) outcomes last domain sound run named spares =
     trees_stay_in_runs (powered_on state.registry) inputs outcomes last domain (starts_sound state.registry sound.well sound.ascending) run named spares

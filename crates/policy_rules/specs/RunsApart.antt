@@ -1,5 +1,6 @@
 -- Providers apart, over a whole run.
-use Rattle.std.specs.Prelude.{◌⊎◌, ℕ, List, ◌∷◌}
+use Rattle.std.specs.Prelude.{◌⊎◌, ℕ, List, [], ◌∷◌}
+use Rattle.card_types.specs.Registry.{Registry}
 use Rattle.card_types.specs.Well.{IsDomainNamed, IsRoot}
 use Rattle.policy_rules.specs.Isolation.{BringsInto, Spares}
 use Rattle.policy_rules.specs.Run.{Command, Input, Reset, Run}
@@ -35,12 +36,17 @@ KeepsTrees state bytes outcome =
 abbrev pub TreesStay : Type 0
 TreesStay = (state : State) (bytes : List ℕ) (outcome : Outcome) → IsSound state → Step state bytes outcome → KeepsTrees state bytes outcome
 
--- and so does a run of commands
+-- after each of these outcomes the tree is as it was
+abbrev pub StaysThrough : Registry → List Outcome → List ℕ → Type 0
+StaysThrough before [] domain = Unit {0}
+StaysThrough before (outcome ∷ outcomes) domain = TreeStays before outcome.state.registry domain × StaysThrough before outcomes domain
+
+-- and so does a run of commands, after each of them and at its end
 abbrev pub TreesStayInRuns : Type 0
 TreesStayInRuns =
     (state : State) (inputs : List Input) (outcomes : List Outcome) (last : State) (domain : List ℕ) → IsSound state → Run state inputs outcomes last
     → IsDomainNamed state.registry domain → EachSpares state inputs outcomes domain
-    → TreeStays state.registry last.registry domain × AllNewIsBrought state inputs outcomes domain
+    → StaysThrough state.registry outcomes domain × TreeStays state.registry last.registry domain × AllNewIsBrought state inputs outcomes domain
 
 -- nothing is brought into the tree of a root
 abbrev pub RootsGetNothing : Type 0
