@@ -55,8 +55,7 @@ trees_stay_in_runs state (Command bytes ∷ inputs) (outcome ∷ outcomes) last 
     let one = trees_stay state bytes outcome sound run.0 domain named spares.0 in
     let of : IsOfCard outcome.state.registry = record { well = next.well; ascending = next.ascending } in
     let still = still_named state.registry outcome.state.registry domain of one.0 named in
-    let rest = trees_stay_in_runs outcome.state inputs outcomes last domain next run.1 still spares.1 in
-    (
+    let rest = trees_stay_in_runs outcome.state inputs outcomes last domain next run.1 still spares.1 in (
       (one.0, stays_further state.registry outcome.state.registry outcomes domain one.0 rest.0),
       stays_on state.registry outcome.state.registry last.registry domain one.0 rest.1,
       (one.1, rest.2),
