@@ -29,6 +29,13 @@ place_of (AnObject object) = object.owner
 abbrev pub InTreeOf : Registry → List ℕ → Member → Type 0
 InTreeOf registry domain member = IsMember registry member × IsAtOrAbove registry domain (place_of member)
 
+-- The tree of a domain has each entry at or below it, each Executable Load File in one of these, and what each of these owns.
+pub record IsWholeTree (registry : Registry) (domain : List ℕ) : Type 0 where
+  pub entries : (entry : Entry) → Contains registry.entries entry → IsAtOrAbove registry domain entry.aid → InTreeOf registry domain (AnEntry entry)
+  pub files : (file : LoadFile) → Contains registry.files file → IsAtOrAbove registry domain file.domain → InTreeOf registry domain (AFile file)
+  pub keys : (key : Key) → Contains registry.keys key → IsAtOrAbove registry domain key.owner → InTreeOf registry domain (AKey key)
+  pub objects : (object : Object) → Contains registry.objects object → IsAtOrAbove registry domain object.owner → InTreeOf registry domain (AnObject object)
+
 -- Each member of the tree is one still, the same, and the line from the domain up to its root is the same.
 pub record TreeStays (before after : Registry) (domain : List ℕ) : Type 0 where
   pub members : (member : Member) → InTreeOf before domain member → InTreeOf after domain member

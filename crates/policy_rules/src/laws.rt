@@ -1,8 +1,10 @@
 //! The laws of the policy machine, as functions that do nothing when they run.
 
+ghost use Rattle.std.specs.Prelude.{ℕ, List};
 ghost use Rattle.card_types.specs.Registry.{Registry};
 ghost use Rattle.policy_rules.specs.Laws.{ChangesAreOpened, NumbersRise, NumbersRiseInRuns, OneForm, OneOutcome, OneRun, OthersAreChanges, PlacesAreForgotten, RefusalsDropOffers, StartsSound, StepsKeepSound};
 ghost use Rattle.policy_rules.specs.RunsApart.{RootsGetNothing, TreesStay, TreesStayInRuns};
+ghost use Rattle.policy_rules.specs.Trees.{IsWholeTree};
 
 /// A card that is powered on is sound, and each step keeps it so.
 pub fn steps_keep_sound()
@@ -49,6 +51,7 @@ pub fn trees_stay()
     ensures step { TreesStay }
     ensures run { TreesStayInRuns }
     ensures root { RootsGetNothing }
+    ensures whole { (registry : Registry) (domain : List ℕ) → IsWholeTree registry domain }
 {}
 
 /// A receipt number rises by one with each command that its domain confirms, and with no other.

@@ -10,3 +10,11 @@ returns-clause-run c = trees_stay_in_runs
 
 pub returns-clause-root : goal.returns-clause-root
 returns-clause-root c = roots_get_nothing
+
+pub returns-clause-whole : goal.returns-clause-whole
+returns-clause-whole c registry domain = record {
+  entries = λ entry there at. (there, at);
+  files = λ file there at. (there, at);
+  keys = λ key there at. (there, at);
+  objects = λ object there at. (there, at);
+}
