@@ -64,8 +64,7 @@ lines_run verb number (line ∷ lines) at last effect is =
     let next = is.1 in
     let more = is.2 in
     let here = line_runs verb number line at next one is.3 in
-    let rest = lines_run verb (number + 1) lines next last more is.4 in
-    (
+    let rest = lines_run verb (number + 1) lines next last more is.4 in (
       here.0 ++ rest.0,
       subst (λ (e : Effect). Run at.state (here.0 ++ rest.0) e.outcomes last.state) (sym is.5)
           (runs_on at.state next.state last.state here.0 rest.0 one.outcomes more.outcomes here.1 rest.1),

@@ -55,7 +55,7 @@ pub use instruction::{
     EXTERNAL_AUTHENTICATE, GET_DATA, GET_STATUS, INITIALIZE_UPDATE, LOAD, MANAGE_CHANNEL, SELECT,
     instruction_bytes,
 };
-pub use key_order::{KeyName, lowest_set, next_key, numbered_set};
+pub use key_order::{KeyName, next_key};
 pub use laws::{
     changes_are_opened, numbers_rise, one_form, one_outcome, others_are_changes,
     places_are_forgotten, refusals_drop_offers, steps_keep_sound, trees_stay,
