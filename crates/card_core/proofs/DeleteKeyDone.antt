@@ -13,8 +13,9 @@ use Rattle.card_types.specs.Slots.{held}
 use Rattle.card_types.specs.Well.{Well}
 use Rattle.card_types.specs.declared.tables.Entry.{Entry}
 use Rattle.card_types.specs.declared.tables.KeyRec.{KeyRec}
-use Rattle.key_sets.specs.PutFails.{has_version}
-use Rattle.key_sets.specs.Puts.{Deletes, is_of, staying}
+use Rattle.key_rules.specs.PutFails.{has_version}
+use Rattle.key_rules.specs.Staying.{is_of, staying}
+use Rattle.key_sets.specs.Puts.{Deletes}
 use Rattle.policy_rules.proofs.DeleteKeyKeeps.{without_version, without_version_ascending, without_version_well}
 use Rattle.policy_rules.proofs.Filtered.{filter_same, there_any}
 use Rattle.policy_rules.proofs.KeysByName.{counters_staying, keys_staying}

@@ -9,9 +9,9 @@ use Rattle.card_types.specs.Ascending.{counter_order, key_order}
 use Rattle.card_types.specs.Registry.{Counter, Key, is_domain}
 use Rattle.card_types.specs.Represents.{domain_aid}
 use Rattle.card_types.specs.declared.tables.Tables.{Tables}
-use Rattle.key_sets.specs.PutFails.{NoneHolds, PutFails}
+use Rattle.key_rules.specs.PutFails.{NoneHolds, PutFails}
 use Rattle.key_sets.specs.Puts.{Puts}
-use Rattle.key_sets.specs.declared.refusal.PutRefusal.TheVariants.{Unknown, Taken, Full}
+use Rattle.key_rules.specs.declared.refusal.PutRefusal.TheVariants.{Unknown, Taken, Full}
 use Rattle.policy_rules.proofs.ManagedLawful.{replied}
 use Rattle.policy_rules.proofs.PutKeyJudging.{none_holds}
 use Rattle.policy_rules.proofs.PutKeyKeeps.{AreOfVersion, HaveLengths}

@@ -18,9 +18,10 @@ use Rattle.card_types.specs.declared.limits.TheConstants.{DOMAIN_KEYS, KEYS}
 use Rattle.card_types.specs.declared.tables.Entry.{Entry}
 use Rattle.card_types.specs.declared.tables.KeyRec.{KeyRec}
 use Rattle.card_types.specs.declared.tables.Tables.{Tables}
-use Rattle.key_sets.specs.PutFails.{NoneHolds, PutFails}
-use Rattle.key_sets.specs.Puts.{Puts, new_key, staying}
-use Rattle.key_sets.specs.declared.refusal.PutRefusal.TheVariants.{Taken, Full}
+use Rattle.key_rules.specs.PutFails.{NoneHolds, PutFails}
+use Rattle.key_rules.specs.Staying.{staying}
+use Rattle.key_sets.specs.Puts.{Puts, new_key}
+use Rattle.key_rules.specs.declared.refusal.PutRefusal.TheVariants.{Taken, Full}
 use Rattle.policy_rules.proofs.Filtered.{filter_same}
 use Rattle.policy_rules.proofs.KeyCounts.{own_count, stay_count}
 use Rattle.policy_rules.proofs.KeysArranged.{counters_arranged, keys_arranged}

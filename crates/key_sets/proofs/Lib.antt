@@ -1,3 +1,2 @@
 mod Counting
 mod Putting
-pub mod Stays

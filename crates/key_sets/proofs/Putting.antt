@@ -5,9 +5,9 @@ use Rattle.std.proofs.lemmas.Bool.{cases_lt}
 use Rattle.std.proofs.lemmas.List.Sorted.{IsPermutation-append_left, IsPermutation-cons, IsPermutation-reverse, IsPermutation-trans}
 use Rattle.card_types.specs.declared.limits.TheConstants.{KEYS}
 use Rattle.card_types.specs.declared.tables.KeyRec.{KeyRec}
-use Rattle.key_sets.specs.PutFails.{NoneHolds, PutFails}
-use Rattle.key_sets.specs.Puts.{staying}
-use Rattle.key_sets.specs.declared.refusal.PutRefusal.TheVariants.{Full}
+use Rattle.key_rules.specs.PutFails.{NoneHolds, PutFails}
+use Rattle.key_rules.specs.Staying.{staying}
+use Rattle.key_rules.specs.declared.refusal.PutRefusal.TheVariants.{Full}
 
 -- where keys may be put, there is room for them
 room_left : (owner replaced version added : ℕ) (slots : List (Option KeyRec)) → NoneHolds (PutFails owner replaced version added slots)

@@ -1,4 +1,2 @@
 pub mod Puts
-pub mod PutFails
-pub mod InSlots
 pub mod Draws

@@ -1,17 +1,10 @@
 -- Keys that are put and deleted: the keys that the slots of a card have afterwards, whatever slots they are in (GlobalPlatform
 -- Card Specification 2.3.1, 11.2 and 11.8).
-use Rattle.std.specs.Prelude.{◌≡◌, ℕ, ◌++◌, ◌==◌, ◌&&◌, List, [], ◌∷◌, Bool, Option, filter, length, not}
+use Rattle.std.specs.Prelude.{◌≡◌, ℕ, ◌++◌, List, [], ◌∷◌, Option, length}
 use Rattle.std.specs.List.Sorted.{IsPermutation}
 use Rattle.card_types.specs.Represents.{used}
 use Rattle.card_types.specs.declared.tables.KeyRec.{KeyRec}
-
--- the key is one of this domain with this key version number; no key is one of key version number 00
-abbrev pub is_of : ℕ → ℕ → KeyRec → Bool
-is_of owner version key = not (version == 0) && key.owner == owner && key.version == version
-
--- the keys that stay where those of this domain with this key version number go
-abbrev pub staying : ℕ → ℕ → List (Option KeyRec) → List KeyRec
-staying owner version slots = filter (λ key. not (is_of owner version key)) (used slots)
+use Rattle.key_rules.specs.Staying.{staying}
 
 -- there are as many slots as before, and they have the added keys and those that stay
 pub record Puts (owner replaced : ℕ) (added : List KeyRec) (old new : List (Option KeyRec)) : Type 0 where

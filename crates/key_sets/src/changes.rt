@@ -5,12 +5,12 @@ ghost use Rattle.std.specs.List.Sorted.{IsPermutation};
 ghost use Rattle.card_types.specs.Represents.{used};
 ghost use Rattle.card_types.specs.Slots.{held};
 ghost use Rattle.card_types.specs.declared.limits.TheConstants.{KEYS};
-ghost use Rattle.key_sets.specs.InSlots.{holds_one_of};
-ghost use Rattle.key_sets.specs.Puts.{staying};
+ghost use Rattle.key_rules.specs.InSlots.{holds_one_of};
+ghost use Rattle.key_rules.specs.Staying.{staying};
 ghost use Rattle.rec_store.specs.KeySlot.{IsRoomyKey};
 
-use crate::judge::is_of;
 use card_types::{KEYS, KeyRec, first_free, in_slot};
+use key_rules::is_of;
 use rec_store::RecordKeeper;
 
 fn goes(keys: &[Option<KeyRec>], slot: u8, owner: u8, version: u8) -> bool

@@ -2,11 +2,11 @@
 
 ghost use Rattle.std.specs.Prelude.{◌≡◌};
 ghost use Rattle.std.specs.Bool.{OnFalse};
-ghost use Rattle.key_sets.specs.PutFails.{has_version as has_version_in};
+ghost use Rattle.key_rules.specs.PutFails.{has_version as has_version_in};
 ghost use Rattle.key_sets.specs.Puts.{Deletes};
 
 use crate::changes::free;
-use crate::judge::has_version;
+use key_rules::has_version;
 use rec_store::RecordKeeper;
 
 /// Deletes all keys with a key version number of the domain in the slot `owner`: `false` where there is none.

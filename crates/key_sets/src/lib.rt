@@ -17,12 +17,9 @@
 mod changes;
 mod counter;
 mod deletion;
-mod judge;
 mod put;
-mod refusal;
 
 pub use counter::{Spent, draw_counter, raise_counter};
 pub use deletion::delete;
-pub use judge::{has_version, is_full, is_taken, judge as judge_put, lacks_replaced};
+pub use key_rules::{PutRefusal, judge_put};
 pub use put::{place_one, place_set, put_one, put_set};
-pub use refusal::PutRefusal;

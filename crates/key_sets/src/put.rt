@@ -2,14 +2,13 @@
 
 ghost use Rattle.std.specs.Prelude.{◌≡◌, ◌⊎◌, ◌≤◌, [], ◌∷◌, length, MatchResult, OnErr, OnOk};
 ghost use Rattle.card_types.specs.Well.{IsKeyLength};
-ghost use Rattle.key_sets.specs.PutFails.{HoldsFirst, NoneHolds, PutFails};
+ghost use Rattle.key_rules.specs.PutFails.{HoldsFirst, NoneHolds, PutFails};
 ghost use Rattle.key_sets.specs.Puts.{Puts, new_key as new_key_of, set_keys};
 
 use crate::changes::{free, put_key};
-use crate::judge::judge;
-use crate::refusal::PutRefusal;
 use arrayvec::ArrayVec;
 use card_types::KeyRec;
+use key_rules::{PutRefusal, judge_put};
 use rec_store::RecordKeeper;
 
 // A key, with the counter 000000 where it keeps one.
@@ -74,7 +73,7 @@ pub fn put_set<R: RecordKeeper>(
     ensures same_else { R.same_else keeper.old keeper.new }
     ensures roomy { R.roomy keeper.new }
 {
-    judge(keeper.keys(), owner, replaced, version, 3)?;
+    judge_put(keeper.keys(), owner, replaced, version, 3)?;
     place_set(keeper, owner, replaced, version, enc, mac, dek);
     Ok(())
 }
@@ -113,7 +112,7 @@ pub fn put_one<R: RecordKeeper>(
     ensures same_else { R.same_else keeper.old keeper.new }
     ensures roomy { R.roomy keeper.new }
 {
-    judge(keeper.keys(), owner, replaced, version, 1)?;
+    judge_put(keeper.keys(), owner, replaced, version, 1)?;
     place_one(keeper, owner, replaced, version, key);
     Ok(())
 }

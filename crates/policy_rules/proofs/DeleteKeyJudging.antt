@@ -2,7 +2,7 @@
 use Rattle.std.proofs.Common.{◌≡◌, ℕ, Bool, true, List, Option, ap, sym, ◌∙◌, inl, inr, None, Some, refl}
 use Rattle.card_types.specs.declared.tables.KeyRec.{KeyRec}
 use Rattle.card_types.specs.declared.tables.Tables.{Tables}
-use Rattle.key_sets.specs.PutFails as slots
+use Rattle.key_rules.specs.PutFails as slots
 use Rattle.policy_rules.specs.Admission.{Admitted}
 use Rattle.policy_rules.specs.DeleteKey.{NamesPart, DeletingKeyFails, KeyChosen, managed_delete_key}
 use Rattle.policy_rules.specs.KeyVersions.{has_key_version}

@@ -13,8 +13,8 @@ use Rattle.card_types.specs.Well.{Well}
 use Rattle.card_types.specs.declared.tables.Entry.{Entry}
 use Rattle.card_types.specs.declared.tables.KeyRec.{KeyRec}
 use Rattle.card_types.specs.declared.tables.Tables.{Tables}
-use Rattle.key_sets.specs.PutFails as slots
-use Rattle.key_sets.specs.Puts.{is_of, staying}
+use Rattle.key_rules.specs.PutFails as slots
+use Rattle.key_rules.specs.Staying.{is_of, staying}
 use Rattle.policy_rules.specs.KeyVersions.{keys_but}
 use Rattle.policy_rules.proofs.Filtered.{as_many_pass, map_kept}
 use Rattle.policy_rules.proofs.KeysByName.{keys_staying}

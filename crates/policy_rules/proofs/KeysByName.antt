@@ -16,8 +16,8 @@ use Rattle.card_types.specs.Well.{IsKeyName, IsWellKey, Well}
 use Rattle.card_types.specs.declared.tables.Entry.{Entry}
 use Rattle.card_types.specs.declared.tables.KeyRec.{KeyRec}
 use Rattle.card_types.specs.declared.tables.Tables.{Tables}
-use Rattle.key_sets.specs.PutFails as slots
-use Rattle.key_sets.specs.Puts.{is_of, staying}
+use Rattle.key_rules.specs.PutFails as slots
+use Rattle.key_rules.specs.Staying.{is_of, staying}
 use Rattle.policy_rules.specs.KeyVersions.{counters_but, has_key_version, is_counter_numbered, is_key_numbered, keys_but}
 use Rattle.policy_rules.proofs.Filtered.{any_there, filter_same, filters_swap, map_kept, there_any}
 use Rattle.policy_rules.proofs.OwnKeys.{own_is}

@@ -3,11 +3,11 @@ use Rattle.std.proofs.Common.{◌≡◌, ◌≢◌, ℕ, true, false, List, [], 
 use Rattle.std.specs.Prelude.{OnOk, Result, filter}
 use Rattle.card_types.specs.AidOrder.{same_aid}
 use Rattle.card_types.specs.declared.tables.Tables.{Tables}
-use Rattle.key_sets.specs.PutFails as slots
-use Rattle.key_sets.specs.PutFails.{NoneHolds, PutFails}
-use Rattle.key_sets.specs.Puts as slots_of
-use Rattle.key_sets.specs.declared.refusal.PutRefusal.{PutRefusal}
-use Rattle.key_sets.specs.declared.refusal.PutRefusal.TheVariants.{Unknown, Taken, Full}
+use Rattle.key_rules.specs.PutFails as slots
+use Rattle.key_rules.specs.PutFails.{NoneHolds, PutFails}
+use Rattle.key_rules.specs.Staying as slots_of
+use Rattle.key_rules.specs.declared.refusal.PutRefusal.{PutRefusal}
+use Rattle.key_rules.specs.declared.refusal.PutRefusal.TheVariants.{Unknown, Taken, Full}
 use Rattle.policy_rules.specs.Admission.{Admitted}
 use Rattle.policy_rules.specs.FirstFailing.{IsFirst}
 use Rattle.policy_rules.specs.KeyVersions.{has_key_version, keys_but}

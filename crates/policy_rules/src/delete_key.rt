@@ -18,7 +18,7 @@ use crate::management::judge_management;
 use crate::rule::{Rule, RulePS};
 use apdu_core::Status;
 use card_types::{Entry, KeyRec, Tables, in_slot};
-use key_sets::has_version;
+use key_rules::has_version;
 
 /// The rules of DELETE of a key.
 #[derive(Clone, Copy, Debug, PartialEq, Eq)]

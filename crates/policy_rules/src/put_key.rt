@@ -3,8 +3,8 @@
 ghost use Rattle.std.specs.Prelude.{◌≡◌, ◌≤◌, ◌↔◌, ◌+◌, ℕ, List, None, Some, IfErr, IfNone, IfSome, IsTrue, OnOk, length};
 ghost use Rattle.card_types.specs.InOrder.{IsInOrder};
 ghost use Rattle.card_types.specs.Well.{IsKeyLength};
-ghost use Rattle.key_sets.specs.PutFails.{NoneHolds, PutFails};
-ghost use Rattle.key_sets.specs.declared.refusal.PutRefusal.TheVariants.{Unknown, Taken, Full};
+ghost use Rattle.key_rules.specs.PutFails.{NoneHolds, PutFails};
+ghost use Rattle.key_rules.specs.declared.refusal.PutRefusal.TheVariants.{Unknown, Taken, Full};
 ghost use Rattle.policy_rules.specs.Admission.{Admitted};
 ghost use Rattle.policy_rules.specs.FirstFailing.{IsFirst};
 ghost use Rattle.policy_rules.specs.KeyFields.{AreFields, BeginsWithKey, NoFields};
@@ -22,7 +22,7 @@ use crate::request::Request;
 use crate::rule::{Rule, RulePS};
 use apdu_core::Status;
 use card_types::Tables;
-use key_sets::{is_full, is_taken, lacks_replaced};
+use key_rules::{is_full, is_taken, lacks_replaced};
 
 /// The rules of PUT KEY.
 #[derive(Clone, Copy, Debug, PartialEq, Eq)]

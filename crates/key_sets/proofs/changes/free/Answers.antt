@@ -3,8 +3,8 @@ use Rattle.std.proofs.lemmas.List.{length-set}
 use Rattle.card_types.specs.Slots.{held}
 use Rattle.card_types.specs.declared.limits.TheConstants.{KEYS}
 use Rattle.card_types.specs.declared.tables.KeyRec.{KeyRec}
-use Rattle.key_sets.specs.InSlots.{holds_one_of}
-use Rattle.key_sets.proofs.Stays.{all_stay, gone_more, gone_set, stay_after}
+use Rattle.key_rules.specs.InSlots.{holds_one_of}
+use Rattle.key_rules.proofs.Stays.{all_stay, gone_more, gone_set, stay_after}
 use Rattle.key_sets.proofs.changes.free.Goals as goal
 use Rattle.key_sets.proofs.changes.free.Goals.{then-goes, else-goes}
 

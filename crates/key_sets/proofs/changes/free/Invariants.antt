@@ -1,8 +1,8 @@
 use Rattle.std.proofs.Common.{◌≡◌, ℕ, ◌<◌, false, length}
 use Rattle.card_types.specs.Slots.{held}
 use Rattle.card_types.specs.declared.limits.TheConstants.{KEYS}
-use Rattle.key_sets.specs.InSlots.{holds_one_of}
-use Rattle.key_sets.specs.Puts.{staying}
+use Rattle.key_rules.specs.InSlots.{holds_one_of}
+use Rattle.key_rules.specs.Staying.{staying}
 use Rattle.key_sets.proofs.changes.free.Given as goal
 
 abbrev pub invariant-loop-slot : goal.invariant-loop-slot

@@ -4,7 +4,7 @@ use Rattle.card_types.specs.Represents.{used}
 use Rattle.card_types.specs.Slots.{held}
 use Rattle.card_types.specs.declared.tables.KeyRec.{KeyRec}
 use Rattle.card_types.proofs.Room.{free_found}
-use Rattle.key_sets.proofs.Stays.{put_in}
+use Rattle.key_rules.proofs.Stays.{put_in}
 use Rattle.key_sets.proofs.changes.put_key.Goals as goal
 
 pub unwrap-slot-requires : goal.unwrap-slot-requires

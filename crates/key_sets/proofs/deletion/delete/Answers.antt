@@ -3,8 +3,8 @@ use Rattle.std.specs.List.Sorted.{IsPermutation}
 use Rattle.std.proofs.lemmas.List.Sorted.{IsPermutation-refl}
 use Rattle.card_types.specs.Represents.{used}
 use Rattle.card_types.specs.declared.tables.KeyRec.{KeyRec}
-use Rattle.key_sets.specs.PutFails.{has_version}
-use Rattle.key_sets.proofs.Stays.{none_goes}
+use Rattle.key_rules.specs.PutFails.{has_version}
+use Rattle.key_rules.proofs.Stays.{none_goes}
 use Rattle.key_sets.proofs.deletion.delete.Goals as goal
 
 pub returns-then-not-has_version-clause-deletes : goal.returns-then-not-has_version-clause-deletes

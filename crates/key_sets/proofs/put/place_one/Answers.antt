@@ -1,7 +1,7 @@
 use Rattle.std.proofs.Common.{◌≡◌, ◌+◌, List, length, ap, arith}
 use Rattle.card_types.specs.Represents.{used}
 use Rattle.card_types.specs.declared.tables.KeyRec.{KeyRec}
-use Rattle.key_sets.specs.Puts.{staying}
+use Rattle.key_rules.specs.Staying.{staying}
 use Rattle.key_sets.proofs.Putting.{slot_left}
 use Rattle.key_sets.proofs.put.place_one.Goals as goal
 

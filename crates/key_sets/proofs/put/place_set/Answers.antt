@@ -2,7 +2,8 @@ use Rattle.std.proofs.Common.{◌≡◌, ◌+◌, List, [], ◌∷◌, length, a
 use Rattle.std.proofs.lemmas.List.Sorted.{length_permutation}
 use Rattle.card_types.specs.Represents.{used}
 use Rattle.card_types.specs.declared.tables.KeyRec.{KeyRec}
-use Rattle.key_sets.specs.Puts.{set_keys, staying}
+use Rattle.key_rules.specs.Staying.{staying}
+use Rattle.key_sets.specs.Puts.{set_keys}
 use Rattle.key_sets.proofs.Putting.{put_three, slot_left}
 use Rattle.key_sets.proofs.put.place_set.Goals as goal
 

@@ -1,5 +1,5 @@
 use Rattle.std.proofs.Common.{length}
-use Rattle.key_sets.specs.PutFails.{PutFails}
+use Rattle.key_rules.specs.PutFails.{PutFails}
 use Rattle.policy_rules.proofs.FirstJoined.{passed_behind, refused_behind, refused_within}
 use Rattle.policy_rules.proofs.PutKeyJudging.{roomy_ok}
 use Rattle.policy_rules.specs.Requests.{sent_keys}

@@ -2,10 +2,10 @@ use Rattle.std.proofs.Common.{◌≡◌, length, refl, ◌∙◌, rules, tests}
 use Rattle.std.proofs.lemmas.Iterator.{YieldsList-from_slice}
 use Rattle.std.proofs.lemmas.Iterator.Consumers.{YieldsList-from_filter, count_from_yields_List}
 use Rattle.std.specs.Prelude.{filter, not}
-use Rattle.key_sets.specs.InSlots.{holds_staying}
-use Rattle.key_sets.specs.Puts.{is_of}
-use Rattle.key_sets.proofs.Stays.{count_used}
-use Rattle.key_sets.proofs.judge.count_staying.Goals as goal
+use Rattle.key_rules.specs.InSlots.{holds_staying}
+use Rattle.key_rules.specs.Staying.{is_of}
+use Rattle.key_rules.proofs.Stays.{count_used}
+use Rattle.key_rules.proofs.judge.count_staying.Goals as goal
 
 pub returns-clause-number : goal.returns-clause-number
 returns-clause-number c =

@@ -4,9 +4,9 @@ use Rattle.std.specs.List.{list_any}
 use Rattle.card_types.specs.Represents.{used}
 use Rattle.card_types.specs.declared.limits.TheConstants.{DOMAIN_KEYS, KEYS}
 use Rattle.card_types.specs.declared.tables.KeyRec.{KeyRec}
-use Rattle.key_sets.specs.Puts.{is_of, staying}
-use Rattle.key_sets.specs.declared.refusal.PutRefusal.{PutRefusal}
-use Rattle.key_sets.specs.declared.refusal.PutRefusal.TheVariants.{Unknown, Taken, Full}
+use Rattle.key_rules.specs.Staying.{is_of, staying}
+use Rattle.key_rules.specs.declared.refusal.PutRefusal.{PutRefusal}
+use Rattle.key_rules.specs.declared.refusal.PutRefusal.TheVariants.{Unknown, Taken, Full}
 
 -- the domain has keys with this key version number
 abbrev pub has_version : ℕ → ℕ → List (Option KeyRec) → Bool

@@ -2,9 +2,9 @@
 
 ghost use Rattle.std.specs.Prelude.{◌≡◌, ◌≢◌, ◌⊎◌, ◌<◌, ◌≤◌, ◌+◌, ◌↔◌, false, true, length, IfErr, IsTrue, OnOk};
 ghost use Rattle.card_types.specs.declared.limits.TheConstants.{DOMAIN_KEYS, KEYS};
-ghost use Rattle.key_sets.specs.InSlots.{holds_one_of as holds_one_of_by, holds_staying as holds_staying_by, holds_staying_of as holds_staying_of_by};
-ghost use Rattle.key_sets.specs.PutFails.{HoldsFirst, NoneHolds, PutFails, has_version as has_version_in, keys_of_owner};
-ghost use Rattle.key_sets.specs.Puts.{is_of as is_of_by, staying};
+ghost use Rattle.key_rules.specs.InSlots.{holds_one_of as holds_one_of_by, holds_staying as holds_staying_by, holds_staying_of as holds_staying_of_by};
+ghost use Rattle.key_rules.specs.PutFails.{HoldsFirst, NoneHolds, PutFails, has_version as has_version_in, keys_of_owner};
+ghost use Rattle.key_rules.specs.Staying.{is_of as is_of_by, staying};
 
 use crate::refusal::PutRefusal;
 use card_types::{DOMAIN_KEYS, KEYS, KeyRec};

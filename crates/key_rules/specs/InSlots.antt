@@ -1,7 +1,7 @@
 -- Whether a slot holds a key that goes or stays where those of a domain with a key version number go.
 use Rattle.std.specs.Prelude.{ℕ, ◌==◌, ◌&&◌, Bool, false, Option, None, Some, not}
 use Rattle.card_types.specs.declared.tables.KeyRec.{KeyRec}
-use Rattle.key_sets.specs.Puts.{is_of}
+use Rattle.key_rules.specs.Staying.{is_of}
 
 abbrev pub holds_one_of : ℕ → ℕ → Option KeyRec → Bool
 holds_one_of owner version None = false

@@ -10,8 +10,8 @@ use Rattle.card_types.specs.Represents.{used}
 use Rattle.card_types.specs.Slots.{held}
 use Rattle.card_types.specs.declared.tables.KeyRec.{KeyRec}
 use Rattle.card_types.proofs.ChangedSlot.{set_shown}
-use Rattle.key_sets.specs.InSlots.{holds_one_of}
-use Rattle.key_sets.specs.Puts.{is_of, staying}
+use Rattle.key_rules.specs.InSlots.{holds_one_of}
+use Rattle.key_rules.specs.Staying.{is_of, staying}
 
 -- a test of slots that is false of a free one, and one of the things in them
 module _ {T : Type 0} (q : Option T → Bool) (p : T → Bool) (free : q None ≡ false) (same : (thing : T) → q (Some thing) ≡ p thing) where

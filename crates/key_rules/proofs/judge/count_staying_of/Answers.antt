@@ -4,10 +4,10 @@ use Rattle.std.proofs.lemmas.Iterator.Consumers.{YieldsList-from_filter, count_f
 use Rattle.std.specs.Prelude.{filter, not}
 use Rattle.card_types.specs.Represents.{used}
 use Rattle.card_types.specs.declared.tables.KeyRec.{KeyRec}
-use Rattle.key_sets.specs.InSlots.{holds_staying_of}
-use Rattle.key_sets.specs.Puts.{is_of}
-use Rattle.key_sets.proofs.Stays.{count_used, filter_both}
-use Rattle.key_sets.proofs.judge.count_staying_of.Goals as goal
+use Rattle.key_rules.specs.InSlots.{holds_staying_of}
+use Rattle.key_rules.specs.Staying.{is_of}
+use Rattle.key_rules.proofs.Stays.{count_used, filter_both}
+use Rattle.key_rules.proofs.judge.count_staying_of.Goals as goal
 
 pub returns-clause-number : goal.returns-clause-number
 returns-clause-number c =

@@ -2,10 +2,10 @@ use Rattle.std.proofs.Common.{◌≡◌, refl, ◌∙◌, rules, tests}
 use Rattle.std.proofs.lemmas.Iterator.{YieldsList-from_slice}
 use Rattle.std.proofs.lemmas.Iterator.Search.{any_from_yields_List}
 use Rattle.std.specs.List.{list_any}
-use Rattle.key_sets.specs.InSlots.{holds_one_of}
-use Rattle.key_sets.specs.Puts.{is_of}
-use Rattle.key_sets.proofs.Stays.{any_used}
-use Rattle.key_sets.proofs.judge.has_version.Goals as goal
+use Rattle.key_rules.specs.InSlots.{holds_one_of}
+use Rattle.key_rules.specs.Staying.{is_of}
+use Rattle.key_rules.proofs.Stays.{any_used}
+use Rattle.key_rules.proofs.judge.has_version.Goals as goal
 
 pub returns : goal.returns
 returns c =
