@@ -166,7 +166,7 @@ wants "up to date, rt is not asked" "" "$(cat "$JOURNAL")"
 wants "up to date, no word" "" "$(cat "$tmp/err")"
 touch crates/gp_tool/src/lib.rt
 runs ./gp again
-wants "after an edit, what stands above it" "gp gp_process gp_tool " "$(crates_in end)"
+wants "after an edit, what stands above it" "gp gp_tool " "$(crates_in end)"
 
 # As many at once as are asked for.
 at_once() { awk '/^begin/ { n++ } /^end/ { n-- } n > most { most = n } END { print most + 0 }' "$JOURNAL"; }

@@ -287,7 +287,7 @@ judge(f"a key set of key version number {version}" in Path(STATUS).read_text(), 
 tool = Path("crates/gp_tool/src")
 tool_text = "".join((tool / name).read_text() for name in ("ending.rt", "run_verb.rt", "top.rt"))
 ends = set(re.findall(r"=> (\d+),$", tool_text, re.M))
-ends |= set(re.findall(r"ExitCode::from\((\d+)\)", Path("crates/gp_process/src/program.rt").read_text()))
+ends |= set(re.findall(r"ExitCode::from\((\d+)\)", Path("crates/gp_tool/src/program.rt").read_text()))
 ends = dict.fromkeys(sorted(ends, key=int), True)
 script = re.search(r"^readonly no_binary=(\d+)$", Path("tools/prove").read_text(), re.M).group(1)
 compare("exit status", STATUS, rows_by(STATUS, 0, lambda row: True, "exit status", "what it means"), "the code", ends | {script: True})

@@ -5,7 +5,7 @@
 //! want of memory for the words 7 too, with nothing written.
 #![tactic(auto)]
 
-use gp_process::process;
+use gp_tool::process;
 use std::env;
 use std::process::ExitCode;
 

@@ -5,8 +5,8 @@ ghost use Rattle.std.specs.IoError.{error_kind};
 ghost use Rattle.std.specs.Process.{exit_status};
 ghost use Rattle.gp_tool.specs.Words.{HaveForm};
 
+use crate::top::gp;
 use flash_core::FileFlash;
-use gp_tool::gp;
 use io_edge::{StdSink, StdSource};
 use std::alloc::{AllocError, Global};
 use std::env::Args;
@@ -20,7 +20,7 @@ fn words_of(alloc: Global, args: Args) -> Result<Vec<String>, AllocError> {
 }
 
 // Does what the words say, over the standard streams and the file, and answers the status.
-fn run<R: Files<File = File> + Input + Print + AllocGlobal>(rt: &R, words: &[String]) -> u8
+fn carry_out<R: Files<File = File> + Input + Print + AllocGlobal>(rt: &R, words: &[String]) -> u8
     ensures usage { (HaveForm words.now → ⊥) → (result ≡ 1) ⊎ (result ≡ 6) }
 {
     let mut source = StdSource::new(rt.reader());
@@ -44,7 +44,7 @@ pub fn process<R: Files<File = File> + Input + Print + AllocGlobal>(
         Err(_) => return ExitCode::from(1),
     };
     match words_of(rt.alloc(), args) {
-        Ok(words) => ExitCode::from(run(rt, &words)),
+        Ok(words) => ExitCode::from(carry_out(rt, &words)),
         Err(_) => ExitCode::from(7),
     }
 }
