@@ -1,5 +1,4 @@
 pub mod Blocks
-pub mod DataField
 pub mod Digits
 pub mod FewBlocks
 pub mod FewCommands

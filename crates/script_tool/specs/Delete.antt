@@ -3,9 +3,9 @@ use Rattle.std.specs.Prelude.{◌≡◌, ℕ, List, [], ◌∷◌, codes, ◌++�
 use Rattle.script_tool.specs.Values.{SpellsAid, SpellsByte}
 use Rattle.script_tool.specs.declared.deletion.Deletion.{Deletion}
 use Rattle.apdu_core.specs.Apdu.{Apdu}
-use Rattle.tokens_receipts.specs.Receipt.{with_length}
+use Rattle.tokens_receipts.specs.Token.{object_named_by, token_element}
 use Rattle.script_tool.specs.Command.{plain_command}
-use Rattle.script_tool.specs.Tokens.{token_element, token_made}
+use Rattle.script_tool.specs.Tokens.{token_made}
 use Rattle.script_tool.specs.declared.tokens.Tokens.{Tokens}
 
 -- the object, and P2: whether related objects go with it
@@ -16,5 +16,5 @@ SaysDelete _ d = ⊥
 -- DELETE (GlobalPlatform Card Specification 2.3.1, 11.2.2)
 abbrev pub deleting : Tokens → Deletion → Apdu
 deleting tokens d =
-    let before = 0x4F ∷ with_length d.aid in
+    let before = object_named_by d.aid in
     plain_command 0xE4 0x00 d.p2 (before ++ token_element (token_made tokens 0x00 d.p2 before))

@@ -1,9 +1,9 @@
 -- The tokens that a host makes for delegated management (GlobalPlatform Card Specification 2.3.1, 9.2 and C.4).
-use Rattle.std.specs.Prelude.{ℕ, List, [], ◌∷◌, ◌++◌, Option, None, Some}
+use Rattle.std.specs.Prelude.{ℕ, List, ◌++◌, Option, None, Some}
 use Rattle.std.specs.List.{flat_map}
 use Rattle.apdu_core.specs.Apdu.{Apdu}
 use Rattle.tokens_receipts.specs.Receipt.{with_length}
-use Rattle.tokens_receipts.specs.Token.{token}
+use Rattle.tokens_receipts.specs.Token.{token, token_field}
 use Rattle.script_tool.specs.Command.{plain_command, turned_at}
 use Rattle.script_tool.specs.declared.keys.OfSize.{OfSize}
 use Rattle.script_tool.specs.declared.keys.OfSize.TheVariants.{Aes128, Aes192, Aes256}
@@ -21,18 +21,8 @@ token_made Absent p1 p2 before = None
 token_made (Made key) p1 p2 before = Some (token (key_of key) p1 p2 before)
 token_made (Damaged key) p1 p2 before = Some (turned_at 15 (token (key_of key) p1 p2 before))
 
--- the last field of INSTALL: the token, or nothing
-abbrev pub token_field : Option (List ℕ) → List ℕ
-token_field None = []
-token_field (Some token) = token
-
 -- INSTALL: its fields and the token, each behind its length (11.5.2.3)
 abbrev pub install_command : Tokens → ℕ → List (List ℕ) → Apdu
 install_command tokens p1 fields =
     let before = flat_map with_length fields in
     plain_command 0xE6 p1 0x00 (before ++ with_length (token_field (token_made tokens p1 0x00 before)))
-
--- the element of the token that ends the data field of DELETE, or nothing (11.2.2.3)
-abbrev pub token_element : Option (List ℕ) → List ℕ
-token_element None = []
-token_element (Some token) = 0x9E ∷ with_length token

@@ -6,12 +6,12 @@ ghost use Rattle.script_tool.specs.Reads.{Reads};
 ghost use Rattle.script_tool.specs.Send.{plain_of};
 ghost use Rattle.script_tool.specs.Words.{left};
 
-use crate::fields::{Body, push_field};
 use crate::plain::Plain;
 use crate::tokens::Tokens;
 use crate::values::{aid, byte};
 use crate::words::Words;
 use card_types::Aid;
+use tokens_receipts::{object_field, push_field};
 
 /// An object to delete, and P2.
 #[derive(Clone, Copy)]
@@ -25,12 +25,10 @@ impl Deletion {
     pub fn command(&self, tokens: &Tokens) -> Plain
         ensures { plain_of result ≡ deleting tokens.now self.now }
     {
-        let mut body = Body::new();
-        body.push(0x4f);
-        push_field(&mut body, self.aid.as_bytes());
+        let mut body = object_field(&self.aid);
         if let Some(token) = tokens.token(0x00, self.p2, &body) {
             body.push(0x9e);
-            push_field(&mut body, &token);
+            push_field(&token, &mut body);
         }
         Plain {
             ins: 0xe4,

@@ -6,13 +6,13 @@ ghost use Rattle.script_tool.specs.Reads.{Reads};
 ghost use Rattle.script_tool.specs.Send.{plain_of};
 ghost use Rattle.script_tool.specs.Words.{left};
 
-use crate::fields::five_fields;
 use crate::install::install;
 use crate::plain::Plain;
 use crate::tokens::Tokens;
 use crate::values::aid;
 use crate::words::Words;
 use card_types::Aid;
+use tokens_receipts::five_fields;
 
 /// An application and the security domain that it goes to.
 #[derive(Clone, Copy)]

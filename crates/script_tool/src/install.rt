@@ -9,13 +9,13 @@ ghost use Rattle.script_tool.specs.Values.{SpellsByte};
 ghost use Rattle.script_tool.specs.Words.{left};
 ghost use Rattle.tokens_receipts.specs.Receipt.{with_length};
 
-use crate::fields::{Body, five_fields, push_field};
 use crate::plain::Plain;
 use crate::tokens::Tokens;
 use crate::values::{aid, byte, bytes};
 use crate::words::Words;
 use arrayvec::ArrayVec;
 use card_types::Aid;
+use tokens_receipts::{DataField, five_fields, push_field};
 
 /// An application to install: whether it is made selectable too, its Executable Load File and Module,
 /// its AID, its privileges in one byte or three, and its parameters.
@@ -53,14 +53,14 @@ impl Installation {
 }
 
 /// INSTALL of the fields that `body` holds, each behind its length, with its token.
-pub fn install(tokens: &Tokens, p1: u8, body: Body) -> Plain
+pub fn install(tokens: &Tokens, p1: u8, body: DataField) -> Plain
     requires { length body.items ≤ 238 }
     ensures { (fields : List (List ℕ)) → body.items ≡ flat_map with_length fields → plain_of result ≡ install_command tokens.now p1 fields }
 {
     let mut body = body;
     match tokens.token(p1, 0x00, &body) {
-        Some(token) => push_field(&mut body, &token),
-        None => push_field(&mut body, &[]),
+        Some(token) => push_field(&token, &mut body),
+        None => push_field(&[], &mut body),
     }
     Plain {
         ins: 0xe6,

@@ -5,10 +5,10 @@ ghost use Rattle.arrayvec.specs.ArrayVec.{array_vec_len};
 ghost use Rattle.policy_rules.specs.PutKey.{check_value, key_field, sealed_size};
 ghost use Rattle.script_tool.specs.PutKey.{sent_under};
 
-use crate::fields::Body;
 use aes_block::BlockKey;
 use arrayvec::ArrayVec;
 use cmac_kdf::cbc_seal_blocks;
+use tokens_receipts::DataField;
 
 // The first three bytes of the cipher of sixteen bytes 01.
 fn check_value<K: BlockKey>(key: &[u8]) -> [u8; 3]
@@ -45,7 +45,7 @@ fn sealed<D: BlockKey>(dek: &D, key: &[u8]) -> ArrayVec<u8, 32>
 }
 
 /// Adds the field of a key that goes out under Key-DEK.
-pub fn push_key_field<K: BlockKey, D: BlockKey>(dek: &D, key: &[u8], body: &mut Body)
+pub fn push_key_field<K: BlockKey, D: BlockKey>(dek: &D, key: &[u8], body: &mut DataField)
     requires length { length key.now ≡ K.LEN }
     requires room { array_vec_len body.old + 39 ≤ 255 }
     ensures added { body.new.items ≡ body.old.items ++ key_field (sent_under (D.key_bytes dek.now) key.now) }

@@ -42,7 +42,6 @@ mod control;
 mod deletion;
 mod exchange;
 mod extradition;
-mod fields;
 mod host_state;
 mod in_plain;
 mod in_session;

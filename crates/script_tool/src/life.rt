@@ -6,11 +6,11 @@ ghost use Rattle.script_tool.specs.Reads.{Reads};
 ghost use Rattle.script_tool.specs.Send.{plain_of};
 ghost use Rattle.script_tool.specs.Words.{left};
 
-use crate::fields::Body;
 use crate::plain::Plain;
 use crate::values::{aid, byte};
 use crate::words::Words;
 use card_types::Aid;
+use tokens_receipts::DataField;
 
 /// A SET STATUS: P1, P2, and the object if one is named.
 #[derive(Clone, Copy)]
@@ -25,7 +25,7 @@ impl LifeChange {
     pub fn command(&self) -> Plain
         ensures { plain_of result ≡ changing_life self.now }
     {
-        let mut body = Body::new();
+        let mut body = DataField::new();
         if let Some(aid) = &self.aid {
             body.try_extend_from_slice(aid.as_bytes()).unwrap();
         }

@@ -6,11 +6,11 @@ ghost use Rattle.script_tool.specs.Reads.{Reads};
 ghost use Rattle.script_tool.specs.Send.{plain_of};
 ghost use Rattle.script_tool.specs.Words.{left};
 
-use crate::fields::{Body, push_field};
 use crate::plain::Plain;
 use crate::values::{byte, bytes};
 use crate::words::Words;
 use arrayvec::ArrayVec;
+use tokens_receipts::{DataField, push_field};
 
 /// A GET STATUS: P1, and the bytes that each AID begins with.
 #[derive(Drop)]
@@ -24,9 +24,9 @@ impl Listing {
     pub fn command(&self, p2: u8) -> Plain
         ensures { plain_of result ≡ listing_command p2 self.now }
     {
-        let mut body = Body::new();
+        let mut body = DataField::new();
         body.push(0x4f);
-        push_field(&mut body, &self.prefix);
+        push_field(&self.prefix, &mut body);
         Plain {
             ins: 0xf2,
             p1: self.p1,

@@ -10,7 +10,6 @@ ghost use Rattle.script_tool.specs.Words.{left};
 ghost use Rattle.tokens_receipts.specs.Receipt.{with_length};
 
 use crate::content::{Piece, part};
-use crate::fields::{Body, push_field};
 use crate::install::install;
 use crate::number::count;
 use crate::plain::Plain;
@@ -19,6 +18,7 @@ use crate::values::{aid, byte, bytes};
 use crate::words::Words;
 use arrayvec::ArrayVec;
 use card_types::Aid;
+use tokens_receipts::{DataField, four_fields};
 
 /// A hash function.
 #[derive(Clone, Copy)]
@@ -203,17 +203,17 @@ impl LoadFile {
     }
 
     // What INSTALL for load says of it.
-    fn fields(&self) -> Body
+    fn fields(&self) -> DataField
         ensures items { result.items ≡ flat_map with_length
             (self.now.file ∷ aid_or_none self.now.domain ∷ hash_of self.now.hash (content_bytes self.now.content) ∷ [] ∷ []) }
         ensures length { length result.items ≤ 68 }
     {
-        let mut fields = Body::new();
-        push_field(&mut fields, self.file.as_bytes());
-        push_field(&mut fields, name(&self.domain));
-        push_field(&mut fields, &self.hash_value());
-        push_field(&mut fields, &[]);
-        fields
+        four_fields(
+            self.file.as_bytes(),
+            name(&self.domain),
+            &self.hash_value(),
+            &[],
+        )
     }
 
     /// INSTALL for load.

@@ -6,11 +6,11 @@ ghost use Rattle.script_tool.specs.Reads.{Reads};
 ghost use Rattle.script_tool.specs.Send.{IsPlain, SaysSend, SpellsPlain, plain_of};
 ghost use Rattle.script_tool.specs.Words.{left};
 
-use crate::fields::Body;
 use crate::values::bytes;
 use crate::words::Words;
 use apdu_core::Command;
 use arrayvec::ArrayVec;
+use tokens_receipts::DataField;
 
 /// A short command of class 80, without Le.
 #[derive(Drop)]
@@ -18,7 +18,7 @@ pub struct Plain {
     pub ins: u8,
     pub p1: u8,
     pub p2: u8,
-    pub body: Body,
+    pub body: DataField,
 }
 
 impl Plain {

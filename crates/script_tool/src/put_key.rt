@@ -8,13 +8,13 @@ ghost use Rattle.script_tool.specs.Reads.{Reads};
 ghost use Rattle.script_tool.specs.Send.{plain_of};
 ghost use Rattle.script_tool.specs.Words.{left};
 
-use crate::fields::Body;
 use crate::key_field::push_key_field;
 use crate::keys::{OfSize, Trio, three_keys};
 use crate::plain::Plain;
 use crate::values::{array, byte};
 use crate::words::Words;
 use aes_block::{BlockKey, SealingAes128, SealingAes192, SealingAes256};
+use tokens_receipts::DataField;
 
 /// One key or three, of `N` bytes each.
 #[derive(Clone, Copy)]
@@ -96,11 +96,11 @@ impl<const N: usize> NewKeys<N> {
     }
 
     // The new key version number and the key fields.
-    fn body<K: BlockKey, D: BlockKey>(&self, version: u8, dek: &D) -> Body
+    fn body<K: BlockKey, D: BlockKey>(&self, version: u8, dek: &D) -> DataField
         requires { N ≡ K.LEN }
         ensures { result.items ≡ version ∷ flat_map (λ key. key_field (sent_under (D.key_bytes dek.now) key)) (keys_of self.now) }
     {
-        let mut body = Body::new();
+        let mut body = DataField::new();
         body.push(version);
         match self {
             NewKeys::One(key) => push_key_field::<K, D>(dek, key, &mut body),

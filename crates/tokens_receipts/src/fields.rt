@@ -1,12 +1,16 @@
-//! Fields behind their length.
+//! Fields behind their length, and what data fields of commands are built of.
 
-ghost use Rattle.std.specs.Prelude.{◌≡◌, ◌+◌, ◌++◌, ◌≤◌, length};
+ghost use Rattle.std.specs.Prelude.{◌≡◌, ◌+◌, ◌++◌, ◌≤◌, [], ◌∷◌, length};
 ghost use Rattle.std.specs.List.{flat_map};
 ghost use Rattle.std.specs.Option.{option_copied};
 ghost use Rattle.tokens_receipts.specs.Receipt.{some_aid, with_length};
+ghost use Rattle.tokens_receipts.specs.Token.{object_named_by};
 
 use arrayvec::ArrayVec;
 use card_types::Aid;
+
+/// The data field of a command.
+pub type DataField = ArrayVec<u8, 255>;
 
 /// Adds a field behind its length in one byte.
 pub fn push_field<const N: usize>(field: &[u8], bytes: &mut ArrayVec<u8, N>)
@@ -29,4 +33,46 @@ pub fn push_aid<const N: usize>(aid: Option<&Aid>, bytes: &mut ArrayVec<u8, N>)
         Some(aid) => push_field(aid.as_bytes(), bytes),
         None => {}
     }
+}
+
+/// Four fields, each behind its length: those that an INSTALL for load has before its token.
+pub fn four_fields(first: &[u8], second: &[u8], third: &[u8], fourth: &[u8]) -> DataField
+    requires room { length first.now + length second.now + length third.now + length fourth.now ≤ 251 }
+    ensures items { result.items ≡ flat_map with_length (first.now ∷ second.now ∷ third.now ∷ fourth.now ∷ []) }
+    ensures length { length result.items ≡ 4 + length first.now + length second.now + length third.now + length fourth.now }
+{
+    let mut field = DataField::new();
+    push_field(first, &mut field);
+    push_field(second, &mut field);
+    push_field(third, &mut field);
+    push_field(fourth, &mut field);
+    field
+}
+
+/// Five fields, each behind its length: those that an INSTALL for install, make selectable or extradition has before its token.
+pub fn five_fields(
+    first: &[u8],
+    second: &[u8],
+    third: &[u8],
+    fourth: &[u8],
+    fifth: &[u8],
+) -> DataField
+    requires room { length first.now + length second.now + length third.now + length fourth.now + length fifth.now ≤ 250 }
+    ensures items { result.items ≡ flat_map with_length (first.now ∷ second.now ∷ third.now ∷ fourth.now ∷ fifth.now ∷ []) }
+    ensures length { length result.items ≡ 5 + length first.now + length second.now + length third.now + length fourth.now + length fifth.now }
+{
+    let mut field = four_fields(first, second, third, fourth);
+    push_field(fifth, &mut field);
+    field
+}
+
+/// The AID that a DELETE of an object names, behind its tag: what stands before its token.
+pub fn object_field(aid: &Aid) -> DataField
+    ensures items { result.items ≡ object_named_by aid.now }
+    ensures short { length result.items ≤ 18 }
+{
+    let mut field = DataField::new();
+    field.push(0x4F);
+    push_field(aid.as_bytes(), &mut field);
+    field
 }
