@@ -1,4 +1,8 @@
 pub mod ActingDomain
+pub mod Alike
+pub mod AlikeLoads
+pub mod AlikeManaged
+pub mod AlikePlain
 pub mod AllLawful
 pub mod AnsweredKeeps
 pub mod AnySlot
@@ -46,6 +50,7 @@ pub mod InstallApplicationJudging
 pub mod InstallLoadJudging
 pub mod InstallLoadLaws
 pub mod Instructed
+pub mod JudgedAlike
 pub mod Judging
 pub mod KeepsSound
 pub mod KeyCounts
@@ -74,6 +79,7 @@ pub mod Offers
 pub mod OneOutcome
 pub mod OneSet
 pub mod Opened
+pub mod OpenedJudged
 pub mod Options
 pub mod OwnKeys
 pub mod Passing
@@ -102,6 +108,7 @@ pub mod GetStatusWhole
 pub mod StoreDataElements
 pub mod StoreDataLaws
 pub mod StoredCount
+pub mod TakenJudged
 pub mod ThingsFound
 pub mod AllSparing
 pub mod AnsweredSpares

@@ -47,6 +47,7 @@ pub mod ManageChannel
 pub mod ManagedForm
 pub mod Management
 pub mod ObjectsFound
+pub mod OwnRules
 pub mod PutKey
 pub mod PutKeyRules
 pub mod Receipts

@@ -148,8 +148,9 @@ fn holds_lone_key(held: &Option<KeyRec>, owner: u8, version: u8) -> bool
     }
 }
 
-// The slot of the nearest domain above the one in a slot that holds a privilege and such a key, and the key.
-pub(crate) fn nearest_with_key(
+/// The slot of the nearest domain above the one in a slot that holds a privilege, and a key of its own with a key version number and
+/// key identifier 01, and the key.
+pub fn nearest_with_key(
     tables: &Tables,
     domain: u8,
     privilege: Privileges,

@@ -3,6 +3,7 @@
 ghost use Rattle.std.specs.Prelude.{ℕ, List};
 ghost use Rattle.card_types.specs.Registry.{Registry};
 ghost use Rattle.policy_rules.specs.Laws.{ChangesAreOpened, NumbersRise, NumbersRiseInRuns, OneForm, OneOutcome, OneRun, OthersAreChanges, PlacesAreForgotten, RefusalsDropOffers, StartsSound, StepsKeepSound};
+ghost use Rattle.policy_rules.specs.OwnRules.{AlikeAreJudgedAlike, OpenedAreJudged};
 ghost use Rattle.policy_rules.specs.RunsApart.{RootsGetNothing, TreesStay, TreesStayInRuns};
 ghost use Rattle.policy_rules.specs.Trees.{IsWholeTree};
 
@@ -58,4 +59,12 @@ pub fn trees_stay()
 pub fn numbers_rise()
     ensures step { NumbersRise }
     ensures run { NumbersRiseInRuns }
+{}
+
+/// A protected command that opens in the session of its channel comes to its own rules, unless the card is terminated. Of two commands
+/// that are alike in what these rules look at the same one fails first. Of PUT KEY and EXTERNAL AUTHENTICATE that is not said: their
+/// rules look at keys of the session or the offer.
+pub fn own_rules_decide()
+    ensures opened { OpenedAreJudged }
+    ensures alike { AlikeAreJudgedAlike }
 {}

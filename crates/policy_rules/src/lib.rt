@@ -39,7 +39,7 @@ mod store_data;
 
 pub use card_status::{RuleSC, judge_card_status};
 pub use class::{Class, channel_of, is_plain_management, is_protected};
-pub use delegation::{RuleRC, RuleTK, Signed, holds, judge_delegated};
+pub use delegation::{RuleRC, RuleTK, Signed, holds, nearest_with_key};
 pub use delete_key::{RuleDK, judge_delete_key};
 pub use delete_object::{Deletion, DeletionRequest, RuleDO, judge_deletion};
 pub use entry_status::{EntryStatusRequest, RuleSS, StatusChange, judge_entry_status};
@@ -57,7 +57,7 @@ pub use instruction::{
 };
 pub use key_order::{KeyName, next_key};
 pub use laws::{
-    changes_are_opened, numbers_rise, one_form, one_outcome, others_are_changes,
+    changes_are_opened, numbers_rise, one_form, one_outcome, others_are_changes, own_rules_decide,
     places_are_forgotten, refusals_drop_offers, steps_keep_sound, trees_stay,
 };
 pub use literals::{classes, constants, key_fields, status_words};
@@ -67,7 +67,7 @@ pub use make_selectable::{RuleMS, SelectableRequest, Selecting, judge_selectable
 pub use manage_channel::{RuleMC, judge_more_channel};
 pub use management::RuleM;
 pub use own_rules::judge;
-pub use put_key::{PutKeys, RulePK, SealedKey, judge_put_key, judge_put_keys, judge_put_versions};
+pub use put_key::{PutKeys, RulePK, SealedKey, judge_put_keys, judge_put_versions};
 pub use request::{Request, parse};
 pub use rule::{Rule, RuleG, RulePS};
 pub use select::{RuleSE, judge_select};
