@@ -5,10 +5,10 @@ ghost use Rattle.faults.specs.Faults.{HasCause};
 ghost use Rattle.gp_tool.specs.Replay.{difference};
 
 use crate::form::COMMAND_LIMIT;
-use crate::push::{push_decimal, push_hex, push_word};
 use arrayvec::ArrayVec;
 use card_core::REPLY_LIMIT;
 use io_edge::{Sink, WriteFailed};
+use line_text::{push_decimal, push_hex, push_word};
 
 /// How many bytes the text has, at most: two replies in digits, and the words and the number beside them.
 const DIFFERENCE_ROOM: usize = 2 * COMMAND_LIMIT + 2 * REPLY_LIMIT + 64;

@@ -33,7 +33,6 @@ mod mill;
 mod mill_verb;
 mod play;
 mod program;
-mod push;
 mod replay;
 mod reply;
 mod run;

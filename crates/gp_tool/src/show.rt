@@ -27,7 +27,6 @@ mod listing;
 mod objects;
 mod owner;
 
-use crate::push::{push_hex, push_word};
 use arrayvec::ArrayVec;
 use card_core::Card;
 use card_types::{CardLife, Tables};
@@ -39,6 +38,7 @@ use flash_core::Flash;
 use io_edge::{Sink, WriteFailed};
 use keys::show_keys;
 use line::LINE_ROOM;
+use line_text::{push_hex, push_word};
 use objects::show_objects;
 
 // Writes the line of the card.

@@ -11,12 +11,12 @@ ghost use Rattle.card_types.specs.Well.{Well};
 ghost use Rattle.faults.specs.Faults.{HasCause};
 ghost use Rattle.gp_tool.specs.Mill.{IsCounterText, count_line, summary, workload_line};
 
-use crate::push::{push_decimal, push_hex, push_word};
 use crate::tally::Tally;
 use crate::workload::Workload;
 use arrayvec::ArrayVec;
 use card_types::{ISSUER_SLOT, Tables};
 use io_edge::{Sink, WriteFailed};
+use line_text::{push_decimal, push_hex, push_word};
 use policy_rules::session_set;
 
 /// How many bytes the summary has, at most.

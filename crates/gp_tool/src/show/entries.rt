@@ -13,7 +13,6 @@ ghost use Rattle.faults.specs.Faults.{HasCause};
 ghost use Rattle.gp_tool.specs.Listing.{Writes};
 ghost use Rattle.gp_tool.specs.Show.{entry_kind, entry_line, entry_names, entry_state};
 
-use crate::push::{push_hex, push_word};
 use crate::show::line::LINE_ROOM;
 use crate::show::listing::{Listing, TextListing, write_lines};
 use crate::show::owner::{aid_of_domain, aid_of_file};
@@ -21,6 +20,7 @@ use arrayvec::ArrayVec;
 use bitflags::Flags;
 use card_types::{Entry, Privileges, Tables};
 use io_edge::{Sink, WriteFailed};
+use line_text::{push_hex, push_word};
 
 /// The entries, in ascending order of their AIDs.
 #[derive(Drop)]

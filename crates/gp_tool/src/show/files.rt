@@ -16,7 +16,6 @@ ghost use Rattle.gp_tool.specs.declared.show.fault.ShowFault.TheVariants.{Write}
 ghost use Rattle.gp_tool.specs.Listing.{Writes, is_next_file};
 ghost use Rattle.gp_tool.specs.Show.{ShowCause, file_content, file_line, file_names};
 
-use crate::push::{push_decimal, push_hex, push_word};
 use crate::show::fault::ShowFault;
 use crate::show::line::LINE_ROOM;
 use crate::show::listing::{Listing, next};
@@ -26,6 +25,7 @@ use card_core::Card;
 use card_types::{FILES, LoadFile, Tables};
 use flash_core::Flash;
 use io_edge::Sink;
+use line_text::{push_decimal, push_hex, push_word};
 
 /// The Executable Load Files, in ascending order of their AIDs.
 #[derive(Drop)]

@@ -11,13 +11,13 @@ ghost use Rattle.faults.specs.Faults.{HasCause};
 ghost use Rattle.gp_tool.specs.Listing.{Writes};
 ghost use Rattle.gp_tool.specs.Show.{key_line};
 
-use crate::push::{push_decimal, push_hex, push_word};
 use crate::show::line::LINE_ROOM;
 use crate::show::listing::{Listing, TextListing, write_lines};
 use crate::show::owner::{aid_of_domain, owners_cmp};
 use arrayvec::ArrayVec;
 use card_types::{KeyRec, Tables};
 use io_edge::{Sink, WriteFailed};
+use line_text::{push_decimal, push_hex, push_word};
 
 /// The keys, by their owners' AIDs, their key version numbers and their key identifiers.
 #[derive(Drop)]

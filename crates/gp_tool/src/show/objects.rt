@@ -11,13 +11,13 @@ ghost use Rattle.faults.specs.Faults.{HasCause};
 ghost use Rattle.gp_tool.specs.Listing.{Writes};
 ghost use Rattle.gp_tool.specs.Show.{object_line};
 
-use crate::push::{push_hex, push_word};
 use crate::show::line::LINE_ROOM;
 use crate::show::listing::{Listing, TextListing, write_lines};
 use crate::show::owner::{aid_of_domain, owners_cmp};
 use arrayvec::ArrayVec;
 use card_types::{Object, Tables};
 use io_edge::{Sink, WriteFailed};
+use line_text::{push_hex, push_word};
 
 /// The data objects, by their owners' AIDs and their tags.
 #[derive(Drop)]
