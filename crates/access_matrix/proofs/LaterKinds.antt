@@ -1,0 +1,147 @@
+-- Acts of one kind after those of another.
+use Rattle.std.proofs.Common.{◌≡◌, ◌≢◌, inl, inr, ℕ, ◌+◌, ◌<◌, ◌≤◌, List, [], ◌∷◌, Option, None, Some, ap, sym, subst, ◌∙◌, arith}
+use Rattle.std.proofs.lemmas.Bool.Decides.{nat_tests}
+use Rattle.std.specs.Prelude.{IfSome, IfNone}
+use Rattle.std.specs.declared.cmp.Ordering.TheVariants.{Less, Greater}
+use Rattle.card_types.specs.AidOrder.{aid_order}
+use Rattle.card_types.specs.declared.tables.Tables.{Tables}
+use Rattle.card_types.proofs.SameAid.{aid_same_equal}
+use Rattle.access_matrix.specs.Deeds.{deed_of}
+use Rattle.access_matrix.specs.Next.{HasPlace, HasPlaceFrom, HasSpot, IsNext, NoneNext, deed_place, place_order, spot_of}
+use Rattle.access_matrix.specs.Rights.{kind_of}
+use Rattle.access_matrix.specs.declared.act.Act.{Act}
+use Rattle.access_matrix.specs.declared.deed.Deed.{Deed}
+use Rattle.access_matrix.specs.declared.deed.Deed.TheVariants.{Delete, Related, Lock, Move, Install, Load}
+use Rattle.access_matrix.proofs.Places.{lower_first, not_above_first, not_greater, same_first, which_part}
+
+lower_kind : (k l : ℕ) → k < l → aid_order (k ∷ []) (l ∷ []) ≡ Less
+lower_kind k l below = grind (arith, nat_tests)
+
+is_lower_kind : (k l : ℕ) → aid_order (k ∷ []) (l ∷ []) ≡ Less → k < l
+is_lower_kind k l less = grind (arith, nat_tests)
+
+kind_not_above : (k l : ℕ) → k ≤ l → aid_order (k ∷ []) (l ∷ []) ≢ Greater
+kind_not_above k l upto above = grind (arith, nat_tests)
+
+one_kind : (k l : ℕ) → k ∷ [] ≡ l ∷ [] → k ≡ l
+one_kind k l is = cc
+
+pub kind_below : (deed : Deed) → kind_of deed < 6
+kind_below (Delete aid) = omega arith
+kind_below (Related file) = omega arith
+kind_below (Lock aid) = omega arith
+kind_below (Move aid domain) = omega arith
+kind_below (Install file) = omega arith
+kind_below Load = omega arith
+
+module _ (tables : Tables) where
+  kind_is : (k : ℕ) (act : Act) (spot : List (List ℕ)) → HasSpot tables k act spot → kind_of (deed_of tables act) ≡ k
+  kind_is k act spot has = (let is = has.1 in cc)
+
+  of_kind : (k : ℕ) (act : Act) (place : List (List ℕ)) → HasPlace tables act place → k ∷ [] ≡ kind_of (deed_of tables act) ∷ []
+      → HasSpot tables k act (spot_of (deed_of tables act))
+  of_kind k act place has same = (has.0, ap (λ (h : List ℕ). h ∷ spot_of (deed_of tables act)) (sym same))
+
+  at_or_after : (k : ℕ) (act : Act) (place : List (List ℕ)) → HasPlaceFrom tables k act place → NoneNext (HasSpot tables k) place_order None
+      → k + 1 ≤ kind_of (deed_of tables act)
+  at_or_after k act place has none =
+      let deed = deed_of tables act in
+      let from : k ≤ kind_of deed = has.1 in
+      let other : k ≡ kind_of deed → 1 ≤ 0 = λ is.
+      absurd (none act (spot_of deed) (of_kind k act place has.0 (ap (λ (n : ℕ). n ∷ []) is)) tt) in
+      grind arith
+
+  module _ (k : ℕ) where
+    -- the first of a kind comes before those of later kinds
+    pub first_of_kind : (act : Act) → IsNext (HasSpot tables k) place_order None act → IsNext (HasPlaceFrom tables k) place_order None act
+    first_of_kind act next =
+        let same = kind_is k act next.key next.has in
+        record {
+          key = (k ∷ []) ∷ next.key;
+          has = (next.has, omega arith);
+          past = tt;
+          least = λ other another has past.
+              (let deed = deed_of tables other in
+              subst (λ (p : List (List ℕ)). place_order ((k ∷ []) ∷ next.key) p ≢ Greater) has.0.1
+              (not_above_first (k ∷ []) (kind_of deed ∷ []) next.key (spot_of deed) (kind_not_above k (kind_of deed) has.1) (λ alike.
+              next.least other (spot_of deed) (of_kind k other another has.0 alike) tt)));
+        }
+
+    -- and where there is none, the first of those does
+    module _ (none : NoneNext (HasSpot tables k) place_order None) (l : ℕ) (later : l ≡ k + 1) where
+      pub first_of_later : (act : Act) → IsNext (HasPlaceFrom tables l) place_order None act → IsNext (HasPlaceFrom tables k) place_order None act
+      first_of_later act next = record {
+        key = next.key;
+        has = (next.has.0, (let from = next.has.1 in omega arith));
+        past = tt;
+        least = λ other another has past. next.least other another (has.0, (let more = at_or_after k other another has none in omega arith)) tt;
+      }
+
+  module _ (last : Deed) where
+    which : (act : Act) (place : List (List ℕ)) → HasPlace tables act place → place_order (deed_place last) place ≡ Less
+        → place_order (deed_place last) (deed_place (deed_of tables act)) ≡ Less
+    which act place has past = subst (λ (p : List (List ℕ)). place_order (deed_place last) p ≡ Less) (sym has.1) past
+
+    -- the next act of the same kind comes first
+    pub next_of_kind : (act : Act) → IsNext (HasSpot tables (kind_of last)) place_order (Some (spot_of last)) act
+        → IsNext (HasPlace tables) place_order (Some (deed_place last)) act
+    next_of_kind act next = record {
+      key = (kind_of last ∷ []) ∷ next.key;
+      has = next.has;
+      past = same_first (kind_of last ∷ []) (spot_of last) next.key ∙ next.past;
+      least = λ other another has past.
+          (let deed = deed_of tables other in
+          subst (λ (p : List (List ℕ)). place_order ((kind_of last ∷ []) ∷ next.key) p ≢ Greater) has.1
+          (elim (which_part (kind_of last ∷ []) (kind_of deed ∷ []) (spot_of last) (spot_of deed) (which other another has past)) [
+            | inl less ↦ not_above_first (kind_of last ∷ []) (kind_of deed ∷ []) next.key (spot_of deed) (not_greater _ less) (λ alike.
+                (let tied = aid_same_equal (kind_of last ∷ []) (kind_of deed ∷ []) alike in let clash = sym tied ∙ less in absurd cc))
+            | inr same ↦ not_above_first (kind_of last ∷ []) (kind_of deed ∷ []) next.key (spot_of deed)
+                (kind_not_above (kind_of last) (kind_of deed) (let is = one_kind (kind_of last) (kind_of deed) same.0 in omega arith))
+                (λ alike. next.least other (spot_of deed) (of_kind (kind_of last) other another has same.0) same.1)
+          ]));
+    }
+
+    -- and those of later kinds come where there is none
+    module _ (none : NoneNext (HasSpot tables (kind_of last)) place_order (Some (spot_of last))) where
+      later : (act : Act) (place : List (List ℕ)) → HasPlace tables act place → place_order (deed_place last) place ≡ Less
+          → kind_of last + 1 ≤ kind_of (deed_of tables act)
+      later act place has past =
+          let deed = deed_of tables act in
+          elim (which_part (kind_of last ∷ []) (kind_of deed ∷ []) (spot_of last) (spot_of deed) (which act place has past)) [
+            | inl less ↦ (let below = is_lower_kind (kind_of last) (kind_of deed) less in omega arith)
+            | inr same ↦ absurd (none act (spot_of deed) (of_kind (kind_of last) act place has same.0) same.1)
+          ]
+
+      module _ (l : ℕ) (after : l ≡ kind_of last + 1) where
+        pub next_of_later : (act : Act) → IsNext (HasPlaceFrom tables l) place_order None act → IsNext (HasPlace tables) place_order (Some (deed_place last)) act
+        next_of_later act next = record {
+          key = next.key;
+          has = next.has.0;
+          past =
+              (let deed = deed_of tables act in
+              let more : l ≤ kind_of deed = next.has.1 in
+              subst (λ (p : List (List ℕ)). place_order (deed_place last) p ≡ Less) next.has.0.1
+              (lower_first (kind_of last ∷ []) (kind_of deed ∷ []) (spot_of last) (spot_of deed) (lower_kind (kind_of last) (kind_of deed) (omega arith))));
+          least = λ other another has past. next.least other another (has, (let more = later other another has past in omega arith)) tt;
+        }
+
+        pub none_of_later : NoneNext (HasPlaceFrom tables l) place_order None → NoneNext (HasPlace tables) place_order (Some (deed_place last))
+        none_of_later none_more act place has past = none_more act place (has, (let more = later act place has past in omega arith)) tt
+
+  -- from the first kind on there are all
+  pub first_of_all : (act : Act) → IsNext (HasPlaceFrom tables 0) place_order None act → IsNext (HasPlace tables) place_order None act
+  first_of_all act next = record {
+    key = next.key;
+    has = next.has.0;
+    past = tt;
+    least = λ other another has past. next.least other another (has, omega arith) tt;
+  }
+
+-- what is so of one that is found
+pub if_some : {X : Type 0} (P Q : X → Type 0) (found : Option X) → ((x : X) → P x → Q x) → IfSome found P → IfSome found Q
+if_some P Q None turn is = tt
+if_some P Q (Some x) turn is = turn x is
+
+pub if_none : {X : Type 0} (P Q : Type 0) (found : Option X) → (P → Q) → IfNone found P → IfNone found Q
+if_none P Q None turn is = turn is
+if_none P Q (Some x) turn is = tt

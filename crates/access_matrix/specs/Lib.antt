@@ -1,0 +1,12 @@
+pub mod Deeds
+pub mod There
+pub mod Commands
+pub mod May
+pub mod Passing
+pub mod Rights
+pub mod Text
+pub mod Accepted
+pub mod Next
+pub mod Kinds
+pub mod Lines
+pub mod Walks

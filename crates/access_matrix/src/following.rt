@@ -1,0 +1,173 @@
+//! Things of a card in the order of their AIDs.
+
+ghost use Rattle.std.specs.Prelude.{◌≡◌, ◌&&◌, ℕ, IfSome, IfNone, option_copied};
+ghost use Rattle.std.proofs.lemmas.Cmp.{nat_list_cmp_total, on_total};
+ghost use Rattle.card_types.specs.AidOrder.{aid_order, same_aid};
+ghost use Rattle.card_types.specs.Following.{is_above};
+ghost use Rattle.card_types.specs.Layout.{HasLayout};
+ghost use Rattle.card_types.specs.Privileges.{has, security_domain};
+ghost use Rattle.access_matrix.specs.Next.{HasDomain, HasEntry, HasFile, HasThing, IsNext, NoneNext};
+
+use bitflags::Flags;
+use card_types::{
+    Aid, Entry, Found, LoadFile, Privileges, Search, Tables, Wants, first_that, least,
+};
+
+// Things with an AID past the given one, if one is given, by their AIDs.
+#[derive(Drop)]
+struct Past<'a> {
+    after: Option<&'a Aid>,
+}
+
+impl Past<'_> {
+    fn has(&self, aid: &Aid) -> bool
+        ensures { result ≡ is_above (option_copied self.now.after) aid.now }
+    {
+        match self.after {
+            Some(after) => after.is_below(aid),
+            None => true,
+        }
+    }
+}
+
+impl Search<Entry> for Past<'_> {
+    ghost fits = { λ past entry. is_above (option_copied past.after) entry.aid };
+
+    ghost order = { λ _ a b. aid_order a.aid b.aid };
+
+    fn fits(&self, thing: &Entry) -> bool {
+        self.has(&thing.aid)
+    }
+
+    fn is_below(&self, a: &Entry, b: &Entry) -> bool {
+        a.aid.is_below(&b.aid)
+    }
+
+    ghost total = { λ _. on_total (λ entry. entry.aid) nat_list_cmp_total };
+}
+
+impl Search<LoadFile> for Past<'_> {
+    ghost fits = { λ past file. is_above (option_copied past.after) file.aid };
+
+    ghost order = { λ _ a b. aid_order a.aid b.aid };
+
+    fn fits(&self, thing: &LoadFile) -> bool {
+        self.has(&thing.aid)
+    }
+
+    fn is_below(&self, a: &LoadFile, b: &LoadFile) -> bool {
+        a.aid.is_below(&b.aid)
+    }
+
+    ghost total = { λ _. on_total (λ file. file.aid) nat_list_cmp_total };
+}
+
+// Security domains among them.
+#[derive(Drop)]
+struct DomainsPast<'a> {
+    past: Past<'a>,
+}
+
+impl Search<Entry> for DomainsPast<'_> {
+    ghost fits = { λ domains entry. has security_domain entry.privileges && is_above (option_copied domains.past.after) entry.aid };
+
+    ghost order = { λ _ a b. aid_order a.aid b.aid };
+
+    fn fits(&self, thing: &Entry) -> bool {
+        thing.privileges.contains(Privileges::SECURITY_DOMAIN) && self.past.has(&thing.aid)
+    }
+
+    fn is_below(&self, a: &Entry, b: &Entry) -> bool {
+        a.aid.is_below(&b.aid)
+    }
+
+    ghost total = { λ _. on_total (λ entry. entry.aid) nat_list_cmp_total };
+}
+
+// The security domain with an AID.
+#[derive(Drop)]
+struct DomainWith<'a> {
+    aid: &'a Aid,
+}
+
+impl Wants<Entry> for DomainWith<'_> {
+    ghost fits = { λ domain entry. has security_domain entry.privileges && same_aid entry.aid domain.aid.now };
+
+    fn fits(&self, thing: &Entry) -> bool {
+        thing.privileges.contains(Privileges::SECURITY_DOMAIN) && thing.aid == *self.aid
+    }
+}
+
+/// The slot of the security domain with this AID. An application is none.
+pub fn find_domain(tables: &Tables, aid: &Aid) -> Option<u8>
+    requires layout { HasLayout tables.now }
+    ensures some { IfSome result (λ slot. HasDomain tables.now slot aid.now) }
+    ensures none { IfNone result ((slot : ℕ) → HasDomain tables.now slot aid.now → ⊥) }
+{
+    match first_that(&tables.entries, &DomainWith { aid }) {
+        Some(found) => Some(found.slot),
+        None => None,
+    }
+}
+
+/// The security domain with the least AID past the given one, or with the least of all.
+pub fn next_domain(tables: &Tables, after: Option<&Aid>) -> Option<u8>
+    requires layout { HasLayout tables.now }
+    ensures some { IfSome result (IsNext (HasDomain tables.now) aid_order (option_copied after.entry)) }
+    ensures none { IfNone result (NoneNext (HasDomain tables.now) aid_order (option_copied after.entry)) }
+{
+    let domains = DomainsPast {
+        past: Past { after },
+    };
+    match least(&tables.entries, &domains) {
+        Some(found) => Some(found.slot),
+        None => None,
+    }
+}
+
+/// The entry with the least AID past the given one, or with the least of all.
+pub fn next_entry(tables: &Tables, after: Option<&Aid>) -> Option<u8>
+    requires layout { HasLayout tables.now }
+    ensures some { IfSome result (IsNext (HasEntry tables.now) aid_order (option_copied after.entry)) }
+    ensures none { IfNone result (NoneNext (HasEntry tables.now) aid_order (option_copied after.entry)) }
+{
+    match least(&tables.entries, &Past { after }) {
+        Some(found) => Some(found.slot),
+        None => None,
+    }
+}
+
+/// The Executable Load File with the least AID past the given one, or with the least of all.
+pub fn next_file(tables: &Tables, after: Option<&Aid>) -> Option<u8>
+    requires layout { HasLayout tables.now }
+    ensures some { IfSome result (IsNext (HasFile tables.now) aid_order (option_copied after.entry)) }
+    ensures none { IfNone result (NoneNext (HasFile tables.now) aid_order (option_copied after.entry)) }
+{
+    match least(&tables.files, &Past { after }) {
+        Some(found) => Some(found.slot),
+        None => None,
+    }
+}
+
+/// The thing with the least AID past the given one, or with the least of all.
+pub fn next_thing(tables: &Tables, after: Option<&Aid>) -> Option<Found>
+    requires layout { HasLayout tables.now }
+    ensures some { IfSome result (IsNext (HasThing tables.now) aid_order (option_copied after.entry)) }
+    ensures none { IfNone result (NoneNext (HasThing tables.now) aid_order (option_copied after.entry)) }
+{
+    let past = Past { after };
+    let entry = least(&tables.entries, &past);
+    let file = least(&tables.files, &past);
+    match (entry, file) {
+        (Some(entry), Some(file)) => {
+            if file.thing.aid.is_below(&entry.thing.aid) {
+                Some(Found::File(file.slot))
+            } else {
+                Some(Found::Entry(entry.slot))
+            }
+        }
+        (Some(entry), None) => Some(Found::Entry(entry.slot)),
+        (None, Some(file)) => Some(Found::File(file.slot)),
+        (None, None) => None,
+    }
+}
