@@ -38,3 +38,5 @@ pub mod Turns
 pub mod WorkloadWords
 pub mod Written
 pub mod LinesAreRuns
+pub mod RightsWritten
+pub mod ViewWritten

@@ -15,37 +15,46 @@ use Rattle.rec_store.proofs.Leaving.{joined, weaker}
 use Rattle.gp_tool.specs.Around.{Around}
 use Rattle.gp_tool.specs.Ends.{EndCause, exit_status}
 use Rattle.gp_tool.specs.Flush.{AfterFlush}
-use Rattle.gp_tool.specs.Show.{shown}
-use Rattle.gp_tool.specs.Shown.{HasShown, ShowEnds}
+use Rattle.gp_tool.specs.Shown.{HasShown, IsFront, IsWhole, ShowEnds, WritesFront, WritesWhole}
 use Rattle.gp_tool.specs.declared.ending.Ending.{Ending}
 use Rattle.gp_tool.specs.declared.ending.Ending.TheVariants.{Finished, Differs, BadLine, FlashFault, ReadFault, WriteFault, InputTooLong}
+use Rattle.gp_tool.specs.declared.view.View.{View}
+use Rattle.gp_tool.specs.declared.view.View.TheVariants as view
 
-module _ (told writes : Type 0) (tells : told → writes) (registry : Registry) (old mid new : SinkState) (same : writes → new.written ≡ mid.written) (none : mid.flushes ≡ old.flushes) where
+-- all that there is to show is a front of it
+whole_front : (view : View) (registry : Registry) (text : List ℕ) → IsWhole view registry text → IsFront view registry text
+whole_front view.Registry registry text is = is
+whole_front view.Rights registry text (rights, end, next, all, is) = (rights, end, next, is)
+
+module _ (view : View) (told writes : Type 0) (tells : told → writes) (registry : Registry) (old mid new : SinkState) (same : writes → new.written ≡ mid.written) (none : mid.flushes ≡ old.flushes) where
   abbrev Behind : Ending → Ending → Type 0
   Behind ending result = AfterFlush writes ending mid new result
 
   -- all of the text was written
-  pub shown_whole : (result : Ending) → Behind Finished result → (told → mid.written ≡ old.written ++ shown registry) → ShowEnds told registry result old new
-  shown_whole result (inl done) wrote = subst (λ ending. ShowEnds told registry ending old new) (sym done.0) (λ t. same (tells t) ∙ wrote t)
-  shown_whole result (inr refused) wrote =
-      subst (λ ending. ShowEnds told registry ending old new) (sym refused.0) (
-        (λ t. (length (shown registry), same (tells t) ∙ wrote t ∙ ap (λ text. old.written ++ text) (sym (take-length (shown registry))))),
-        inr (rw none at refused.1, λ t. same (tells t) ∙ wrote t),
+  pub shown_whole : (result : Ending) → Behind Finished result → WritesWhole view told registry old mid → ShowEnds view told registry result old new
+  shown_whole result (inl done) (text, whole, wrote) =
+      subst (λ ending. ShowEnds view told registry ending old new) (sym done.0) (text, whole, λ t. same (tells t) ∙ wrote t)
+  shown_whole result (inr refused) (text, whole, wrote) =
+      subst (λ ending. ShowEnds view told registry ending old new) (sym refused.0) (
+        text,
+        whole_front view registry text whole,
+        (
+          λ t. (length text, same (tells t) ∙ wrote t ∙ ap (λ text. old.written ++ text) (sym (take-length text))),
+          inr (rw none at refused.1, λ t. same (tells t) ∙ wrote t),
+        ),
       )
 
-  abbrev Part : Type 0
-  Part = told → (count : ℕ) × (mid.written ≡ old.written ++ take count (shown registry))
-
   -- the device failed in the middle of it, or the sink
-  pub shown_failed : (result : Ending) → Behind FlashFault result → Part → ShowEnds told registry result old new
-  shown_failed result behind part =
-      subst (λ ending. ShowEnds told registry ending old new) (sym behind.0) (λ t. let some = part t in (some.0, same (tells t) ∙ some.1))
+  pub shown_failed : (result : Ending) → Behind FlashFault result → WritesFront view told registry old mid → ShowEnds view told registry result old new
+  shown_failed result behind (text, front, part) =
+      subst (λ ending. ShowEnds view told registry ending old new) (sym behind.0) (text, front, λ t. let some = part t in (some.0, same (tells t) ∙ some.1))
 
-  pub shown_refused : (result : Ending) → Behind WriteFault result → Part → ShowEnds told registry result old new
-  shown_refused result behind part =
-      subst (λ ending. ShowEnds told registry ending old new) (sym behind.0) (
-        (λ t. let some = part t in (some.0, same (tells t) ∙ some.1)),
-        inl (behind.1 ∙ none),
+  pub shown_refused : (result : Ending) → Behind WriteFault result → WritesFront view told registry old mid → ShowEnds view told registry result old new
+  shown_refused result behind (text, front, part) =
+      subst (λ ending. ShowEnds view told registry ending old new) (sym behind.0) (
+        text,
+        front,
+        (λ t. let some = part t in (some.0, same (tells t) ∙ some.1), inl (behind.1 ∙ none)),
       )
 
 -- one registry is that one
@@ -75,12 +84,12 @@ has_shown device counts old new card state stands powered shows same =
     }
 
 -- where nothing fails all is shown
-pub shows_all : (told : Type 0) (registry : Registry) (old new : SinkState) (before after : Around ℕ ℕ ℕ) (ending : Ending) → ShowEnds told registry ending old new → EndCause ending before after
+pub shows_all : (view : View) (told : Type 0) (registry : Registry) (old new : SinkState) (before after : Around ℕ ℕ ℕ) (ending : Ending) → ShowEnds view told registry ending old new → EndCause ending before after
     → (Rose before.sink after.sink → ⊥) → (Rose before.flash after.flash → ⊥) → exit_status ending ≡ 0
-shows_all told registry old new before after Finished ends cause no_sink no_device = refl
-shows_all told registry old new before after Differs ends cause no_sink no_device = absurd ends
-shows_all told registry old new before after BadLine ends cause no_sink no_device = absurd ends
-shows_all told registry old new before after FlashFault ends cause no_sink no_device = absurd (no_device cause.2)
-shows_all told registry old new before after ReadFault ends cause no_sink no_device = absurd ends
-shows_all told registry old new before after WriteFault ends cause no_sink no_device = absurd (no_sink cause.1)
-shows_all told registry old new before after InputTooLong ends cause no_sink no_device = absurd ends
+shows_all view told registry old new before after Finished ends cause no_sink no_device = refl
+shows_all view told registry old new before after Differs ends cause no_sink no_device = absurd ends.2
+shows_all view told registry old new before after BadLine ends cause no_sink no_device = absurd ends.2
+shows_all view told registry old new before after FlashFault ends cause no_sink no_device = absurd (no_device cause.2)
+shows_all view told registry old new before after ReadFault ends cause no_sink no_device = absurd ends.2
+shows_all view told registry old new before after WriteFault ends cause no_sink no_device = absurd (no_sink cause.1)
+shows_all view told registry old new before after InputTooLong ends cause no_sink no_device = absurd ends.2

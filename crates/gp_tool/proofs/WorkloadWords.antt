@@ -15,7 +15,7 @@ three_words : (x y z seed rounds : Word) → seed ≡ y → rounds ≡ z → ((w
     → HaveForm (x ∷ y ∷ z ∷ []) → ⊥
 three_words x y z seed rounds second third none (Format, are) = (let long : 3 ≡ 1 = ap length are in omega (arith, long))
 three_words x y z seed rounds second third none (Serve verb, are) = (let long : 3 ≡ 1 = ap length are in omega (arith, long))
-three_words x y z seed rounds second third none (Show, are) = (let long : 3 ≡ 1 = ap length are in omega (arith, long))
+three_words x y z seed rounds second third none (Show view, are) = (let long : 3 ≡ 1 = ap length are in omega (arith, long))
 three_words x y z seed rounds second third none (Mill work, (first, last, are, names)) =
     let same : first ≡ string_bytes seed = sym (ap (λ (l : List (List ℕ)). get_or l 1 []) are) ∙ ap string_bytes (sym second) in
     let same' : last ≡ string_bytes rounds = sym (ap (λ (l : List (List ℕ)). get_or l 2 []) are) ∙ ap string_bytes (sym third) in

@@ -22,6 +22,7 @@ use Rattle.gp_tool.specs.declared.ending.Ending.{Ending}
 use Rattle.gp_tool.specs.declared.workload.Workload.{Workload}
 use Rattle.gp_tool.specs.declared.verb.Verb.{Verb}
 use Rattle.gp_tool.specs.declared.verb.Verb.TheVariants.{Replay, Play}
+use Rattle.gp_tool.specs.declared.view.View.{View}
 
 -- The status is that of an ending, with its cause and its flush. `reads` counts the faults of a source; where nothing is read it is 0.
 pub record HasEnded {S K F : Type 0} (sink : Sink K) (device : Flash F) (ending : Ending) (status : ℕ) (reads reads' : ℕ) (old new : Around S K F) : Type 0 where
@@ -85,19 +86,19 @@ pub record EndsFormat {K F : Type 0} (sink : Sink K) (device : Flash F) (status 
   pub past_gate : KeepsPastGate device old.flash new.flash
   pub ends : FormatEnds device sink.tells ending new.flash (sink.state old.sink) (sink.state new.sink)
 
--- The card was powered on with a registry, which was written, and the device keeps it.
-pub record ShowsCard {K F : Type 0} (sink : Sink K) (device : Flash F) (status : ℕ) (old new : Around (Unit {0}) K F) : Type 0 where
+-- The card was powered on with a registry, which was shown, and the device keeps it.
+pub record ShowsCard {K F : Type 0} (view : View) (sink : Sink K) (device : Flash F) (status : ℕ) (old new : Around (Unit {0}) K F) : Type 0 where
   pub registry : Registry
   pub reopens : device.tells → Reopens (device.pages old.flash) registry
   pub ending : Ending
   pub ended : HasEnded sink device ending status 0 0 old new
-  pub ends : ShowEnds (device.tells × sink.tells) registry ending (sink.state old.sink) (sink.state new.sink)
+  pub ends : ShowEnds view (device.tells × sink.tells) registry ending (sink.state old.sink) (sink.state new.sink)
   pub shown : HasShown device old.flash new.flash registry
 
 -- It was, or it was not powered on, and nothing is written. No command is processed.
-abbrev pub EndsShow : {K F : Type 0} → Sink K → Flash F → ℕ → ℕ → Around (Unit {0}) K F → Around (Unit {0}) K F → Type 0
-EndsShow sink device status count old new =
-    (count ≡ 0) × ((IsNotPowered device status count old.flash new.flash × (new.sink ≡ old.sink)) ⊎ ShowsCard sink device status old new)
+abbrev pub EndsShow : {K F : Type 0} → View → Sink K → Flash F → ℕ → ℕ → Around (Unit {0}) K F → Around (Unit {0}) K F → Type 0
+EndsShow view sink device status count old new =
+    (count ≡ 0) × ((IsNotPowered device status count old.flash new.flash × (new.sink ≡ old.sink)) ⊎ ShowsCard view sink device status old new)
 
 -- The device was made the factory card, which was powered on, and a workload was played on it, up to an ending.
 pub record MillsCard {K F : Type 0} (work : Workload) (sink : Sink K) (device : Flash F) (status count : ℕ) (old new : Around (Unit {0}) K F) : Type 0 where

@@ -9,6 +9,7 @@ use Rattle.gp_tool.specs.declared.ending.Ending.TheVariants.{Finished, WriteFaul
 use Rattle.gp_tool.specs.declared.task.Task.{Task}
 use Rattle.gp_tool.specs.declared.task.Task.TheVariants.{Format, Mill, Serve, Show}
 use Rattle.gp_tool.specs.declared.verb.Verb.TheVariants.{Run, Why, Replay, Play}
+use Rattle.gp_tool.specs.declared.view.View.TheVariants.{Registry, Rights}
 
 -- the first word of a task
 abbrev pub word_of : Task → List ℕ
@@ -18,7 +19,8 @@ word_of (Serve Why) = codes "why"
 word_of (Serve Replay) = codes "replay"
 word_of (Serve Play) = codes "play"
 word_of (Mill work) = codes "mill"
-word_of Show = codes "show"
+word_of (Show Registry) = codes "show"
+word_of (Show Rights) = codes "access"
 
 -- the words are the task's alone; `mill` has a seed and a number of rounds behind it
 abbrev pub AreOf : Task → List (String Global) → Type 0
@@ -32,7 +34,7 @@ HaveForm words = (task : Task) × AreOf task words
 
 -- what is written where the words have no form
 abbrev pub usage_line : List ℕ
-usage_line = codes "usage: gp format | run | why | replay | play | mill SEED COUNT | show" ++ 10 ∷ []
+usage_line = codes "usage: gp format | run | why | replay | play | mill SEED COUNT | show | access" ++ 10 ∷ []
 
 -- The words have no form: the line was written and handed on, and nothing failed, or a write or the flush was refused.
 abbrev pub EndsInUsage : Type 0 → ℕ → SinkState → SinkState → Type 0

@@ -9,6 +9,8 @@
 //! differences alone: `00700000` and `= 029000` give `line 2 want 029000 got 019000`. The word `play` takes the lines for those of a
 //! script: a host sends the commands, opens sessions and protects what it sends, and what each line prints is written.
 //!
+//! `show` writes the registry of the card, and `access` who may do what on it, a line each.
+//!
 //! `mill SEED COUNT` makes the device the factory card, plays COUNT rounds of lines that SEED chooses, the same each time, and
 //! writes five lines of summary.
 //!
@@ -35,6 +37,7 @@ mod play;
 mod program;
 mod replay;
 mod reply;
+mod rights;
 mod run;
 mod run_verb;
 mod serving;
@@ -46,6 +49,7 @@ mod tally;
 mod task;
 mod top;
 mod verb;
+mod view;
 mod workload;
 mod workspace;
 

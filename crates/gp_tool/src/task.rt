@@ -4,6 +4,7 @@ ghost use Rattle.std.specs.Prelude.{◌≡◌, ◌↔◌, IsTrue, MatchOption, s
 ghost use Rattle.gp_tool.specs.Words.{AreOf, HaveForm};
 
 use crate::verb::Verb;
+use crate::view::View;
 use crate::workload::{Workload, read_workload};
 
 /// What the program is to do.
@@ -18,8 +19,8 @@ pub enum Task {
     /// `mill`: a workload is played on the factory card.
     Mill(Workload),
 
-    /// `show`
-    Show,
+    /// `show` or `access`: what there is on the card is written.
+    Show(View),
 }
 
 fn is_word(word: &String, wanted: &[u8]) -> bool
@@ -41,7 +42,8 @@ pub fn read_task(words: &[String]) -> Option<Task>
         [word, seed, rounds] if is_word(word, b"mill") => {
             Some(Task::Mill(read_workload(seed, rounds)?))
         }
-        [word] if is_word(word, b"show") => Some(Task::Show),
+        [word] if is_word(word, b"show") => Some(Task::Show(View::Registry)),
+        [word] if is_word(word, b"access") => Some(Task::Show(View::Rights)),
         _ => None,
     }
 }

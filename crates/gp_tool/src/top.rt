@@ -10,6 +10,7 @@ ghost use Rattle.gp_tool.specs.Verbs.{Completes, EndsFormat, EndsMill, EndsRun, 
 ghost use Rattle.gp_tool.specs.Words.{AreOf, EndsInUsage, HaveForm, usage_line};
 ghost use Rattle.gp_tool.specs.declared.task.Task.TheVariants.{Format, Mill, Serve, Show};
 ghost use Rattle.gp_tool.specs.declared.verb.Verb.{Verb};
+ghost use Rattle.gp_tool.specs.declared.view.View.{View};
 ghost use Rattle.gp_tool.specs.declared.workload.Workload.{Workload};
 
 use crate::ended::Ended;
@@ -22,7 +23,8 @@ use flash_core::Flash;
 use io_edge::{Sink, Source, WriteFailed};
 use std::alloc::Global;
 
-const USAGE: &[u8] = b"usage: gp format | run | why | replay | play | mill SEED COUNT | show\n";
+const USAGE: &[u8] =
+    b"usage: gp format | run | why | replay | play | mill SEED COUNT | show | access\n";
 
 // Writes the usage line, and hands it on.
 fn write_usage<K: Sink>(sink: &mut K) -> Result<(), WriteFailed>
@@ -75,10 +77,10 @@ pub fn gp<S: Source, K: Sink, F: Flash>(
     ensures format { AreOf Format words.now
         → (source.new ≡ source.old) × EndsFormat K.Sink F.Flash result.status result.done (around tt sink.old flash) (around tt sink.new result.flash) }
 
-    // `show`: nothing is read, and no command is processed. The card was not powered on, and nothing is written. Or the status
-    // is that of an ending, which says what was written and handed on, and the device keeps its registry.
-    ensures show { AreOf Show words.now → result.status ≢ 7
-        → (source.new ≡ source.old) × EndsShow K.Sink F.Flash result.status result.done (around tt sink.old flash) (around tt sink.new result.flash) }
+    // `show` and `access`: nothing is read, and no command is processed. The card was not powered on, and nothing is written. Or the
+    // status is that of an ending, which says what was written and handed on, and the device keeps its registry.
+    ensures show { (view : View) → AreOf (Show view) words.now → result.status ≢ 7
+        → (source.new ≡ source.old) × EndsShow view K.Sink F.Flash result.status result.done (around tt sink.old flash) (around tt sink.new result.flash) }
 
     // `mill`: nothing is read. The device could not be made the factory card, or that was not powered on. Or a workload was
     // played on it, and the status is that of an ending, which says what was written and handed on, and what the device holds.
@@ -89,15 +91,15 @@ pub fn gp<S: Source, K: Sink, F: Flash>(
     ensures mill_memory { (work : Workload) → AreOf (Mill work) words.now → result.status ≡ 7
         → (source.new ≡ source.old) × (sink.new ≡ sink.old) × (result.done ≡ 0) × IsFactoryCard F.Flash result.flash }
 
-    // Where the device holds no card, `run`, `why`, `replay`, `play` and `show` answer 4, but for want of memory and a device that failed.
-    ensures no_card { F.tells → ((verb : Verb) × AreOf (Serve verb) words.now) ⊎ AreOf Show words.now → (HoldsCard F.Flash flash → ⊥)
+    // Where the device holds no card, `run`, `why`, `replay`, `play`, `show` and `access` answer 4, but for want of memory and a device that failed.
+    ensures no_card { F.tells → ((verb : Verb) × AreOf (Serve verb) words.now) ⊎ ((view : View) × AreOf (Show view) words.now) → (HoldsCard F.Flash flash → ⊥)
         → (result.status ≡ 3) ⊎ (result.status ≡ 4) ⊎ (result.status ≡ 7) }
 
     // `run`, `why`, `replay` and `play`: where each line has a form, the input is short enough and nothing fails, all is done. Only want of memory comes
     // then besides.
     ensures complete { (verb : Verb) → AreOf (Serve verb) words.now
         → Completes verb S.Source K.Sink F.Flash result.status (around source.old sink.old flash) (around source.new sink.new result.flash) }
-    ensures show_complete { AreOf Show words.now → F.tells → HoldsCard F.Flash flash
+    ensures show_complete { (view : View) → AreOf (Show view) words.now → F.tells → HoldsCard F.Flash flash
         → (Rose (K.state sink.old).faults (K.state sink.new).faults → ⊥) → (Rose (F.faults flash) (F.faults result.flash) → ⊥)
         → (result.status ≡ 0) ⊎ (result.status ≡ 7) }
     ensures mill_complete { (work : Workload) → AreOf (Mill work) words.now → F.tells
@@ -114,6 +116,6 @@ pub fn gp<S: Source, K: Sink, F: Flash>(
         Some(Task::Format) => format_verb(sink, flash),
         Some(Task::Serve(verb)) => run_verb(alloc, verb, source, sink, flash),
         Some(Task::Mill(work)) => mill_verb(alloc, work, sink, flash),
-        Some(Task::Show) => show_verb(alloc, sink, flash),
+        Some(Task::Show(view)) => show_verb(alloc, view, sink, flash),
     }
 }

@@ -37,7 +37,7 @@ returns-in-Ok-clause-complete g c told card no_write no_flash =
     let stands = c.in-Ok.ensures.stands in
     let showing = c.show_card-ending in
     let seen = K.state in
-    inl (c.status.ensures ∙ shows_all (g.F.Flash.tells × K.tells) stands.0 (seen c.args.sink.now) (seen showing.new.sink) _ _ showing.result (showing.ensures.ends (powered_on stands.0) stands.2)
+    inl (c.status.ensures ∙ shows_all c.args.view (g.F.Flash.tells × K.tells) stands.0 (seen c.args.sink.now) (seen showing.new.sink) _ _ showing.result (showing.ensures.ends (powered_on stands.0) stands.2)
     (cause_since showing.result 0 _ _ _ _ c.in-Ok.ensures.later showing.ensures.cause) no_write (rw c.into_flash.ensures at no_flash))
 
 pub returns-in-Err-clause-complete : goal.returns-in-Err-clause-complete

@@ -22,11 +22,17 @@ returns-in-None-clause-run g c verb named = absurd (c.in-None.ensures (Serve ver
 pub returns-in-None-clause-no_card : goal.returns-in-None-clause-no_card
 returns-in-None-clause-no_card g c told named = elim named [
   | inl some ↦ absurd (c.in-None.ensures (Serve some.0, some.1))
-  | inr show ↦ absurd (c.in-None.ensures (Show, show))
+  | inr some ↦ absurd (c.in-None.ensures (Show some.0, some.1))
 ]
 
 pub returns-in-None-clause-complete : goal.returns-in-None-clause-complete
 returns-in-None-clause-complete g c verb named = absurd (c.in-None.ensures (Serve verb, named))
+
+pub returns-in-None-clause-show : goal.returns-in-None-clause-show
+returns-in-None-clause-show g c view named = absurd (c.in-None.ensures (Show view, named))
+
+pub returns-in-None-clause-show_complete : goal.returns-in-None-clause-show_complete
+returns-in-None-clause-show_complete g c view named = absurd (c.in-None.ensures (Show view, named))
 
 pub returns-in-None-clause-mill : goal.returns-in-None-clause-mill
 returns-in-None-clause-mill g c work named = absurd (c.in-None.ensures (Mill work, named))
