@@ -74,6 +74,12 @@ for example in issuer provider auditor; do
     compare_macs "$example"
 done
 
+# Who may do what on the auditor's card, which is the last one.
+status=0
+"$gp" access >printed || status=$?
+wants "auditor: the status of access" 0 "$status"
+wants "auditor: who may do what" "" "$(diff "$examples/auditor.access" printed)"
+
 # Power goes within cut.script, and recovery.script goes on.
 make_card
 status=0
