@@ -129,6 +129,20 @@ form = r"^-- (.*)\nabbrev pub \w+ : CommandForm\n\w+ = record \{\n  instruction 
 for title, ins, rules in re.findall(form, specs, re.M):
     before = expand(lists["rules_before_form"]) if ins == first else []
     orders[title.split(",")[0]] = [ins, before + expand(lists["form_rules"].split("++")[1]) + expand(lists[rules])]
+
+# A form of card content management: the rules on card and domain, those of its own, and those on the approval.
+titles = {
+    "PK": "PUT KEY", "SD": "STORE DATA", "DK": "DELETE of a key", "DO": "DELETE of an object", "II": "INSTALL [for install]",
+    "MS": "INSTALL [for make selectable]", "EX": "INSTALL [for extradition]", "IL": "INSTALL [for load]",
+    "SC": "SET STATUS of the card", "SS": "SET STATUS of an entry",
+}
+judged = r"^ +instruction = 0x(\w\w);\n(?:(?! *instruction).*\n)*?^ +first_rules = (.*);\n(?:.*\n)*?^ +group = (\w+);\n^ +own_rules = (.*);\n(?:.*\n)*?^ +delegation = (.*);$"
+approvals = {"to_nobody": [], "to_holders": expand(lists["delegation_rules"])}
+for ins, early, group, own_rules, delegation in re.findall(judged, specs, re.M):
+    approval = re.search(r"\brules = (.*?) \}", delegation)
+    late = expand(approval.group(1)) if approval else approvals[delegation.split()[0]]
+    orders[titles[group]] = [ins, expand(lists["form_rules"].split("++")[1]) + expand(early) + expand(own_rules) + late]
+judge(set(titles.values()) <= set(orders), "the definitions: a form of card content management was not found")
 compare("the order of", STATUS, rows_by(STATUS, 0, lambda row: [row[1], listed(row[2])], "command", "INS"), "the definitions", orders)
 judge(expand(lists["general_rules"]) == [f"G{n}" for n in range(1, 9)], "the definitions: G1 to G8 are not in order")
 
