@@ -48,12 +48,12 @@ place_of right = right.domain ∷ (kind_of right.deed ∷ []) ∷ thing_of right
 abbrev pub right_order : Right → Right → Ordering
 right_order = on place_of (slice_cmp (slice_cmp nat_cmp))
 
--- it comes behind this one, if there is one
+-- it comes after this one, if there is one
 abbrev pub ComesAfter : Option Right → Right → Type 0
 ComesAfter None right = Unit {0}
 ComesAfter (Some last) right = right_order last right ≡ Less
 
--- the next right behind this one, or the first
+-- the next right after this one, or the first
 pub record IsNextRight (registry : Registry) (last : Option Right) (right : Right) : Type 0 where
   pub is : IsRight registry right
   pub after : ComesAfter last right
@@ -62,7 +62,7 @@ pub record IsNextRight (registry : Registry) (last : Option Right) (right : Righ
 abbrev pub NoRightAfter : Registry → Option Right → Type 0
 NoRightAfter registry last = (other : Right) → IsRight registry other → ComesAfter last other → ⊥
 
--- rights one after the other, each the next one, from the one behind `last` up to `end`
+-- rights one after the other, each the next one, from the one after `last` up to `end`
 abbrev pub AreNextRights : Registry → Option Right → List Right → Option Right → Type 0
 AreNextRights registry last [] end = end ≡ last
 AreNextRights registry last (right ∷ rights) end = IsNextRight registry last right × AreNextRights registry (Some right) rights end
@@ -72,6 +72,6 @@ pub record AreRights (registry : Registry) (rights : List Right) : Type 0 where
   pub sorted : IsStrictlySortedBy right_order rights
   pub all : (right : Right) → Contains rights right ↔ IsRight registry right
 
--- those that follow one another from the first on, up to one behind which there is none, are all
+-- those that follow one another from the first on, up to one after which there is none, are all
 abbrev pub NextRightsAreAll : Type 0
 NextRightsAreAll = (registry : Registry) (rights : List Right) (end : Option Right) → AreNextRights registry None rights end → NoRightAfter registry end → AreRights registry rights
