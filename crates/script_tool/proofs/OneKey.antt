@@ -44,7 +44,7 @@ least_size (Aes128 a) = omega arith
 least_size (Aes192 b) = omega arith
 least_size (Aes256 c) = omega arith
 
-one_key : (word : List ℕ) (a b : OfSize (List ℕ) (List ℕ) (List ℕ)) → SpellsKey word a → SpellsKey word b → a ≡ b
+pub one_key : (word : List ℕ) (a b : OfSize (List ℕ) (List ℕ) (List ℕ)) → SpellsKey word a → SpellsKey word b → a ≡ b
 unfolding SpellsKey
 one_key word = one_sized (SpellsKey word) (length word) (key_digits word) (one_some 16 word) (one_some 24 word) (one_some 32 word)
 

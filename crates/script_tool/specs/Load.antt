@@ -1,5 +1,5 @@
 -- `load FILE DOMAIN HASH HEX` and `load FILE DOMAIN HASH fill N BB` load an Executable Load File.
-use Rattle.std.specs.Prelude.{◌≡◌, ◌≤◌, ℕ, List, [], ◌∷◌, codes, decimal, Option, Some, None, replicate, if◌then◌else◌, length, Bool, nat_lt, ◌/◌, ◌%◌, ◌++◌}
+use Rattle.std.specs.Prelude.{◌≡◌, ◌≤◌, ℕ, zero, suc, ◌+◌, ◌==◌, drop, take, List, [], ◌∷◌, codes, decimal, Option, Some, None, replicate, if◌then◌else◌, length, Bool, nat_lt, ◌/◌, ◌%◌, ◌++◌}
 use Rattle.script_tool.specs.Values.{SpellsAid, SpellsByte, SpellsUpTo}
 use Rattle.script_tool.specs.declared.load_file.HashFunction.{HashFunction}
 use Rattle.script_tool.specs.declared.load_file.HashFunction.TheVariants.{Sha1, Sha256}
@@ -67,3 +67,8 @@ block_element bytes = 0xC4 ∷ length_field (length bytes) ++ bytes
 -- LOAD of the next block, with P1 80 for the last one and the block's number in P2 (11.6.2)
 abbrev pub loading : (last : Bool) (number : ℕ) → List ℕ → Apdu
 loading last number block = plain_command 0xE8 (if last then 0x80 else 0x00) number block
+
+-- the LOAD commands of so many blocks of a size, the first of which has this number
+abbrev pub load_blocks : (size left number : ℕ) → List ℕ → List Apdu
+load_blocks size zero number bytes = []
+load_blocks size (suc left) number bytes = loading (left == 0) number (take size bytes) ∷ load_blocks size left (number + 1) (drop size bytes)

@@ -35,6 +35,7 @@
 #![tactic(auto)]
 
 mod aes_session;
+mod block;
 mod channel;
 mod channel_sessions;
 mod content;
@@ -56,6 +57,7 @@ mod listing;
 mod load_file;
 mod loading;
 mod mill;
+mod nothing;
 mod number;
 mod octets;
 mod opening;
@@ -71,25 +73,28 @@ mod selectable;
 mod session_opening;
 mod session_start;
 mod tokens;
-mod values;
+pub mod values;
 mod wire;
 mod word;
-mod words;
+pub mod words;
 
+pub use block::{load_block, tag_and_length};
 pub use channel::Channel;
+pub use content::{Piece, part};
 pub use control::Control;
 pub use deletion::Deletion;
 pub use exchange::Exchange;
 pub use extradition::Extradition;
 pub use install::Installation;
-pub use keys::{Key, Keys, OfSize, Trio};
+pub use keys::{Key, Keys, OfSize, Trio, key};
 pub use laws::{few_commands, one_line, one_talk, workload_lines};
 pub use life::LifeChange;
 pub use line::ScriptLine;
 pub use link::{CardLink, LinkFailed};
 pub use listing::Listing;
-pub use load_file::{Content, Fill, HashFunction, LoadFile};
+pub use load_file::{Content, Fill, HashFunction, LoadFile, install_for_load};
 pub use mill::Mill;
+pub use nothing::says_nothing;
 pub use opening::Opening;
 pub use plain::Plain;
 pub use played::{Played, StepStop};

@@ -1,13 +1,14 @@
 //! What a line says.
 
-ghost use Rattle.std.specs.Prelude.{◌≡◌, ◌↔◌, IsTrue, IfNone, IfSome};
-ghost use Rattle.script_tool.specs.Line.{HasNoForm, IsBlank, IsComment, SaysLine, SaysQuietly};
+ghost use Rattle.std.specs.Prelude.{◌≡◌, IfNone, IfSome};
+ghost use Rattle.script_tool.specs.Line.{HasNoForm, SaysLine, SaysQuietly};
 ghost use Rattle.script_tool.specs.Quiet.{is_quiet};
 ghost use Rattle.script_tool.specs.Reads.{Reads};
 ghost use Rattle.script_tool.specs.Words.{left};
 
 use crate::control::{self, Control};
 use crate::exchange::{self, Exchange};
+use crate::nothing::says_nothing;
 use crate::words::Words;
 
 /// What a line says.
@@ -24,19 +25,6 @@ pub enum ScriptLine {
 
     /// Something to send, of whose reply the status alone is printed.
     Quiet(Exchange),
-}
-
-// Whether a line is empty or has spaces alone.
-fn is_blank(text: &[u8]) -> bool
-    ensures { IsTrue result ↔ IsBlank text.now }
-{
-    text.iter().all(|byte| *byte == b' ')
-}
-
-fn is_comment(text: &[u8]) -> bool
-    ensures { IsTrue result ↔ IsComment text.now }
-{
-    matches!(text, [b'#', ..])
 }
 
 // `- ` and something to send.
@@ -61,7 +49,7 @@ impl ScriptLine {
         ensures said { IfSome result (λ line. SaysLine text.now line) }
         ensures none { IfNone result (HasNoForm text.now) }
     {
-        if is_blank(text) || is_comment(text) {
+        if says_nothing(text) {
             return Some(ScriptLine::Nothing);
         }
         let words = Words::new(text);

@@ -1,14 +1,14 @@
 //! Executable Load Files to load.
 
 ghost use Rattle.std.specs.Prelude.{◌≡◌, ◌≤◌, [], ◌∷◌, drop, length, take};
-ghost use Rattle.std.specs.List.{flat_map};
 ghost use Rattle.script_tool.specs.Life.{aid_or_none};
 ghost use Rattle.script_tool.specs.Load.{SaysContent, SaysLoad, SpellsDomain, beginning_load, block_element, content_bytes, hash_of, hash_word, length_field};
 ghost use Rattle.script_tool.specs.Reads.{Reads};
 ghost use Rattle.script_tool.specs.Send.{plain_of};
+ghost use Rattle.script_tool.specs.Tokens.{install_command};
 ghost use Rattle.script_tool.specs.Words.{left};
-ghost use Rattle.tokens_receipts.specs.Receipt.{with_length};
 
+use crate::block::tag_and_length;
 use crate::content::{Piece, part};
 use crate::install::install;
 use crate::number::count;
@@ -18,7 +18,7 @@ use crate::values::{aid, byte, bytes};
 use crate::words::Words;
 use arrayvec::ArrayVec;
 use card_types::Aid;
-use tokens_receipts::{DataField, four_fields};
+use tokens_receipts::four_fields;
 
 /// A hash function.
 #[derive(Clone, Copy)]
@@ -126,26 +126,6 @@ pub fn read(words: Words<'_>) -> Option<LoadFile>
     })
 }
 
-// The tag of a Load File Data Block of so many bytes, and the length.
-fn tag_and_length(size: u16) -> ArrayVec<u8, 4>
-    ensures { result.items ≡ 0xC4 ∷ length_field size }
-{
-    let [high, low] = size.to_be_bytes();
-    let mut header = ArrayVec::new();
-    header.push(0xc4);
-    if size < 0x80 {
-        header.push(low);
-    } else if size < 0x100 {
-        header.push(0x81);
-        header.push(low);
-    } else {
-        header.push(0x82);
-        header.push(high);
-        header.push(low);
-    }
-    header
-}
-
 // The AID, or no bytes.
 fn name(aid: &Option<Aid>) -> &[u8]
     ensures name { result.now ≡ aid_or_none aid.now }
@@ -155,6 +135,15 @@ fn name(aid: &Option<Aid>) -> &[u8]
         Some(aid) => aid.as_bytes(),
         None => &[],
     }
+}
+
+/// INSTALL for load of a file, for a security domain if one is named, with a Load File Data Block Hash or no bytes.
+pub fn install_for_load(tokens: &Tokens, file: &Aid, domain: &Option<Aid>, hash: &[u8]) -> Plain
+    requires { length hash.now ≤ 32 }
+    ensures { plain_of result ≡ install_command tokens.now 0x02 (file.now ∷ aid_or_none domain.now ∷ hash.now ∷ [] ∷ []) }
+{
+    let fields = four_fields(file.as_bytes(), name(domain), hash, &[]);
+    install(tokens, 0x02, fields)
 }
 
 impl LoadFile {
@@ -202,24 +191,10 @@ impl LoadFile {
         value
     }
 
-    // What INSTALL for load says of it.
-    fn fields(&self) -> DataField
-        ensures items { result.items ≡ flat_map with_length
-            (self.now.file ∷ aid_or_none self.now.domain ∷ hash_of self.now.hash (content_bytes self.now.content) ∷ [] ∷ []) }
-        ensures length { length result.items ≤ 68 }
-    {
-        four_fields(
-            self.file.as_bytes(),
-            name(&self.domain),
-            &self.hash_value(),
-            &[],
-        )
-    }
-
     /// INSTALL for load.
     pub fn install(&self, tokens: &Tokens) -> Plain
         ensures { plain_of result ≡ beginning_load tokens.now self.now }
     {
-        install(tokens, 0x02, self.fields())
+        install_for_load(tokens, &self.file, &self.domain, &self.hash_value())
     }
 }

@@ -13,6 +13,7 @@ ghost use Rattle.script_tool.specs.Printed.{status_printed};
 ghost use Rattle.script_tool.specs.Talk.{Talk};
 ghost use Rattle.script_tool.specs.declared.printout.TheConstants.{DONE};
 
+use crate::block::load_block;
 use crate::host_state::HostState;
 use crate::in_session::{protect, send};
 use crate::link::{CardLink, LinkFailed};
@@ -27,20 +28,6 @@ fn is_done(printout: &Printout) -> bool
     ensures { IsTrue result ↔ (status_printed (printed_of printout.now) ≡ Some DONE) }
 {
     printout.status() == Some(DONE)
-}
-
-// LOAD of a block.
-fn loading(last: bool, number: u8, block: &[u8]) -> Command<'_>
-    ensures { apdu_of result ≡ standard.loading last number block.now }
-{
-    Command {
-        class: 0x80,
-        ins: 0xe8,
-        p1: if last { 0x80 } else { 0x00 },
-        p2: number,
-        body: block,
-        le: None,
-    }
 }
 
 // Goes on behind what INSTALL for load printed: sends the blocks, of so many bytes, up to the first reply that is not 9000.
@@ -69,7 +56,7 @@ fn send_blocks<L: CardLink>(
             return Ok(last);
         }
         let block = file.block(number * size, size);
-        let command = loading(number + 1 == count, number as u8, &block);
+        let command = load_block(number + 1 == count, number as u8, &block);
         last = send(host, wire, link, false, &command)?;
     }
     Ok(last)

@@ -37,7 +37,7 @@ returns-in_err-last-clause-played g c before talk at =
     broken g.L.CardLink before c.send.new.link talk c.send.new.host c.from_residual.result c.from_residual.ensures.0
     (next_block g.L.CardLink before c.loop-number.link c.send.new.link talk c.args.size c.div_ceil-count.result c.loop-number.number
     (block_element (content_bytes c.args.file.now.content)) c.loop-number.host c.send.new.host (printed_of c.loop-number.last) (Err c.in_err-last.field-0.0)
-    (apdu_of c.loading-command.result) c.deref.result.now c.loop-number-test.true (c.if-not-is_done.ensures.0 refl) c.loading-command.ensures
+    (apdu_of c.load_block-command.result) c.deref.result.now c.loop-number-test.true (c.if-not-is_done.ensures.0 refl) c.load_block-command.ensures
     (c.deref.ensures.0 ∙ c.block-block.ensures) (c.loop-number.invariant.at before talk at) c.in_err-last.ensures.goes_on)
 
 pub loop-number-preserved : goal.loop-number-preserved
@@ -47,7 +47,7 @@ loop-number-preserved g c = record {
   at = λ before talk at.
       next_block g.L.CardLink before c.loop-number.link c.send.new.link talk c.args.size c.div_ceil-count.result c.loop-number.number
       (block_element (content_bytes c.args.file.now.content)) c.loop-number.host c.send.new.host (printed_of c.loop-number.last) (Ok c.in_ok-last.last)
-      (apdu_of c.loading-command.result) c.deref.result.now c.loop-number-test.true (c.if-not-is_done.ensures.0 refl) c.loading-command.ensures
+      (apdu_of c.load_block-command.result) c.deref.result.now c.loop-number-test.true (c.if-not-is_done.ensures.0 refl) c.load_block-command.ensures
       (c.deref.ensures.0 ∙ c.block-block.ensures) (c.loop-number.invariant.at before talk at) c.in_ok-last.ensures.goes_on;
 }
 
