@@ -7,10 +7,12 @@ use Rattle.io_edge.specs.Lines.{IsNextLine, IsCut}
 use Rattle.io_edge.specs.declared.line.TheConstants.{INPUT_LIMIT, LINE_LIMIT}
 use Rattle.policy_rules.specs.State.{State}
 use Rattle.policy_rules.specs.Step.{Outcome}
-use Rattle.gp_tool.proofs.ComeFirst.{lines_come, shrinks}
+use Rattle.line_runs.proofs.ComeFirst.{lines_come, shrinks}
 use Rattle.gp_tool.specs.Around.{Around}
 use Rattle.gp_tool.specs.Effects.{Effect, Place}
-use Rattle.gp_tool.specs.Ends.{Outside, Ends, EndCause, IsBad, exit_status, room_ahead}
+use Rattle.gp_tool.specs.Ends.{Ends, EndCause, IsBad, exit_status}
+use Rattle.line_runs.specs.Outside.{Outside}
+use Rattle.line_runs.specs.Taken.{room_ahead}
 use Rattle.gp_tool.specs.Going.{Reached}
 use Rattle.gp_tool.specs.RunsLines.{AreServable, HasForm, Memory, RunsLines, start}
 use Rattle.gp_tool.specs.Verbs.{IsDone}

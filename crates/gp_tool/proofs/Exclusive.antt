@@ -5,11 +5,13 @@ use Rattle.io_edge.proofs.NextLine.{line_not_cut, one_cut, one_line}
 use Rattle.io_edge.specs.Lines.{IsCut, IsNextLine}
 use Rattle.io_edge.specs.declared.line.TheConstants.{INPUT_LIMIT, LINE_LIMIT}
 use Rattle.policy_rules.specs.State.{State}
-use Rattle.gp_tool.proofs.ComeFirst.{room_further, room_left, room_whole}
+use Rattle.line_runs.proofs.ComeFirst.{room_further, room_left, room_whole}
 use Rattle.gp_tool.proofs.One.{line_once, plays_form}
 use Rattle.gp_tool.proofs.RunsMore.{runs_once}
 use Rattle.gp_tool.specs.Effects.{Effect, Place}
-use Rattle.gp_tool.specs.Ends.{ComeFirst, Course, IsBad, IsRead, IsShortCut, Outside, with_bad_line}
+use Rattle.gp_tool.specs.Ends.{Course, IsBad, with_bad_line}
+use Rattle.line_runs.specs.Outside.{Outside}
+use Rattle.line_runs.specs.Taken.{ComeFirst, IsRead, IsShortCut}
 use Rattle.gp_tool.specs.Going.{AreShort}
 use Rattle.gp_tool.specs.Laws.{EndsTold, IsFaultless}
 use Rattle.gp_tool.specs.RunsLines.{HasForm, Memory, PlaysLine, RunsLines, start}

@@ -4,9 +4,10 @@ use Rattle.faults.specs.Faults.{next_count}
 use Rattle.io_edge.specs.Streams.{SinkState, SourceState}
 use Rattle.policy_rules.specs.State.{State}
 use Rattle.policy_rules.specs.Step.{Outcome}
-use Rattle.gp_tool.specs.Ends.{Course, CutsText, Ends, EndsAt, EndsFaultless, Flushes, Outside, Wrote, outside, with_bad_line}
+use Rattle.gp_tool.specs.Ends.{Course, Ends, EndsAt, EndsFaultless, Flushes, with_bad_line}
+use Rattle.line_runs.specs.Outside.{CutsText, Outside, Wrote, outside}
 use Rattle.gp_tool.specs.Flush.{AfterFlush, IsFlushed}
-use Rattle.gp_tool.specs.RunsLines.{bad_line}
+use Rattle.line_runs.specs.Outside.{bad_line}
 use Rattle.gp_tool.specs.declared.ending.Ending.{Ending}
 use Rattle.gp_tool.specs.declared.ending.Ending.TheVariants.{Finished, Differs, BadLine, FlashFault, ReadFault, WriteFault, InputTooLong}
 use Rattle.gp_tool.specs.declared.verb.Verb.{Verb}

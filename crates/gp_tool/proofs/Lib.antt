@@ -1,4 +1,3 @@
-pub mod ComeFirst
 pub mod CardEnds
 pub mod Complete
 pub mod CounterText

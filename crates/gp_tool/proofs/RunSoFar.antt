@@ -10,7 +10,9 @@ use Rattle.io_edge.specs.Lines.{IsNextLine, IsWithin, Reading, ahead, room}
 use Rattle.io_edge.specs.declared.line.TheConstants.{INPUT_LIMIT, LINE_LIMIT}
 use Rattle.policy_rules.specs.State.{State}
 use Rattle.policy_rules.specs.Step.{Outcome}
-use Rattle.gp_tool.proofs.ComeFirst.{come_more, lines_come}
+use Rattle.line_runs.proofs.ComeFirst.{come_more, lines_come}
+use Rattle.line_runs.proofs.Course.{all_written, concat_more, short_more}
+use Rattle.line_runs.proofs.Passed.{taken_all}
 use Rattle.gp_tool.proofs.Counting.{count_more, exactly}
 use Rattle.gp_tool.proofs.FewOutcomes.{breaks_few, line_few}
 use Rattle.gp_tool.proofs.Moments.{has_run, has_failed}
@@ -18,31 +20,18 @@ use Rattle.gp_tool.proofs.RunsMore.{leaves_further, runs_more}
 use Rattle.gp_tool.specs.Counted.{CountsOn, counted}
 use Rattle.gp_tool.specs.Device.{HasFailed, HasRun, LeavesOneOf, registries}
 use Rattle.gp_tool.specs.Effects.{Effect, Place, joined, nothing}
-use Rattle.gp_tool.specs.Ends.{Course, Ends, IsBad, IsRead, IsShortCut, Outside, TakesNoMore, room_ahead}
-use Rattle.gp_tool.specs.Going.{AreShort, Going, Reached}
-use Rattle.gp_tool.specs.RunsLines.{Memory, PlaysLine, RunsLines, bad_line, no_memory, start}
+use Rattle.gp_tool.specs.Ends.{Course, Ends, IsBad}
+use Rattle.line_runs.specs.Outside.{Outside}
+use Rattle.line_runs.specs.Taken.{IsRead, IsShortCut, TakesNoMore, room_ahead}
+use Rattle.gp_tool.specs.Going.{Going, Reached}
+use Rattle.gp_tool.specs.RunsLines.{Memory, PlaysLine, RunsLines, no_memory, start}
+use Rattle.line_runs.specs.Outside.{bad_line}
 use Rattle.gp_tool.specs.Serve.{Standing}
 use Rattle.gp_tool.specs.Standing.{Held, Means}
 use Rattle.gp_tool.specs.Turn.{EndsWith, GoesOn, TakesLine, total}
 use Rattle.gp_tool.specs.declared.ending.Ending.{Ending}
 use Rattle.gp_tool.specs.declared.ending.Ending.TheVariants.{Finished, Differs, BadLine, FlashFault, ReadFault, WriteFault, InputTooLong}
 use Rattle.gp_tool.specs.declared.verb.Verb.{Verb}
-
--- one more line that is not too long
-short_more : (given : List (List ℕ)) (line : List ℕ) → AreShort given → length line ≤ LINE_LIMIT → AreShort (given ++ line ∷ [])
-short_more [] line none fits = (fits, tt)
-short_more (first ∷ given) line short fits = (short.0, short_more given line short.1 fits)
-
-all_written : (old text more written now : List ℕ) → written ≡ old ++ text → now ≡ written ++ more → now ≡ old ++ (text ++ more)
-all_written old text more written now before after = after ∙ ap (λ w. w ++ more) before ∙ append_assoc old text more
-
--- at the end of the input nothing is held
-taken_all : (total : ℕ) (left : List ℕ) → left ≡ [] → total < INPUT_LIMIT → TakesNoMore total [] left
-taken_all total left none short = record { held = []; rest = sym none; few = omega arith; within = omega (arith, short) }
-
--- one text more
-concat_more : (texts : List (List ℕ)) (text : List ℕ) → concat (texts ++ text ∷ []) ≡ concat texts ++ text
-concat_more texts text = concat-append texts (text ∷ []) ∙ ap (λ t. concat texts ++ t) (append-nil text)
 
 module _ {F : Type 0} (verb : Verb) (device : Flash F) (reads writes : Type 0) (first : State) (from : F) (before : Outside) where
   -- nothing was read yet

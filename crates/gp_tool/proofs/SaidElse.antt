@@ -2,7 +2,8 @@
 use Rattle.std.proofs.Common.{List, ◌++◌}
 use Rattle.policy_rules.specs.State.{State}
 use Rattle.policy_rules.specs.Step.{Outcome}
-use Rattle.gp_tool.specs.Ends.{Course, Ends, EndsAt, Outside}
+use Rattle.gp_tool.specs.Ends.{Course, Ends, EndsAt}
+use Rattle.line_runs.specs.Outside.{Outside}
 use Rattle.gp_tool.specs.declared.ending.Ending.{Ending}
 use Rattle.gp_tool.specs.declared.ending.Ending.TheVariants.{Finished, Differs, BadLine, FlashFault, ReadFault, WriteFault, InputTooLong}
 use Rattle.gp_tool.specs.declared.verb.Verb.{Verb}

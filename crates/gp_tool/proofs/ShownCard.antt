@@ -1,5 +1,5 @@
 -- How the verb `show` ends behind its flush, and what it leaves on the device.
-use Rattle.std.proofs.Common.{◌≡◌, ◌≤◌, ◌++◌, ℕ, List, [], ◌∷◌, length, take, refl, sym, ap, subst, ◌∙◌, inl, inr, arith}
+use Rattle.std.proofs.Common.{◌≡◌, ◌≤◌, ◌++◌, ℕ, List, [], ◌∷◌, length, refl, sym, ap, subst, ◌∙◌, inl, inr, arith}
 use Rattle.std.proofs.Math.Seq.{take-length}
 use Rattle.card_core.specs.Card.{CardOver, CardRepresents}
 use Rattle.card_types.proofs.Members.{contains_cases, contains_first}

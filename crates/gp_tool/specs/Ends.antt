@@ -1,58 +1,25 @@
 -- How a run ends, and what has been read and written then.
-use Rattle.std.specs.Prelude.{◌≡◌, ◌≢◌, ◌⊎◌, ℕ, ◌+◌, ◌-◌, ◌<◌, ◌≤◌, true, false, List, [], ◌∷◌, ◌++◌, length, take}
-use Rattle.std.specs.List.{AllByRecursion, concat}
-use Rattle.std.specs.Str.Lines.{lines, strip_carriage_return}
+use Rattle.std.specs.Prelude.{◌≡◌, ◌≢◌, ◌⊎◌, ℕ, ◌+◌, ◌≤◌, true, false, List, [], ◌∷◌, ◌++◌, length}
+use Rattle.std.specs.List.{AllByRecursion}
 use Rattle.faults.specs.Faults.{Rose, next_count}
-use Rattle.io_edge.specs.Lines.{NoNewline, IsNextLine, IsCut, IsNextText}
-use Rattle.io_edge.specs.Streams.{SinkState, SourceState}
-use Rattle.io_edge.specs.declared.line.TheConstants.{HELD_LIMIT, INPUT_LIMIT, LINE_LIMIT}
+use Rattle.io_edge.specs.Lines.{IsNextLine}
+use Rattle.io_edge.specs.Streams.{SinkState}
+use Rattle.io_edge.specs.declared.line.TheConstants.{INPUT_LIMIT, LINE_LIMIT}
+use Rattle.line_runs.specs.Outside.{CutsText, Outside, Wrote, bad_line}
+use Rattle.line_runs.specs.Taken.{ComeFirst, HoldsNoLine, IsBadLine, IsRead, IsShortCut, TakesNoMore, room_ahead}
 use Rattle.policy_rules.specs.State.{State}
 use Rattle.policy_rules.specs.Step.{Outcome}
 use Rattle.gp_tool.specs.Around.{Around}
 use Rattle.gp_tool.specs.Effects.{Effect, Place}
 use Rattle.gp_tool.specs.Flush.{IsHandedOn}
-use Rattle.gp_tool.specs.RunsLines.{FailsLine, HasForm, Memory, RunsLines, bad_line, start}
+use Rattle.gp_tool.specs.RunsLines.{FailsLine, HasForm, Memory, RunsLines, start}
 use Rattle.gp_tool.specs.declared.ending.Ending.{Ending}
 use Rattle.gp_tool.specs.declared.ending.Ending.TheVariants.{Finished, Differs, BadLine, FlashFault, ReadFault, WriteFault, InputTooLong}
 use Rattle.gp_tool.specs.declared.verb.Verb.{Verb}
 
--- A source and a sink.
-pub record Outside : Type 0 where
-  pub source : SourceState
-  pub sink : SinkState
-
-abbrev pub outside : SourceState → SinkState → Outside
-outside source sink = record { source = source; sink = sink }
-
--- how many bytes may be taken of what stands ahead
-abbrev pub room_ahead : List ℕ → List ℕ → ℕ
-room_ahead input ahead = INPUT_LIMIT - (length input - length ahead)
-
--- The lines come first in an input of which so many bytes may be taken, and this stands ahead behind them.
-abbrev pub ComeFirst : ℕ → List ℕ → List (List ℕ) → List ℕ → Type 0
-ComeFirst room input [] ahead = ahead ≡ input
-ComeFirst room input (line ∷ lines) ahead = (after : List ℕ) × IsNextLine room input line after × ComeFirst (room - (length input - length after)) after lines ahead
-
 -- the next line has no form, or is too long
 abbrev pub IsBad : (verb : Verb) → Memory verb → ℕ → List ℕ → Type 0
-IsBad verb memory room ahead =
-    (text : List ℕ) × (((after : List ℕ) × IsNextLine room ahead text after × (HasForm verb text memory → ⊥)) ⊎ (IsNextText room ahead text × (LINE_LIMIT < length text)))
-
--- the limit of the input comes before the next line's end, and the line is not too long already
-abbrev pub IsShortCut : ℕ → List ℕ → Type 0
-IsShortCut room ahead = (text : List ℕ) × IsCut room ahead text × (length text ≤ LINE_LIMIT)
-
--- the bytes ahead that are not left are no whole line, and no line that is too long already
-abbrev pub HoldsNoLine : List ℕ → List ℕ → Type 0
-HoldsNoLine ahead left = (held : List ℕ) × (ahead ≡ held ++ left) × NoNewline held × (length (strip_carriage_return held) ≤ LINE_LIMIT)
-
--- What stands ahead behind the lines given is no more than the bytes held at once, and then what is left in the source. Of an
--- input of so many bytes no more is taken in all than may be.
-pub record TakesNoMore (total : ℕ) (ahead left : List ℕ) : Type 0 where
-  pub held : List ℕ
-  pub rest : ahead ≡ held ++ left
-  pub few : length held ≤ HELD_LIMIT
-  pub within : total ≤ length left + INPUT_LIMIT
+IsBad verb memory = IsBadLine (λ text. HasForm verb text memory)
 
 -- In what follows `reads` and `writes` are facts where the source and the sink tell their bytes, and `⊥` where they don't.
 -- `Rests` is what holds of the device after some commands and at the state behind them, and `Fails` what holds where it
@@ -70,14 +37,6 @@ pub record Course (verb : Verb) (reads : Type 0) (first : State) (input left : L
   pub reached : reads → ComeFirst INPUT_LIMIT input given ahead
   pub taken : reads → TakesNoMore (length input) ahead left
 
--- all lines of the input were given, and it is short enough
-abbrev pub IsRead : List ℕ → List (List ℕ) → List ℕ → Type 0
-IsRead input given ahead = (lines input ≡ given) × (ahead ≡ []) × (length input < INPUT_LIMIT)
-
--- the texts were written
-abbrev pub Wrote : Type 0 → List (List ℕ) → Outside → Outside → Type 0
-Wrote writes texts old new = writes → new.sink.written ≡ old.sink.written ++ concat texts
-
 -- The last line given writes the last text, and those before it the others.
 pub record WritesLast (verb : Verb) (first : State) (given texts : List (List ℕ)) : Type 0 where
   pub lines : List (List ℕ)
@@ -88,11 +47,6 @@ pub record WritesLast (verb : Verb) (first : State) (given texts : List (List �
   pub plays : RunsLines verb 1 lines (start verb first) before place
   pub text : List ℕ
   pub texts_are : texts ≡ before.texts ++ text ∷ []
-
--- A text was refused after those before it: it is missing or cut, and nothing was flushed.
-abbrev pub CutsText : Type 0 → List (List ℕ) → List ℕ → Outside → Outside → Type 0
-CutsText writes before text old new =
-    (new.sink.flushes ≡ old.sink.flushes) × (writes → (count : ℕ) × (new.sink.written ≡ old.sink.written ++ (concat before ++ take count text)))
 
 -- The device failed in a command of the next line, behind the outcomes of those before it in the line.
 abbrev pub FailsNext : (verb : Verb) → Type 0 → (List Outcome → State → Outcome → Type 0) → Place (Memory verb) → ℕ → List ℕ → Type 0

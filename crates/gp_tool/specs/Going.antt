@@ -8,7 +8,8 @@ use Rattle.policy_rules.specs.State.{State}
 use Rattle.gp_tool.specs.Counted.{counted}
 use Rattle.gp_tool.specs.Device.{LeavesOneOf, registries}
 use Rattle.gp_tool.specs.Effects.{Effect, Place}
-use Rattle.gp_tool.specs.Ends.{ComeFirst, Outside}
+use Rattle.line_runs.specs.Outside.{Outside}
+use Rattle.line_runs.specs.Taken.{ComeFirst}
 use Rattle.gp_tool.specs.RunsLines.{Memory, RunsLines, start}
 use Rattle.gp_tool.specs.Serve.{Standing, StandsAt}
 use Rattle.gp_tool.specs.Standing.{Held, Means}

@@ -7,7 +7,8 @@ use Rattle.policy_rules.specs.State.{State}
 use Rattle.rec_store.specs.Reopens.{Keeps}
 use Rattle.gp_tool.specs.Around.{Around}
 use Rattle.gp_tool.specs.Effects.{Effect, Place}
-use Rattle.gp_tool.specs.Ends.{Ends, Outside}
+use Rattle.gp_tool.specs.Ends.{Ends}
+use Rattle.line_runs.specs.Outside.{Outside}
 use Rattle.gp_tool.specs.RunsLines.{Memory, RunsLines, start}
 use Rattle.gp_tool.specs.Verbs.{MillsCard}
 use Rattle.gp_tool.specs.declared.ending.Ending.{Ending}

@@ -1,5 +1,5 @@
 -- What lines do to a card, by the verb, and the texts that they write.
-use Rattle.std.specs.Prelude.{◌≡◌, ℕ, ◌+◌, ◌≤◌, true, false, List, [], ◌∷◌, ◌++◌, length, None, codes, decimal}
+use Rattle.std.specs.Prelude.{◌≡◌, ℕ, ◌+◌, ◌≤◌, true, false, List, [], ◌∷◌, length, None}
 use Rattle.io_edge.specs.declared.line.TheConstants.{LINE_LIMIT}
 use Rattle.policy_rules.specs.State.{State}
 use Rattle.policy_rules.specs.Step.{Outcome}
@@ -58,7 +58,3 @@ AreServable verb number [] at = Unit {0}
 AreServable verb number (line ∷ lines) at =
     HasForm verb line at.memory × (length line ≤ LINE_LIMIT)
     × ((one : Effect) (next : Place (Memory verb)) → PlaysLine verb number line at one next → AreServable verb (number + 1) lines next)
-
--- the text of a line that has no form or is too long
-abbrev pub bad_line : ℕ → List ℕ
-bad_line number = codes "line " ++ decimal number ++ 10 ∷ []

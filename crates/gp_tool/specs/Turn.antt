@@ -6,8 +6,11 @@ use Rattle.io_edge.specs.Lines.{Reading, IsNextLine, IsWithin, ahead, room}
 use Rattle.io_edge.specs.declared.line.TheConstants.{LINE_LIMIT}
 use Rattle.flash_core.specs.declared.flash.Flash.{Ghosts as Flash}
 use Rattle.gp_tool.specs.Effects.{Place}
-use Rattle.gp_tool.specs.Ends.{Outside, HoldsNoLine, IsBad, IsShortCut, TakesNoMore}
-use Rattle.gp_tool.specs.RunsLines.{FailsLine, Memory, PlaysLine, bad_line}
+use Rattle.gp_tool.specs.Ends.{IsBad}
+use Rattle.line_runs.specs.Outside.{Outside}
+use Rattle.line_runs.specs.Taken.{HoldsNoLine, IsShortCut, TakesNoMore}
+use Rattle.gp_tool.specs.RunsLines.{FailsLine, Memory, PlaysLine}
+use Rattle.line_runs.specs.Outside.{bad_line}
 use Rattle.gp_tool.specs.Serve.{BreaksLine, RunsLine, Standing, StandsAt}
 use Rattle.gp_tool.specs.Standing.{Held, Means}
 use Rattle.gp_tool.specs.declared.ending.Ending.{Ending}

@@ -12,7 +12,8 @@ use Rattle.policy_rules.specs.State.{State, powered_on}
 use Rattle.rec_store.specs.Reopens.{Reopens}
 use Rattle.gp_tool.specs.Around.{Around, around}
 use Rattle.gp_tool.specs.Device.{HasFailed, HasRun, HoldsCard, IsNotPowered}
-use Rattle.gp_tool.specs.Ends.{EndCause, Ends, Flushes, exit_status, outside}
+use Rattle.gp_tool.specs.Ends.{EndCause, Ends, Flushes, exit_status}
+use Rattle.line_runs.specs.Outside.{outside}
 use Rattle.gp_tool.specs.Formatted.{FormatEnds, IsFactoryCard, KeepsPastGate}
 use Rattle.gp_tool.specs.LinesApart.{RunsApart}
 use Rattle.gp_tool.specs.Mill.{IsNotMilled, MillEnds}

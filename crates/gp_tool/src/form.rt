@@ -2,11 +2,11 @@
 
 ghost use Rattle.std.specs.Prelude.{◌≡◌, ◌≤◌, ◌<◌, ◌*◌, ℕ, List, length, take, codes, IsTrue, ◌↔◌, IfSome, IfNone, IfOk, OnErr, All, Ok, MatchOption};
 ghost use Rattle.hex.specs.Hex.{decode_of};
-ghost use Rattle.script_tool.specs.Line.{IsBlank, IsComment};
 ghost use Rattle.gp_tool.specs.Form.{SpellsInputs, IsForCard};
 ghost use Rattle.gp_tool.specs.Read.{FitsRoom, inputs_of};
 
 use io_edge::LINE_LIMIT;
+use script_tool::says_nothing;
 
 /// How many bytes a line can spell, at most.
 pub const COMMAND_LIMIT: usize = LINE_LIMIT / 2;
@@ -35,20 +35,6 @@ pub fn decode(line: &[u8], bytes: &mut [u8; COMMAND_LIMIT]) -> Option<usize>
     }
 }
 
-// Whether a line is empty or has spaces alone.
-fn is_blank(line: &[u8]) -> bool
-    ensures blank { IsTrue result ↔ IsBlank line.now }
-    ensures empty { length line.now ≡ 0 → IsTrue result }
-{
-    line.iter().all(|byte| *byte == b' ')
-}
-
-fn is_comment(line: &[u8]) -> bool
-    ensures { IsTrue result ↔ IsComment line.now }
-{
-    matches!(line, [b'#', ..])
-}
-
 fn is_reset(line: &[u8]) -> bool
     ensures { IsTrue result ↔ (line.now ≡ codes "reset") }
 {
@@ -61,7 +47,7 @@ pub fn read_form(line: &[u8], bytes: &mut [u8; COMMAND_LIMIT]) -> Option<Form>
     ensures spelled { MatchOption result (IsForCard line.now → ⊥) (λ form. SpellsInputs line.now (inputs_of form bytes.new)) }
     ensures fits { IfSome result FitsRoom }
 {
-    if is_blank(line) || is_comment(line) {
+    if says_nothing(line) {
         return Some(Form::Nothing);
     }
     if is_reset(line) {

@@ -4,12 +4,10 @@ ghost use Rattle.std.specs.Prelude.{◌≡◌, ◌≤◌, ◌<◌, ◌*◌, ◌+
 ghost use Rattle.faults.specs.Faults.{HasCause};
 ghost use Rattle.hex.specs.Hex.{encode_lower};
 ghost use Rattle.gp_tool.specs.Replies.{behind_reply, reason};
-ghost use Rattle.gp_tool.specs.RunsLines.{bad_line};
 
 use arrayvec::ArrayVec;
 use card_core::REPLY_LIMIT;
 use io_edge::{Sink, WriteFailed};
-use itoa::Buffer;
 use policy_rules::Rule;
 
 /// How many bytes stand behind the digits of a reply, at most: a space, the name of a rule, and a newline.
@@ -78,20 +76,4 @@ pub fn write_reply<K: Sink>(
 {
     let count = spell_reply(explains, reply, rule, text);
     sink.write_all(&text[..count])
-}
-
-/// Writes the number of a line that has no form or is too long.
-pub fn write_bad_line<K: Sink>(number: u32, sink: &mut K) -> Result<(), WriteFailed>
-    ensures ok { K.tells → OnOk result ((K.state sink.new).written ≡ (K.state sink.old).written ++ bad_line number) }
-    ensures err { K.tells → OnErr result ((n : ℕ) × ((K.state sink.new).written ≡ (K.state sink.old).written ++ take n (bad_line number))) }
-    ensures flushes { (K.state sink.new).flushes ≡ (K.state sink.old).flushes }
-    ensures cause { HasCause (K.state sink.old).faults (K.state sink.new).faults result }
-{
-    let mut digits = Buffer::new();
-    let mut line = ArrayVec::<u8, 46>::new();
-    line.try_extend_from_slice(b"line ").unwrap();
-    line.try_extend_from_slice(digits.format(number).as_bytes())
-        .unwrap();
-    line.push(b'\n');
-    sink.write_all(&line)
 }

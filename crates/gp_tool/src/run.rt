@@ -4,7 +4,8 @@ ghost use Rattle.std.specs.Prelude.{◌≡◌, ◌≢◌, ◌≤◌, ℕ, None, 
 ghost use Rattle.card_core.specs.Card.{CardRepresents};
 ghost use Rattle.policy_rules.specs.State.{State};
 ghost use Rattle.gp_tool.specs.Around.{Around, around};
-ghost use Rattle.gp_tool.specs.Ends.{EndCause, Flushes, outside};
+ghost use Rattle.gp_tool.specs.Ends.{EndCause, Flushes};
+ghost use Rattle.line_runs.specs.Outside.{outside};
 ghost use Rattle.gp_tool.specs.Flush.{AfterFlush};
 ghost use Rattle.gp_tool.specs.declared.ending.Ending.TheVariants.{FlashFault};
 ghost use Rattle.gp_tool.specs.RunCause.{RunCause};
@@ -15,11 +16,11 @@ ghost use Rattle.gp_tool.specs.Verbs.{RunEnds};
 use crate::card_end::CardEnd;
 use crate::ending::Ending;
 use crate::line::{LineEnd, serve_line};
-use crate::reply::write_bad_line;
 use crate::verb::Verb;
 use crate::workspace::Workspace;
 use flash_core::Flash;
 use io_edge::{LineStop, Lines, Sink, Source};
+use line_runs::write_bad_line;
 
 // Writes the number of a line that has no form or is too long.
 fn refuse_line<K: Sink>(number: u32, sink: &mut K) -> Ending
@@ -34,8 +35,8 @@ fn refuse_line<K: Sink>(number: u32, sink: &mut K) -> Ending
     }
 }
 
-// How a run ends at the end of its input.
-fn end_of_input(differs: bool) -> Ending
+/// How a run ends at the end of its input.
+pub fn end_of_input(differs: bool) -> Ending
     ensures { result ≡ ending_of differs }
 {
     if differs {

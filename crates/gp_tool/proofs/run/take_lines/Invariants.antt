@@ -2,7 +2,7 @@ use Rattle.std.proofs.Common.{◌≡◌, ◌-◌, ◌≤◌, None, true}
 use Rattle.io_edge.specs.Lines.{IsWithin}
 use Rattle.card_core.specs.Card.{CardRepresents}
 use Rattle.policy_rules.specs.State.{State}
-use Rattle.gp_tool.specs.Ends.{outside}
+use Rattle.line_runs.specs.Outside.{outside}
 use Rattle.gp_tool.specs.Going.{Going}
 use Rattle.gp_tool.specs.Standing.{standing_in}
 use Rattle.gp_tool.proofs.run.take_lines.Given as goal

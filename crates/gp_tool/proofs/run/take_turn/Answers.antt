@@ -1,7 +1,8 @@
 use Rattle.std.proofs.Common.{refl, sym, ◌∙◌, inl, inr}
-use Rattle.gp_tool.specs.Ends.{outside}
+use Rattle.line_runs.specs.Outside.{outside}
 use Rattle.gp_tool.specs.Standing.{held_in}
-use Rattle.gp_tool.proofs.Turns.{given_line, bad_form, failing_line, line_leaves, line_takes, refusal_ends, refuses_from, stop_takes}
+use Rattle.gp_tool.proofs.Turns.{given_line, bad_form, failing_line, refusal_ends, refuses_from}
+use Rattle.line_runs.proofs.Passed.{line_leaves, line_takes, stop_takes}
 use Rattle.gp_tool.proofs.run.take_turn.Goals as goal
 
 pub returns-in-Done-clause-goes_on : goal.returns-in-Done-clause-goes_on

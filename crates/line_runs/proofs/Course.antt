@@ -1,0 +1,188 @@
+-- The course of lines that are taken, from line to line and to its end.
+use Rattle.std.proofs.Common.{◌≡◌, ℕ, ◌+◌, ◌-◌, ◌<◌, ◌≤◌, List, [], ◌∷◌, ◌++◌, length, take, None, refl, sym, ap, subst, ◌∙◌, inl, inr, append_assoc, arith, length-append}
+use Rattle.std.proofs.lemmas.List.{append-nil}
+use Rattle.std.proofs.lemmas.List.Folds.{concat-append}
+use Rattle.std.specs.List.{AllByRecursion, concat}
+use Rattle.std.specs.Str.Lines.{lines}
+use Rattle.io_edge.specs.Lines.{IsNextLine, Reading, ahead, room}
+use Rattle.io_edge.specs.declared.line.TheConstants.{INPUT_LIMIT, LINE_LIMIT}
+use Rattle.line_runs.proofs.ComeFirst.{come_more, lines_come}
+use Rattle.line_runs.proofs.Passed.{taken_all}
+use Rattle.line_runs.specs.Ends.{Course, Ends, HasForm, Takes, TakesLines}
+use Rattle.line_runs.specs.Going.{Going}
+use Rattle.line_runs.specs.Outside.{Outside, bad_line}
+use Rattle.line_runs.specs.Taken.{ComeFirst, IsBadLine, IsShortCut, TakesNoMore, room_ahead}
+use Rattle.line_runs.specs.Turn.{EndsWith, GoesOn, TakesNext, total}
+use Rattle.line_runs.specs.declared.ending.LinesEnd.{LinesEnd}
+use Rattle.line_runs.specs.declared.ending.LinesEnd.TheVariants.{Finished, BadLine, ReadFault, WriteFault, InputTooLong}
+
+-- one more line that is not too long
+pub short_more : (given : List (List ℕ)) (line : List ℕ) → AllByRecursion (λ (l : List ℕ). length l ≤ LINE_LIMIT) given → length line ≤ LINE_LIMIT
+    → AllByRecursion (λ (l : List ℕ). length l ≤ LINE_LIMIT) (given ++ line ∷ [])
+short_more [] line none fits = (fits, tt)
+short_more (first ∷ given) line short fits = (short.0, short_more given line short.1 fits)
+
+pub all_written : (old text more written now : List ℕ) → written ≡ old ++ text → now ≡ written ++ more → now ≡ old ++ (text ++ more)
+all_written old text more written now before after = after ∙ ap (λ w. w ++ more) before ∙ append_assoc old text more
+
+-- one text more
+pub concat_more : (texts : List (List ℕ)) (text : List ℕ) → concat (texts ++ text ∷ []) ≡ concat texts ++ text
+concat_more texts text = concat-append texts (text ∷ []) ∙ ap (λ t. concat texts ++ t) (append-nil text)
+
+-- one line more
+taken_more : {T : Type 0} (takes : Takes T) (first at next : T) (given : List (List ℕ)) (texts : List (List ℕ)) (line text : List ℕ)
+    → TakesLines takes first given at texts → takes at line next text → TakesLines takes first (given ++ line ∷ []) next (texts ++ text ∷ [])
+taken_more {T} takes first at next [] texts line text (same, none) one =
+    (next, text, [], subst (λ (t : T). takes t line next text) same one, (refl, refl), ap (λ ts. ts ++ text ∷ []) none)
+taken_more takes first at next (l ∷ given) texts line text (mid, t, more, now, later, are) one =
+    (mid, t, more ++ text ∷ [], now, taken_more takes mid at next given more line text later one, ap (λ ts. ts ++ text ∷ []) are)
+
+module _ {T : Type 0} (takes : Takes T) (reads writes : Type 0) (first : T) (before : Outside) where
+  -- nothing was read yet
+  pub going_first : Going takes reads writes first first before before (record { number = 0; passed = 0; held = []; stop = None })
+  going_first = record {
+    given = [];
+    texts = [];
+    number = refl;
+    passed = λ _. omega arith;
+    fits = tt;
+    played = (refl, refl);
+    reached = λ _. refl;
+    written = λ _. sym (append-nil before.sink.written);
+  }
+
+  module _ (at at' : T) (now later : Outside) (old : Reading) (going : Going takes reads writes first at before now old) where
+    -- the room is that after the bytes that were passed
+    room_is : reads → room old ≡ room_ahead before.source.left (ahead old now.source.left)
+    room_is told =
+        let passed = going.passed told in
+        let behind : old.passed ≡ length before.source.left - length (ahead old now.source.left) = omega arith in
+        ap (λ n. INPUT_LIMIT - n) behind
+
+    reached_more : (line after : List ℕ) → (reads → IsNextLine (room old) (ahead old now.source.left) line after) → reads → ComeFirst INPUT_LIMIT before.source.left (going.given ++ line ∷ []) after
+    reached_more line after next told =
+        come_more INPUT_LIMIT before.source.left going.given (ahead old now.source.left) line after (going.reached told) (rw (← room_is told) (next told))
+
+    -- the next line is bad, by the room after the bytes that were passed
+    bad_there : (reads → IsBadLine (HasForm takes at) (room old) (ahead old now.source.left)) → reads
+        → IsBadLine (HasForm takes at) (room_ahead before.source.left (ahead old now.source.left)) (ahead old now.source.left)
+    bad_there bad told = subst (λ (n : ℕ). IsBadLine (HasForm takes at) n (ahead old now.source.left)) (room_is told) (bad told)
+
+    -- what was taken of the whole input
+    taken_there : (ahead left : List ℕ) → (reads → TakesNoMore (total old now) ahead left) → reads → TakesNoMore (length before.source.left) ahead left
+    taken_there ahead left taken told = subst (λ (n : ℕ). TakesNoMore n ahead left) (going.passed told) (taken told)
+
+    -- the course up to here, and with one line more
+    course_here : (rest left : List ℕ) → (reads → ComeFirst INPUT_LIMIT before.source.left going.given rest) → (reads → TakesNoMore (length before.source.left) rest left)
+        → Course takes reads first before.source.left left
+    course_here rest left reached taken = record {
+      given = going.given;
+      texts = going.texts;
+      last = at;
+      ahead = rest;
+      fits = going.fits;
+      played = going.played;
+      reached = reached;
+      taken = taken;
+    }
+
+    course_more : (text after left : List ℕ) → TakesNext takes reads at at' text (room old) (ahead old now.source.left) after
+        → (reads → TakesNoMore (length before.source.left) after left) → Course takes reads first before.source.left left
+    course_more text after left next taken = record {
+      given = going.given ++ next.line ∷ [];
+      texts = going.texts ++ text ∷ [];
+      last = at';
+      ahead = after;
+      fits = short_more going.given next.line going.fits next.fits;
+      played = taken_more takes first at at' going.given going.texts next.line text going.played next.taken;
+      reached = reached_more next.line after next.next;
+      taken = taken;
+    }
+
+    pub going_further : (new : Reading) → GoesOn takes reads writes at at' old new now later → Going takes reads writes first at' before later new
+    going_further new on = record {
+      given = going.given ++ on.line.line ∷ [];
+      texts = going.texts ++ on.text ∷ [];
+      number = on.number ∙ ap (λ n. n + 1) going.number ∙ sym (length-append going.given (on.line.line ∷ []));
+      passed = λ told. on.passed told ∙ going.passed told;
+      fits = short_more going.given on.line.line going.fits on.line.fits;
+      played = taken_more takes first at at' going.given going.texts on.line.line on.text going.played on.line.taken;
+      reached = reached_more on.line.line (ahead new later.source.left) on.line.next;
+      written = λ told.
+          all_written before.sink.written (concat going.texts) on.text now.sink.written later.sink.written (going.written told) (on.written told)
+          ∙ ap (λ t. before.sink.written ++ t) (sym (concat_more going.texts on.text));
+    }
+
+    -- the texts so far, and nothing more
+    so_far : (writes → later.sink.written ≡ now.sink.written) → writes → later.sink.written ≡ before.sink.written ++ concat going.texts
+    so_far silent told = silent told ∙ going.written told
+
+    -- the last text was cut
+    last_cut : (n : ℕ) (text : List ℕ) → writes → later.sink.written ≡ now.sink.written ++ take n text
+        → later.sink.written ≡ before.sink.written ++ (concat going.texts ++ take n text)
+    last_cut n text told wrote =
+        all_written before.sink.written (concat going.texts) (take n text) now.sink.written later.sink.written (going.written told) wrote
+
+    pub going_ends : (end : LinesEnd) → EndsWith takes reads writes at at' old now later end → later.sink.flushes ≡ before.sink.flushes
+        → Ends takes reads writes first at' end before later
+    unfolding course_here course_more
+    going_ends Finished (same, (over, some, none, silent)) flushes =
+        let short : reads → length before.source.left < INPUT_LIMIT
+        = λ told.
+        (let passed = going.passed told in
+        let nothing_ahead : length (ahead old now.source.left) ≡ 0 = ap length (over told) in
+        let room_left = some told in
+        omega arith) in
+        record {
+          course = course_here [] later.source.left (λ told. subst (λ (rest : List ℕ). ComeFirst INPUT_LIMIT before.source.left going.given rest) (over told) (going.reached told))
+              (λ told. taken_all (length before.source.left) later.source.left (none told) (short told));
+          ends = (
+            λ told. (
+              lines_come INPUT_LIMIT before.source.left going.given (ahead old now.source.left) (going.reached told)
+                  ∙ ap (λ rest. going.given ++ lines rest) (over told) ∙ append-nil going.given,
+              refl,
+              short told,
+            ),
+            so_far silent,
+          );
+          rests = λ is. sym same;
+        }
+    going_ends BadLine (bad, refuses, taken) flushes = record {
+      course = course_here (ahead old now.source.left) later.source.left going.reached (taken_there (ahead old now.source.left) later.source.left taken);
+      ends = (
+        bad_there bad,
+        λ told.
+            all_written before.sink.written (concat going.texts) (bad_line (length going.given + 1)) now.sink.written later.sink.written (going.written told)
+            (refuses told ∙ ap (λ n. now.sink.written ++ bad_line (n + 1)) going.number)
+            ∙ ap (λ t. before.sink.written ++ t) (sym (concat_more going.texts (bad_line (length going.given + 1)))),
+      );
+      rests = λ is. cc;
+    }
+    going_ends ReadFault (holds, silent, taken) flushes = record {
+      course = course_here (ahead old now.source.left) later.source.left going.reached (taken_there (ahead old now.source.left) later.source.left taken);
+      ends = (holds, so_far silent);
+      rests = λ is. cc;
+    }
+    going_ends InputTooLong (cut, silent, taken) flushes = record {
+      course = course_here (ahead old now.source.left) later.source.left going.reached (taken_there (ahead old now.source.left) later.source.left taken);
+      ends = (λ told. subst (λ (n : ℕ). IsShortCut n (ahead old now.source.left)) (room_is told) (cut told), so_far silent);
+      rests = λ is. cc;
+    }
+    going_ends WriteFault (inl next) flushes = record {
+      course = course_more next.text next.after later.source.left next.line (taken_there next.after later.source.left next.few);
+      ends = inl (going.texts, next.text, refl, (flushes, λ told. (let part = next.cut told in (part.0, last_cut part.0 next.text told part.1))));
+      rests = λ is. cc;
+    }
+    going_ends WriteFault (inr (bad, refuses, taken)) flushes = record {
+      course = course_here (ahead old now.source.left) later.source.left going.reached (taken_there (ahead old now.source.left) later.source.left taken);
+      ends = inr (
+        bad_there bad,
+        (
+          flushes,
+          λ told.
+              (let part = refuses told in
+              (part.0, last_cut part.0 (bad_line (length going.given + 1)) told (part.1 ∙ ap (λ n. now.sink.written ++ take part.0 (bad_line (n + 1))) going.number))),
+        ),
+      );
+      rests = λ is. cc;
+    }

@@ -1,0 +1,5 @@
+pub mod ComeFirst
+pub mod Passed
+pub mod Course
+pub mod Complete
+mod Turns

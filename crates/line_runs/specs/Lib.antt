@@ -1,0 +1,5 @@
+pub mod Outside
+pub mod Taken
+pub mod Ends
+pub mod Going
+pub mod Turn

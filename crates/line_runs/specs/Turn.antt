@@ -1,0 +1,75 @@
+-- For the code inside: what one more line does, and how the taking of lines ends with it.
+use Rattle.std.specs.Prelude.{◌≡◌, ◌⊎◌, ℕ, ◌+◌, ◌<◌, ◌≤◌, List, [], ◌++◌, length, take, None}
+use Rattle.io_edge.specs.Lines.{Reading, IsNextLine, IsWithin, ahead, room}
+use Rattle.io_edge.specs.declared.line.TheConstants.{LINE_LIMIT}
+use Rattle.line_runs.specs.Ends.{HasForm, Takes}
+use Rattle.line_runs.specs.Outside.{Outside, bad_line}
+use Rattle.line_runs.specs.Taken.{HoldsNoLine, IsBadLine, IsShortCut, TakesNoMore}
+use Rattle.line_runs.specs.declared.ending.LinesEnd.{LinesEnd}
+use Rattle.line_runs.specs.declared.ending.LinesEnd.TheVariants.{Finished, BadLine, ReadFault, WriteFault, InputTooLong}
+
+-- The next line of what is ahead, within the room, was taken.
+pub record TakesNext {T : Type 0} (takes : Takes T) (reads : Type 0) (at at' : T) (text : List ℕ) (room : ℕ) (ahead after : List ℕ) : Type 0 where
+  pub line : List ℕ
+  pub next : reads → IsNextLine room ahead line after
+  pub fits : length line ≤ LINE_LIMIT
+  pub taken : takes at line at' text
+
+-- It goes on after a line, whose text was written.
+pub record GoesOn {T : Type 0} (takes : Takes T) (reads writes : Type 0) (at at' : T) (old new : Reading) (before now : Outside) : Type 0 where
+  pub stop : new.stop ≡ None
+  pub number : new.number ≡ old.number + 1
+  pub within : IsWithin new
+  pub further : old.passed < new.passed
+  pub passed : reads → new.passed + length (ahead new now.source.left) ≡ old.passed + length (ahead old before.source.left)
+  pub text : List ℕ
+  pub line : TakesNext takes reads at at' text (room old) (ahead old before.source.left) (ahead new now.source.left)
+  pub written : writes → now.sink.written ≡ before.sink.written ++ text
+
+-- how many bytes an input has of which so many were passed
+abbrev pub total : Reading → Outside → ℕ
+total old before = old.passed + length (ahead old before.source.left)
+
+-- what was taken of what stood ahead
+abbrev pub TakesFew : Type 0 → Reading → Outside → Outside → Type 0
+TakesFew reads old before now = reads → TakesNoMore (total old before) (ahead old before.source.left) now.source.left
+
+-- nothing more was written
+abbrev pub Silent : Type 0 → Outside → Outside → Type 0
+Silent writes before now = writes → now.sink.written ≡ before.sink.written
+
+-- what is written of a bad line, whole or up to a fault
+abbrev pub Refuses : Type 0 → ℕ → List ℕ → List ℕ → LinesEnd → Type 0
+Refuses writes number old new BadLine = writes → new ≡ old ++ bad_line number
+Refuses writes number old new WriteFault = writes → (n : ℕ) × (new ≡ old ++ take n (bad_line number))
+Refuses writes number old new end = ⊥
+
+-- the next line is bad, and was refused
+abbrev pub RefusesNext : {T : Type 0} → Takes T → Type 0 → Type 0 → T → Reading → Outside → Outside → LinesEnd → Type 0
+RefusesNext takes reads writes at old before now end =
+    (reads → IsBadLine (HasForm takes at) (room old) (ahead old before.source.left)) × Refuses writes (old.number + 1) before.sink.written now.sink.written end
+    × TakesFew reads old before now
+
+-- the text of the next line was refused
+pub record CutsNext {T : Type 0} (takes : Takes T) (reads writes : Type 0) (at at' : T) (old : Reading) (before now : Outside) : Type 0 where
+  pub after : List ℕ
+  pub text : List ℕ
+  pub line : TakesNext takes reads at at' text (room old) (ahead old before.source.left) after
+  pub cut : writes → (n : ℕ) × (now.sink.written ≡ before.sink.written ++ take n text)
+  pub few : reads → TakesNoMore (total old before) after now.source.left
+
+-- the input is at its end
+abbrev pub IsAtEnd : Type 0 → Type 0 → Reading → Outside → Outside → Type 0
+IsAtEnd reads writes old before now =
+    (reads → ahead old before.source.left ≡ []) × (reads → 0 < room old) × (reads → now.source.left ≡ []) × Silent writes before now
+
+-- It ends with what is ahead.
+abbrev pub EndsWith : {T : Type 0} → Takes T → (reads writes : Type 0) → (at at' : T) → Reading → (before now : Outside) → LinesEnd → Type 0
+EndsWith takes reads writes at at' old before now Finished = (at' ≡ at) × IsAtEnd reads writes old before now
+EndsWith takes reads writes at at' old before now BadLine = RefusesNext takes reads writes at old before now BadLine
+EndsWith takes reads writes at at' old before now ReadFault =
+    (reads → HoldsNoLine (ahead old before.source.left) now.source.left) × Silent writes before now × TakesFew reads old before now
+EndsWith takes reads writes at at' old before now InputTooLong =
+    (reads → IsShortCut (room old) (ahead old before.source.left)) × Silent writes before now × TakesFew reads old before now
+EndsWith takes reads writes at at' old before now WriteFault =
+    CutsNext takes reads writes at at' old before now ⊎ RefusesNext takes reads writes at old before now WriteFault

@@ -1,0 +1,16 @@
+//! How the taking of lines ends.
+
+/// How the lines of an input were taken.
+#[derive(Clone, Copy, Debug, PartialEq, Eq)]
+pub enum LinesEnd {
+    /// To the end of the input.
+    Finished,
+    /// To a line that has no form or is too long: its number was written.
+    BadLine,
+    /// The source refused a read.
+    ReadFault,
+    /// The sink refused a write.
+    WriteFault,
+    /// The input has too many bytes.
+    InputTooLong,
+}
