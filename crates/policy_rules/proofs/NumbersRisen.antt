@@ -67,12 +67,12 @@ module _ (state : State) (bytes : List ℕ) (outcome : Outcome) (domain : List �
 
     -- the domain confirms it
     module _ (aids : List (List ℕ)) (confirms : Confirms admitted aids) (key : Key) (receipter : IsReceipter admitted.at.registry (acting admitted) domain key) where
-      record IsConfirmedSo : Type 0 where
+      pub record IsConfirmedSo : Type 0 where
         pub rises : after ≡ before + 1
         pub body : done.body ≡ receipt key.bytes after (unique_data admitted.at.registry) aids
         pub status : done.status ≡ 0x9000
 
-      confirmed_so : IsConfirmedSo
+      pub confirmed_so : IsConfirmedSo
       confirmed_so =
           pick_form IsRising (λ form. TakesToConfirm aids form × Accepts admitted done form) (λ form. Unit {0}) IsConfirmedSo (forms_of admitted.command.ins)
           (λ form rising both there.

@@ -95,7 +95,7 @@ module _ (state : State) (sound : IsSound state) (alive : state.registry.life �
     subst (λ (found : Option Session). MatchOption found ⊥ (λ one. Opens one sent field × (accepting session sent ≡ accepting one sent))) (sym on) (opens, refl),
   )
 
-  admits : Admits state bytes opened
+  pub admits : Admits state bytes opened
   admits = (first, (sent, short, (Some (accepting session sent), field, taken, refl)))
 
   -- the rule of an outcome is that by which the command is judged
