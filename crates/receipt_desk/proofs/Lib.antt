@@ -1,0 +1,7 @@
+pub mod Fields
+pub mod InTurn
+pub mod Lines
+pub mod OfCards
+pub mod OneLine
+pub mod Signed
+pub mod Verdicts

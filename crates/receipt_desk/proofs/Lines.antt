@@ -1,0 +1,30 @@
+-- What the lines of a desk say.
+use Rattle.std.proofs.Common.{ℕ, List, Option, None, Some}
+use Rattle.std.specs.Prelude.{◌⊎◌}
+use Rattle.script_tool.specs.Line.{IsBlank, IsComment}
+use Rattle.script_tool.specs.Reads.{Reads}
+use Rattle.script_tool.specs.Words.{words_of}
+use Rattle.receipt_desk.specs.Lines.{SaysDesk, SaysWords}
+use Rattle.receipt_desk.specs.declared.line.DeskLine.{DeskLine}
+use Rattle.receipt_desk.specs.declared.line.DeskLine.TheVariants.{Nothing, Key, Unique, From, Sign, Receipt}
+
+says_text : (text : List ℕ) (line : DeskLine) → SaysWords (words_of text) line → SaysDesk text line
+says_text text Nothing says = absurd says
+says_text text (Key key) says = says
+says_text text (Unique bytes) says = says
+says_text text (From number) says = says
+says_text text (Sign s) says = says
+says_text text (Receipt r) says = says
+
+words_say : (text : List ℕ) → (IsBlank text ⊎ IsComment text → ⊥) → (line : DeskLine) → SaysDesk text line → SaysWords (words_of text) line
+words_say text some Nothing says = absurd (some says)
+words_say text some (Key key) says = says
+words_say text some (Unique bytes) says = says
+words_say text some (From number) says = says
+words_say text some (Sign s) says = says
+words_say text some (Receipt r) says = says
+
+-- a text that is no blank line and no comment says what its words say
+pub read_text : (text : List ℕ) (answer : Option DeskLine) → (IsBlank text ⊎ IsComment text → ⊥) → Reads (SaysWords (words_of text)) answer → Reads (SaysDesk text) answer
+read_text text None some none = λ line says. none line (words_say text some line says)
+read_text text (Some line) some says = says_text text line says

@@ -1,0 +1,103 @@
+//! Keys of AES of whichever length, and what is made under them.
+
+ghost use Rattle.std.specs.Prelude.{◌≡◌, ◌↔◌, ◌≤◌, IsTrue, MatchOption, length};
+ghost use Rattle.std.specs.Option.{option_copied};
+ghost use Rattle.card_types.specs.Well.{IsKeyLength};
+ghost use Rattle.script_tool.specs.Tokens.{key_of};
+ghost use Rattle.tokens_receipts.specs.Receipt as confirmed;
+ghost use Rattle.tokens_receipts.specs.Receipt.{aids_of};
+ghost use Rattle.tokens_receipts.specs.Token as approved;
+
+use aes_block::{BlockKey, SealingAes128, SealingAes192, SealingAes256};
+use arrayvec::ArrayVec;
+use card_types::Aid;
+use script_tool::{Key, OfSize};
+use tokens_receipts::{receipt, token};
+
+/// The key with these bytes.
+pub fn key_from(bytes: &[u8]) -> Option<Key>
+    ensures { MatchOption result (IsKeyLength (length bytes.now) → ⊥) (λ key. key_of key ≡ bytes.now) }
+{
+    match bytes.len() {
+        16 => Some(OfSize::Aes128(bytes.try_into().ok()?)),
+        24 => Some(OfSize::Aes192(bytes.try_into().ok()?)),
+        32 => Some(OfSize::Aes256(bytes.try_into().ok()?)),
+        _ => None,
+    }
+}
+
+/// The token under a key.
+pub fn token_under(key: &Key, p1: u8, p2: u8, before: &[u8]) -> [u8; 16]
+    requires short { length before.now ≤ 255 }
+    ensures { result ≡ approved.token (key_of key.now) p1 p2 before.now }
+{
+    match key {
+        OfSize::Aes128(key) => token(&SealingAes128::from_key(key), p1, p2, before),
+        OfSize::Aes192(key) => token(&SealingAes192::from_key(key), p1, p2, before),
+        OfSize::Aes256(key) => token(&SealingAes256::from_key(key), p1, p2, before),
+    }
+}
+
+// Whether a data field is the receipt under a key.
+fn fits<K: BlockKey>(
+    key: &K,
+    number: u16,
+    unique: &[u8],
+    first: &Aid,
+    second: Option<&Aid>,
+    third: Option<&Aid>,
+    given: &[u8],
+) -> bool
+    requires short { length unique.now ≤ 20 }
+    ensures { IsTrue result ↔ (given.now ≡ confirmed.receipt (K.key_bytes key.now) number unique.now
+        (aids_of first.now (option_copied second.entry) (option_copied third.entry))) }
+{
+    let mut wanted = ArrayVec::new();
+    receipt(key, number, unique, first, second, third, &mut wanted);
+    given == wanted.as_slice()
+}
+
+/// Whether a data field is the receipt under a key.
+pub fn receipt_fits(
+    key: &Key,
+    number: u16,
+    unique: &[u8],
+    first: &Aid,
+    second: Option<&Aid>,
+    third: Option<&Aid>,
+    given: &[u8],
+) -> bool
+    requires short { length unique.now ≤ 20 }
+    ensures { IsTrue result ↔ (given.now ≡ confirmed.receipt (key_of key.now) number unique.now
+        (aids_of first.now (option_copied second.entry) (option_copied third.entry))) }
+{
+    match key {
+        OfSize::Aes128(key) => fits(
+            &SealingAes128::from_key(key),
+            number,
+            unique,
+            first,
+            second,
+            third,
+            given,
+        ),
+        OfSize::Aes192(key) => fits(
+            &SealingAes192::from_key(key),
+            number,
+            unique,
+            first,
+            second,
+            third,
+            given,
+        ),
+        OfSize::Aes256(key) => fits(
+            &SealingAes256::from_key(key),
+            number,
+            unique,
+            first,
+            second,
+            third,
+            given,
+        ),
+    }
+}

@@ -1,0 +1,28 @@
+//! Receipts to judge.
+
+ghost use Rattle.receipt_desk.specs.Lines.{SaysReceipt};
+ghost use Rattle.script_tool.specs.Reads.{Reads};
+ghost use Rattle.script_tool.specs.Words.{left};
+
+use crate::aids::{self, Aids};
+use arrayvec::ArrayVec;
+use script_tool::values::bytes;
+use script_tool::words::Words;
+
+/// The data field of a reply, and what its command was about.
+#[derive(Drop)]
+pub struct Receipted {
+    pub reply: ArrayVec<u8, 48>,
+    pub aids: Aids,
+}
+
+/// Reads `receipt HEX AID [AID [AID]]`.
+pub fn read(words: Words<'_>) -> Option<Receipted>
+    ensures { Reads (SaysReceipt (left words.entry)) result }
+{
+    let mut words = words;
+    words.fixed(b"receipt")?;
+    let reply = bytes(words.take()?)?;
+    let aids = aids::read(words)?;
+    Some(Receipted { reply, aids })
+}
