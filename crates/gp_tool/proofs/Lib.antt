@@ -3,6 +3,7 @@ pub mod Complete
 pub mod CounterText
 pub mod Counting
 pub mod RunSoFar
+pub mod DeskEnding
 pub mod Exclusive
 pub mod FewOutcomes
 pub mod FileLine

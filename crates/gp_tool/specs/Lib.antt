@@ -30,3 +30,5 @@ pub mod StepsCard
 pub mod Turn
 pub mod Verbs
 pub mod Words
+pub mod LineEndings
+pub mod Desk

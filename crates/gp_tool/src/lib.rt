@@ -11,6 +11,9 @@
 //!
 //! `show` writes the registry of the card, and `access` who may do what on it, a line each.
 //!
+//! `desk` takes the lines of the source for those of a desk: it signs tokens of commands and judges receipts. `cap` packs a CAP file, whose
+//! bytes the lines spell, into a script. Neither makes a call on the device.
+//!
 //! `mill SEED COUNT` makes the device the factory card, plays COUNT rounds of lines that SEED chooses, the same each time, and
 //! writes five lines of summary.
 //!
@@ -22,6 +25,7 @@
 
 mod answer;
 mod card_end;
+mod desk_verb;
 mod difference;
 mod ended;
 mod ending;

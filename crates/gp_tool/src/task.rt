@@ -21,6 +21,9 @@ pub enum Task {
 
     /// `show` or `access`: what there is on the card is written.
     Show(View),
+
+    /// `desk`: the lines of the source sign tokens and judge receipts.
+    Desk,
 }
 
 fn is_word(word: &String, wanted: &[u8]) -> bool
@@ -44,6 +47,7 @@ pub fn read_task(words: &[String]) -> Option<Task>
         }
         [word] if is_word(word, b"show") => Some(Task::Show(View::Registry)),
         [word] if is_word(word, b"access") => Some(Task::Show(View::Rights)),
+        [word] if is_word(word, b"desk") => Some(Task::Desk),
         _ => None,
     }
 }

@@ -4,7 +4,7 @@ use Rattle.gp_tool.specs.Around.{around}
 use Rattle.gp_tool.specs.Verbs.{Completes}
 use Rattle.gp_tool.specs.Words.{AreOf, word_of}
 use Rattle.gp_tool.specs.declared.task.Task.{Task}
-use Rattle.gp_tool.specs.declared.task.Task.TheVariants.{Mill, Serve, Show}
+use Rattle.gp_tool.specs.declared.task.Task.TheVariants.{Desk, Mill, Serve, Show}
 use Rattle.gp_tool.specs.declared.verb.Verb.{Verb}
 use Rattle.gp_tool.specs.declared.verb.Verb.TheVariants.{Run, Why, Replay, Play}
 use Rattle.gp_tool.proofs.top.gp.Goals as goal
@@ -36,6 +36,12 @@ returns-in-None-clause-show_complete g c view named = absurd (c.in-None.ensures 
 
 pub returns-in-None-clause-mill : goal.returns-in-None-clause-mill
 returns-in-None-clause-mill g c work named = absurd (c.in-None.ensures (Mill work, named))
+
+pub returns-in-None-clause-desk : goal.returns-in-None-clause-desk
+returns-in-None-clause-desk g c named = absurd (c.in-None.ensures (Desk, named))
+
+pub returns-in-None-clause-desk_complete : goal.returns-in-None-clause-desk_complete
+returns-in-None-clause-desk_complete g c named = absurd (c.in-None.ensures (Desk, named))
 
 pub returns-in-None-clause-mill_memory : goal.returns-in-None-clause-mill_memory
 returns-in-None-clause-mill_memory g c work named = absurd (c.in-None.ensures (Mill work, named))

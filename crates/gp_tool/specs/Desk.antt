@@ -1,0 +1,45 @@
+-- How the verb `desk` ends. In what follows `reads` and `writes` are facts where the source and the sink tell their bytes.
+use Rattle.std.specs.Prelude.{◌≡◌, ◌⊎◌, ℕ, true, false}
+use Rattle.faults.specs.Faults.{next_count}
+use Rattle.line_runs.specs.Ends.{Course, EndsAt, IsCutOff}
+use Rattle.line_runs.specs.Outside.{Outside}
+use Rattle.line_runs.specs.declared.ending.LinesEnd.TheVariants as lines
+use Rattle.receipt_desk.specs.Audit.{TakesDesk, new_audit}
+use Rattle.gp_tool.specs.Around.{around}
+use Rattle.gp_tool.specs.Ends.{EndCause, Flushes, exit_status}
+use Rattle.gp_tool.specs.declared.ending.Ending.{Ending}
+use Rattle.gp_tool.specs.declared.ending.Ending.TheVariants.{Finished, Differs, BadLine, ReadFault, WriteFault, InputTooLong}
+
+-- the status where it ends so: 10 says that some receipt did not fit
+abbrev pub desk_status : Ending → ℕ
+desk_status Differs = 10
+desk_status ending = exit_status ending
+
+-- the course of the lines that a desk took, up to the end
+abbrev pub DeskCourse : Type 0 → (old new : Outside) → Type 0
+DeskCourse reads old new = Course TakesDesk reads new_audit old.source.left new.source.left
+
+-- What holds after the course where nothing has failed: whether a receipt did not fit, why no further line was taken, and what was written.
+abbrev pub DeskFaultless : {reads : Type 0} → Type 0 → (old new : Outside) → DeskCourse reads old new → Ending → Type 0
+DeskFaultless writes old new course Finished = (course.last.differs ≡ false) × EndsAt writes old new course lines.Finished
+DeskFaultless writes old new course Differs = (course.last.differs ≡ true) × EndsAt writes old new course lines.Finished
+DeskFaultless writes old new course BadLine = EndsAt writes old new course lines.BadLine
+DeskFaultless writes old new course InputTooLong = EndsAt writes old new course lines.InputTooLong
+DeskFaultless writes old new course ending = ⊥
+
+-- The same at each ending. At a refused write or flush a text was refused, or all was written and its flush was refused.
+abbrev pub DeskEndsAt : {reads : Type 0} → Type 0 → (old new : Outside) → DeskCourse reads old new → Ending → Type 0
+DeskEndsAt writes old new course ReadFault = EndsAt writes old new course lines.ReadFault
+DeskEndsAt writes old new course WriteFault =
+    IsCutOff writes old new course
+    ⊎ ((other : Ending) × DeskFaultless writes old new course other × (new.sink.flushes ≡ next_count old.sink.flushes))
+DeskEndsAt writes old new course ending = DeskFaultless writes old new course ending
+
+-- The lines of a source were taken for those of a desk, up to an ending, which the status tells.
+pub record DeskEnds (reads writes : Type 0) (status : ℕ) (old new : Outside) : Type 0 where
+  pub ending : Ending
+  pub status_is : status ≡ desk_status ending
+  pub cause : EndCause ending (around old.source.faults old.sink.faults 0) (around new.source.faults new.sink.faults 0)
+  pub flushes : Flushes writes ending old.sink new.sink
+  pub course : DeskCourse reads old new
+  pub ends : DeskEndsAt writes old new course ending

@@ -1,0 +1,51 @@
+//! The verb `desk`.
+
+ghost use Rattle.std.specs.Prelude.{◌≡◌, ◌⊎◌};
+ghost use Rattle.faults.specs.Faults.{Rose};
+ghost use Rattle.line_runs.specs.Ends.{IsGoodInput};
+ghost use Rattle.line_runs.specs.Outside.{outside};
+ghost use Rattle.receipt_desk.specs.Audit.{TakesDesk, new_audit};
+ghost use Rattle.gp_tool.specs.Desk.{DeskEnds, desk_status};
+ghost use Rattle.gp_tool.specs.LineEndings.{ending_of_lines};
+
+use crate::ending::Ending;
+use crate::run::{end_of_input, flush_at_end};
+use io_edge::{Sink, Source};
+use line_runs::{LinesEnd, take_lines};
+use receipt_desk::Audit;
+
+/// How the program ends with lines that no card took part in.
+pub fn ending_of_lines(end: LinesEnd, differs: bool) -> Ending
+    ensures { result ≡ ending_of_lines end differs }
+{
+    match end {
+        LinesEnd::Finished => end_of_input(differs),
+        LinesEnd::BadLine => Ending::BadLine,
+        LinesEnd::ReadFault => Ending::ReadFault,
+        LinesEnd::WriteFault => Ending::WriteFault,
+        LinesEnd::InputTooLong => Ending::InputTooLong,
+    }
+}
+
+// The status where a desk ends so.
+fn status_of(ending: Ending) -> u8
+    ensures { result ≡ desk_status ending }
+{
+    match ending {
+        Ending::Differs => 10,
+        _ => ending.status(),
+    }
+}
+
+/// Takes the lines of the source for those of a desk, and answers the status.
+pub fn desk_verb<S: Source, K: Sink>(source: &mut S, sink: &mut K) -> u8
+    ensures ends { DeskEnds S.tells K.tells result (outside (S.state source.old) (K.state sink.old)) (outside (S.state source.new) (K.state sink.new)) }
+    ensures complete { S.tells → IsGoodInput TakesDesk new_audit (S.state source.old).left
+        → (Rose (S.state source.old).faults (S.state source.new).faults → ⊥) → (Rose (K.state sink.old).faults (K.state sink.new).faults → ⊥)
+        → (result ≡ 0) ⊎ (result ≡ 10) }
+{
+    let mut audit = Audit::new();
+    let end = take_lines(&mut audit, source, sink);
+    let ending = ending_of_lines(end, audit.differs());
+    status_of(flush_at_end(ending, sink))
+}
