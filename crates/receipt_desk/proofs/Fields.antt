@@ -1,4 +1,4 @@
--- Fields behind their lengths, and what a receipted reply spells.
+-- Fields with their lengths before them, and what a receipted reply spells.
 use Rattle.std.proofs.Common.{◌≡◌, ℕ, List, ◌++◌, length, get_or, take, drop, refl, sym, ap, ◌∙◌, append_assoc}
 use Rattle.std.proofs.lemmas.List.{drop_at, take_at}
 use Rattle.tokens_receipts.specs.Receipt.{with_length}

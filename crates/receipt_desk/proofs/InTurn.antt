@@ -1,11 +1,19 @@
 -- Where all fit, their numbers follow one another.
-use Rattle.std.proofs.Common.{ℕ, List, [], ◌∷◌, ap, subst, ◌∙◌}
+use Rattle.std.proofs.Common.{◌≡◌, ℕ, ◌+◌, List, [], ◌∷◌, ap, subst, ◌∙◌}
 use Rattle.std.proofs.lemmas.List.Elements.{All-head, All-tail}
-use Rattle.receipt_desk.specs.InTurn.{IsFits, fits_from}
+use Rattle.receipt_desk.specs.InTurn.{IsFits, JudgedInTurn, Slip, fits_from}
 use Rattle.receipt_desk.specs.Judgement.{Judged}
 use Rattle.receipt_desk.specs.Laws.{FittingFollow, GapsAreNoticed, numbers_from}
 use Rattle.receipt_desk.specs.declared.verdict.Verdict.TheVariants.{Fits, Form, Unique, Number, Mac}
 use Rattle.receipt_desk.proofs.Verdicts.{next_is, one_place}
+
+-- one that fits with the next number, and then the rest
+pub first_fits : (key unique : List ℕ) (before next after : ℕ) (slip : Slip) (slips : List Slip) → next ≡ before + 1 → Judged key unique before slip.reply slip.aids (Fits next)
+    → JudgedInTurn key unique next slips (fits_from next slips) after → JudgedInTurn key unique before (slip ∷ slips) (fits_from before (slip ∷ slips)) after
+first_fits key unique before next after slip slips is here later = (
+  subst (λ (n : ℕ). Judged key unique before slip.reply slip.aids (Fits n)) is here,
+  subst (λ (n : ℕ). JudgedInTurn key unique n slips (fits_from n slips) after) is later,
+)
 
 pub fitting_follow : FittingFollow
 fitting_follow key unique last end [] verdicts judged fit = judged.0

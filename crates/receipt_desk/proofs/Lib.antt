@@ -1,3 +1,4 @@
+pub mod Audited
 pub mod Fields
 pub mod InTurn
 pub mod Lines

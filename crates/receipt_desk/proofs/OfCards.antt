@@ -1,16 +1,18 @@
 -- The receipts that a card makes fit.
-use Rattle.std.proofs.Common.{◌≡◌, inl, inr, ℕ, ◌+◌, ◌≤◌, List, [], ◌∷◌, length, Option, None, Some, refl, ap, sym, subst, ◌∙◌, arith}
-use Rattle.std.specs.Prelude.{IsSome}
+use Rattle.std.proofs.Common.{◌≡◌, inl, inr, ℕ, ◌+◌, ◌≤◌, List, [], ◌∷◌, length, length-append, Option, None, Some, refl, ap, sym, subst, ◌∙◌, arith}
+use Rattle.std.specs.Prelude.{◌⊎◌, ◌&&◌, ◌==◌, IsSome}
 use Rattle.std.specs.Option.{option_map}
+use Rattle.std.proofs.lemmas.Bool.{and_parts, eqb-true}
 use Rattle.std.proofs.lemmas.List.Elements.{All-contains}
 use Rattle.card_types.proofs.LeastOfList.{found_fits}
 use Rattle.card_types.specs.AidOrder.{same_aid}
-use Rattle.card_types.specs.Registry.{Entry, Registry, entry_named}
-use Rattle.card_types.specs.Well.{IsWellEntry, Well}
+use Rattle.card_types.specs.Registry.{Entry, Key, Object, Registry, entry_named, object_named}
+use Rattle.card_types.specs.Well.{IsWellEntry, IsWellKey, IsWellObject, Well}
+use Rattle.card_types.specs.declared.factory.TheConstants.{ISSUER}
 use Rattle.card_types.specs.declared.limits.TheConstants.{RECEIPT_LIMIT}
 use Rattle.tokens_receipts.specs.Receipt.{receipt}
 use Rattle.policy_rules.specs.Admission.{Admitted}
-use Rattle.policy_rules.specs.Delegation.{IsReceipter, unique_data}
+use Rattle.policy_rules.specs.Delegation.{IsReceipter, unique_data, value_of}
 use Rattle.policy_rules.specs.Management.{acting}
 use Rattle.policy_rules.specs.Receipts.{Confirms, IsReceiptedBy, number_of}
 use Rattle.policy_rules.specs.Run.{Command, Input, Reset, Run}
@@ -23,8 +25,9 @@ use Rattle.policy_rules.proofs.NumbersRisen.{confirmed_so, numbers_rise}
 use Rattle.policy_rules.proofs.OneOutcome.{admits_one}
 use Rattle.receipt_desk.specs.InTurn.{JudgedInTurn, Slip, fits_from}
 use Rattle.receipt_desk.specs.Judgement.{Judged}
-use Rattle.receipt_desk.specs.OfCards.{AreSlips, IsSlip, Keeps, ReceiptsFit, ReceiptsOfRunsFit}
+use Rattle.receipt_desk.specs.OfCards.{AreSlips, DesksTakeThese, IsSlip, Keeps, ReceiptsFit, ReceiptsOfRunsFit}
 use Rattle.receipt_desk.specs.declared.verdict.Verdict.TheVariants.{Fits}
+use Rattle.receipt_desk.proofs.InTurn.{first_fits}
 use Rattle.receipt_desk.proofs.Verdicts.{next_of}
 
 -- a card's numbers are of two bytes
@@ -52,14 +55,6 @@ receipts_fit state bytes outcome domain before after sound accepts is was now =
       next_of before (omega (arith, rises, short)) ∙ ap Some (sym rises),
       so.body ∙ ap (λ (r : Registry). receipt is.key.bytes after (unique_data r) is.aids) at,
     )
-
--- what fits with one more number, and then the rest
-first_fits : (key unique : List ℕ) (before next after : ℕ) (slip : Slip) (slips : List Slip) → next ≡ before + 1 → Judged key unique before slip.reply slip.aids (Fits next)
-    → JudgedInTurn key unique next slips (fits_from next slips) after → JudgedInTurn key unique before (slip ∷ slips) (fits_from before (slip ∷ slips)) after
-first_fits key unique before next after slip slips is here later = (
-  subst (λ (n : ℕ). Judged key unique before slip.reply slip.aids (Fits n)) is here,
-  subst (λ (n : ℕ). JudgedInTurn key unique n slips (fits_from n slips) after) is later,
-)
 
 there : {A : Type 0} (o : Option A) → IsSome o → (a : A) × (o ≡ Some a)
 there None some = (let clash : ⊥ = cc in absurd clash)
@@ -113,3 +108,26 @@ module _ (domain key unique : List ℕ) where
 pub receipts_of_runs_fit : ReceiptsOfRunsFit
 receipts_of_runs_fit state last inputs outcomes domain key unique slips before after sound run keeps are was now =
     run_fits domain key unique state last inputs outcomes slips before after sound run keeps are was now
+
+-- the value of a data object of the Issuer Security Domain with one of the tags of the unique data
+short_value : (registry : Registry) (tag : ℕ) → Well registry → (tag ≡ 0x42) ⊎ (tag ≡ 0x45) → length (value_of (object_named registry ISSUER tag)) ≤ 10
+short_value registry tag well which = by (object_named registry ISSUER tag) refl
+  where
+    by : (o : Option Object) → object_named registry ISSUER tag ≡ o → length (value_of o) ≤ 10
+    by None named = omega arith
+    by (Some object) named =
+        (let found = found_fits (λ (o : Object). same_aid o.owner ISSUER && o.tag == tag) registry.objects object named in
+        let same = eqb-true object.tag tag (and_parts (same_aid object.owner ISSUER) (object.tag == tag) found.1).1 in
+        let form = (All-contains (IsWellObject registry) registry.objects object well.objects found.0).form in
+        grind (arith, same, which, form))
+
+pub desks_take_these : DesksTakeThese
+desks_take_these registry well = (
+  λ owner version identifier key named.
+      (let found = found_fits (λ (k : Key). same_aid k.owner owner && k.version == version && k.identifier == identifier) registry.keys key named in
+      (All-contains (IsWellKey registry) registry.keys key well.keys found.0).size),
+  (let number = short_value registry 0x42 well (inl refl) in
+      let image = short_value registry 0x45 well (inr refl) in
+      let both = length-append (value_of (object_named registry ISSUER 0x42)) (value_of (object_named registry ISSUER 0x45)) in
+      omega (arith, number, image, both)),
+)

@@ -1,4 +1,5 @@
 pub mod Audit
+pub mod Audited
 pub mod InTurn
 pub mod Judgement
 pub mod Laws

@@ -1,5 +1,7 @@
 -- The receipts that a card makes, at a desk.
-use Rattle.std.specs.Prelude.{◌≡◌, ◌⊎◌, ℕ, ◌+◌, List, [], ◌∷◌, Some, IsSome, length}
+use Rattle.std.specs.Prelude.{◌≡◌, ◌⊎◌, ℕ, ◌+◌, ◌≤◌, List, [], ◌∷◌, Some, IsSome, length}
+use Rattle.card_types.specs.Registry.{Key, Registry, key_named}
+use Rattle.card_types.specs.Well.{IsKeyLength, Well}
 use Rattle.policy_rules.specs.Delegation.{unique_data}
 use Rattle.policy_rules.specs.Receipts.{IsReceiptedBy, number_of}
 use Rattle.policy_rules.specs.Run.{Command, Input, Reset, Run}
@@ -19,6 +21,13 @@ ReceiptsFit =
     → IsSound state → (accepts : IsAccepted state bytes outcome) → (is : IsReceiptedBy state bytes outcome domain)
     → number_of state.registry domain ≡ Some before → number_of outcome.state.registry domain ≡ Some after
     → Judged is.key.bytes (unique_data state.registry) before accepts.done.body is.aids (Fits after)
+
+-- a desk takes any key that a domain of a card has, and the unique data of the card
+abbrev pub DesksTakeThese : Type 0
+DesksTakeThese =
+    (registry : Registry) → Well registry
+    → ((owner : List ℕ) (version identifier : ℕ) (key : Key) → key_named registry owner version identifier ≡ Some key → IsKeyLength (length key.bytes))
+    × (length (unique_data registry) ≤ 20)
 
 -- the slip of a command that a domain confirms: the data field of the reply, and the AIDs that the command was about
 abbrev pub IsSlip : State → List ℕ → Outcome → List ℕ → Slip → Type 0

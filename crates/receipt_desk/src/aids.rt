@@ -10,7 +10,7 @@ use script_tool::values::aid;
 use script_tool::words::Words;
 
 /// The AIDs of the things that a command was about, in its order.
-#[derive(Clone, Copy, Drop)]
+#[derive(Drop)]
 pub enum Aids {
     One(Aid),
     Two(Aid, Aid),

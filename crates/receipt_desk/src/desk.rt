@@ -135,7 +135,7 @@ impl Desk {
         verdict
     }
 
-    // The verdict.
+    // The verdict, which changes nothing yet.
     fn verdict_on(
         &self,
         reply: &[u8],

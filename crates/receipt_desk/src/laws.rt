@@ -1,17 +1,20 @@
 //! The laws of a desk, as functions that do nothing when they run.
 
+ghost use Rattle.receipt_desk.specs.Audited.{CleanAuditsTell};
 ghost use Rattle.receipt_desk.specs.Laws.{FittingFollow, GapsAreNoticed, OnePlace, OneVerdict, OtherMacsAreNoticed, TokensPass};
 ghost use Rattle.receipt_desk.specs.Lines.{OneDeskLine};
-ghost use Rattle.receipt_desk.specs.OfCards.{ReceiptsFit, ReceiptsOfRunsFit};
+ghost use Rattle.receipt_desk.specs.OfCards.{DesksTakeThese, ReceiptsFit, ReceiptsOfRunsFit};
 
 /// A data field has at most one verdict.
 pub fn one_verdict()
     ensures { OneVerdict }
 {}
 
-/// What a card answers to a command that a domain confirms fits at a desk with the domain's receipt key and number.
+/// What a card answers to a command that a domain confirms fits at a desk with the domain's receipt key and number. A desk takes such
+/// a key, and the card's unique data.
 pub fn receipts_fit()
-    ensures { ReceiptsFit }
+    ensures fit { ReceiptsFit }
+    ensures taken { DesksTakeThese }
 {}
 
 /// All receipts of a domain fit in the order of a run, and the desk comes to the domain's number after it.
@@ -31,6 +34,11 @@ pub fn a_wrong_list_is_noticed()
 /// A token that a desk signs under the key of a command's verifier is refused by none of the rules on tokens.
 pub fn tokens_pass()
     ensures { TokensPass }
+{}
+
+/// Where an audit does not differ, the receipts of its lines are all there, in order, and are what the desk's key makes.
+pub fn clean_audits_tell()
+    ensures { CleanAuditsTell }
 {}
 
 /// A text says at most one line.

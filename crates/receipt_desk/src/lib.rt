@@ -29,8 +29,6 @@ mod laws;
 mod line;
 mod receipted;
 mod signing;
-#[cfg(test)]
-mod tests;
 mod text;
 mod verdict;
 
@@ -38,8 +36,8 @@ pub use aids::Aids;
 pub use audit::Audit;
 pub use desk::Desk;
 pub use laws::{
-    a_wrong_list_is_noticed, one_desk_line, one_verdict, receipts_fit, receipts_of_a_run_fit,
-    tokens_pass,
+    a_wrong_list_is_noticed, clean_audits_tell, one_desk_line, one_verdict, receipts_fit,
+    receipts_of_a_run_fit, tokens_pass,
 };
 pub use line::DeskLine;
 pub use receipted::Receipted;

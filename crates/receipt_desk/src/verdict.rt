@@ -2,7 +2,7 @@
 
 /// What a desk makes of the data field of a reply that is to confirm a command. The first that applies holds, in the order `Form`,
 /// `Unique`, `Number`, `Mac`.
-#[derive(Clone, Copy, Debug, PartialEq, Eq)]
+#[derive(Clone, Copy, PartialEq)]
 pub enum Verdict {
     /// It is the receipt with the next number, which is this one.
     Fits(u16),

@@ -7,6 +7,7 @@
 //! - `codes`: CMAC, derivation and CBC, by the published examples.
 //! - `data_objects`: BER-TLV elements, and the places of refusals.
 //! - `delegation`: tokens and receipts.
+//! - `desks`: a desk that signs tokens and judges receipts, and its lines.
 //! - `devices`: flash devices that fail, and a file.
 //! - `domains`: which security domains are above which.
 //! - `frames`: thirty frames.
@@ -33,6 +34,8 @@ mod codes;
 mod data_objects;
 #[cfg(test)]
 mod delegation;
+#[cfg(test)]
+mod desks;
 #[cfg(test)]
 mod devices;
 #[cfg(test)]

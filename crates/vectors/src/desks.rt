@@ -1,8 +1,8 @@
 //! A desk and its lines, on receipts that another implementation of CMAC made.
 
-use crate::{Audit, Desk, Verdict};
 use card_types::Aid;
 use line_runs::{LineTaker, Text};
+use receipt_desk::{Audit, Desk, Verdict};
 use std::test::Fail;
 
 /// The bytes 40 to 4F.
