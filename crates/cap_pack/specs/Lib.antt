@@ -1,0 +1,10 @@
+pub mod Cap
+pub mod Components
+pub mod Held
+pub mod Input
+pub mod Outlines
+pub mod Pack
+pub mod Said
+pub mod Stops
+pub mod Loads
+pub mod FactoryLoads
