@@ -3,6 +3,8 @@ pub mod Complete
 pub mod CounterText
 pub mod Counting
 pub mod RunSoFar
+pub mod CapEnding
+pub mod CapLines
 pub mod DeskEnding
 pub mod Exclusive
 pub mod FewOutcomes

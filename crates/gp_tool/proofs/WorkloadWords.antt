@@ -4,7 +4,7 @@ use Rattle.std.specs.Prelude.{String, string_bytes, slice_index_or}
 use Rattle.std.specs.declared.alloc.Global.{Global}
 use Rattle.gp_tool.specs.Mill.{NameWorkload}
 use Rattle.gp_tool.specs.Words.{HaveForm}
-use Rattle.gp_tool.specs.declared.task.Task.TheVariants.{Desk, Format, Mill, Serve, Show}
+use Rattle.gp_tool.specs.declared.task.Task.TheVariants.{Cap, Desk, Format, Mill, Serve, Show}
 use Rattle.gp_tool.specs.declared.workload.Workload.{Workload}
 
 abbrev Word : Type 0
@@ -17,6 +17,7 @@ three_words x y z seed rounds second third none (Format, are) = (let long : 3 �
 three_words x y z seed rounds second third none (Serve verb, are) = (let long : 3 ≡ 1 = ap length are in omega (arith, long))
 three_words x y z seed rounds second third none (Show view, are) = (let long : 3 ≡ 1 = ap length are in omega (arith, long))
 three_words x y z seed rounds second third none (Desk, are) = (let long : 3 ≡ 1 = ap length are in omega (arith, long))
+three_words x y z seed rounds second third none (Cap, are) = (let long : 3 ≡ 1 = ap length are in omega (arith, long))
 three_words x y z seed rounds second third none (Mill work, (first, last, are, names)) =
     let same : first ≡ string_bytes seed = sym (ap (λ (l : List (List ℕ)). get_or l 1 []) are) ∙ ap string_bytes (sym second) in
     let same' : last ≡ string_bytes rounds = sym (ap (λ (l : List (List ℕ)). get_or l 2 []) are) ∙ ap string_bytes (sym third) in

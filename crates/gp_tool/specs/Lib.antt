@@ -32,3 +32,4 @@ pub mod Verbs
 pub mod Words
 pub mod LineEndings
 pub mod Desk
+pub mod Cap

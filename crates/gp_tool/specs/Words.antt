@@ -7,7 +7,7 @@ use Rattle.gp_tool.specs.Flush.{IsHandedOn, WritesText}
 use Rattle.gp_tool.specs.Mill.{NameWorkload}
 use Rattle.gp_tool.specs.declared.ending.Ending.TheVariants.{Finished, WriteFault}
 use Rattle.gp_tool.specs.declared.task.Task.{Task}
-use Rattle.gp_tool.specs.declared.task.Task.TheVariants.{Format, Mill, Serve, Show, Desk}
+use Rattle.gp_tool.specs.declared.task.Task.TheVariants.{Format, Mill, Serve, Show, Desk, Cap}
 use Rattle.gp_tool.specs.declared.verb.Verb.TheVariants.{Run, Why, Replay, Play}
 use Rattle.gp_tool.specs.declared.view.View.TheVariants.{Registry, Rights}
 
@@ -22,6 +22,7 @@ word_of (Mill work) = codes "mill"
 word_of (Show Registry) = codes "show"
 word_of (Show Rights) = codes "access"
 word_of Desk = codes "desk"
+word_of Cap = codes "cap"
 
 -- the words are the task's alone; `mill` has a seed and a number of rounds behind it
 abbrev pub AreOf : Task → List (String Global) → Type 0
@@ -35,7 +36,7 @@ HaveForm words = (task : Task) × AreOf task words
 
 -- what is written where the words have no form
 abbrev pub usage_line : List ℕ
-usage_line = codes "usage: gp format | run | why | replay | play | mill SEED COUNT | show | access | desk" ++ 10 ∷ []
+usage_line = codes "usage: gp format | run | why | replay | play | mill SEED COUNT | show | access | desk | cap" ++ 10 ∷ []
 
 -- The words have no form: the line was written and handed on, and nothing failed, or a write or the flush was refused.
 abbrev pub EndsInUsage : Type 0 → ℕ → SinkState → SinkState → Type 0

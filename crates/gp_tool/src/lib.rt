@@ -24,6 +24,7 @@
 #![tactic(auto)]
 
 mod answer;
+mod cap_verb;
 mod card_end;
 mod desk_verb;
 mod difference;

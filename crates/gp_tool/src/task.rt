@@ -24,6 +24,9 @@ pub enum Task {
 
     /// `desk`: the lines of the source sign tokens and judge receipts.
     Desk,
+
+    /// `cap`: the lines of the source are a CAP file that is packed into commands.
+    Cap,
 }
 
 fn is_word(word: &String, wanted: &[u8]) -> bool
@@ -48,6 +51,7 @@ pub fn read_task(words: &[String]) -> Option<Task>
         [word] if is_word(word, b"show") => Some(Task::Show(View::Registry)),
         [word] if is_word(word, b"access") => Some(Task::Show(View::Rights)),
         [word] if is_word(word, b"desk") => Some(Task::Desk),
+        [word] if is_word(word, b"cap") => Some(Task::Cap),
         _ => None,
     }
 }

@@ -1,22 +1,25 @@
 //! The top call.
 
-ghost use Rattle.std.specs.Prelude.{◌≡◌, ◌≢◌, ◌⊎◌, ◌≤◌, ◌++◌, ℕ, take, OnOk, OnErr};
+ghost use Rattle.std.specs.Prelude.{◌≡◌, ◌≢◌, ◌⊎◌, ◌≤◌, ◌++◌, [], ℕ, take, OnOk, OnErr};
 ghost use Rattle.faults.specs.Faults.{HasCause, Rose};
+ghost use Rattle.cap_pack.specs.Input.{JoinsLine, limited};
 ghost use Rattle.line_runs.specs.Ends.{IsGoodInput};
 ghost use Rattle.line_runs.specs.Outside.{outside};
 ghost use Rattle.receipt_desk.specs.Audit.{TakesDesk, new_audit};
 ghost use Rattle.gp_tool.specs.Around.{around};
+ghost use Rattle.gp_tool.specs.Cap.{CapEnds};
 ghost use Rattle.gp_tool.specs.Desk.{DeskEnds};
 ghost use Rattle.gp_tool.specs.Device.{HoldsCard};
 ghost use Rattle.gp_tool.specs.Flush.{FlushesLast, IsHandedOn};
 ghost use Rattle.gp_tool.specs.Formatted.{IsFactoryCard};
 ghost use Rattle.gp_tool.specs.Verbs.{Completes, EndsFormat, EndsMill, EndsRun, EndsShow};
 ghost use Rattle.gp_tool.specs.Words.{AreOf, EndsInUsage, HaveForm, usage_line};
-ghost use Rattle.gp_tool.specs.declared.task.Task.TheVariants.{Format, Mill, Serve, Show, Desk};
+ghost use Rattle.gp_tool.specs.declared.task.Task.TheVariants.{Format, Mill, Serve, Show, Desk, Cap};
 ghost use Rattle.gp_tool.specs.declared.verb.Verb.{Verb};
 ghost use Rattle.gp_tool.specs.declared.view.View.{View};
 ghost use Rattle.gp_tool.specs.declared.workload.Workload.{Workload};
 
+use crate::cap_verb::cap_verb;
 use crate::desk_verb::desk_verb;
 use crate::ended::Ended;
 use crate::format_verb::format_verb;
@@ -29,7 +32,7 @@ use io_edge::{Sink, Source, WriteFailed};
 use std::alloc::Global;
 
 const USAGE: &[u8] =
-    b"usage: gp format | run | why | replay | play | mill SEED COUNT | show | access | desk\n";
+    b"usage: gp format | run | why | replay | play | mill SEED COUNT | show | access | desk | cap\n";
 
 // Writes the usage line, and hands it on.
 fn write_usage<K: Sink>(sink: &mut K) -> Result<(), WriteFailed>
@@ -57,8 +60,8 @@ fn refuse_words<K: Sink>(sink: &mut K) -> u8
 ///
 /// 0: all was done, and the input of `run`, `why`, `replay` or `play` was read to its end. 1: words that have no form. 2: a line that has no form or is too long. 3: the device
 /// failed. 4: the device holds no card. 5: the source refused a read. 6: the sink refused a write or its flush. 7: want of
-/// memory for the card, 8: all was done in `replay` or `play`, and some reply or status differed from the one wanted. 9: the input
-/// is too long. 10: all was done in `desk`, and some receipt did not fit.
+/// memory for the card, or for a CAP file. 8: all was done in `replay` or `play`, and some reply or status differed from the one wanted. 9: the input
+/// is too long. 10: all was done in `desk`, and some receipt did not fit. 11: all lines of `cap` were read, and they are no CAP file that can be packed.
 pub fn gp<S: Source, K: Sink, F: Flash>(
     alloc: Global,
     words: &[String],
@@ -119,6 +122,14 @@ pub fn gp<S: Source, K: Sink, F: Flash>(
     ensures desk_complete { AreOf Desk words.now → S.tells → IsGoodInput TakesDesk new_audit (S.state source.old).left
         → (Rose (S.state source.old).faults (S.state source.new).faults → ⊥) → (Rose (K.state sink.old).faults (K.state sink.new).faults → ⊥)
         → (result.status ≡ 0) ⊎ (result.status ≡ 10) }
+
+    // `cap`: no call is made on the device. The lines of the source were joined and packed, and the status is that of an ending, which says
+    // what was read, written and handed on.
+    ensures cap { AreOf Cap words.now → result.status ≢ 7 → (result.flash ≡ flash) × (result.done ≡ 0)
+        × CapEnds S.tells K.tells result.status (outside (S.state source.old) (K.state sink.old)) (outside (S.state source.new) (K.state sink.new)) }
+    ensures cap_complete { AreOf Cap words.now → S.tells → IsGoodInput JoinsLine (limited []) (S.state source.old).left
+        → (Rose (S.state source.old).faults (S.state source.new).faults → ⊥) → (Rose (K.state sink.old).faults (K.state sink.new).faults → ⊥)
+        → (result.status ≡ 0) ⊎ (result.status ≡ 11) ⊎ (result.status ≡ 7) }
     ensures later { F.faults flash ≤ F.faults result.flash }
 {
     match read_task(words) {
@@ -133,6 +144,11 @@ pub fn gp<S: Source, K: Sink, F: Flash>(
         Some(Task::Show(view)) => show_verb(alloc, view, sink, flash),
         Some(Task::Desk) => Ended {
             status: desk_verb(source, sink),
+            done: 0,
+            flash,
+        },
+        Some(Task::Cap) => Ended {
+            status: cap_verb(alloc, source, sink),
             done: 0,
             flash,
         },

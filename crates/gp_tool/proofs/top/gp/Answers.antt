@@ -4,7 +4,7 @@ use Rattle.gp_tool.specs.Around.{around}
 use Rattle.gp_tool.specs.Verbs.{Completes}
 use Rattle.gp_tool.specs.Words.{AreOf, word_of}
 use Rattle.gp_tool.specs.declared.task.Task.{Task}
-use Rattle.gp_tool.specs.declared.task.Task.TheVariants.{Desk, Mill, Serve, Show}
+use Rattle.gp_tool.specs.declared.task.Task.TheVariants.{Cap, Desk, Mill, Serve, Show}
 use Rattle.gp_tool.specs.declared.verb.Verb.{Verb}
 use Rattle.gp_tool.specs.declared.verb.Verb.TheVariants.{Run, Why, Replay, Play}
 use Rattle.gp_tool.proofs.top.gp.Goals as goal
@@ -42,6 +42,12 @@ returns-in-None-clause-desk g c named = absurd (c.in-None.ensures (Desk, named))
 
 pub returns-in-None-clause-desk_complete : goal.returns-in-None-clause-desk_complete
 returns-in-None-clause-desk_complete g c named = absurd (c.in-None.ensures (Desk, named))
+
+pub returns-in-None-clause-cap : goal.returns-in-None-clause-cap
+returns-in-None-clause-cap g c named = absurd (c.in-None.ensures (Cap, named))
+
+pub returns-in-None-clause-cap_complete : goal.returns-in-None-clause-cap_complete
+returns-in-None-clause-cap_complete g c named = absurd (c.in-None.ensures (Cap, named))
 
 pub returns-in-None-clause-mill_memory : goal.returns-in-None-clause-mill_memory
 returns-in-None-clause-mill_memory g c work named = absurd (c.in-None.ensures (Mill work, named))
