@@ -8,6 +8,8 @@
 # `why` and `replay` get the lines of `run`: sessions of SCP03 at level 33 with GET DATA (session.sh),
 # and plain commands. `replay` gets the sessions also with the wanted reply behind each command.
 # `play` gets a script whose commands are those of the sessions; there both ends are computed.
+# `desk` judges 200,000 receipts that fit, beside a C program over the AES of OpenSSL (desk.c). `cap` packs the largest CAP file, and `run`
+# reads as many lines of the same length that are no commands, each a hundred times.
 # `mill` plays 1,000, 2,000 and 10,000 rounds, and is timed alone.
 #
 # The verbs take turns, and the best of TRIES times counts, 5 if unset. The card stands in memory,
@@ -38,6 +40,22 @@ run() { renew && "$gp" run <"$1" >/dev/null; }
 why() { renew && "$gp" why <"$1" >/dev/null; }
 replay() { renew && "$gp" replay <"$1" >/dev/null; }
 play() { renew && "$gp" play <"$1" >/dev/null; }
+desk() { "$gp" desk <"$1" >/dev/null; }
+openssl_desk() { "$tmp/desk" judge <"$1" >/dev/null; }
+often() { for ((i = 0; i < 100; i++)); do "$gp" "$1" <"$2" >/dev/null || fail "$1 ended with status $?"; done; }
+cap() { often cap "$1"; }
+read_lines() { renew && often run "$1"; }
+
+# The largest CAP file: a header, and a component of 32,747 bytes. 125 lines of 261 bytes and one of 143.
+make_cap() {
+    awk 'BEGIN {
+        text = "01000fdecaffed010204000105d2000000aa" "027feb"
+        while (length(text) < 65536)
+            text = text "00"
+        for (at = 1; at <= length(text); at += 522)
+            print substr(text, at, 522)
+    }'
+}
 
 # The script that sends what the sessions send: the first host challenge is 00 to 07, and each one
 # behind it is higher by one.
@@ -78,7 +96,13 @@ for ((i = 0; i < 500000; i++)); do
     printf '00A4040005A000000151\n00700000\n80CA00E000\n00708001\n'
 done >"$tmp/plain"
 make_script >"$tmp/script"
+cc -std=c99 -D_DEFAULT_SOURCE -O2 -Wno-unused-function -o "$tmp/desk" "$here/desk.c" -lcrypto
+"$tmp/desk" lines 200000 >"$tmp/receipts"
+make_cap >"$tmp/cap_file"
+sed 's/./f/g' "$tmp/cap_file" >"$tmp/no_commands"
 check
+cmp <("$gp" desk <"$tmp/receipts") <("$tmp/desk" judge <"$tmp/receipts") || fail "desk has other verdicts"
+"$gp" cap <"$tmp/cap_file" >"$tmp/packed" || fail "cap ended with status $?"
 
 echo "$commands commands in sessions, and 2,000,000 in plain, best of $tries"
 race "run sessions" "why sessions" "replay sessions" "replay log" "play script" "run plain" "why plain" "replay plain"
@@ -94,6 +118,12 @@ echo "each reply wanted"
 say replay "%s s  %s of run's" "$(seconds "${best["replay log"]}")" "$(over "${best["run sessions"]}" "${best["replay log"]}")"
 echo "the same commands by a script"
 say play "%s s  %s of run's (goal: at least 0.45)" "$(seconds "${best["play script"]}")" "$(over "${best["run sessions"]}" "${best["play script"]}")"
+
+race "desk receipts" "openssl_desk receipts" "cap cap_file" "read_lines no_commands"
+echo "200,000 receipts judged"
+say desk "%s s  %s of the receipts a second of the C program (goal: at least 0.8)" "$(seconds "${best["desk receipts"]}")" "$(over "${best["openssl_desk receipts"]}" "${best["desk receipts"]}")"
+echo "a CAP file of 32,768 bytes packed, 100 times"
+say cap "%s s  %s of the lines a second that run reads (goal: at least 1.0)" "$(seconds "${best["cap cap_file"]}")" "$(over "${best["read_lines no_commands"]}" "${best["cap cap_file"]}")"
 
 if "$gp" mill 1 1 >/dev/null; then
     mill() { "$gp" mill 7 "${1##*-}" >/dev/null; }
