@@ -7,6 +7,7 @@ use Rattle.std.proofs.lemmas.List.Sums.{sum_by-append, sum_by-cons}
 use Rattle.apdu_core.specs.declared.reply.Status.{Status}
 use Rattle.card_types.specs.KeySets.{HasKey}
 use Rattle.card_types.specs.Registry.{Registry}
+use Rattle.card_types.specs.Slots.{held}
 use Rattle.card_types.specs.declared.tables.Entry.{Entry}
 use Rattle.card_types.specs.declared.found.Found.{Found}
 use Rattle.card_types.specs.declared.found.Found.TheVariants as Thing
@@ -50,6 +51,11 @@ aids_selected live before after keeps = record { selected = λ number slot low a
     of : (load : Option LoadName) → IfSome load (λ name. KeepsAid before after name.domain)
     of None = tt
     of (Some name) = keeps name.domain
+
+-- or where the entries are the same
+pub entries_selected : (live : Live) (before after : List (Option Entry)) → after ≡ before → KeepsSelected live before after
+entries_selected live before after same =
+    aids_selected live before after (λ slot entry at. (entry, subst (λ (es : List (Option Entry)). held es slot ≡ Some entry) (sym same) at, refl))
 
 -- and where the next change leaves each entry with its AID
 pub selected_on : (live : Live) (a b c : List (Option Entry)) → KeepsSelected live a b → KeepsAids b c → KeepsSelected live a c

@@ -1,11 +1,9 @@
 //! DELETE of an application, a security domain or an Executable Load File: a thing goes.
 
-ghost use Rattle.std.specs.Prelude.{◌≡◌, ◌≢◌, ◌≤◌, ℕ, List, [], length, true, OnErr, IsSome, Some};
-ghost use Rattle.card_core.specs.Deletes.{IsOfDeletion, LeavesOthers, RemovesLoaded};
-ghost use Rattle.card_core.specs.Domains.{is_domain_in};
+ghost use Rattle.std.specs.Prelude.{◌≡◌, ◌≢◌, ℕ, List, [], true, IsSome, Some};
+ghost use Rattle.card_core.specs.Deletes.{LeavesOthers, RemovesLoaded};
 ghost use Rattle.card_core.specs.Kept.{AreCards};
-ghost use Rattle.card_core.specs.Manages.{KeepsFree, KeepsSelected};
-ghost use Rattle.card_core.specs.ManagesAs.{ManagesAs};
+ghost use Rattle.card_core.specs.Manages.{KeepsFree};
 ghost use Rattle.card_types.specs.Found.{aid_of};
 ghost use Rattle.card_types.specs.Registry.{Registry};
 ghost use Rattle.card_types.specs.RegistryChange.{without_applications, without_file};
@@ -13,15 +11,15 @@ ghost use Rattle.card_types.specs.Represents.{Represents, file_aid};
 ghost use Rattle.card_types.specs.Slots.{held};
 ghost use Rattle.card_types.specs.Well.{Well};
 ghost use Rattle.card_types.specs.declared.factory.TheConstants.{FACTORY_FILE};
-ghost use Rattle.policy_rules.specs.DeleteObject.{managed_delete_object, without_thing};
+ghost use Rattle.policy_rules.specs.DeleteObject.{without_thing};
 ghost use Rattle.policy_rules.specs.DeleteObjectFound.{HasNoneFrom, IsAlone, IsRemovable};
-ghost use Rattle.policy_rules.specs.DeleteObjectRequests.{IsDeletionOf};
-ghost use Rattle.policy_rules.specs.Requests.{ForActingLive};
+ghost use Rattle.policy_rules.specs.declared.request.Request.TheVariants.{DeleteObject};
 ghost use Rattle.rec_store.specs.Room.{HasRoomFor};
 ghost use Rattle.registry.specs.Pages.{entry_pages};
-ghost use Rattle.policy_rules.specs.ManagedForm.{command_form};
 
+use crate::channel_session::ChannelSession;
 use crate::confirm::confirm;
+use crate::managed_request::ManagedRequest;
 use crate::reply::REPLY_LIMIT;
 use apdu_core::Status;
 use arrayvec::ArrayVec;
@@ -76,32 +74,21 @@ fn remove<F: Flash>(records: &mut Records<F>, thing: Found, related: bool)
     }
 }
 
-/// Removes the thing of a request, for the domain in a slot. It commits nothing.
-#[inline(never)]
-pub fn delete_object<F: Flash>(
-    records: &mut Records<F>,
-    live: &Live,
-    domain: u8,
-    request: &DeletionRequest<'_>,
-    reply: &mut ArrayVec<u8, REPLY_LIMIT>,
-) -> Result<Status, Rule>
-    requires live { records.old.live ≡ true }
-    requires clean { records.old.staged ≡ [] }
-    requires cards { AreCards records.old.tables }
-    requires domain { is_domain_in records.old.tables.entries.items domain ≡ true }
-    requires formed { IsOfDeletion request.now }
-    requires empty { reply.old.items ≡ [] }
-    ensures done { ForActingLive records.old.tables live.now domain (λ page admitted. IsDeletionOf request.now admitted.command
-        → ManagesAs (command_form managed_delete_object) admitted page records.old.tables records.new.tables reply.new.items result) }
-    ensures selected { KeepsSelected live.now records.old.tables.entries.items records.new.tables.entries.items }
-    ensures free { KeepsFree records.old.tables records.new.tables }
-    ensures cards { AreCards records.new.tables }
-    ensures same { (records.new.flash ≡ records.old.flash) × (records.new.live ≡ true) }
-    ensures refused { OnErr result (records.new ≡ records.old) }
-    ensures room { length reply.new.items ≤ 239 }
-{
-    let found = judge_deletion(records.tables(), live, domain, request)?;
-    remove(records, found.thing, request.related);
-    confirm(records, found.receipter, &request.aid, None, None, reply);
-    Ok(Status(0x9000))
+impl ManagedRequest for DeletionRequest<'_> {
+    ghost request = { λ request. DeleteObject request };
+
+    #[inline(never)]
+    fn manage<F: Flash>(
+        &self,
+        records: &mut Records<F>,
+        live: &Live,
+        _held: &ChannelSession,
+        domain: u8,
+        reply: &mut ArrayVec<u8, REPLY_LIMIT>,
+    ) -> Result<Status, Rule> {
+        let found = judge_deletion(records.tables(), live, domain, self)?;
+        remove(records, found.thing, self.related);
+        confirm(records, found.receipter, &self.aid, None, None, reply);
+        Ok(Status(0x9000))
+    }
 }

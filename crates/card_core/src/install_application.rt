@@ -1,14 +1,12 @@
 //! INSTALL [for install]: an application or a security domain is made.
 
-ghost use Rattle.std.specs.Prelude.{◌≡◌, ◌≤◌, [], length, true, OnErr};
-ghost use Rattle.card_core.specs.Domains.{is_domain_in};
+ghost use Rattle.std.specs.Prelude.{◌≡◌};
 ghost use Rattle.card_core.specs.Installs.{slot_made};
-ghost use Rattle.card_core.specs.Kept.{AreCards};
-ghost use Rattle.card_core.specs.Manages.{KeepsAids, Manages};
-ghost use Rattle.policy_rules.specs.Requests.{ForActing, IsLoadNamed, IsRequestOf, IsWellFormed};
 ghost use Rattle.policy_rules.specs.declared.request.Request.TheVariants.{Install};
 
+use crate::channel_session::ChannelSession;
 use crate::confirm::confirm;
+use crate::managed_request::ManagedRequest;
 use crate::reply::REPLY_LIMIT;
 use apdu_core::Status;
 use arrayvec::ArrayVec;
@@ -41,41 +39,28 @@ fn made(request: &InstallRequest<'_>, domain: u8, file: u8) -> Entry
     }
 }
 
-/// Makes the application or security domain of a request, in the domain in a slot. It commits nothing.
-#[inline(never)]
-pub fn install_application<F: Flash>(
-    records: &mut Records<F>,
-    live: &Live,
-    domain: u8,
-    request: &InstallRequest<'_>,
-    reply: &mut ArrayVec<u8, REPLY_LIMIT>,
-) -> Result<Status, Rule>
-    requires live { records.old.live ≡ true }
-    requires clean { records.old.staged ≡ [] }
-    requires cards { AreCards records.old.tables }
-    requires domain { is_domain_in records.old.tables.entries.items domain ≡ true }
-    requires formed { IsWellFormed (Install request.now) }
-    requires empty { reply.old.items ≡ [] }
-    ensures done { ForActing records.old.tables domain (λ page admitted.
-        IsLoadNamed records.old.tables.entries.items live.now.load admitted.at.volatile.load
-        → IsRequestOf (Install request.now) admitted.command
-        → Manages admitted page records.old.tables records.new.tables reply.new.items result) }
-    ensures aids { KeepsAids records.old.tables.entries.items records.new.tables.entries.items }
-    ensures files { records.new.tables.files.items ≡ records.old.tables.files.items }
-    ensures cards { AreCards records.new.tables }
-    ensures same { (records.new.flash ≡ records.old.flash) × (records.new.live ≡ true) }
-    ensures refused { OnErr result (records.new ≡ records.old) }
-    ensures room { length reply.new.items ≤ 239 }
-{
-    let found = judge_install(records.tables(), live, domain, request)?;
-    place_entry(records, made(request, domain, found.file));
-    confirm(
-        records,
-        found.receipter,
-        &request.file,
-        Some(&request.aid),
-        None,
-        reply,
-    );
-    Ok(Status(0x9000))
+impl ManagedRequest for InstallRequest<'_> {
+    ghost request = { λ request. Install request };
+
+    #[inline(never)]
+    fn manage<F: Flash>(
+        &self,
+        records: &mut Records<F>,
+        live: &Live,
+        _held: &ChannelSession,
+        domain: u8,
+        reply: &mut ArrayVec<u8, REPLY_LIMIT>,
+    ) -> Result<Status, Rule> {
+        let found = judge_install(records.tables(), live, domain, self)?;
+        place_entry(records, made(self, domain, found.file));
+        confirm(
+            records,
+            found.receipter,
+            &self.file,
+            Some(&self.aid),
+            None,
+            reply,
+        );
+        Ok(Status(0x9000))
+    }
 }

@@ -31,6 +31,7 @@ mod loaded_file;
 mod loading;
 mod make_selectable;
 mod manage_channel;
+mod managed_request;
 mod management;
 mod opened_key;
 mod perform;

@@ -2,25 +2,21 @@
 
 ghost use Rattle.std.specs.Prelude.{◌≡◌, ◌≤◌, [], Contains, OnErr, length, true};
 ghost use Rattle.card_core.specs.Domains.{is_domain_in};
-ghost use Rattle.card_core.specs.SecureChannels.{IsInSession};
 ghost use Rattle.card_core.specs.Kept.{AreCards};
 ghost use Rattle.card_core.specs.Manages.{KeepsFree, KeepsSelected, Manages};
 ghost use Rattle.card_core.specs.Offers.{HoldsFor};
+ghost use Rattle.card_core.specs.SecureChannels.{IsInSession};
 ghost use Rattle.card_core.specs.Serves.{AsksForLoad};
 ghost use Rattle.policy_rules.specs.Classes.{changing};
 ghost use Rattle.policy_rules.specs.Requests.{ForActingLive, IsRequestOf, IsWellFormed, form_in};
 
-use crate::card_status::set_card_status;
+use crate::card_status::CardStatusRequest;
 use crate::channel_session::ChannelSession;
-use crate::delete_key::delete_key;
-use crate::delete_object::delete_object;
-use crate::entry_status::set_entry_status;
-use crate::extradition::extradite;
-use crate::install_application::install_application;
-use crate::make_selectable::make_selectable;
-use crate::put_key::put_key;
+use crate::delete_key::DeleteKeyRequest;
+use crate::managed_request::ManagedRequest;
+use crate::put_key::PutKeyRequest;
 use crate::reply::REPLY_LIMIT;
-use crate::store_data::store_data;
+use crate::store_data::StoreRequest;
 use apdu_core::Status;
 use arrayvec::ArrayVec;
 use flash_core::Flash;
@@ -60,18 +56,31 @@ pub fn manage<F: Flash>(
             replaced,
             version,
             keys,
-        } => put_key(records, held, domain, *replaced, *version, keys, reply),
-        Request::Store { objects } => store_data(records, domain, objects),
+        } => PutKeyRequest {
+            replaced: *replaced,
+            version: *version,
+            keys,
+        }
+        .manage(records, live, held, domain, reply),
+        Request::Store { objects } => {
+            StoreRequest { objects }.manage(records, live, held, domain, reply)
+        }
         Request::DeleteKey {
             version,
             identifier,
-        } => delete_key(records, domain, *version, *identifier, reply),
-        Request::DeleteObject(request) => delete_object(records, live, domain, request, reply),
-        Request::Install(request) => install_application(records, live, domain, request, reply),
-        Request::MakeSelectable(request) => make_selectable(records, domain, request, reply),
-        Request::Extradite(request) => extradite(records, domain, request, reply),
-        Request::CardStatus { life } => set_card_status(records, domain, *life),
-        Request::EntryStatus(request) => set_entry_status(records, domain, request),
+        } => DeleteKeyRequest {
+            version: *version,
+            identifier: *identifier,
+        }
+        .manage(records, live, held, domain, reply),
+        Request::DeleteObject(request) => request.manage(records, live, held, domain, reply),
+        Request::Install(request) => request.manage(records, live, held, domain, reply),
+        Request::MakeSelectable(request) => request.manage(records, live, held, domain, reply),
+        Request::Extradite(request) => request.manage(records, live, held, domain, reply),
+        Request::CardStatus { life } => {
+            CardStatusRequest { life: *life }.manage(records, live, held, domain, reply)
+        }
+        Request::EntryStatus(request) => request.manage(records, live, held, domain, reply),
         _ => unreachable!(),
     }
 }

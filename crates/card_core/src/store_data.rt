@@ -1,25 +1,23 @@
 //! STORE DATA: data objects of a domain are put.
 
-ghost use Rattle.std.specs.Prelude.{◌≡◌, ◌<◌, ◌≤◌, ℕ, List, [], length, true, false, Some, OnErr};
-ghost use Rattle.card_core.specs.Domains.{is_domain_in};
-ghost use Rattle.card_core.specs.Kept.{AreCards};
-ghost use Rattle.card_core.specs.Manages.{Manages};
+ghost use Rattle.std.specs.Prelude.{◌≡◌, ◌<◌, ◌≤◌, length, true, false, Some};
 ghost use Rattle.card_core.specs.ObjectsPut.{IsSlotFor, PutsObject, object_with};
-ghost use Rattle.registry.specs.Pages.{object_pages};
 ghost use Rattle.card_types.specs.Represents.{used};
 ghost use Rattle.card_types.specs.declared.limits.TheConstants.{OBJECTS};
-ghost use Rattle.policy_rules.specs.Admission.{Admitted};
-ghost use Rattle.policy_rules.specs.Requests.{ActsIn, IsRequestOf, IsWellFormed};
 ghost use Rattle.policy_rules.specs.ObjectsFound.{has_object_in, is_tagged_in};
 ghost use Rattle.policy_rules.specs.declared.request.Request.TheVariants.{Store};
 ghost use Rattle.rec_store.specs.Room.{HasRoomFor};
+ghost use Rattle.registry.specs.Pages.{object_pages};
 
+use crate::channel_session::ChannelSession;
+use crate::managed_request::ManagedRequest;
+use crate::reply::REPLY_LIMIT;
 use apdu_core::Status;
 use arrayvec::ArrayVec;
 use bertlv::{Tlv, read};
 use card_types::{Object, Wants, first_free, first_that};
 use flash_core::Flash;
-use policy_rules::{Rule, judge_store_data};
+use policy_rules::{Live, Rule, judge_store_data};
 use rec_store::Records;
 
 // The domain's data object with a tag.
@@ -77,32 +75,30 @@ fn put_object<F: Flash>(records: &mut Records<F>, owner: u8, element: &Tlv<'_>)
     records.set_object(slot, Some(object_of(owner, element)));
 }
 
-/// Stores data objects of the domain in a slot. It commits nothing.
-#[inline(never)]
-pub fn store_data<F: Flash>(
-    records: &mut Records<F>,
-    domain: u8,
-    objects: &[u8],
-) -> Result<Status, Rule>
-    requires live { records.old.live ≡ true }
-    requires clean { records.old.staged ≡ [] }
-    requires cards { AreCards records.old.tables }
-    requires domain { is_domain_in records.old.tables.entries.items domain ≡ true }
-    requires formed { IsWellFormed (Store objects) }
-    ensures done { (page : ℕ → List ℕ) (admitted : Admitted) → ActsIn page records.old.tables domain admitted
-        → IsRequestOf (Store objects.entry) admitted.command
-        → Manages admitted page records.old.tables records.new.tables [] result }
-    ensures entries { records.new.tables.entries.items ≡ records.old.tables.entries.items }
-    ensures files { records.new.tables.files.items ≡ records.old.tables.files.items }
-    ensures cards { AreCards records.new.tables }
-    ensures same { (records.new.flash ≡ records.old.flash) × (records.new.live ≡ true) }
-    ensures refused { OnErr result (records.new ≡ records.old) }
-{
-    judge_store_data(records.tables(), domain, objects)?;
-    let mut rest = objects;
-    while let Ok((element, after)) = read(rest) {
-        put_object(records, domain, &element);
-        rest = after;
+/// Data objects, one after the other.
+#[derive(Clone, Copy)]
+pub struct StoreRequest<'a> {
+    pub objects: &'a [u8],
+}
+
+impl ManagedRequest for StoreRequest<'_> {
+    ghost request = { λ request. Store request.objects };
+
+    #[inline(never)]
+    fn manage<F: Flash>(
+        &self,
+        records: &mut Records<F>,
+        _live: &Live,
+        _held: &ChannelSession,
+        domain: u8,
+        _reply: &mut ArrayVec<u8, REPLY_LIMIT>,
+    ) -> Result<Status, Rule> {
+        judge_store_data(records.tables(), domain, self.objects)?;
+        let mut rest = self.objects;
+        while let Ok((element, after)) = read(rest) {
+            put_object(records, domain, &element);
+            rest = after;
+        }
+        Ok(Status(0x9000))
     }
-    Ok(Status(0x9000))
 }

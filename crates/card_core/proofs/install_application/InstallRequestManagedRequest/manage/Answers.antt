@@ -1,10 +1,11 @@
 use Rattle.std.proofs.Common.{◌≡◌, ℕ, inl, List, [], ◌∷◌, Option, None, Some, refl, ap, sym, subst, ◌∙◌, arith}
 use Rattle.std.specs.Prelude.{IfSome, IsSome}
 use Rattle.std.specs.Option.{option_map}
-use Rattle.card_core.proofs.Answered.{aids_on, answered_managed, entry_room, room_again, still_able}
+use Rattle.card_core.proofs.Answered.{aids_on, aids_selected, answered_managed, entry_room, room_again, still_able}
 use Rattle.card_core.proofs.Cards.{in_order}
 use Rattle.card_core.proofs.EntryCards.{adding_keeps, aids_kept, entry_cards, receipts_kept}
 use Rattle.card_core.proofs.Installing.{made_named}
+use Rattle.card_core.proofs.FreePages.{files_free}
 use Rattle.card_core.proofs.Managing.{refusal_managed}
 use Rattle.card_core.proofs.SomeAdmitted.{domain_named, domain_there, of_card, some_acts, some_admitted, some_load}
 use Rattle.card_core.proofs.Confirming.{answered_so, finds_receipter}
@@ -28,7 +29,7 @@ use Rattle.policy_rules.specs.Delegation.{Holds}
 use Rattle.policy_rules.specs.HoldersFound.{FindsConfirmer, MayReceipt}
 use Rattle.policy_rules.specs.Requests.{ActsIn, IsLoadNamed}
 use Rattle.registry.specs.Adding.{NoneHas}
-use Rattle.card_core.proofs.install_application.install_application.Goals as goal
+use Rattle.card_core.proofs.install_application.InstallRequestManagedRequest.manage.Goals as goal
 use Rattle.policy_rules.specs.ManagedForm.{command_form}
 
 pub judge_install-requires-clause-in_order : goal.judge_install-requires-clause-in_order
@@ -38,7 +39,8 @@ pub judge_install-requires-clause-short : goal.judge_install-requires-clause-sho
 judge_install-requires-clause-short g c = omega (arith, c.requires.formed.1.means.short, c.requires.formed.2)
 
 pub returns-in_err-found-clause-done : goal.returns-in_err-found-clause-done
-returns-in_err-found-clause-done g c page admitted acts load request =
+returns-in_err-found-clause-done g c page admitted acts says channels request holds =
+    let load = says.load in
     let here = subst (λ (t : Tables). ActsIn page t c.args.domain admitted) (sym c.tables.ensures.tables) acts in
     let named = subst (λ (t : Tables). IsLoadNamed t.entries.items c.args.live.now.load admitted.at.volatile.load) (sym c.tables.ensures.tables) load in
     let rule = c.in_err-found.field-0.0 in
@@ -61,13 +63,13 @@ place_entry-requires-clause-domain g c =
 pub place_entry-requires-clause-file : goal.place_entry-requires-clause-file
 place_entry-requires-clause-file g c =
     subst (λ (entry : Entry). IsSome (held c.args.records.now.tables.files.items entry.file)) (sym c.made.ensures)
-    (file_there c.args.records.now.tables c.in_ok-found.found.file c.args.request.now.file
-    (subst (λ (t : Tables). aid_of t (File c.in_ok-found.found.file) ≡ Some c.args.request.now.file) c.tables.ensures.tables c.in_ok-found.ensures.file))
+    (file_there c.args.records.now.tables c.in_ok-found.found.file c.args.self.now.file
+    (subst (λ (t : Tables). aid_of t (File c.in_ok-found.found.file) ≡ Some c.args.self.now.file) c.tables.ensures.tables c.in_ok-found.ensures.file))
 
 pub place_entry-requires-clause-fresh : goal.place_entry-requires-clause-fresh
 place_entry-requires-clause-fresh g c =
     subst (λ (entry : Entry). NoneHas c.args.records.now.tables entry.aid) (sym c.made.ensures)
-    (subst (λ (t : Tables). NoneHas t c.args.request.now.aid) c.tables.ensures.tables c.in_ok-found.ensures.free)
+    (subst (λ (t : Tables). NoneHas t c.args.self.now.aid) c.tables.ensures.tables c.in_ok-found.ensures.free)
 
 pub place_entry-requires-clause-free : goal.place_entry-requires-clause-free
 place_entry-requires-clause-free g c = subst (λ (t : Tables). NoneFree t.entries.items → ⊥) c.tables.ensures.tables c.in_ok-found.ensures.room
@@ -91,7 +93,7 @@ confirm-requires-clause-cards g c =
     let after = c.place_entry.new.records.tables in
     let request = c.requires.formed.1 in
     let asked = request.means.asked in
-    let file = subst (λ (t : Tables). aid_of t (File c.in_ok-found.found.file) ≡ Some c.args.request.now.file) c.tables.ensures.tables c.in_ok-found.ensures.file in
+    let file = subst (λ (t : Tables). aid_of t (File c.in_ok-found.found.file) ≡ Some c.args.self.now.file) c.tables.ensures.tables c.in_ok-found.ensures.file in
     entry_cards before after c.place_entry.result (Some c.made.result) c.place_entry.ensures.slots.set
     (aids_kept before after (adding_keeps before after c.place_entry.result c.made.result c.place_entry.ensures.slots)) (λ page said says well.
     (let some = some_admitted page before said says well c.args.domain c.requires.domain c.args.live.now.load c.requires.formed.0 in
@@ -100,31 +102,33 @@ confirm-requires-clause-cards g c =
     let load = some_load page before said says well c.args.domain c.requires.domain c.args.live.now.load c.requires.formed.0 in
     let named = subst (λ (t : Tables). IsLoadNamed t.entries.items c.args.live.now.load some.at.volatile.load) (sym c.tables.ensures.tables) load in
     let made = ap (entry_of before.entries.items before.files.items) c.made.ensures
-    ∙ made_named page before c.args.domain some acts c.args.request.now request.means c.in_ok-found.found.file file in
+    ∙ made_named page before c.args.domain some acts c.args.self.now request.means c.in_ok-found.found.file file in
     let added = c.place_entry.ensures.said page said says well in
     let joined = subst (λ (entry : registry.Entry). IsEntryAdded entry said added.0) made added.1 in
     let kept = made_of_card some asked request.means.asks (of_card page before said says well c.args.domain c.requires.domain)
     (domain_named page before said says well c.args.domain c.requires.domain) (c.in_ok-found.ensures.passed page some here named request.means) added.0 joined in
     (added.0, added.2, kept.well))) c.requires.cards
 
-pub returns-clause-aids : goal.returns-clause-aids
-returns-clause-aids g c =
+pub returns-clause-selected : goal.returns-clause-selected
+returns-clause-selected g c =
     let before = c.args.records.now.tables in
     let after = c.place_entry.new.records.tables in
-    aids_on before.entries.items after.entries.items c.confirm.new.records.tables.entries.items
-    (aids_kept before after (adding_keeps before after c.place_entry.result c.made.result c.place_entry.ensures.slots)) c.confirm.ensures.aids
+    aids_selected c.args.live.now before.entries.items c.confirm.new.records.tables.entries.items
+    (aids_on before.entries.items after.entries.items c.confirm.new.records.tables.entries.items
+    (aids_kept before after (adding_keeps before after c.place_entry.result c.made.result c.place_entry.ensures.slots)) c.confirm.ensures.aids)
 
 pub returns-clause-done : goal.returns-clause-done
-returns-clause-done g c page admitted acts load request =
+returns-clause-done g c page admitted acts says channels request holds =
+    let load = says.load in
     let before = c.args.records.now.tables in
     let after = c.place_entry.new.records.tables in
     let said = admitted.at.registry in
     let asked = request.means.asked in
     let here = subst (λ (t : Tables). ActsIn page t c.args.domain admitted) (sym c.tables.ensures.tables) acts in
     let named = subst (λ (t : Tables). IsLoadNamed t.entries.items c.args.live.now.load admitted.at.volatile.load) (sym c.tables.ensures.tables) load in
-    let file = subst (λ (t : Tables). aid_of t (File c.in_ok-found.found.file) ≡ Some c.args.request.now.file) c.tables.ensures.tables c.in_ok-found.ensures.file in
+    let file = subst (λ (t : Tables). aid_of t (File c.in_ok-found.found.file) ≡ Some c.args.self.now.file) c.tables.ensures.tables c.in_ok-found.ensures.file in
     let made = ap (entry_of before.entries.items before.files.items) c.made.ensures
-    ∙ made_named page before c.args.domain admitted acts c.args.request.now request.means c.in_ok-found.found.file file in
+    ∙ made_named page before c.args.domain admitted acts c.args.self.now request.means c.in_ok-found.found.file file in
     let added = c.place_entry.ensures.said page said acts.says acts.well in
     let joined = subst (λ (entry : registry.Entry). IsEntryAdded entry said added.0) made added.1 in
     let delegated = Holds admitted delegated_management in
@@ -138,8 +142,11 @@ returns-clause-done g c page admitted acts load request =
     }) in
     let Told : List ℕ → List ℕ → Type 0 = (λ (a b : List ℕ). AnswersFor page c.confirm.new.records.tables c.in_ok-found.found.receipter admitted (a ∷ b ∷ []) added.0 c.confirm.new.reply.items) in
     let told : Told asked.given.first asked.given.third =
-    subst (λ (b : List ℕ). Told asked.given.first b) request.means.aid (subst (λ (a : List ℕ). Told a c.args.request.now.aid) request.means.file answers) in
+    subst (λ (b : List ℕ). Told asked.given.first b) request.means.aid (subst (λ (a : List ℕ). Told a c.args.self.now.aid) request.means.file answers) in
     let answered = answered_so delegated before admitted c.in_ok-found.found.receipter finds (asked.given.first ∷ asked.given.third ∷ []) added.0 (leaves admitted told.0 c.confirm.new.reply.items) told.2 in
     answered_managed (command_form managed_install) (λ holds found. inl found) admitted request.form refl (c.in_ok-found.ensures.passed page admitted here named request.means) page
     c.confirm.new.records.tables (asked.given.first ∷ asked.given.third ∷ []) added.0 c.confirm.new.reply.items c.in_ok-found.found.receipter told
     (record { asked = asked; asks = request.means.asks; changed = added.0; becomes = joined; answered = answered; volatile = refl; status = refl }) (record { 0 = 0x9000 }) refl
+
+pub returns-clause-free : goal.returns-clause-free
+returns-clause-free g c = files_free c.args.records.now.tables c.confirm.new.records.tables (c.confirm.ensures.files ∙ c.place_entry.ensures.slots.set.files)

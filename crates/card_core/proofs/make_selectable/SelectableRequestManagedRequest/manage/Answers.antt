@@ -1,8 +1,9 @@
 use Rattle.std.proofs.Common.{◌≡◌, ℕ, inl, inr, List, [], ◌∷◌, Option, None, Some, refl, sym, subst, ◌∙◌, arith}
 use Rattle.std.specs.Prelude.{IfSome, IsSome}
-use Rattle.card_core.proofs.Answered.{aids_on, answered_managed, entry_room, room_again, still_able}
+use Rattle.card_core.proofs.Answered.{aids_on, aids_selected, answered_managed, entry_room, room_again, still_able}
 use Rattle.card_core.proofs.Cards.{in_order}
 use Rattle.card_core.proofs.EntryCards.{aids_kept, changing_keeps, entry_cards, receipts_kept}
+use Rattle.card_core.proofs.FreePages.{files_free}
 use Rattle.card_core.proofs.Managing.{refusal_managed}
 use Rattle.card_core.proofs.SomeAdmitted.{of_card, some_acts, some_admitted}
 use Rattle.card_core.proofs.Confirming.{answered_so, finds_receipter}
@@ -22,7 +23,7 @@ use Rattle.policy_rules.specs.HoldersFound.{FindsConfirmer, MayReceipt}
 use Rattle.policy_rules.specs.MakeSelectable.{managed_selectable}
 use Rattle.policy_rules.specs.Requests.{ActsIn}
 use Rattle.policy_rules.specs.MakeSelectableRequests.{IsInstalledWith}
-use Rattle.card_core.proofs.make_selectable.make_selectable.Goals as goal
+use Rattle.card_core.proofs.make_selectable.SelectableRequestManagedRequest.manage.Goals as goal
 use Rattle.policy_rules.specs.ManagedForm.{command_form}
 
 -- the entry that was found is just installed, and has the AID that is asked for
@@ -44,7 +45,7 @@ pub judge_selectable-requires-clause-short : goal.judge_selectable-requires-clau
 judge_selectable-requires-clause-short g c = omega (arith, c.requires.formed.1.means.short, c.requires.formed.2)
 
 pub returns-in_err-found-clause-done : goal.returns-in_err-found-clause-done
-returns-in_err-found-clause-done g c page admitted acts request =
+returns-in_err-found-clause-done g c page admitted acts says channels request holds =
     let here = subst (λ (t : Tables). ActsIn page t c.args.domain admitted) (sym c.tables.ensures.tables) acts in
     let rule = c.in_err-found.field-0.0 in
     refusal_managed admitted page c.args.records.now.tables c.args.reply.now.items c.from_residual.result rule c.from_residual.ensures.1
@@ -53,8 +54,8 @@ returns-in_err-found-clause-done g c page admitted acts request =
 
 pub set_life-requires-clause-slot : goal.set_life-requires-clause-slot
 set_life-requires-clause-slot g c =
-    let at = subst (λ (t : Tables). IsInstalledWith c.args.request.now.aid (held t.entries.items c.in_ok-found.found.entry)) c.tables.ensures.tables c.in_ok-found.ensures.entry in
-    let there = found_at c.args.request.now.aid c.args.records.now.tables.entries.items c.in_ok-found.found.entry at in
+    let at = subst (λ (t : Tables). IsInstalledWith c.args.self.now.aid (held t.entries.items c.in_ok-found.found.entry)) c.tables.ensures.tables c.in_ok-found.ensures.entry in
+    let there = found_at c.args.self.now.aid c.args.records.now.tables.entries.items c.in_ok-found.found.entry at in
     subst IsSome (sym there.1) refl
 
 pub set_life-requires-clause-room : goal.set_life-requires-clause-room
@@ -79,8 +80,8 @@ confirm-requires-clause-cards g c =
     let keeps = changing_keeps before after slot (λ entry. record entry { life = selectable_life }) (λ e. (refl, refl)) c.set_life.ensures.slots in
     let request = c.requires.formed.1 in
     let given = request.means.given in
-    let at = subst (λ (t : Tables). IsInstalledWith c.args.request.now.aid (held t.entries.items slot)) c.tables.ensures.tables c.in_ok-found.ensures.entry in
-    let aid = named c.args.request.now.aid before.entries.items slot at ∙ request.means.aid in
+    let at = subst (λ (t : Tables). IsInstalledWith c.args.self.now.aid (held t.entries.items slot)) c.tables.ensures.tables c.in_ok-found.ensures.entry in
+    let aid = named c.args.self.now.aid before.entries.items slot at ∙ request.means.aid in
     entry_cards before after slot _ c.set_life.ensures.slots (aids_kept before after keeps) (λ page said says well.
     (let some = some_admitted page before said says well c.args.domain c.requires.domain None c.requires.formed.0 in
     let acts = some_acts page before said says well c.args.domain c.requires.domain None c.requires.formed.0 in
@@ -92,23 +93,26 @@ confirm-requires-clause-cards g c =
       kept.well,
     ))) c.requires.cards
 
-pub returns-clause-aids : goal.returns-clause-aids
-returns-clause-aids g c =
+pub returns-clause-selected : goal.returns-clause-selected
+returns-clause-selected g c =
     let before = c.args.records.now.tables in
     let after = c.set_life.new.records.tables in
-    aids_on before.entries.items after.entries.items c.confirm.new.records.tables.entries.items
+    aids_selected c.args._live.now before.entries.items c.confirm.new.records.tables.entries.items (aids_on before.entries.items after.entries.items c.confirm.new.records.tables.entries.items
     (aids_kept before after (changing_keeps before after c.in_ok-found.found.entry (λ entry. record entry { life = selectable_life }) (λ e. (refl, refl)) c.set_life.ensures.slots))
-    c.confirm.ensures.aids
+    c.confirm.ensures.aids)
+
+pub returns-clause-free : goal.returns-clause-free
+returns-clause-free g c = files_free c.args.records.now.tables c.confirm.new.records.tables (c.confirm.ensures.files ∙ c.set_life.ensures.slots.files)
 
 pub returns-clause-done : goal.returns-clause-done
-returns-clause-done g c page admitted acts request =
+returns-clause-done g c page admitted acts says channels request holds =
     let before = c.args.records.now.tables in
     let after = c.set_life.new.records.tables in
     let slot = c.in_ok-found.found.entry in
     let here = subst (λ (t : Tables). ActsIn page t c.args.domain admitted) (sym c.tables.ensures.tables) acts in
     let given = request.means.given in
-    let at = subst (λ (t : Tables). IsInstalledWith c.args.request.now.aid (held t.entries.items slot)) c.tables.ensures.tables c.in_ok-found.ensures.entry in
-    let aid = named c.args.request.now.aid before.entries.items slot at ∙ request.means.aid in
+    let at = subst (λ (t : Tables). IsInstalledWith c.args.self.now.aid (held t.entries.items slot)) c.tables.ensures.tables c.in_ok-found.ensures.entry in
+    let aid = named c.args.self.now.aid before.entries.items slot at ∙ request.means.aid in
     let changed = with_life admitted.at.registry given.third selectable_life in
     let says = subst (λ (name : List ℕ). Represents page after (with_life admitted.at.registry name selectable_life)) aid (c.set_life.ensures.said page admitted.at.registry acts.says) in
     let delegated = Holds admitted delegated_management in

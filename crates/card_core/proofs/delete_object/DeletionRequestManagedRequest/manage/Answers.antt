@@ -1,10 +1,10 @@
-use Rattle.std.proofs.Common.{◌≡◌, ℕ, List, [], ◌∷◌, None, Some, refl, sym, subst, arith}
+use Rattle.std.proofs.Common.{◌≡◌, ℕ, Ok, inl, inr, List, [], ◌∷◌, None, Some, refl, sym, subst, arith}
 use Rattle.std.specs.Prelude.{IfSome, IsSome}
 use Rattle.card_core.proofs.Answered.{aids_selected, selected_on}
 use Rattle.card_core.proofs.Cards.{in_order}
 use Rattle.card_core.proofs.Confirming.{answered_so, finds_receipter}
 use Rattle.card_core.proofs.Deleting.{confirmer_stays, deletion_able, deletion_keeps, deletion_selected, issuer_stays}
-use Rattle.card_core.proofs.ManagedAs.{refused_as}
+use Rattle.card_core.proofs.ManagedAs.{managed_as, refused_as}
 use Rattle.card_core.proofs.SomeAdmitted.{some_acts, some_admitted}
 use Rattle.card_core.specs.Confirms.{AnswersFor, leaves}
 use Rattle.card_types.specs.Found.{aid_of}
@@ -16,22 +16,24 @@ use Rattle.policy_rules.specs.DeleteObjectFound.{HasNoneFrom, IsAlone, IsRemovab
 use Rattle.policy_rules.specs.HoldersFound.{FindsConfirmer, MayReceipt}
 use Rattle.policy_rules.specs.Requests.{ActsIn, RepresentsState}
 use Rattle.card_core.proofs.FreePages.{files_free, free_twice}
-use Rattle.card_core.proofs.delete_object.delete_object.Goals as goal
+use Rattle.card_core.proofs.delete_object.DeletionRequestManagedRequest.manage.Goals as goal
 use Rattle.policy_rules.specs.ManagedForm.{command_form}
 
 pub judge_deletion-requires-clause-in_order : goal.judge_deletion-requires-clause-in_order
 judge_deletion-requires-clause-in_order g c = subst IsInOrder (sym c.tables.ensures.tables) (in_order c.args.records.now.tables c.requires.cards)
 
 pub judge_deletion-requires-clause-short : goal.judge_deletion-requires-clause-short
-judge_deletion-requires-clause-short g c = omega (arith, c.requires.formed.1.short, c.requires.formed.2)
+judge_deletion-requires-clause-short g c = omega (arith, c.requires.formed.1.means.short, c.requires.formed.2)
 
 pub returns-in_err-found-clause-done : goal.returns-in_err-found-clause-done
-returns-in_err-found-clause-done g c page admitted acts state four request =
+returns-in_err-found-clause-done g c page admitted acts state four is holds =
+    let request = is.means in
     let here = subst (λ (t : Tables). ActsIn page t c.args.domain admitted) (sym c.tables.ensures.tables) acts in
     let shown = subst (λ (t : Tables). RepresentsState page t c.args.live.now admitted.at) (sym c.tables.ensures.tables) state in
     let rule = c.in_err-found.field-0.0 in
-    refused_as (command_form managed_delete_object) admitted page c.args.records.now.tables c.args.reply.now.items c.from_residual.result rule c.from_residual.ensures.1
-    (c.in_err-found.ensures.refused page admitted here shown four request) c.requires.empty
+    managed_as (command_form managed_delete_object) (λ held here. inr (inl here)) admitted is.form refl page _ _ _ _
+    (refused_as (command_form managed_delete_object) admitted page c.args.records.now.tables c.args.reply.now.items c.from_residual.result rule c.from_residual.ensures.1
+    (c.in_err-found.ensures.refused page admitted here shown four request) c.requires.empty)
 
 pub returns-in_err-found-clause-selected : goal.returns-in_err-found-clause-selected
 returns-in_err-found-clause-selected g c =
@@ -40,15 +42,15 @@ returns-in_err-found-clause-selected g c =
 
 pub remove-requires-clause-there : goal.remove-requires-clause-there
 remove-requires-clause-there g c =
-    let there = subst (λ (t : Tables). aid_of t c.in_ok-found.found.thing ≡ Some c.args.request.now.aid) c.tables.ensures.tables c.in_ok-found.ensures.thing in
+    let there = subst (λ (t : Tables). aid_of t c.in_ok-found.found.thing ≡ Some c.args.self.now.aid) c.tables.ensures.tables c.in_ok-found.ensures.thing in
     subst IsSome (sym there) refl
 
 pub remove-requires-clause-alone : goal.remove-requires-clause-alone
-remove-requires-clause-alone g c = subst (λ (t : Tables). IsAlone t c.args.request.now.related c.in_ok-found.found.thing) c.tables.ensures.tables c.in_ok-found.ensures.alone
+remove-requires-clause-alone g c = subst (λ (t : Tables). IsAlone t c.args.self.now.related c.in_ok-found.found.thing) c.tables.ensures.tables c.in_ok-found.ensures.alone
 
 pub remove-requires-clause-unloaded : goal.remove-requires-clause-unloaded
 remove-requires-clause-unloaded g c =
-    subst (λ (t : Tables). HasNoneFrom t c.args.request.now.related c.in_ok-found.found.thing) c.tables.ensures.tables c.in_ok-found.ensures.unloaded
+    subst (λ (t : Tables). HasNoneFrom t c.args.self.now.related c.in_ok-found.found.thing) c.tables.ensures.tables c.in_ok-found.ensures.unloaded
 
 pub remove-requires-clause-lasting : goal.remove-requires-clause-lasting
 remove-requires-clause-lasting g c = subst (λ (t : Tables). IsRemovable t c.in_ok-found.found.thing) c.tables.ensures.tables c.in_ok-found.ensures.lasting
@@ -57,7 +59,7 @@ pub confirm-requires-clause-able : goal.confirm-requires-clause-able
 confirm-requires-clause-able g c =
     let before = c.args.records.now.tables in
     let after = c.remove.new.records.tables in
-    let related = c.args.request.now.related in
+    let related = c.args.self.now.related in
     let thing = c.in_ok-found.found.thing in
     let receipter = c.in_ok-found.found.receipter in
     let order = in_order before c.requires.cards in
@@ -73,7 +75,7 @@ pub returns-clause-selected : goal.returns-clause-selected
 returns-clause-selected g c =
     let before = c.args.records.now.tables in
     let after = c.remove.new.records.tables in
-    let related = c.args.request.now.related in
+    let related = c.args.self.now.related in
     let thing = c.in_ok-found.found.thing in
     let live = c.args.live.now in
     let unselected = subst (λ (t : Tables). IsUnselected t live related thing) c.tables.ensures.tables c.in_ok-found.ensures.unselected in
@@ -81,10 +83,11 @@ returns-clause-selected g c =
     (deletion_selected before after related thing c.remove.ensures.slots live unselected) c.confirm.ensures.aids
 
 pub returns-clause-done : goal.returns-clause-done
-returns-clause-done g c page admitted acts state four request =
+returns-clause-done g c page admitted acts state four is holds =
+    let request = is.means in
     let before = c.args.records.now.tables in
     let after = c.remove.new.records.tables in
-    let related = c.args.request.now.related in
+    let related = c.args.self.now.related in
     let thing = c.in_ok-found.found.thing in
     let receipter = c.in_ok-found.found.receipter in
     let body = c.confirm.new.reply.items in
@@ -92,12 +95,12 @@ returns-clause-done g c page admitted acts state four request =
     let asked = request.asked in
     let here = subst (λ (t : Tables). ActsIn page t c.args.domain admitted) (sym c.tables.ensures.tables) acts in
     let shown = subst (λ (t : Tables). RepresentsState page t c.args.live.now admitted.at) (sym c.tables.ensures.tables) state in
-    let there = subst (λ (t : Tables). aid_of t thing ≡ Some c.args.request.now.aid) c.tables.ensures.tables c.in_ok-found.ensures.thing in
+    let there = subst (λ (t : Tables). aid_of t thing ≡ Some c.args.self.now.aid) c.tables.ensures.tables c.in_ok-found.ensures.thing in
     let alone = subst (λ (t : Tables). IsAlone t related thing) c.tables.ensures.tables c.in_ok-found.ensures.alone in
     let lasting = subst (λ (t : Tables). IsRemovable t thing) c.tables.ensures.tables c.in_ok-found.ensures.lasting in
     let changed = without_thing registry asked.aid in
     let says = subst (λ (name : List ℕ). Represents page after (without_thing registry name)) request.aid
-    (c.remove.ensures.said page registry acts.says acts.well c.args.request.now.aid there) in
+    (c.remove.ensures.said page registry acts.says acts.well c.args.self.now.aid there) in
     let delegated = IsDelegated admitted in
     let finds = subst (λ (t : Tables). FindsConfirmer delegated t admitted receipter) c.tables.ensures.tables (c.in_ok-found.ensures.receipter page admitted here) in
     let found = finds_receipter delegated before admitted receipter finds in
@@ -113,7 +116,7 @@ returns-clause-done g c page admitted acts state four request =
     }) in
     let told = subst (λ (name : List ℕ). AnswersFor page c.confirm.new.records.tables receipter admitted (name ∷ []) changed body) request.aid answers in
     let answered = answered_so delegated before admitted receipter finds (asked.aid ∷ []) changed (leaves admitted told.0 body) told.2 in
-    record {
+    managed_as (command_form managed_delete_object) (λ held here. inr (inl here)) admitted is.form refl page before c.confirm.new.records.tables body (Ok (record { 0 = 0x9000 })) (record {
       first = c.in_ok-found.ensures.passed page admitted here shown four request;
       done = leaves admitted told.0 body;
       does = record { asked = asked; asks = request.asks; changed = changed; becomes = refl; answered = answered; volatile = refl; status = refl };
@@ -121,7 +124,7 @@ returns-clause-done g c page admitted acts state four request =
       says = told.1;
       body_is = refl;
       status_is = refl;
-    }
+    })
 
 pub returns-clause-free : goal.returns-clause-free
 returns-clause-free g c =

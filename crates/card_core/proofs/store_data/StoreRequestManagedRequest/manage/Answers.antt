@@ -10,7 +10,9 @@ use Rattle.policy_rules.proofs.ManagedLawful.{replied}
 use Rattle.policy_rules.proofs.StoreDataElements.{elements_behind, none_left}
 use Rattle.policy_rules.specs.Requests.{ActsIn}
 use Rattle.policy_rules.specs.ObjectsFound.{has_object_in, new_tags}
+use Rattle.card_core.proofs.Answered.{entries_selected}
 use Rattle.card_core.proofs.Cards.{in_order}
+use Rattle.card_core.proofs.FreePages.{files_free}
 use Rattle.card_core.proofs.Managing.{refusal_managed}
 use Rattle.card_core.proofs.ObjectSlots.{room_first}
 use Rattle.card_core.proofs.ObjectsPut.{ArePut, all_same, are_cards_after, at_most, none_put, put_after, same_after}
@@ -28,7 +30,7 @@ use Rattle.policy_rules.specs.DataObjects.{with_data, with_objects}
 use Rattle.policy_rules.specs.StoreData.{HasObjects, StoreDataField, managed_store_data}
 use Rattle.card_core.specs.Manages.{IsManaged}
 use Rattle.card_types.specs.Registry as registry
-use Rattle.card_core.proofs.store_data.store_data.Goals as goal
+use Rattle.card_core.proofs.store_data.StoreRequestManagedRequest.manage.Goals as goal
 use Rattle.policy_rules.specs.ManagedForm.{ManagedEffect, command_form}
 
 -- the data objects of a command
@@ -64,11 +66,11 @@ pub judge_store_data-requires : goal.judge_store_data-requires
 judge_store_data-requires g c = record { in_order = subst IsInOrder (sym c.tables.ensures.tables) (in_order c.args.records.now.tables c.requires.cards) }
 
 pub returns-in_err-judge_store_data-clause-done : goal.returns-in_err-judge_store_data-clause-done
-returns-in_err-judge_store_data-clause-done g c page admitted acts request =
+returns-in_err-judge_store_data-clause-done g c page admitted acts says channels request holds =
     let found = c.in_err-judge_store_data.field-0.0 in
     let first = c.in_err-judge_store_data.ensures.refused page admitted (subst (λ t. ActsIn page t c.args.domain admitted) (sym c.tables.ensures.tables) acts) request in
-    refusal_managed admitted page c.args.records.now.tables [] c.from_residual.result found c.from_residual.ensures.1
-    first refl
+    refusal_managed admitted page c.args.records.now.tables c.args._reply.now.items c.from_residual.result found c.from_residual.ensures.1
+    first c.requires.empty
 
 pub loop-element-init : goal.loop-element-init
 loop-element-init g c = record {
@@ -87,7 +89,7 @@ pub put_object-requires-clause-size : goal.put_object-requires-clause-size
 put_object-requires-clause-size g c =
     let element = c.in-Ok.element in
     let formed = c.requires.formed in
-    let elements = objects_of c.args.objects.now formed.0 formed.1.means formed.1.form.2 in
+    let elements = objects_of c.args.self.now.objects.now formed.0 formed.1.means formed.1.form.2 in
     let behind = c.loop-element.invariant.put elements.0 elements.1 elements.2.each in
     let next = elements_behind behind.0 element.tag element.value.now c.in-Ok.after.now c.loop-element.rest.now behind.1 c.in-Ok.ensures.found in
     let P = λ (e : Element). IsObject e.tag (length e.value) in
@@ -97,7 +99,7 @@ pub put_object-requires-clause-room : goal.put_object-requires-clause-room
 put_object-requires-clause-room g c =
     let element = c.in-Ok.element in
     let formed = c.requires.formed in
-    let elements = objects_of c.args.objects.now formed.0 formed.1.means formed.1.form.2 in
+    let elements = objects_of c.args.self.now.objects.now formed.0 formed.1.means formed.1.form.2 in
     let behind = c.loop-element.invariant.put elements.0 elements.1 elements.2.each in
     let next = elements_behind behind.0 element.tag element.value.now c.in-Ok.after.now c.loop-element.rest.now behind.1 c.in-Ok.ensures.found in
     let slots = c.loop-element.records.tables.objects.items in
@@ -128,23 +130,29 @@ loop-element-preserved g c =
     }
 
 pub returns-clause-done : goal.returns-clause-done
-returns-clause-done g c page admitted acts request =
+returns-clause-done g c page admitted acts says channels request holds =
     let before = c.args.records.now.tables in
     let now = c.loop-element.records.tables in
-    let elements = objects_of c.args.objects.now admitted.command request.means request.form.2 in
+    let elements = objects_of c.args.self.now.objects.now admitted.command request.means request.form.2 in
     let behind = c.loop-element.invariant.put elements.0 elements.1 elements.2.each in
     let none = none_left behind.0 c.loop-element.rest.now behind.1 c.in_default.ensures.only in
     let first = c.in_ok-judge_store_data.ensures.passed page admitted (subst (λ t. ActsIn page t c.args.domain admitted) (sym c.tables.ensures.tables) acts) request in
-    all_managed page before now c.args.domain admitted acts request.form
+    rw c.requires.empty (all_managed page before now c.args.domain admitted acts request.form
     first
-    elements.0 elements.2 (subst (ArePut before now c.args.domain elements.0) none behind.2) _ refl
+    elements.0 elements.2 (subst (ArePut before now c.args.domain elements.0) none behind.2) _ refl)
 
 pub returns-clause-cards : goal.returns-clause-cards
 returns-clause-cards g c =
     let before = c.args.records.now.tables in
     let now = c.loop-element.records.tables in
     let formed = c.requires.formed in
-    let elements = objects_of c.args.objects.now formed.0 formed.1.means formed.1.form.2 in
+    let elements = objects_of c.args.self.now.objects.now formed.0 formed.1.means formed.1.form.2 in
     let behind = c.loop-element.invariant.put elements.0 elements.1 elements.2.each in
     let none = none_left behind.0 c.loop-element.rest.now behind.1 c.in_default.ensures.only in
     are_cards_after before now c.args.domain elements.0 c.loop-element.invariant.same (subst (ArePut before now c.args.domain elements.0) none behind.2) c.requires.cards
+
+pub returns-clause-selected : goal.returns-clause-selected
+returns-clause-selected g c = entries_selected c.args._live.now c.args.records.now.tables.entries.items c.loop-element.records.tables.entries.items (c.loop-element.invariant.same.entries)
+
+pub returns-clause-free : goal.returns-clause-free
+returns-clause-free g c = files_free c.args.records.now.tables c.loop-element.records.tables (c.loop-element.invariant.same.files)

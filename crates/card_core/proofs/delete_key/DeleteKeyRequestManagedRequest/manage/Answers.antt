@@ -1,5 +1,7 @@
 use Rattle.std.proofs.Common.{ℕ, inl, List, [], ◌∷◌, ◌++◌, refl, ap, sym, subst, ◌∙◌}
+use Rattle.card_core.proofs.Answered.{entries_selected}
 use Rattle.card_core.proofs.Cards.{in_order}
+use Rattle.card_core.proofs.FreePages.{files_free}
 use Rattle.card_core.proofs.DeleteKeyDone.{deleted_cards, deleted_says}
 use Rattle.card_core.proofs.Managing.{refusal_managed}
 use Rattle.card_types.specs.InOrder.{IsInOrder}
@@ -11,37 +13,43 @@ use Rattle.policy_rules.proofs.Judging.{does_so}
 use Rattle.policy_rules.specs.DeleteKey.{managed_delete_key}
 use Rattle.policy_rules.specs.Requests.{ActsIn}
 use Rattle.policy_rules.specs.Management.{acting}
-use Rattle.card_core.proofs.delete_key.delete_key.Goals as goal
+use Rattle.card_core.proofs.delete_key.DeleteKeyRequestManagedRequest.manage.Goals as goal
 use Rattle.policy_rules.specs.ManagedForm.{command_form}
 
 pub judge_delete_key-requires : goal.judge_delete_key-requires
 judge_delete_key-requires g c = record { in_order = subst IsInOrder (sym c.tables.ensures.tables) (in_order c.args.records.now.tables c.requires.cards) }
 
 pub returns-in_err-judge_delete_key-clause-done : goal.returns-in_err-judge_delete_key-clause-done
-returns-in_err-judge_delete_key-clause-done g c page admitted acts request =
+returns-in_err-judge_delete_key-clause-done g c page admitted acts says channels request holds =
     let here = subst (λ (t : Tables). ActsIn page t c.args.domain admitted) (sym c.tables.ensures.tables) acts in
     refusal_managed admitted page c.args.records.now.tables c.args.reply.now.items c.from_residual.result c.in_err-judge_delete_key.field-0.0 c.from_residual.ensures.1
     (c.in_err-judge_delete_key.ensures.refused page admitted here request)
     c.requires.empty
 
 pub returns-clause-done : goal.returns-clause-done
-returns-clause-done g c page admitted acts request =
+returns-clause-done g c page admitted acts says channels request holds =
     let here = subst (λ (t : Tables). ActsIn page t c.args.domain admitted) (sym c.tables.ensures.tables) acts in
-    let registry = without_version admitted.at.registry (acting admitted) c.args.version in
-    let says = deleted_says c.args.records.now c.delete.new.keeper c.delete.ensures.same_else c.args.domain c.args.version c.delete.ensures.deletes page
+    let registry = without_version admitted.at.registry (acting admitted) c.args.self.now.version in
+    let says = deleted_says c.args.records.now c.delete.new.keeper c.delete.ensures.same_else c.args.domain c.args.self.now.version c.delete.ensures.deletes page
     admitted.at.registry acts.says acts.well acts.entry acts.at in
     record {
       judges = c.in_ok-judge_delete_key.ensures.passed page admitted here request;
       done = record { state = record { registry = registry; volatile = admitted.at.volatile }; body = 0x00 ∷ []; status = 0x9000 };
       does = does_so (command_form managed_delete_key) (λ holds here. inl here) admitted request.form _
-          (replied managed_delete_key admitted (record { version = c.args.version; identifier = c.args.identifier }) registry request.means refl (λ no. no));
+          (replied managed_delete_key admitted (record { version = c.args.self.now.version; identifier = c.args.self.now.identifier }) registry request.means refl (λ no. no));
       volatile = refl;
-      says = subst (λ (aid : List ℕ). Represents page c.delete.new.keeper.tables (without_version admitted.at.registry aid c.args.version)) (sym acts.on) says;
+      says = subst (λ (aid : List ℕ). Represents page c.delete.new.keeper.tables (without_version admitted.at.registry aid c.args.self.now.version)) (sym acts.on) says;
       body_is = c.push.ensures.items ∙ ap (λ (items : List ℕ). items ++ 0x00 ∷ []) c.requires.empty;
       status_is = refl;
     }
 
 pub returns-clause-cards : goal.returns-clause-cards
 returns-clause-cards g c =
-    deleted_cards c.args.records.now c.delete.new.keeper c.delete.ensures.same_else c.args.domain c.args.version c.delete.ensures.deletes
+    deleted_cards c.args.records.now c.delete.new.keeper c.delete.ensures.same_else c.args.domain c.args.self.now.version c.delete.ensures.deletes
     c.delete.result c.delete.ensures.found c.delete.ensures.unchanged c.requires.cards
+
+pub returns-clause-selected : goal.returns-clause-selected
+returns-clause-selected g c = entries_selected c.args._live.now c.args.records.now.tables.entries.items c.delete.new.keeper.tables.entries.items (c.delete.ensures.same_else.entries)
+
+pub returns-clause-free : goal.returns-clause-free
+returns-clause-free g c = files_free c.args.records.now.tables c.delete.new.keeper.tables (c.delete.ensures.same_else.files)

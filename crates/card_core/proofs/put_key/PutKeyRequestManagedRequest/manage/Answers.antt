@@ -7,43 +7,45 @@ use Rattle.policy_rules.specs.Requests.{ActsIn, IsRequestOf, IsWellFormed, sent_
 use Rattle.policy_rules.specs.PutKeyRules.{key_rules, version_rules}
 use Rattle.policy_rules.specs.declared.put_key.PutKeys.TheVariants.{One, Three}
 use Rattle.policy_rules.specs.declared.request.Request.TheVariants.{PutKey}
+use Rattle.card_core.proofs.Answered.{entries_selected}
 use Rattle.card_core.proofs.Cards.{in_order}
+use Rattle.card_core.proofs.FreePages.{files_free}
 use Rattle.card_core.proofs.PutKeyBrought.{brought, checks_said, formed_one, formed_set, one_length, three_lengths}
 use Rattle.card_core.proofs.PutKeyDone.{body_one, body_three, fits_one, fits_three, judged_by, put_managed}
 use Rattle.card_core.proofs.Managing.{refusal_managed}
 use Rattle.card_core.proofs.PutKeyTables.{put_cards, puts_lent}
 use Rattle.card_core.specs.SecureChannels.{RepresentsSecureChannel}
 use Rattle.card_core.specs.Offers.{secure_channel_for}
-use Rattle.card_core.proofs.put_key.put_key.Goals as goal
+use Rattle.card_core.proofs.put_key.PutKeyRequestManagedRequest.manage.Goals as goal
 use Rattle.policy_rules.specs.PutKey.{managed_put_key}
 use Rattle.policy_rules.specs.ManagedForm.{command_form}
 
 pub returns-in_err-judge_put_versions-clause-done : goal.returns-in_err-judge_put_versions-clause-done
-returns-in_err-judge_put_versions-clause-done g c page admitted acts request holds =
+returns-in_err-judge_put_versions-clause-done g c page admitted acts says channels request holds =
     let rule = c.in_err-judge_put_versions.field-0.0 in
-    let refused = c.in_err-judge_put_versions.ensures.refused page admitted c.args.keys.now (subst (λ t. ActsIn page t c.args.domain admitted) (sym c.tables.ensures.tables) acts) request in
+    let refused = c.in_err-judge_put_versions.ensures.refused page admitted c.args.self.now.keys.now (subst (λ t. ActsIn page t c.args.domain admitted) (sym c.tables.ensures.tables) acts) request in
     let first = first_within ((command_form managed_put_key).fails admitted) key_rules version_rules rule refused in
     refusal_managed admitted page c.args.records.now.tables c.args.reply.now.items c.from_residual.result rule c.from_residual.ensures.1
     (put_judged admitted (Some rule) request.form first) c.requires.empty
 
 pub open_key-key-requires : goal.open_key-key-requires
 open_key-key-requires g c =
-    let form = formed_one c.args.replaced c.args.version c.in-One.sent (subst (λ k. IsWellFormed (PutKey c.args.replaced c.args.version k)) c.in-One.is c.requires.formed) in
+    let form = formed_one c.args.self.now.replaced c.args.self.now.version c.in-One.sent (subst (λ k. IsWellFormed (PutKey c.args.self.now.replaced c.args.self.now.version k)) c.in-One.is c.requires.formed) in
     record { size = form.lengths.size; sealed = form.lengths.sealed }
 
 pub judge_put_keys-requires : goal.judge_put_keys-requires
 judge_put_keys-requires g c = record { in_order = subst IsInOrder (sym c.tables-in-One.ensures.tables) (in_order c.args.records.now.tables c.requires.cards) }
 
 pub returns-in_err-judge_put_keys-in-One-clause-done : goal.returns-in_err-judge_put_keys-in-One-clause-done
-returns-in_err-judge_put_keys-in-One-clause-done g c page admitted acts request holds =
+returns-in_err-judge_put_keys-in-One-clause-done g c page admitted acts says channels request holds =
     let sent = c.in-One.sent in
     let key = c.open_key-key.result.bytes.items in
-    let asked = subst (λ k. IsRequestOf (PutKey c.args.replaced c.args.version k) admitted.command) c.in-One.is request in
+    let asked = subst (λ k. IsRequestOf (PutKey c.args.self.now.replaced c.args.self.now.version k) admitted.command) c.in-One.is request in
     let secured = subst (λ h. RepresentsSecureChannel h (secure_channel_for admitted)) c.in-Secured.is holds in
-    let checks = checks_said admitted c.args.replaced c.args.version (One sent) asked c.in-Secured.session secured (key ∷ []) (λ session stands. (c.open_key-key.ensures.key session stands, tt))
+    let checks = checks_said admitted c.args.self.now.replaced c.args.self.now.version (One sent) asked c.in-Secured.session secured (key ∷ []) (λ session stands. (c.open_key-key.ensures.key session stands, tt))
     c.open_key-key.result.fits (fits_one c.open_key-key.result.fits (sent_key sent) key c.open_key-key.ensures.fits) in
-    let before = c.in_ok-judge_put_versions.ensures.passed page admitted c.args.keys.now (subst (λ t. ActsIn page t c.args.domain admitted) (sym c.tables.ensures.tables) acts) request in
-    let refused = c.in_err-judge_put_keys-in-One.ensures.refused page admitted c.args.version
+    let before = c.in_ok-judge_put_versions.ensures.passed page admitted c.args.self.now.keys.now (subst (λ t. ActsIn page t c.args.domain admitted) (sym c.tables.ensures.tables) acts) request in
+    let refused = c.in_err-judge_put_keys-in-One.ensures.refused page admitted c.args.self.now.version
     (subst (λ t. ActsIn page t c.args.domain admitted) (sym c.tables-in-One.ensures.tables) acts) request checks in
     let first = first_behind ((command_form managed_put_key).fails admitted) key_rules version_rules (Some c.in_err-judge_put_keys-in-One.field-0.0) before refused in
     refusal_managed admitted page c.args.records.now.tables c.args.reply.now.items c.from_residual-in_err-judge_put_keys-in-One.result c.in_err-judge_put_keys-in-One.field-0.0
@@ -53,35 +55,35 @@ returns-in_err-judge_put_keys-in-One-clause-done g c page admitted acts request 
 -- the rest of the token or receipt key
 pub write_check-requires-clause-size : goal.write_check-requires-clause-size
 write_check-requires-clause-size g c =
-    (formed_one c.args.replaced c.args.version c.in-One.sent (subst (λ k. IsWellFormed (PutKey c.args.replaced c.args.version k)) c.in-One.is c.requires.formed)).lengths.check
+    (formed_one c.args.self.now.replaced c.args.self.now.version c.in-One.sent (subst (λ k. IsWellFormed (PutKey c.args.self.now.replaced c.args.self.now.version k)) c.in-One.is c.requires.formed)).lengths.check
 
 pub place_one-requires-clause-length : goal.place_one-requires-clause-length
 place_one-requires-clause-length g c =
-    let form = formed_one c.args.replaced c.args.version c.in-One.sent (subst (λ k. IsWellFormed (PutKey c.args.replaced c.args.version k)) c.in-One.is c.requires.formed) in
+    let form = formed_one c.args.self.now.replaced c.args.self.now.version c.in-One.sent (subst (λ k. IsWellFormed (PutKey c.args.self.now.replaced c.args.self.now.version k)) c.in-One.is c.requires.formed) in
     subst IsKeyLength (sym (ap length c.deref.ensures.0 ∙ c.open_key-key.ensures.length)) form.lengths.size
 
 pub place_one-requires-clause-judged : goal.place_one-requires-clause-judged
 place_one-requires-clause-judged g c =
-    judged_by c.args.domain c.args.replaced c.args.version c.tables.result.now c.tables-in-One.result.now c.args.records.now.tables c.args.keys.now (One c.in-One.sent)
+    judged_by c.args.domain c.args.self.now.replaced c.args.self.now.version c.tables.result.now c.tables-in-One.result.now c.args.records.now.tables c.args.self.now.keys.now (One c.in-One.sent)
     c.tables.ensures.tables c.tables-in-One.ensures.tables c.in-One.is c.in_ok-judge_put_versions.ensures.known c.in_ok-judge_put_versions.ensures.free
-    (c.in_ok-judge_put_keys-in-One.ensures.roomy c.args.version)
+    (c.in_ok-judge_put_keys-in-One.ensures.roomy c.args.self.now.version)
 
 pub open_key-enc-requires : goal.open_key-enc-requires
 open_key-enc-requires g c =
-    let form = formed_set c.args.replaced c.args.version c.in-Three.first c.in-Three.second c.in-Three.third
-    (subst (λ k. IsWellFormed (PutKey c.args.replaced c.args.version k)) c.in-Three.is c.requires.formed) in
+    let form = formed_set c.args.self.now.replaced c.args.self.now.version c.in-Three.first c.in-Three.second c.in-Three.third
+    (subst (λ k. IsWellFormed (PutKey c.args.self.now.replaced c.args.self.now.version k)) c.in-Three.is c.requires.formed) in
     record { size = form.enc_lengths.size; sealed = form.enc_lengths.sealed }
 
 pub open_key-mac-requires : goal.open_key-mac-requires
 open_key-mac-requires g c =
-    let form = formed_set c.args.replaced c.args.version c.in-Three.first c.in-Three.second c.in-Three.third
-    (subst (λ k. IsWellFormed (PutKey c.args.replaced c.args.version k)) c.in-Three.is c.requires.formed) in
+    let form = formed_set c.args.self.now.replaced c.args.self.now.version c.in-Three.first c.in-Three.second c.in-Three.third
+    (subst (λ k. IsWellFormed (PutKey c.args.self.now.replaced c.args.self.now.version k)) c.in-Three.is c.requires.formed) in
     record { size = form.mac_lengths.size; sealed = form.mac_lengths.sealed }
 
 pub open_key-kek-requires : goal.open_key-kek-requires
 open_key-kek-requires g c =
-    let form = formed_set c.args.replaced c.args.version c.in-Three.first c.in-Three.second c.in-Three.third
-    (subst (λ k. IsWellFormed (PutKey c.args.replaced c.args.version k)) c.in-Three.is c.requires.formed) in
+    let form = formed_set c.args.self.now.replaced c.args.self.now.version c.in-Three.first c.in-Three.second c.in-Three.third
+    (subst (λ k. IsWellFormed (PutKey c.args.self.now.replaced c.args.self.now.version k)) c.in-Three.is c.requires.formed) in
     record { size = form.dek_lengths.size; sealed = form.dek_lengths.sealed }
 
 pub judge_put_keys-requires-in-Three : goal.judge_put_keys-requires-in-Three
@@ -89,23 +91,23 @@ judge_put_keys-requires-in-Three g c = record { in_order = subst IsInOrder (sym 
 
 pub write_check-requires-in-Three-clause-size : goal.write_check-requires-in-Three-clause-size
 write_check-requires-in-Three-clause-size g c =
-    (formed_set c.args.replaced c.args.version c.in-Three.first c.in-Three.second c.in-Three.third
-    (subst (λ k. IsWellFormed (PutKey c.args.replaced c.args.version k)) c.in-Three.is c.requires.formed)).enc_lengths.check
+    (formed_set c.args.self.now.replaced c.args.self.now.version c.in-Three.first c.in-Three.second c.in-Three.third
+    (subst (λ k. IsWellFormed (PutKey c.args.self.now.replaced c.args.self.now.version k)) c.in-Three.is c.requires.formed)).enc_lengths.check
 
 pub write_check-requires-in-Three-2-clause-size : goal.write_check-requires-in-Three-2-clause-size
 write_check-requires-in-Three-2-clause-size g c =
-    (formed_set c.args.replaced c.args.version c.in-Three.first c.in-Three.second c.in-Three.third
-    (subst (λ k. IsWellFormed (PutKey c.args.replaced c.args.version k)) c.in-Three.is c.requires.formed)).mac_lengths.check
+    (formed_set c.args.self.now.replaced c.args.self.now.version c.in-Three.first c.in-Three.second c.in-Three.third
+    (subst (λ k. IsWellFormed (PutKey c.args.self.now.replaced c.args.self.now.version k)) c.in-Three.is c.requires.formed)).mac_lengths.check
 
 pub write_check-requires-in-Three-3-clause-size : goal.write_check-requires-in-Three-3-clause-size
 write_check-requires-in-Three-3-clause-size g c =
-    (formed_set c.args.replaced c.args.version c.in-Three.first c.in-Three.second c.in-Three.third
-    (subst (λ k. IsWellFormed (PutKey c.args.replaced c.args.version k)) c.in-Three.is c.requires.formed)).dek_lengths.check
+    (formed_set c.args.self.now.replaced c.args.self.now.version c.in-Three.first c.in-Three.second c.in-Three.third
+    (subst (λ k. IsWellFormed (PutKey c.args.self.now.replaced c.args.self.now.version k)) c.in-Three.is c.requires.formed)).dek_lengths.check
 
 pub place_set-requires-clause-lengths : goal.place_set-requires-clause-lengths
 place_set-requires-clause-lengths g c =
-    let form = formed_set c.args.replaced c.args.version c.in-Three.first c.in-Three.second c.in-Three.third
-    (subst (λ k. IsWellFormed (PutKey c.args.replaced c.args.version k)) c.in-Three.is c.requires.formed) in
+    let form = formed_set c.args.self.now.replaced c.args.self.now.version c.in-Three.first c.in-Three.second c.in-Three.third
+    (subst (λ k. IsWellFormed (PutKey c.args.self.now.replaced c.args.self.now.version k)) c.in-Three.is c.requires.formed) in
     let enc = ap length c.deref-in-Three.ensures.0 ∙ c.open_key-enc.ensures.length in (
       subst IsKeyLength (sym enc) form.enc_lengths.size,
       ap length c.deref-in-Three-2.ensures.0 ∙ c.open_key-mac.ensures.length ∙ form.mac_size ∙ sym enc,
@@ -114,23 +116,23 @@ place_set-requires-clause-lengths g c =
 
 pub place_set-requires-clause-judged : goal.place_set-requires-clause-judged
 place_set-requires-clause-judged g c =
-    judged_by c.args.domain c.args.replaced c.args.version c.tables.result.now c.tables-in-Three.result.now c.args.records.now.tables c.args.keys.now
+    judged_by c.args.domain c.args.self.now.replaced c.args.self.now.version c.tables.result.now c.tables-in-Three.result.now c.args.records.now.tables c.args.self.now.keys.now
     (Three c.in-Three.first c.in-Three.second c.in-Three.third) c.tables.ensures.tables c.tables-in-Three.ensures.tables c.in-Three.is
-    c.in_ok-judge_put_versions.ensures.known c.in_ok-judge_put_versions.ensures.free (c.in_ok-judge_put_keys-in-Three.ensures.roomy c.args.version)
+    c.in_ok-judge_put_versions.ensures.known c.in_ok-judge_put_versions.ensures.free (c.in_ok-judge_put_keys-in-Three.ensures.roomy c.args.self.now.version)
 
 pub returns-in_err-judge_put_keys-in-Three-clause-done : goal.returns-in_err-judge_put_keys-in-Three-clause-done
-returns-in_err-judge_put_keys-in-Three-clause-done g c page admitted acts request holds =
+returns-in_err-judge_put_keys-in-Three-clause-done g c page admitted acts says channels request holds =
     let keys = Three c.in-Three.first c.in-Three.second c.in-Three.third in
-    let asked = subst (λ k. IsRequestOf (PutKey c.args.replaced c.args.version k) admitted.command) c.in-Three.is request in
+    let asked = subst (λ k. IsRequestOf (PutKey c.args.self.now.replaced c.args.self.now.version k) admitted.command) c.in-Three.is request in
     let secured = subst (λ h. RepresentsSecureChannel h (secure_channel_for admitted)) c.in-Secured.is holds in
-    let checks = checks_said admitted c.args.replaced c.args.version keys asked c.in-Secured.session secured
+    let checks = checks_said admitted c.args.self.now.replaced c.args.self.now.version keys asked c.in-Secured.session secured
     (c.open_key-enc.result.bytes.items ∷ c.open_key-mac.result.bytes.items ∷ c.open_key-kek.result.bytes.items ∷ [])
     (λ session stands. (c.open_key-enc.ensures.key session stands, (c.open_key-mac.ensures.key session stands, (c.open_key-kek.ensures.key session stands, tt)))) c.all_fit-fit.result
     (fits_three c.open_key-enc.result.fits c.open_key-mac.result.fits c.open_key-kek.result.fits c.all_fit-fit.result
     (sent_key c.in-Three.first) (sent_key c.in-Three.second) (sent_key c.in-Three.third) c.open_key-enc.result.bytes.items c.open_key-mac.result.bytes.items c.open_key-kek.result.bytes.items
     c.all_fit-fit.ensures c.open_key-enc.ensures.fits c.open_key-mac.ensures.fits c.open_key-kek.ensures.fits) in
-    let before = c.in_ok-judge_put_versions.ensures.passed page admitted c.args.keys.now (subst (λ t. ActsIn page t c.args.domain admitted) (sym c.tables.ensures.tables) acts) request in
-    let refused = c.in_err-judge_put_keys-in-Three.ensures.refused page admitted c.args.version
+    let before = c.in_ok-judge_put_versions.ensures.passed page admitted c.args.self.now.keys.now (subst (λ t. ActsIn page t c.args.domain admitted) (sym c.tables.ensures.tables) acts) request in
+    let refused = c.in_err-judge_put_keys-in-Three.ensures.refused page admitted c.args.self.now.version
     (subst (λ t. ActsIn page t c.args.domain admitted) (sym c.tables-in-Three.ensures.tables) acts) request checks in
     let first = first_behind ((command_form managed_put_key).fails admitted) key_rules version_rules (Some c.in_err-judge_put_keys-in-Three.field-0.0) before refused in
     refusal_managed admitted page c.args.records.now.tables c.args.reply.now.items c.from_residual-in_err-judge_put_keys-in-Three.result c.in_err-judge_put_keys-in-Three.field-0.0
@@ -138,75 +140,75 @@ returns-in_err-judge_put_keys-in-Three-clause-done g c page admitted acts reques
     (put_judged admitted (Some c.in_err-judge_put_keys-in-Three.field-0.0) request.form first) c.requires.empty
 
 pub returns-in_ok-judge_put_keys-in-One-clause-done : goal.returns-in_ok-judge_put_keys-in-One-clause-done
-returns-in_ok-judge_put_keys-in-One-clause-done g c page admitted acts request holds =
+returns-in_ok-judge_put_keys-in-One-clause-done g c page admitted acts says channels request holds =
     let sent = c.in-One.sent in
     let key = c.open_key-key.result.bytes.items in
-    let form = formed_one c.args.replaced c.args.version sent (subst (λ k. IsWellFormed (PutKey c.args.replaced c.args.version k)) c.in-One.is c.requires.formed) in
-    let asked = subst (λ k. IsRequestOf (PutKey c.args.replaced c.args.version k) admitted.command) c.in-One.is request in
+    let form = formed_one c.args.self.now.replaced c.args.self.now.version sent (subst (λ k. IsWellFormed (PutKey c.args.self.now.replaced c.args.self.now.version k)) c.in-One.is c.requires.formed) in
+    let asked = subst (λ k. IsRequestOf (PutKey c.args.self.now.replaced c.args.self.now.version k) admitted.command) c.in-One.is request in
     let secured = subst (λ h. RepresentsSecureChannel h (secure_channel_for admitted)) c.in-Secured.is holds in
-    let brings = brought admitted c.args.replaced c.args.version (One sent) asked c.in-Secured.session secured (key ∷ []) (λ session stands. (c.open_key-key.ensures.key session stands, tt)) in
-    let checks = checks_said admitted c.args.replaced c.args.version (One sent) asked c.in-Secured.session secured (key ∷ []) (λ session stands. (c.open_key-key.ensures.key session stands, tt))
+    let brings = brought admitted c.args.self.now.replaced c.args.self.now.version (One sent) asked c.in-Secured.session secured (key ∷ []) (λ session stands. (c.open_key-key.ensures.key session stands, tt)) in
+    let checks = checks_said admitted c.args.self.now.replaced c.args.self.now.version (One sent) asked c.in-Secured.session secured (key ∷ []) (λ session stands. (c.open_key-key.ensures.key session stands, tt))
     c.open_key-key.result.fits (fits_one c.open_key-key.result.fits (sent_key sent) key c.open_key-key.ensures.fits) in
-    let before = c.in_ok-judge_put_versions.ensures.passed page admitted c.args.keys.now (subst (λ t. ActsIn page t c.args.domain admitted) (sym c.tables.ensures.tables) acts) request in
-    let passed = c.in_ok-judge_put_keys-in-One.ensures.passed page admitted c.args.version
+    let before = c.in_ok-judge_put_versions.ensures.passed page admitted c.args.self.now.keys.now (subst (λ t. ActsIn page t c.args.domain admitted) (sym c.tables.ensures.tables) acts) request in
+    let passed = c.in_ok-judge_put_keys-in-One.ensures.passed page admitted c.args.self.now.version
     (subst (λ t. ActsIn page t c.args.domain admitted) (sym c.tables-in-One.ensures.tables) acts) request checks in
     let first = first_behind ((command_form managed_put_key).fails admitted) key_rules version_rules None before passed in
-    let judged = judged_by c.args.domain c.args.replaced c.args.version c.tables.result.now c.tables-in-One.result.now c.args.records.now.tables c.args.keys.now (One c.in-One.sent)
+    let judged = judged_by c.args.domain c.args.self.now.replaced c.args.self.now.version c.tables.result.now c.tables-in-One.result.now c.args.records.now.tables c.args.self.now.keys.now (One c.in-One.sent)
     c.tables.ensures.tables c.tables-in-One.ensures.tables c.in-One.is c.in_ok-judge_put_versions.ensures.known c.in_ok-judge_put_versions.ensures.free
-    (c.in_ok-judge_put_keys-in-One.ensures.roomy c.args.version) in
+    (c.in_ok-judge_put_keys-in-One.ensures.roomy c.args.self.now.version) in
     let same = c.place_one.ensures.same_else in
-    put_managed c.args.records.now.tables c.place_one.new.keeper.tables same.life same.entries same.files same.objects c.args.domain c.args.replaced c.args.version (key ∷ [])
-    (puts_lent c.args.domain c.args.replaced c.args.version c.args.records.now.tables.keys.items c.place_one.new.keeper.tables.keys.items
+    put_managed c.args.records.now.tables c.place_one.new.keeper.tables same.life same.entries same.files same.objects c.args.domain c.args.self.now.replaced c.args.self.now.version (key ∷ [])
+    (puts_lent c.args.domain c.args.self.now.replaced c.args.self.now.version c.args.records.now.tables.keys.items c.place_one.new.keeper.tables.keys.items
     (c.deref.result.now ∷ []) (key ∷ []) (λ i. c.deref.ensures.0 i ∷ []) c.place_one.ensures.put) (one_length sent key form.lengths c.open_key-key.ensures.length) (inr (form.new, refl)) judged c.requires.domain
     page admitted acts (One sent) asked brings c.write_check.new.reply.items _
     (put_judged admitted None request.form first)
-    (body_one c.args.version (sent_key sent) c.args.reply.now.items c.push.new.self.items c.write_check.new.reply.items c.requires.empty c.push.ensures.items c.write_check.ensures.written) refl
+    (body_one c.args.self.now.version (sent_key sent) c.args.reply.now.items c.push.new.self.items c.write_check.new.reply.items c.requires.empty c.push.ensures.items c.write_check.ensures.written) refl
 
 pub returns-in_ok-judge_put_keys-in-One-clause-cards : goal.returns-in_ok-judge_put_keys-in-One-clause-cards
 returns-in_ok-judge_put_keys-in-One-clause-cards g c =
     let sent = c.in-One.sent in
     let key = c.open_key-key.result.bytes.items in
-    let form = formed_one c.args.replaced c.args.version sent (subst (λ k. IsWellFormed (PutKey c.args.replaced c.args.version k)) c.in-One.is c.requires.formed) in
-    let judged = judged_by c.args.domain c.args.replaced c.args.version c.tables.result.now c.tables-in-One.result.now c.args.records.now.tables c.args.keys.now (One c.in-One.sent)
+    let form = formed_one c.args.self.now.replaced c.args.self.now.version sent (subst (λ k. IsWellFormed (PutKey c.args.self.now.replaced c.args.self.now.version k)) c.in-One.is c.requires.formed) in
+    let judged = judged_by c.args.domain c.args.self.now.replaced c.args.self.now.version c.tables.result.now c.tables-in-One.result.now c.args.records.now.tables c.args.self.now.keys.now (One c.in-One.sent)
     c.tables.ensures.tables c.tables-in-One.ensures.tables c.in-One.is c.in_ok-judge_put_versions.ensures.known c.in_ok-judge_put_versions.ensures.free
-    (c.in_ok-judge_put_keys-in-One.ensures.roomy c.args.version) in
+    (c.in_ok-judge_put_keys-in-One.ensures.roomy c.args.self.now.version) in
     let same = c.place_one.ensures.same_else in
-    put_cards c.args.records.now.tables c.place_one.new.keeper.tables same.life same.entries same.files same.objects c.args.domain c.args.replaced c.args.version (key ∷ [])
-    (puts_lent c.args.domain c.args.replaced c.args.version c.args.records.now.tables.keys.items c.place_one.new.keeper.tables.keys.items
+    put_cards c.args.records.now.tables c.place_one.new.keeper.tables same.life same.entries same.files same.objects c.args.domain c.args.self.now.replaced c.args.self.now.version (key ∷ [])
+    (puts_lent c.args.domain c.args.self.now.replaced c.args.self.now.version c.args.records.now.tables.keys.items c.place_one.new.keeper.tables.keys.items
     (c.deref.result.now ∷ []) (key ∷ []) (λ i. c.deref.ensures.0 i ∷ []) c.place_one.ensures.put) (one_length sent key form.lengths c.open_key-key.ensures.length) (inr (form.new, refl)) judged c.requires.domain c.requires.cards
 
 pub returns-in_ok-judge_put_keys-in-Three-clause-done : goal.returns-in_ok-judge_put_keys-in-Three-clause-done
-returns-in_ok-judge_put_keys-in-Three-clause-done g c page admitted acts request holds =
+returns-in_ok-judge_put_keys-in-Three-clause-done g c page admitted acts says channels request holds =
     let keys = Three c.in-Three.first c.in-Three.second c.in-Three.third in
     let bytes = c.open_key-enc.result.bytes.items ∷ c.open_key-mac.result.bytes.items ∷ c.open_key-kek.result.bytes.items ∷ [] in
-    let form = formed_set c.args.replaced c.args.version c.in-Three.first c.in-Three.second c.in-Three.third
-    (subst (λ k. IsWellFormed (PutKey c.args.replaced c.args.version k)) c.in-Three.is c.requires.formed) in
-    let asked = subst (λ k. IsRequestOf (PutKey c.args.replaced c.args.version k) admitted.command) c.in-Three.is request in
+    let form = formed_set c.args.self.now.replaced c.args.self.now.version c.in-Three.first c.in-Three.second c.in-Three.third
+    (subst (λ k. IsWellFormed (PutKey c.args.self.now.replaced c.args.self.now.version k)) c.in-Three.is c.requires.formed) in
+    let asked = subst (λ k. IsRequestOf (PutKey c.args.self.now.replaced c.args.self.now.version k) admitted.command) c.in-Three.is request in
     let secured = subst (λ h. RepresentsSecureChannel h (secure_channel_for admitted)) c.in-Secured.is holds in
-    let brings = brought admitted c.args.replaced c.args.version keys asked c.in-Secured.session secured bytes
+    let brings = brought admitted c.args.self.now.replaced c.args.self.now.version keys asked c.in-Secured.session secured bytes
     (λ session stands. (c.open_key-enc.ensures.key session stands, (c.open_key-mac.ensures.key session stands, (c.open_key-kek.ensures.key session stands, tt)))) in
-    let checks = checks_said admitted c.args.replaced c.args.version keys asked c.in-Secured.session secured bytes
+    let checks = checks_said admitted c.args.self.now.replaced c.args.self.now.version keys asked c.in-Secured.session secured bytes
     (λ session stands. (c.open_key-enc.ensures.key session stands, (c.open_key-mac.ensures.key session stands, (c.open_key-kek.ensures.key session stands, tt)))) c.all_fit-fit.result
     (fits_three c.open_key-enc.result.fits c.open_key-mac.result.fits c.open_key-kek.result.fits c.all_fit-fit.result
     (sent_key c.in-Three.first) (sent_key c.in-Three.second) (sent_key c.in-Three.third) c.open_key-enc.result.bytes.items c.open_key-mac.result.bytes.items c.open_key-kek.result.bytes.items
     c.all_fit-fit.ensures c.open_key-enc.ensures.fits c.open_key-mac.ensures.fits c.open_key-kek.ensures.fits) in
-    let before = c.in_ok-judge_put_versions.ensures.passed page admitted c.args.keys.now (subst (λ t. ActsIn page t c.args.domain admitted) (sym c.tables.ensures.tables) acts) request in
-    let passed = c.in_ok-judge_put_keys-in-Three.ensures.passed page admitted c.args.version
+    let before = c.in_ok-judge_put_versions.ensures.passed page admitted c.args.self.now.keys.now (subst (λ t. ActsIn page t c.args.domain admitted) (sym c.tables.ensures.tables) acts) request in
+    let passed = c.in_ok-judge_put_keys-in-Three.ensures.passed page admitted c.args.self.now.version
     (subst (λ t. ActsIn page t c.args.domain admitted) (sym c.tables-in-Three.ensures.tables) acts) request checks in
     let first = first_behind ((command_form managed_put_key).fails admitted) key_rules version_rules None before passed in
-    let judged = judged_by c.args.domain c.args.replaced c.args.version c.tables.result.now c.tables-in-Three.result.now c.args.records.now.tables c.args.keys.now
+    let judged = judged_by c.args.domain c.args.self.now.replaced c.args.self.now.version c.tables.result.now c.tables-in-Three.result.now c.args.records.now.tables c.args.self.now.keys.now
     (Three c.in-Three.first c.in-Three.second c.in-Three.third) c.tables.ensures.tables c.tables-in-Three.ensures.tables c.in-Three.is
-    c.in_ok-judge_put_versions.ensures.known c.in_ok-judge_put_versions.ensures.free (c.in_ok-judge_put_keys-in-Three.ensures.roomy c.args.version) in
+    c.in_ok-judge_put_versions.ensures.known c.in_ok-judge_put_versions.ensures.free (c.in_ok-judge_put_keys-in-Three.ensures.roomy c.args.self.now.version) in
     let same = c.place_set.ensures.same_else in
-    put_managed c.args.records.now.tables c.place_set.new.keeper.tables same.life same.entries same.files same.objects c.args.domain c.args.replaced c.args.version bytes
-    (puts_lent c.args.domain c.args.replaced c.args.version c.args.records.now.tables.keys.items c.place_set.new.keeper.tables.keys.items
+    put_managed c.args.records.now.tables c.place_set.new.keeper.tables same.life same.entries same.files same.objects c.args.domain c.args.self.now.replaced c.args.self.now.version bytes
+    (puts_lent c.args.domain c.args.self.now.replaced c.args.self.now.version c.args.records.now.tables.keys.items c.place_set.new.keeper.tables.keys.items
     (c.deref-in-Three.result.now ∷ c.deref-in-Three-2.result.now ∷ c.deref-in-Three-3.result.now ∷ []) bytes
     (λ i. c.deref-in-Three.ensures.0 i ∷ c.deref-in-Three-2.ensures.0 i ∷ c.deref-in-Three-3.ensures.0 i ∷ []) c.place_set.ensures.put)
-    (three_lengths c.args.replaced c.args.version c.in-Three.first c.in-Three.second c.in-Three.third _ _ _ form
+    (three_lengths c.args.self.now.replaced c.args.self.now.version c.in-Three.first c.in-Three.second c.in-Three.third _ _ _ form
     c.open_key-enc.ensures.length c.open_key-mac.ensures.length c.open_key-kek.ensures.length) (inl (form.new.0, form.new.1, refl)) judged c.requires.domain
     page admitted acts keys asked brings c.write_check-in-Three-3.new.reply.items _
     (put_judged admitted None request.form first)
-    (body_three c.args.version (sent_key c.in-Three.first) (sent_key c.in-Three.second) (sent_key c.in-Three.third) c.args.reply.now.items c.push-in-Three.new.self.items
+    (body_three c.args.self.now.version (sent_key c.in-Three.first) (sent_key c.in-Three.second) (sent_key c.in-Three.third) c.args.reply.now.items c.push-in-Three.new.self.items
     c.write_check-in-Three.new.reply.items c.write_check-in-Three-2.new.reply.items c.write_check-in-Three-3.new.reply.items c.requires.empty c.push-in-Three.ensures.items
     c.write_check-in-Three.ensures.written c.write_check-in-Three-2.ensures.written c.write_check-in-Three-3.ensures.written) refl
 
@@ -214,15 +216,29 @@ pub returns-in_ok-judge_put_keys-in-Three-clause-cards : goal.returns-in_ok-judg
 returns-in_ok-judge_put_keys-in-Three-clause-cards g c =
     let keys = Three c.in-Three.first c.in-Three.second c.in-Three.third in
     let bytes = c.open_key-enc.result.bytes.items ∷ c.open_key-mac.result.bytes.items ∷ c.open_key-kek.result.bytes.items ∷ [] in
-    let form = formed_set c.args.replaced c.args.version c.in-Three.first c.in-Three.second c.in-Three.third
-    (subst (λ k. IsWellFormed (PutKey c.args.replaced c.args.version k)) c.in-Three.is c.requires.formed) in
-    let judged = judged_by c.args.domain c.args.replaced c.args.version c.tables.result.now c.tables-in-Three.result.now c.args.records.now.tables c.args.keys.now
+    let form = formed_set c.args.self.now.replaced c.args.self.now.version c.in-Three.first c.in-Three.second c.in-Three.third
+    (subst (λ k. IsWellFormed (PutKey c.args.self.now.replaced c.args.self.now.version k)) c.in-Three.is c.requires.formed) in
+    let judged = judged_by c.args.domain c.args.self.now.replaced c.args.self.now.version c.tables.result.now c.tables-in-Three.result.now c.args.records.now.tables c.args.self.now.keys.now
     (Three c.in-Three.first c.in-Three.second c.in-Three.third) c.tables.ensures.tables c.tables-in-Three.ensures.tables c.in-Three.is
-    c.in_ok-judge_put_versions.ensures.known c.in_ok-judge_put_versions.ensures.free (c.in_ok-judge_put_keys-in-Three.ensures.roomy c.args.version) in
+    c.in_ok-judge_put_versions.ensures.known c.in_ok-judge_put_versions.ensures.free (c.in_ok-judge_put_keys-in-Three.ensures.roomy c.args.self.now.version) in
     let same = c.place_set.ensures.same_else in
-    put_cards c.args.records.now.tables c.place_set.new.keeper.tables same.life same.entries same.files same.objects c.args.domain c.args.replaced c.args.version bytes
-    (puts_lent c.args.domain c.args.replaced c.args.version c.args.records.now.tables.keys.items c.place_set.new.keeper.tables.keys.items
+    put_cards c.args.records.now.tables c.place_set.new.keeper.tables same.life same.entries same.files same.objects c.args.domain c.args.self.now.replaced c.args.self.now.version bytes
+    (puts_lent c.args.domain c.args.self.now.replaced c.args.self.now.version c.args.records.now.tables.keys.items c.place_set.new.keeper.tables.keys.items
     (c.deref-in-Three.result.now ∷ c.deref-in-Three-2.result.now ∷ c.deref-in-Three-3.result.now ∷ []) bytes
     (λ i. c.deref-in-Three.ensures.0 i ∷ c.deref-in-Three-2.ensures.0 i ∷ c.deref-in-Three-3.ensures.0 i ∷ []) c.place_set.ensures.put)
-    (three_lengths c.args.replaced c.args.version c.in-Three.first c.in-Three.second c.in-Three.third _ _ _ form
+    (three_lengths c.args.self.now.replaced c.args.self.now.version c.in-Three.first c.in-Three.second c.in-Three.third _ _ _ form
     c.open_key-enc.ensures.length c.open_key-mac.ensures.length c.open_key-kek.ensures.length) (inl (form.new.0, form.new.1, refl)) judged c.requires.domain c.requires.cards
+
+pub returns-in_ok-judge_put_keys-in-One-clause-selected : goal.returns-in_ok-judge_put_keys-in-One-clause-selected
+returns-in_ok-judge_put_keys-in-One-clause-selected g c =
+    entries_selected c.args._live.now c.args.records.now.tables.entries.items c.place_one.new.keeper.tables.entries.items c.place_one.ensures.same_else.entries
+
+pub returns-in_ok-judge_put_keys-in-One-clause-free : goal.returns-in_ok-judge_put_keys-in-One-clause-free
+returns-in_ok-judge_put_keys-in-One-clause-free g c = files_free c.args.records.now.tables c.place_one.new.keeper.tables c.place_one.ensures.same_else.files
+
+pub returns-in_ok-judge_put_keys-in-Three-clause-selected : goal.returns-in_ok-judge_put_keys-in-Three-clause-selected
+returns-in_ok-judge_put_keys-in-Three-clause-selected g c =
+    entries_selected c.args._live.now c.args.records.now.tables.entries.items c.place_set.new.keeper.tables.entries.items c.place_set.ensures.same_else.entries
+
+pub returns-in_ok-judge_put_keys-in-Three-clause-free : goal.returns-in_ok-judge_put_keys-in-Three-clause-free
+returns-in_ok-judge_put_keys-in-Three-clause-free g c = files_free c.args.records.now.tables c.place_set.new.keeper.tables c.place_set.ensures.same_else.files

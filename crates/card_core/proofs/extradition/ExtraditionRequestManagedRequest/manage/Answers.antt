@@ -2,7 +2,7 @@ use Rattle.std.proofs.Common.{rules, ◌≡◌, ℕ, inl, inr, List, [], ◌∷�
 use Rattle.std.specs.Prelude.{IfSome, IsSome, unwrap_or}
 use Rattle.std.specs.Option.{option_map}
 use Rattle.card_types.proofs.Domains.{domain_aid_is}
-use Rattle.card_core.proofs.Answered.{aids_on, answered_managed, still_able, thing_room, thing_room_again}
+use Rattle.card_core.proofs.Answered.{aids_on, aids_selected, answered_managed, still_able, thing_room, thing_room_again}
 use Rattle.card_core.proofs.Cards.{in_order}
 use Rattle.card_core.proofs.EntryCards.{aids_kept, moved_cards, moving_keeps, receipts_kept}
 use Rattle.card_core.proofs.Managing.{refusal_managed}
@@ -25,7 +25,7 @@ use Rattle.card_types.specs.declared.tables.Entry.{Entry as Slot}
 use Rattle.policy_rules.proofs.ExtraditionLaws.{moved_of_card}
 use Rattle.policy_rules.specs.Extradition.{domain_of_thing, managed_extradition}
 use Rattle.card_core.proofs.FreePages.{files_free, free_twice, moved_free}
-use Rattle.card_core.proofs.extradition.extradite.Goals as goal
+use Rattle.card_core.proofs.extradition.ExtraditionRequestManagedRequest.manage.Goals as goal
 use Rattle.policy_rules.specs.ManagedForm.{command_form}
 
 pub judge_extradition-requires-clause-in_order : goal.judge_extradition-requires-clause-in_order
@@ -35,7 +35,7 @@ pub judge_extradition-requires-clause-short : goal.judge_extradition-requires-cl
 judge_extradition-requires-clause-short g c = omega (arith, c.requires.formed.1.means.short, c.requires.formed.2)
 
 pub returns-in_err-found-clause-done : goal.returns-in_err-found-clause-done
-returns-in_err-found-clause-done g c page admitted acts request =
+returns-in_err-found-clause-done g c page admitted acts says channels request holds =
     let here = subst (λ (t : Tables). ActsIn page t c.args.domain admitted) (sym c.tables.ensures.tables) acts in
     let rule = c.in_err-found.field-0.0 in
     refusal_managed admitted page c.args.records.now.tables c.args.reply.now.items c.from_residual.result rule c.from_residual.ensures.1
@@ -55,13 +55,13 @@ entry_there tables slot aid is = by (held tables.entries.items slot) is
 
 pub move_to-requires-clause-slot : goal.move_to-requires-clause-slot
 move_to-requires-clause-slot g c =
-    let there = subst (λ (t : Tables). aid_of t c.in_ok-found.found.thing ≡ Some c.args.request.now.aid) c.tables.ensures.tables c.in_ok-found.ensures.thing in
+    let there = subst (λ (t : Tables). aid_of t c.in_ok-found.found.thing ≡ Some c.args.self.now.aid) c.tables.ensures.tables c.in_ok-found.ensures.thing in
     subst IsSome (sym there) refl
 
 pub move_to-requires-clause-domain : goal.move_to-requires-clause-domain
 move_to-requires-clause-domain g c =
-    entry_there c.args.records.now.tables c.in_ok-found.found.to c.args.request.now.to
-    (subst (λ (t : Tables). aid_of t (Entry c.in_ok-found.found.to) ≡ Some c.args.request.now.to) c.tables.ensures.tables c.in_ok-found.ensures.to)
+    entry_there c.args.records.now.tables c.in_ok-found.found.to c.args.self.now.to
+    (subst (λ (t : Tables). aid_of t (Entry c.in_ok-found.found.to) ≡ Some c.args.self.now.to) c.tables.ensures.tables c.in_ok-found.ensures.to)
 
 pub move_to-requires-clause-room : goal.move_to-requires-clause-room
 move_to-requires-clause-room g c = thing_room c.in_ok-found.found.thing c.args.records.now.staged c.requires.clean
@@ -85,8 +85,8 @@ confirm-requires-clause-cards g c =
     let to = c.in_ok-found.found.to in
     let request = c.requires.formed.1 in
     let given = request.means.given in
-    let there = subst (λ (t : Tables). aid_of t thing ≡ Some c.args.request.now.aid) c.tables.ensures.tables c.in_ok-found.ensures.thing in
-    let into = slot_aid before to c.args.request.now.to (subst (λ (t : Tables). aid_of t (Entry to) ≡ Some c.args.request.now.to) c.tables.ensures.tables c.in_ok-found.ensures.to) in
+    let there = subst (λ (t : Tables). aid_of t thing ≡ Some c.args.self.now.aid) c.tables.ensures.tables c.in_ok-found.ensures.thing in
+    let into = slot_aid before to c.args.self.now.to (subst (λ (t : Tables). aid_of t (Entry to) ≡ Some c.args.self.now.to) c.tables.ensures.tables c.in_ok-found.ensures.to) in
     moved_cards before after thing to c.move_to.ensures.slots (λ page said says well.
     (let some = some_admitted page before said says well c.args.domain c.requires.domain None c.requires.formed.0 in
     let acts = some_acts page before said says well c.args.domain c.requires.domain None c.requires.formed.0 in
@@ -96,19 +96,20 @@ confirm-requires-clause-cards g c =
       moved said given.third given.first,
       subst (λ (name : List ℕ). Represents page after (moved said given.third name)) (into ∙ request.means.to)
           (subst (λ (name : List ℕ). Represents page after (moved said name (domain_aid before.entries.items to))) request.means.aid
-          (c.move_to.ensures.said page said c.args.request.now.aid there says well)),
+          (c.move_to.ensures.said page said c.args.self.now.aid there says well)),
       kept.well,
     ))) c.requires.cards
 
-pub returns-clause-aids : goal.returns-clause-aids
-returns-clause-aids g c =
+pub returns-clause-selected : goal.returns-clause-selected
+returns-clause-selected g c =
     let before = c.args.records.now.tables in
     let after = c.move_to.new.records.tables in
-    aids_on before.entries.items after.entries.items c.confirm.new.records.tables.entries.items
-    (aids_kept before after (moving_keeps before after c.in_ok-found.found.thing c.in_ok-found.found.to c.move_to.ensures.slots)) c.confirm.ensures.aids
+    aids_selected c.args._live.now before.entries.items c.confirm.new.records.tables.entries.items
+    (aids_on before.entries.items after.entries.items c.confirm.new.records.tables.entries.items
+    (aids_kept before after (moving_keeps before after c.in_ok-found.found.thing c.in_ok-found.found.to c.move_to.ensures.slots)) c.confirm.ensures.aids)
 
 pub returns-clause-done : goal.returns-clause-done
-returns-clause-done g c page admitted acts request =
+returns-clause-done g c page admitted acts says channels request holds =
     let before = c.args.records.now.tables in
     let after = c.move_to.new.records.tables in
     let thing = c.in_ok-found.found.thing in
@@ -116,11 +117,11 @@ returns-clause-done g c page admitted acts request =
     let registry = admitted.at.registry in
     let given = request.means.given in
     let here = subst (λ (t : Tables). ActsIn page t c.args.domain admitted) (sym c.tables.ensures.tables) acts in
-    let there = subst (λ (t : Tables). aid_of t thing ≡ Some c.args.request.now.aid) c.tables.ensures.tables c.in_ok-found.ensures.thing in
-    let into = slot_aid before to c.args.request.now.to (subst (λ (t : Tables). aid_of t (Entry to) ≡ Some c.args.request.now.to) c.tables.ensures.tables c.in_ok-found.ensures.to) in
+    let there = subst (λ (t : Tables). aid_of t thing ≡ Some c.args.self.now.aid) c.tables.ensures.tables c.in_ok-found.ensures.thing in
+    let into = slot_aid before to c.args.self.now.to (subst (λ (t : Tables). aid_of t (Entry to) ≡ Some c.args.self.now.to) c.tables.ensures.tables c.in_ok-found.ensures.to) in
     let says = subst (λ (name : List ℕ). Represents page after (moved registry given.third name)) (into ∙ request.means.to)
     (subst (λ (name : List ℕ). Represents page after (moved registry name (domain_aid before.entries.items to))) request.means.aid
-    (c.move_to.ensures.said page registry c.args.request.now.aid there acts.says acts.well)) in
+    (c.move_to.ensures.said page registry c.args.self.now.aid there acts.says acts.well)) in
     let delegated = Holds admitted delegated_management in
     let finds = subst (λ (t : Tables). FindsConfirmer delegated t admitted c.in_ok-found.found.receipter) c.tables.ensures.tables (c.in_ok-found.ensures.receipter page admitted here) in
     let changed = moved registry given.third given.first in
@@ -134,14 +135,14 @@ returns-clause-done g c page admitted acts request =
     let at : held before.entries.items c.in_ok-found.found.from ≡ Some c.unwrap.result.now = search rules in
     let from : c.unwrap.result.now.aid ≡ domain_of_thing registry given.third =
     sym (domain_aid_is before.entries.items c.in_ok-found.found.from c.unwrap.result.now at)
-    ∙ subst (λ (t : Tables). domain_aid t.entries.items c.in_ok-found.found.from ≡ domain_of_thing registry c.args.request.now.aid) c.tables.ensures.tables
+    ∙ subst (λ (t : Tables). domain_aid t.entries.items c.in_ok-found.found.from ≡ domain_of_thing registry c.args.self.now.aid) c.tables.ensures.tables
     (c.in_ok-found.ensures.from page registry here.says acts.well)
     ∙ ap (domain_of_thing registry) request.means.aid in
     let Told : List ℕ → List ℕ → List ℕ → Type 0 = (λ (a b d : List ℕ). AnswersFor page c.confirm.new.records.tables c.in_ok-found.found.receipter admitted (a ∷ b ∷ d ∷ []) changed c.confirm.new.reply.items) in
     let told : Told (domain_of_thing registry given.third) given.third given.first =
     subst (λ (d : List ℕ). Told (domain_of_thing registry given.third) given.third d) request.means.to
-    (subst (λ (b : List ℕ). Told (domain_of_thing registry given.third) b c.args.request.now.to) request.means.aid
-    (subst (λ (a : List ℕ). Told a c.args.request.now.aid c.args.request.now.to) from answers)) in
+    (subst (λ (b : List ℕ). Told (domain_of_thing registry given.third) b c.args.self.now.to) request.means.aid
+    (subst (λ (a : List ℕ). Told a c.args.self.now.aid c.args.self.now.to) from answers)) in
     let answered = answered_so delegated before admitted c.in_ok-found.found.receipter finds (domain_of_thing registry given.third ∷ given.third ∷ given.first ∷ []) changed (leaves admitted told.0 c.confirm.new.reply.items) told.2 in
     answered_managed (command_form managed_extradition) (λ holds found. inr (inr (inl found))) admitted request.form refl (c.in_ok-found.ensures.passed page admitted here request.means) page
     c.confirm.new.records.tables (domain_of_thing registry given.third ∷ given.third ∷ given.first ∷ []) changed c.confirm.new.reply.items c.in_ok-found.found.receipter told

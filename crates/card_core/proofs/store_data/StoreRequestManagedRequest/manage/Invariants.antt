@@ -5,7 +5,7 @@ use Rattle.card_types.specs.Well.{IsObject}
 use Rattle.rec_store.specs.Room.{HasRoomFor}
 use Rattle.card_core.proofs.ObjectsPut.{ArePut, SameButObjects}
 use Rattle.registry.specs.Pages.{object_pages}
-use Rattle.card_core.proofs.store_data.store_data.Given as goal
+use Rattle.card_core.proofs.store_data.StoreRequestManagedRequest.manage.Given as goal
 
 abbrev pub invariant-loop-element : goal.invariant-loop-element
 invariant-loop-element g l = record {
@@ -13,7 +13,7 @@ invariant-loop-element g l = record {
   live : l.records.live ≡ true;
   frames : HasRoomFor object_pages l.records.staged;
   same : SameButObjects l.fn.records.tables l.records.tables;
-  put : (elements : List Element) → AreElements elements l.objects → All (λ element. IsObject element.tag (length element.value)) elements
+  put : (elements : List Element) → AreElements elements l.self.objects.now → All (λ element. IsObject element.tag (length element.value)) elements
       → (behind : List Element) × AreElements behind l.rest × ArePut l.fn.records.tables l.records.tables l.domain elements behind;
 }
 
