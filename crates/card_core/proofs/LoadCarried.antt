@@ -20,7 +20,7 @@ use Rattle.card_core.specs.Kept.{KeptRepresents, RepresentsSoundly, kept_of}
 use Rattle.card_core.specs.Loading.{RepresentsLoading}
 use Rattle.card_core.specs.Loads.{LoadsAs}
 use Rattle.card_core.specs.SecureChannels.{RepresentsSecureChannel, held_on}
-use Rattle.card_core.specs.Serves.{CarriesOutBut, LoadsBy}
+use Rattle.card_core.specs.Serves.{CarriesOn, CarriesOutBut, LoadsBy}
 use Rattle.card_core.specs.declared.channel_session.ChannelSession.{ChannelSession}
 
 -- a refusal has left the load pages, the tables, the channels, and what is kept of the load session
@@ -50,7 +50,7 @@ load_left {F} page records records' live live' loading loading' (Err rule) unwri
 module _ (page after : ℕ → List ℕ) (tables tables' : Tables) (live live' : Live) (all : List ChannelSession) (admitted : Admitted)
     (stands : RepresentsSoundly page (kept_of tables live all) admitted.at) (four : HasFour (kept_of tables live all) admitted.at) (low : admitted.channel < CHANNELS)
     (session session' : Option LoadSession) (body : List ℕ) where
-  pub loaded_carried : (result : Result Status Rule) → OnErr result (IsLeft page after tables tables' live live' session session') → LoadsAs admitted after tables' live' session' body result
+  loaded_carried : (result : Result Status Rule) → OnErr result (IsLeft page after tables tables' live live' session session') → LoadsAs admitted after tables' live' session' body result
       → CarriesOutBut after admitted (kept_of tables' live' all) body result
   loaded_carried (Ok status) left loads = (
     loads.done,
@@ -71,7 +71,7 @@ module _ (page after : ℕ → List ℕ) (tables tables' : Tables) (live live' :
       (refusal_shows after (kept_of tables' live' all) admitted (record { held = four.held; channels = four.channels }) low shows rule, judges, empty)
 
   -- and what is kept of the load session goes with it
-  pub loaded_by : (result : Result Status Rule) → OnErr result (IsLeft page after tables tables' live live' session session')
+  loaded_by : (result : Result Status Rule) → OnErr result (IsLeft page after tables tables' live live' session session')
       → RepresentsLoading page tables session admitted.at.volatile.load → LoadsAs admitted after tables' live' session' body result
       → LoadsBy after admitted tables' session' result
   loaded_by (Ok status) left kept loads = λ done does.
@@ -80,3 +80,8 @@ module _ (page after : ℕ → List ℕ) (tables tables' : Tables) (live live' :
       subst (λ (p : ℕ → List ℕ). RepresentsLoading p tables' session' admitted.at.volatile.load) (sym left.pages)
       (subst (λ (t : Tables). RepresentsLoading page t session' admitted.at.volatile.load) (sym left.tables_are)
       (subst (λ (s : Option LoadSession). RepresentsLoading page tables s admitted.at.volatile.load) (sym left.session_is) kept))
+
+  pub loaded_on : (result : Result Status Rule) → OnErr result (IsLeft page after tables tables' live live' session session')
+      → RepresentsLoading page tables session admitted.at.volatile.load → LoadsAs admitted after tables' live' session' body result
+      → CarriesOn after admitted (kept_of tables' live' all) session' body result
+  loaded_on result left kept loads = record { done = loaded_carried result left loads; loads = loaded_by result left kept loads }

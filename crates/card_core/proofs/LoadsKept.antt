@@ -20,7 +20,7 @@ use Rattle.load_session.specs.declared.session.LoadSession.{LoadSession as Kept}
 use Rattle.policy_rules.proofs.LoadsLeft.{loads_left}
 use Rattle.policy_rules.specs.Admission.{Admitted, admitted_as, class_passed, message_joined, session_passed}
 use Rattle.policy_rules.specs.Classes.{channel_of}
-use Rattle.policy_rules.specs.Requests.{IsLoadNamed, RepresentsState}
+use Rattle.policy_rules.specs.Requests.{IsLoadNamed, IsRequestOf, RepresentsState}
 use Rattle.policy_rules.specs.Sound.{IsSound, IsWellLoad}
 use Rattle.policy_rules.specs.State.{State}
 use Rattle.policy_rules.specs.Step.{keeps_load, refusal_leaves}
@@ -28,6 +28,8 @@ use Rattle.policy_rules.specs.Volatile.{LoadSession, Volatile, load_without_chan
 use Rattle.policy_rules.specs.declared.instruction.TheConstants.{INSTALL, LOAD}
 use Rattle.policy_rules.specs.declared.live.Live.{Live}
 use Rattle.policy_rules.specs.declared.live.LoadName.{LoadName}
+use Rattle.policy_rules.specs.declared.request.Request.{Request}
+use Rattle.policy_rules.specs.declared.request.Request.TheVariants.{Select, MoreChannel, LessChannel, Get, Initialize, Authenticate, PutKey, Store, DeleteKey, DeleteObject, Install, MakeSelectable, Extradite, InstallLoad, CardStatus, EntryStatus, Load, List as ListStatus}
 use Rattle.policy_rules.specs.declared.rule.Rule.{Rule}
 use Rattle.scp03_card.specs.Session.{Session}
 use Rattle.card_core.specs.Loading.{AreFree, RepresentsLoading}
@@ -35,7 +37,7 @@ use Rattle.card_core.specs.Loads.{LoadsAs}
 use Rattle.policy_rules.specs.Commands.{Judges}
 use Rattle.std.specs.Result.{IsErrAnd}
 use Rattle.card_core.specs.Manages.{KeepsAid, KeepsFree, KeepsSelected}
-use Rattle.card_core.specs.Serves.{LoadsBy}
+use Rattle.card_core.specs.Serves.{AsksForLoad, LoadsBy}
 use Rattle.policy_rules.proofs.Lawful.{IsLoading, LoadStays}
 
 module _ (page : ℕ → List ℕ) (tables : Tables) (loading : Option Kept) where
@@ -98,6 +100,27 @@ installs_not command p1 is form other (inr installs) = other (sym form ∙ insta
 pub other_install : (command : Apdu) → command.ins ≡ INSTALL → (command.p1 ≡ 0x04) ⊎ (command.p1 ≡ 0x0C) → IsLoading command → ⊥
 other_install command is (inl four) = installs_not command 0x04 is four (λ e. absurd (omega (arith, e)))
 other_install command is (inr twelve) = installs_not command 0x0C is twelve (λ e. absurd (omega (arith, e)))
+
+-- a command that asks for something else
+pub not_loading : (request : Request) → (AsksForLoad request → ⊥) → (command : Apdu) → IsRequestOf request command → IsLoading command → ⊥
+not_loading (Select partial) other command is = loads_not command 0xA4 is.form.0 (λ e. absurd (omega (arith, e))) (λ e. absurd (omega (arith, e)))
+not_loading MoreChannel other command is = loads_not command 0x70 is.form.0 (λ e. absurd (omega (arith, e))) (λ e. absurd (omega (arith, e)))
+not_loading (LessChannel number) other command is = loads_not command 0x70 is.form.0 (λ e. absurd (omega (arith, e))) (λ e. absurd (omega (arith, e)))
+not_loading (Get tag) other command is = loads_not command 0xCA is.form.0 (λ e. absurd (omega (arith, e))) (λ e. absurd (omega (arith, e)))
+not_loading (Initialize version challenge) other command is = loads_not command 0x50 is.form.0 (λ e. absurd (omega (arith, e))) (λ e. absurd (omega (arith, e)))
+not_loading (Authenticate level proof) other command is = loads_not command 0x82 is.form.0 (λ e. absurd (omega (arith, e))) (λ e. absurd (omega (arith, e)))
+not_loading (PutKey replaced version keys) other command is = loads_not command 0xD8 is.form.0 (λ e. absurd (omega (arith, e))) (λ e. absurd (omega (arith, e)))
+not_loading (Store objects) other command is = loads_not command 0xE2 is.form.0 (λ e. absurd (omega (arith, e))) (λ e. absurd (omega (arith, e)))
+not_loading (DeleteKey version identifier) other command is = loads_not command 0xE4 is.form.0 (λ e. absurd (omega (arith, e))) (λ e. absurd (omega (arith, e)))
+not_loading (DeleteObject deletion) other command is = loads_not command 0xE4 is.form.0 (λ e. absurd (omega (arith, e))) (λ e. absurd (omega (arith, e)))
+not_loading (Install install) other command is = other_install command is.form.0 is.form.1.0
+not_loading (MakeSelectable selecting) other command is = installs_not command 0x08 is.form.0 is.form.1.0 (λ e. absurd (omega (arith, e)))
+not_loading (Extradite move) other command is = installs_not command 0x10 is.form.0 is.form.1.0 (λ e. absurd (omega (arith, e)))
+not_loading (InstallLoad load) other command is = absurd (other tt)
+not_loading (CardStatus code) other command is = loads_not command 0xF0 is.form.0 (λ e. absurd (omega (arith, e))) (λ e. absurd (omega (arith, e)))
+not_loading (EntryStatus status) other command is = loads_not command 0xF0 is.form.0 (λ e. absurd (omega (arith, e))) (λ e. absurd (omega (arith, e)))
+not_loading (Load load) other command is = absurd (other tt)
+not_loading (ListStatus list) other command is = loads_not command 0xF2 is.form.0 (λ e. absurd (omega (arith, e))) (λ e. absurd (omega (arith, e)))
 
 -- other tables, in which the security domain has the same AID
 pub over_loading : (page : ℕ → List ℕ) (tables tables' : Tables) (loading : Option Kept) (load : Option LoadSession) → KeepsFree tables tables'

@@ -1,17 +1,10 @@
--- What a DELETE of an object asks for, and what is left where a thing is removed, by slots.
-use Rattle.std.specs.Prelude.{◌≡◌, ◌≤◌, ℕ, List, Bool, Option, None, Some, length, map, slice_set}
-use Rattle.apdu_core.specs.Apdu.{Apdu}
+-- What is left where a thing is removed, by slots.
+use Rattle.std.specs.Prelude.{◌≡◌, ℕ, List, Bool, Option, None, Some, map, slice_set}
 use Rattle.card_types.specs.Slots.{held}
 use Rattle.card_types.specs.declared.found.Found.{Found}
 use Rattle.card_types.specs.declared.tables.Tables.{Tables}
 use Rattle.policy_rules.specs.DeleteObjectFound.{IsToGoIn}
-use Rattle.policy_rules.specs.DeleteObjectRequests.{IsDeletionOf}
-use Rattle.policy_rules.specs.declared.delete_object.DeletionRequest.{DeletionRequest}
 use Rattle.registry.specs.Removing.{entry_file, freed, key_owner, object_owner}
-
--- the request is that of some short command
-abbrev pub IsOfDeletion : DeletionRequest → Type 0
-IsOfDeletion request = (command : Apdu) × IsDeletionOf request command × (length command.body ≤ 255)
 
 -- what is left in a slot was there, and the things of owners that stay are left
 abbrev pub LeavesOwned : {T : Type 0} → (T → ℕ) → (ℕ → Type 0) → List (Option T) → List (Option T) → Type 0

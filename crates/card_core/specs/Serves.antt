@@ -50,9 +50,9 @@ pub record IsAsked (channel : ℕ) (request : Request) (place : Option Place) (j
   pub goes_on : (form_in request).instruction ≡ GET_STATUS → IsPlaceBefore place judged
 
 -- so it is of each command that asks so, over what a card keeps
-abbrev pub ForAsked : ℕ → Request → Option Place → Kept → ((ℕ → List ℕ) → Admitted → Type 0) → Type 0
-ForAsked channel request place card So =
-    (page : ℕ → List ℕ) (judged : Admitted) → RepresentsSoundly page card judged.at → IsAsked channel request place judged → So page judged
+abbrev pub ForAsked : ℕ → Request → Option Place → Kept → Option LoadSession → ((ℕ → List ℕ) → Admitted → Type 0) → Type 0
+ForAsked channel request place card loading So =
+    (page : ℕ → List ℕ) (judged : Admitted) → HasPages page → RepresentsAll page card loading judged.at → IsAsked channel request place judged → So page judged
 
 -- INSTALL [for load] or LOAD is asked for
 abbrev pub AsksForLoad : Request → Type 0
@@ -119,6 +119,11 @@ CarriesOutBut page admitted card body (Err rule) = IsRefusedBy page admitted (re
 abbrev pub LoadsBy : (ℕ → List ℕ) → Admitted → Tables → Option LoadSession → Result Status Rule → Type 0
 LoadsBy page admitted tables loading (Ok status) = (done : Effect) → HasEffect admitted done → RepresentsLoading page tables loading done.state.volatile.load
 LoadsBy page admitted tables loading (Err rule) = RepresentsLoading page tables loading admitted.at.volatile.load
+
+-- so it was, and what is kept of the load session goes with it
+pub record CarriesOn (page : ℕ → List ℕ) (admitted : Admitted) (card : Kept) (loading : Option LoadSession) (body : List ℕ) (result : Result Status Rule) : Type 0 where
+  pub done : CarriesOutBut page admitted card body result
+  pub loads : LoadsBy page admitted card.tables loading result
 
 -- the status word of the reply, and the rule that refused the command
 abbrev pub status_word : Result Status Rule → ℕ

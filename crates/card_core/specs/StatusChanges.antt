@@ -1,24 +1,17 @@
 -- What a SET STATUS of an entry changes, by slots.
 use Rattle.std.specs.Prelude.{ℕ, List, Bool, Option, Contains}
-use Rattle.apdu_core.specs.Apdu.{Apdu}
 use Rattle.card_types.specs.Registry.{Registry}
 use Rattle.card_types.specs.RegistryChange.{with_life, with_locks}
 use Rattle.card_types.specs.Represents.{Represents, domain_aid}
 use Rattle.card_types.specs.declared.tables.Entry.{Entry}
 use Rattle.card_types.specs.declared.tables.Tables.{Tables}
 use Rattle.domain_tree.specs.AboveLaws.{IsTreeOf}
-use Rattle.policy_rules.specs.SetStatusRequests.{IsEntryStatusOf}
-use Rattle.policy_rules.specs.declared.entry_status.EntryStatusRequest.{EntryStatusRequest}
 use Rattle.policy_rules.specs.declared.entry_status.StatusChange.{StatusChange}
 use Rattle.policy_rules.specs.declared.entry_status.StatusChange.TheVariants.{One, Tree}
 use Rattle.rec_store.specs.Places.{entry_page}
 use Rattle.registry.specs.Pages.{IsChangedOn}
 use Rattle.registry.specs.Setting.{ChangesEntry}
 use Rattle.registry.specs.Tree.{LocksTree}
-
--- the request is that of some command
-abbrev pub IsOfEntry : EntryStatusRequest → Type 0
-IsOfEntry request = (command : Apdu) × IsEntryStatusOf request command
 
 -- the entry has the life cycle state and lock mark, or those of the tree have the lock mark
 abbrev pub MakesChange : Tables → Tables → StatusChange → Type 0

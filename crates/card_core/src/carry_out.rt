@@ -1,28 +1,26 @@
 //! What a command asks for is done, after the rules on its form.
 
-ghost use Rattle.std.specs.Prelude.{◌≡◌, ◌≢◌, ◌⊎◌, ◌<◌, ◌≤◌, ℕ, List, [], length, true, None, Some, Contains, OnErr, option_copied, slice_index_or};
+ghost use Rattle.std.specs.Prelude.{◌≡◌, ◌≢◌, ◌⊎◌, ◌<◌, ◌≤◌, [], length, true, None, Some, Contains, OnErr, option_copied, slice_index_or};
 ghost use Rattle.apdu_core.specs.Apdu.{apdu_of};
 ghost use Rattle.card_core.specs.Domains.{is_domain_in};
 ghost use Rattle.card_core.specs.Kept.{AreCards, kept_of};
 ghost use Rattle.card_core.specs.Loading.{AreFree, with_due};
 ghost use Rattle.card_core.specs.SecureChannels.{IsInSession, held_on};
-ghost use Rattle.card_core.specs.Serves.{CarriesOutBut, ForPassed, IsPassedOver, LoadsBy};
+ghost use Rattle.card_core.specs.Serves.{CarriesOn, ForPassed, IsPassedOver};
 ghost use Rattle.policy_rules.specs.Classes.{changing, managing};
 ghost use Rattle.policy_rules.specs.Commands.{IsBuilt};
 ghost use Rattle.policy_rules.specs.declared.instruction.TheConstants.{SELECT, MANAGE_CHANNEL, GET_DATA, INITIALIZE_UPDATE};
 
 use crate::admit::Received;
-use crate::begin_load::begin_load;
 use crate::channel_session::ChannelSession;
 use crate::external_authenticate::judge_offer;
-use crate::load::load;
 use crate::loading::Loading;
 use crate::perform::perform;
 use crate::reply::REPLY_LIMIT;
 use apdu_core::{Command, Status};
 use arrayvec::ArrayVec;
 use flash_core::Flash;
-use policy_rules::{CHANNELS, Live, Place, Request, Rule, parse};
+use policy_rules::{CHANNELS, Live, Place, Rule, parse};
 use rec_store::Records;
 
 /// Does what a command asks for, and appends the reply's data. It commits nothing.
@@ -49,9 +47,7 @@ pub fn carry_out<F: Flash>(
     requires unwritten { loading.old.writes.items ≡ [] }
     requires empty { reply.old.items ≡ [] }
     ensures done { ForPassed received.now.channel (apdu_of command.now) (option_copied place.entry) (kept_of records.old.tables live.old held.old) loading.old.session
-        (λ page told. CarriesOutBut (with_due page loading.new) told (kept_of records.new.tables live.new held.new) reply.new.items result) }
-    ensures loads { ForPassed received.now.channel (apdu_of command.now) (option_copied place.entry) (kept_of records.old.tables live.old held.old) loading.old.session
-        (λ page told. LoadsBy (with_due page loading.new) told records.new.tables loading.new.session result) }
+        (λ page told. CarriesOn (with_due page loading.new) told (kept_of records.new.tables live.new held.new) loading.new.session reply.new.items result) }
     ensures cards { AreCards records.new.tables }
     ensures same { (records.new.flash ≡ records.old.flash) × (records.new.live ≡ true) }
     ensures writes { AreFree records.old.tables loading.new.writes.items }
@@ -66,25 +62,7 @@ pub fn carry_out<F: Flash>(
         Ok(request) => request,
         Err(rule) => return Err(rule),
     };
-    match request {
-        Request::InstallLoad(request) => begin_load(
-            records.tables(),
-            live,
-            loading,
-            received.channel,
-            received.selected,
-            &request,
-            reply,
-        ),
-        Request::Load(request) => load(
-            records,
-            live,
-            loading,
-            received.channel,
-            received.selected,
-            &request,
-            reply,
-        ),
-        _ => perform(records, live, held, received, &request, place, reply),
-    }
+    perform(
+        records, live, held, loading, received, &request, place, reply,
+    )
 }

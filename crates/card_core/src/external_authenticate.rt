@@ -41,7 +41,7 @@ pub fn external_authenticate(
         → AnswersAs admitted held.old held.new result }
 {
     let ChannelSession::Offered(offer) = mem::replace(held, ChannelSession::Nothing) else {
-        unreachable!()
+        return Err(Rule::EA(RuleEA::EA1));
     };
     let mut body = [0; 16];
     body.copy_from_slice(proof);

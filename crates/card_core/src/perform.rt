@@ -1,27 +1,32 @@
-//! What a request asks for is done, where it does not load.
+//! What a request asks for is done.
 
-ghost use Rattle.std.specs.Prelude.{◌≡◌, ◌≢◌, ◌⊎◌, ◌<◌, ◌≤◌, ℕ, List, [], length, true, None, Some, Contains, OnErr, Option, option_copied, slice_index_or};
+ghost use Rattle.std.specs.Prelude.{◌≡◌, ◌≢◌, ◌⊎◌, ◌<◌, ◌≤◌, List, [], length, true, None, Some, Contains, OnErr, Option, option_copied, slice_index_or};
 ghost use Rattle.card_core.specs.Domains.{is_domain_in};
-ghost use Rattle.card_core.specs.Kept.{AreCards, RepresentsSoundly, kept_of};
-ghost use Rattle.card_core.specs.Loading.{RepresentsAll};
+ghost use Rattle.card_core.specs.Kept.{AreCards, kept_of};
+ghost use Rattle.card_core.specs.Loading.{AreFree, RepresentsSome, with_due};
 ghost use Rattle.card_core.specs.SecureChannels.{IsInSession, IsOffered, held_on};
-ghost use Rattle.card_core.specs.Serves.{AsksForLoad, CarriesOutBut, ForAsked, IsAsked, LoadsBy};
-ghost use Rattle.load_session.specs.declared.session.LoadSession.{LoadSession};
-ghost use Rattle.policy_rules.specs.Admission.{Admitted};
+ghost use Rattle.card_core.specs.Serves.{CarriesOn, ForAsked};
 ghost use Rattle.policy_rules.specs.Classes.{changing, managing};
 ghost use Rattle.policy_rules.specs.Requests.{IsWellFormed, form_in};
 ghost use Rattle.policy_rules.specs.declared.instruction.TheConstants.{EXTERNAL_AUTHENTICATE, SELECT, MANAGE_CHANNEL, GET_DATA, INITIALIZE_UPDATE};
 
 use crate::admit::Received;
+use crate::begin_load::begin_load;
+use crate::card_status::CardStatusRequest;
 use crate::channel_session::ChannelSession;
+use crate::delete_key::DeleteKeyRequest;
 use crate::external_authenticate::external_authenticate;
 use crate::get_data::get_data;
 use crate::get_status::get_status;
 use crate::initialize_update::initialize_update;
+use crate::load::load;
+use crate::loading::Loading;
 use crate::manage_channel::{close_channel, open_channel};
 use crate::management::manage;
+use crate::put_key::PutKeyRequest;
 use crate::reply::REPLY_LIMIT;
 use crate::select::select;
+use crate::store_data::StoreRequest;
 use apdu_core::Status;
 use arrayvec::ArrayVec;
 use flash_core::Flash;
@@ -34,6 +39,7 @@ pub fn perform<F: Flash>(
     records: &mut Records<F>,
     live: &mut Live,
     held: &mut [ChannelSession; CHANNELS],
+    loading: &mut Loading,
     received: &Received<'_>,
     request: &Request<'_>,
     place: Option<&Place>,
@@ -49,16 +55,16 @@ pub fn perform<F: Flash>(
     requires secured { Contains managing (form_in request.now).instruction → IsInSession (held_on held.old received.now.channel) }
     requires offered { (form_in request.now).instruction ≡ EXTERNAL_AUTHENTICATE → IsOffered (held_on held.old received.now.channel) }
     requires formed { IsWellFormed request.now }
-    requires other { AsksForLoad request.now → ⊥ }
+    requires some { RepresentsSome (kept_of records.old.tables live.old held.old) loading.old.session }
+    requires unwritten { loading.old.writes.items ≡ [] }
     requires empty { reply.old.items ≡ [] }
-    ensures done { ForAsked received.now.channel request.now (option_copied place.entry) (kept_of records.old.tables live.old held.old)
-        (λ page told. CarriesOutBut page told (kept_of records.new.tables live.new held.new) reply.new.items result) }
-    ensures loads { (page : ℕ → List ℕ) (told : Admitted) (kept : Option LoadSession) → RepresentsAll page (kept_of records.old.tables live.old held.old) kept told.at
-        → IsAsked received.now.channel request.now (option_copied place.entry) told → LoadsBy page told records.new.tables kept result }
+    ensures done { ForAsked received.now.channel request.now (option_copied place.entry) (kept_of records.old.tables live.old held.old) loading.old.session
+        (λ page told. CarriesOn (with_due page loading.new) told (kept_of records.new.tables live.new held.new) loading.new.session reply.new.items result) }
     ensures cards { AreCards records.new.tables }
     ensures same { (records.new.flash ≡ records.old.flash) × (records.new.live ≡ true) }
-    ensures refused { OnErr result (records.new ≡ records.old) }
-    ensures idle { ((form_in request.now).instruction ≡ INITIALIZE_UPDATE → ⊥) → (Contains changing (form_in request.now).instruction → ⊥) → records.new ≡ records.old }
+    ensures writes { AreFree records.old.tables loading.new.writes.items }
+    ensures refused { OnErr result ((records.new ≡ records.old) × (loading.new.writes.items ≡ [])) }
+    ensures idle { ((form_in request.now).instruction ≡ INITIALIZE_UPDATE → ⊥) → (Contains changing (form_in request.now).instruction → ⊥) → (records.new ≡ records.old) × (loading.new.writes.items ≡ []) }
     ensures kept { ((form_in request.now).instruction ≡ GET_DATA) ⊎ Contains managing (form_in request.now).instruction → held.new ≡ held.old }
     ensures room { length reply.new.items ≤ 239 }
 {
@@ -105,17 +111,58 @@ pub fn perform<F: Flash>(
             request,
             reply,
         ),
-        Request::PutKey { .. }
-        | Request::Store { .. }
-        | Request::DeleteKey { .. }
-        | Request::DeleteObject(_)
-        | Request::Install(_)
-        | Request::MakeSelectable(_)
-        | Request::Extradite(_)
-        | Request::CardStatus { .. }
-        | Request::EntryStatus(_) => {
-            manage(records, live, &held[at], received.selected, request, reply)
+        Request::PutKey {
+            replaced,
+            version,
+            keys,
+        } => {
+            let keys = PutKeyRequest {
+                replaced: *replaced,
+                version: *version,
+                keys,
+            };
+            manage(records, live, held, received, &keys, reply)
         }
-        Request::InstallLoad(_) | Request::Load(_) => unreachable!(),
+        Request::Store { objects } => {
+            let objects = StoreRequest { objects };
+            manage(records, live, held, received, &objects, reply)
+        }
+        Request::DeleteKey {
+            version,
+            identifier,
+        } => {
+            let keys = DeleteKeyRequest {
+                version: *version,
+                identifier: *identifier,
+            };
+            manage(records, live, held, received, &keys, reply)
+        }
+        Request::DeleteObject(request) => manage(records, live, held, received, request, reply),
+        Request::Install(request) => manage(records, live, held, received, request, reply),
+        Request::MakeSelectable(request) => manage(records, live, held, received, request, reply),
+        Request::Extradite(request) => manage(records, live, held, received, request, reply),
+        Request::CardStatus { life } => {
+            let status = CardStatusRequest { life: *life };
+            manage(records, live, held, received, &status, reply)
+        }
+        Request::EntryStatus(request) => manage(records, live, held, received, request, reply),
+        Request::InstallLoad(request) => begin_load(
+            records.tables(),
+            live,
+            loading,
+            channel,
+            received.selected,
+            request,
+            reply,
+        ),
+        Request::Load(request) => load(
+            records,
+            live,
+            loading,
+            channel,
+            received.selected,
+            request,
+            reply,
+        ),
     }
 }

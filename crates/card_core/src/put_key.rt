@@ -11,7 +11,7 @@ use apdu_core::Status;
 use arrayvec::ArrayVec;
 use flash_core::Flash;
 use key_sets::{place_one, place_set};
-use policy_rules::{Live, PutKeys, Rule, SealedKey, judge_put_keys, judge_put_versions};
+use policy_rules::{Live, PutKeys, Rule, RuleG, SealedKey, judge_put_keys, judge_put_versions};
 use rec_store::Records;
 
 fn all_fit(enc: &OpenedKey, mac: &OpenedKey, dek: &OpenedKey) -> bool
@@ -51,7 +51,7 @@ impl ManagedRequest for PutKeyRequest<'_> {
         reply: &mut ArrayVec<u8, REPLY_LIMIT>,
     ) -> Result<Status, Rule> {
         let ChannelSession::Secured(session) = held else {
-            unreachable!()
+            return Err(Rule::G(RuleG::G6));
         };
         judge_put_versions(records.tables(), domain, self.replaced, self.version)?;
         match self.keys {

@@ -51,8 +51,7 @@ pub fn close_reply(held: &mut ChannelSession, status: Status, reply: &mut ArrayV
     ensures closed { (session : Session) → RepresentsSecureChannel held.old (Secured session) → reply.new.items ≡ protected session reply.old.items status.0 }
     ensures same { held.new ≡ held.old }
 {
-    let ChannelSession::Secured(session) = held else {
-        unreachable!()
-    };
-    session.close_reply(reply, status);
+    if let ChannelSession::Secured(session) = held {
+        session.close_reply(reply, status);
+    }
 }

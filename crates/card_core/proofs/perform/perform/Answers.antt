@@ -1,4 +1,4 @@
-use Rattle.std.proofs.Common.{◌≡◌, ◌⊎◌, inl, inr, arith, Bor, Option, ℕ, ◌<◌, List, [], ◌∷◌, None, Some, refl, sym, ap, subst, ◌∙◌}
+use Rattle.std.proofs.Common.{rules, ◌≡◌, ◌⊎◌, inl, inr, arith, Bor, Option, ℕ, ◌<◌, List, [], ◌∷◌, None, Some, refl, sym, ap, subst, ◌∙◌}
 use Rattle.std.specs.Prelude.{Contains, slice_index_or}
 use Rattle.std.proofs.lemmas.List.{get_or_default}
 use Rattle.apdu_core.specs.Apdu.{Apdu}
@@ -20,47 +20,22 @@ use Rattle.policy_rules.specs.declared.put_key.PutKeys.{PutKeys}
 use Rattle.card_core.proofs.Acting.{acts_for, answer_carried, held_there, listing_carried, low, managed_carried, offer_carried}
 use Rattle.card_core.proofs.Cards.{in_order}
 use Rattle.card_core.proofs.ChannelChanges.{HasFour}
+use Rattle.card_core.proofs.Passed.{read_at}
 use Rattle.card_core.specs.SecureChannels.{RepresentsSecureChannel, IsInSession}
+use Rattle.card_core.specs.Kept.{kept_of}
+use Rattle.card_core.specs.Serves.{AsksForLoad}
 use Rattle.card_core.specs.Offers.{AnswersAs, OffersAs, secure_channel_for}
 use Rattle.card_core.specs.declared.channel_session.ChannelSession.{ChannelSession}
 use Rattle.card_core.specs.declared.channel_session.ChannelSession.TheVariants as held
 use Rattle.card_core.proofs.FreePages.{files_free}
-use Rattle.card_core.proofs.LoadsKept.{installs_not, kept_loading, loads_not, loads_same, other_install, over_loading}
+use Rattle.card_core.proofs.LoadCarried.{begin_left, load_left, loaded_on}
+use Rattle.card_core.proofs.LoadsKept.{loads_same, not_loading, over_loading}
 use Rattle.card_types.specs.Represents.{domain_aid}
 use Rattle.card_types.specs.declared.tables.Entry.{Entry}
+use Rattle.load_session.specs.Loaded.{loaded}
 use Rattle.load_session.specs.Session.{load_slot}
 use Rattle.policy_rules.proofs.Lawful.{IsLoading}
 use Rattle.card_core.proofs.perform.perform.Goals as goal
-
--- the requests of card content management that change the registry
-abbrev ChangesRegistry : Request → Type 0
-ChangesRegistry request =
-    ((replaced version : ℕ) × (keys : PutKeys) × (request ≡ PutKey replaced version keys))
-    ⊎ ((objects : Bor (List ℕ)) × (request ≡ Store objects))
-    ⊎ ((version : ℕ) × (identifier : Option ℕ) × (request ≡ DeleteKey version identifier))
-    ⊎ ((deletion : DeletionRequest) × (request ≡ DeleteObject deletion))
-    ⊎ ((install : InstallRequest) × (request ≡ Install install))
-    ⊎ ((selecting : SelectableRequest) × (request ≡ MakeSelectable selecting))
-    ⊎ ((move : ExtraditionRequest) × (request ≡ Extradite move))
-    ⊎ ((code : ℕ) × (request ≡ CardStatus code))
-    ⊎ ((status : EntryStatusRequest) × (request ≡ EntryStatus status))
-
-changes_as : (request other : Request) → request ≡ other → Contains changing (form_in other).instruction → Contains changing (form_in request).instruction
-changes_as request other is changes = subst (λ (r : Request). Contains changing (form_in r).instruction) (sym is) changes
-
-managed : (request : Request) → ChangesRegistry request → Contains changing (form_in request).instruction
-managed request (inl put) = changes_as request _ put.3 (0, omega arith, refl)
-managed request (inr (inl store)) = changes_as request _ store.1 (1, omega arith, refl)
-managed request (inr (inr (inl delete))) = changes_as request _ delete.2 (2, omega arith, refl)
-managed request (inr (inr (inr (inl deletion)))) = changes_as request _ deletion.1 (2, omega arith, refl)
-managed request (inr (inr (inr (inr (inl install))))) = changes_as request _ install.1 (3, omega arith, refl)
-managed request (inr (inr (inr (inr (inr (inl selecting)))))) = changes_as request _ selecting.1 (3, omega arith, refl)
-managed request (inr (inr (inr (inr (inr (inr (inl move))))))) = changes_as request _ move.1 (3, omega arith, refl)
-managed request (inr (inr (inr (inr (inr (inr (inr (inl card)))))))) = changes_as request _ card.1 (5, omega arith, refl)
-managed request (inr (inr (inr (inr (inr (inr (inr (inr entry)))))))) = changes_as request _ entry.1 (5, omega arith, refl)
-
-manages : (request : Request) → ChangesRegistry request → Contains managing (form_in request).instruction
-manages request which = Contains-append_left changing (0xF2 ∷ []) (form_in request).instruction (managed request which)
 
 pub select-requires-clause-in_order : goal.select-requires-clause-in_order
 select-requires-clause-in_order g c = subst IsInOrder (sym c.tables.ensures.tables) (in_order c.args.records.now.tables c.requires.cards)
@@ -71,28 +46,50 @@ get_data-requires-clause-in_order g c = subst IsInOrder (sym c.tables-in-Get.ens
 pub external_authenticate-requires-clause-formed : goal.external_authenticate-requires-clause-formed
 external_authenticate-requires-clause-formed g c = subst IsWellFormed c.in-Authenticate.is c.requires.formed
 
--- card content management
-pub manage-requires-clause-secured : goal.manage-requires-clause-secured
-manage-requires-clause-secured g c =
-    let here : slice_index_or c.args.held.now c.from-at.result c.index-held-at-in-PutKey.result ≡ slice_index_or c.args.held.now c.args.received.now.channel held.Nothing =
-    ap (λ (n : ℕ). slice_index_or c.args.held.now n c.index-held-at-in-PutKey.result) c.from-at.ensures
-    ∙ get_or_default c.args.held.now c.args.received.now.channel c.index-held-at-in-PutKey.result held.Nothing
-    (subst (λ (n : ℕ). c.args.received.now.channel < n) (sym c.told-held) c.requires.channel) in
-    subst IsInSession (sym here) (c.requires.secured (manages c.args.request.now c.in-PutKey.is))
+-- SELECT
+pub returns-in-Select-clause-done : goal.returns-in-Select-clause-done
+returns-in-Select-clause-done g c = rw c.requires.unwritten (λ page judged whole shown asked.
+    let stands = shown.on in
+    record {
+      done = rw c.from-at.ensures ((rw c.tables.ensures.tables at c.select.ensures.done) page c.args.held.now judged stands c.told-held asked.on
+          (sym (read_at c.args.held.now c.from-at.result c.args.received.now.channel c.index-held-at.result c.told-held c.requires.channel c.from-at.ensures))
+          (subst (λ (r : Request). IsRequestOf r judged.command) c.in-Select.is asked.asks));
+      loads = loads_same page c.args.records.now.tables c.args.loading.now.session judged c.select.result (not_loading c.args.request.now (subst (λ (r : Request). AsksForLoad r → ⊥) (sym c.in-Select.is) (λ no. no)) judged.command asked.asks) shown.loading;
+    })
 
-pub manage-requires-clause-changing : goal.manage-requires-clause-changing
-manage-requires-clause-changing g c = managed c.args.request.now c.in-PutKey.is
-
+-- MANAGE CHANNEL
 pub returns-in-MoreChannel-clause-done : goal.returns-in-MoreChannel-clause-done
-returns-in-MoreChannel-clause-done g c = λ page judged stands asked.
-    c.open_channel.ensures.done c.args.records.now.tables (in_order c.args.records.now.tables c.requires.cards).layout page c.args.held.now judged stands c.told-held
-    (subst (λ (n : ℕ). n < CHANNELS) asked.on c.requires.channel)
-    (subst (λ (r : Request). IsRequestOf r judged.command) c.in-MoreChannel.is asked.asks)
+returns-in-MoreChannel-clause-done g c = rw c.requires.unwritten (λ page judged whole shown asked.
+    let stands = shown.on in
+    record {
+      done = c.open_channel.ensures.done c.args.records.now.tables (in_order c.args.records.now.tables c.requires.cards).layout page c.args.held.now judged stands c.told-held
+          (subst (λ (n : ℕ). n < CHANNELS) asked.on c.requires.channel)
+          (subst (λ (r : Request). IsRequestOf r judged.command) c.in-MoreChannel.is asked.asks);
+      loads = loads_same page c.args.records.now.tables c.args.loading.now.session judged c.open_channel.result (not_loading c.args.request.now (subst (λ (r : Request). AsksForLoad r → ⊥) (sym c.in-MoreChannel.is) (λ no. no)) judged.command asked.asks) shown.loading;
+    })
+
+pub returns-in-LessChannel-clause-done : goal.returns-in-LessChannel-clause-done
+returns-in-LessChannel-clause-done g c = rw c.requires.unwritten (λ page judged whole shown asked.
+    let stands = shown.on in
+    record {
+      done = search rules;
+      loads = loads_same page c.args.records.now.tables c.args.loading.now.session judged c.close_channel.result (not_loading c.args.request.now (subst (λ (r : Request). AsksForLoad r → ⊥) (sym c.in-LessChannel.is) (λ no. no)) judged.command asked.asks) shown.loading;
+    })
+
+-- GET DATA
+pub returns-in-Get-clause-done : goal.returns-in-Get-clause-done
+returns-in-Get-clause-done g c = rw c.requires.unwritten (λ page judged whole shown asked.
+    let stands = shown.on in
+    record {
+      done = search rules;
+      loads = loads_same page c.args.records.now.tables c.args.loading.now.session judged c.get_data.result (not_loading c.args.request.now (subst (λ (r : Request). AsksForLoad r → ⊥) (sym c.in-Get.is) (λ no. no)) judged.command asked.asks) shown.loading;
+    })
 
 -- INITIALIZE UPDATE
 pub returns-in-Initialize-clause-done : goal.returns-in-Initialize-clause-done
-returns-in-Initialize-clause-done g c = λ page judged stands passed.
-    let at = passed.on in
+returns-in-Initialize-clause-done g c = rw c.requires.unwritten (λ page judged whole shown asked.
+    let stands = shown.on in
+    let at = asked.on in
     let low : judged.channel < CHANNELS = subst (λ (n : ℕ). n < CHANNELS) at c.requires.channel in
     let four : HasFour (record { tables = c.args.records.now.tables; live = c.args.live.now; held = c.args.held.now }) judged.at =
     record { held = c.told-held; channels = stands.sound.fits.channels } in
@@ -100,53 +97,45 @@ returns-in-Initialize-clause-done g c = λ page judged stands passed.
     subst (λ (n : ℕ). slice_index_or c.args.live.now.selected n None ≡ Some c.args.received.now.selected) at c.requires.selected in
     let acts = acts_for page c.args.records.now.tables c.args.live.now c.args.held.now judged stands c.told-held c.args.received.now.channel c.args.received.now.selected
     c.requires.channel at c.requires.selected in
-    let asked = subst (λ (r : Request). IsRequestOf r judged.command) c.in-Initialize.is passed.asks in
+    let is = subst (λ (r : Request). IsRequestOf r judged.command) c.in-Initialize.is asked.asks in
     let here : slice_index_or c.args.held.now c.from-at.result c.index-held-at-in-Initialize.result ≡ slice_index_or c.args.held.now judged.channel held.Nothing =
     ap (λ (n : ℕ). slice_index_or c.args.held.now n c.index-held-at-in-Initialize.result) (c.from-at.ensures ∙ at)
     ∙ get_or_default c.args.held.now judged.channel c.index-held-at-in-Initialize.result held.Nothing (subst (λ (n : ℕ). judged.channel < n) (sym c.told-held) low) in
-    let offers = c.initialize_update.ensures.done page judged acts asked in
-    rw (c.from-at.ensures ∙ at) (offer_carried page c.args.records.now.tables c.args.live.now c.args.held.now judged stands four low c.args.received.now.selected
-    c.initialize_update.new.records.tables c.initialize_update.new.held c.initialize_update.new.reply.items c.initialize_update.result
-    asked.form opened c.initialize_update.ensures.entries
-    (subst (λ (h : ChannelSession). OffersAs judged page c.args.records.now.tables c.initialize_update.new.records.tables h c.initialize_update.new.held c.initialize_update.new.reply.items c.initialize_update.result) here offers))
+    let offers = c.initialize_update.ensures.done page judged acts is in
+    record {
+      done = rw (c.from-at.ensures ∙ at) (offer_carried page c.args.records.now.tables c.args.live.now c.args.held.now judged stands four low c.args.received.now.selected
+          c.initialize_update.new.records.tables c.initialize_update.new.held c.initialize_update.new.reply.items c.initialize_update.result
+          is.form opened c.initialize_update.ensures.entries
+          (subst (λ (h : ChannelSession). OffersAs judged page c.args.records.now.tables c.initialize_update.new.records.tables h c.initialize_update.new.held c.initialize_update.new.reply.items c.initialize_update.result) here offers));
+      loads = loads_same page c.initialize_update.new.records.tables c.args.loading.now.session judged c.initialize_update.result
+          (not_loading c.args.request.now (subst (λ (r : Request). AsksForLoad r → ⊥) (sym c.in-Initialize.is) (λ no. no)) judged.command asked.asks)
+          (over_loading page c.args.records.now.tables c.initialize_update.new.records.tables c.args.loading.now.session judged.at.volatile.load
+          (files_free c.args.records.now.tables c.initialize_update.new.records.tables c.initialize_update.ensures.files)
+          (λ kept there. ap (λ (es : List (Option Entry)). domain_aid es (load_slot kept)) c.initialize_update.ensures.entries) shown.loading);
+    })
 
 -- EXTERNAL AUTHENTICATE
 pub returns-in-Authenticate-clause-done : goal.returns-in-Authenticate-clause-done
-returns-in-Authenticate-clause-done g c = λ page judged stands passed.
-    let at = passed.on in
+returns-in-Authenticate-clause-done g c = rw c.requires.unwritten (λ page judged whole shown asked.
+    let stands = shown.on in
+    let at = asked.on in
     let low : judged.channel < CHANNELS = subst (λ (n : ℕ). n < CHANNELS) at c.requires.channel in
     let four : HasFour (record { tables = c.args.records.now.tables; live = c.args.live.now; held = c.args.held.now }) judged.at =
     record { held = c.told-held; channels = stands.sound.fits.channels } in
     let opened : slice_index_or c.args.live.now.selected judged.channel None ≡ Some c.args.received.now.selected =
     subst (λ (n : ℕ). slice_index_or c.args.live.now.selected n None ≡ Some c.args.received.now.selected) at c.requires.selected in
-    let asked = subst (λ (r : Request). IsRequestOf r judged.command) c.in-Authenticate.is passed.asks in
+    let is = subst (λ (r : Request). IsRequestOf r judged.command) c.in-Authenticate.is asked.asks in
     let here : slice_index_or c.args.held.now c.from-at.result c.index-held-at-in-Authenticate.result ≡ slice_index_or c.args.held.now judged.channel held.Nothing =
     ap (λ (n : ℕ). slice_index_or c.args.held.now n c.index-held-at-in-Authenticate.result) (c.from-at.ensures ∙ at)
     ∙ get_or_default c.args.held.now judged.channel c.index-held-at-in-Authenticate.result held.Nothing (subst (λ (n : ℕ). judged.channel < n) (sym c.told-held) low) in
-    let answers = c.external_authenticate.ensures judged asked
+    let answers = c.external_authenticate.ensures judged is
     (subst (λ (h : ChannelSession). RepresentsSecureChannel h (secure_channel_for judged)) (sym here) (stands.shows.holds judged.channel low)) in
-    rw (c.from-at.ensures ∙ at, c.requires.empty) (answer_carried page c.args.records.now.tables c.args.live.now c.args.held.now judged stands four low c.args.received.now.selected
-    c.external_authenticate.new.held c.external_authenticate.result asked.form opened
-    (subst (λ (h : ChannelSession). AnswersAs judged h c.external_authenticate.new.held c.external_authenticate.result) here answers))
-
-pub returns-in-PutKey-clause-done : goal.returns-in-PutKey-clause-done
-returns-in-PutKey-clause-done g c = λ page judged stands passed.
-    let at = passed.on in
-    let tables = c.args.records.now.tables in
-    let live = c.args.live.now in
-    let all = c.args.held.now in
-    let slot = c.args.received.now.selected in
-    let low = low page tables live all judged stands c.told-held c.args.received.now.channel slot c.requires.channel at c.requires.selected in
-    let here = held_there page tables live all judged stands c.told-held c.args.received.now.channel slot c.requires.channel at c.requires.selected
-    c.from-at.result c.index-held-at-in-PutKey.result c.from-at.ensures in
-    let acts = acts_for page tables live all judged stands c.told-held c.args.received.now.channel slot c.requires.channel at c.requires.selected in
-    let managed = c.manage.ensures.done page judged acts stands.shows.says stands.sound.fits.channels passed.asks
-    (subst (λ (h : ChannelSession). RepresentsSecureChannel h (secure_channel_for judged)) (sym here) (stands.shows.holds judged.channel low)) in
-    managed_carried page tables live all judged stands (record { held = c.told-held; channels = stands.sound.fits.channels }) low
-    c.manage.new.records.tables c.manage.new.reply.items c.manage.result c.manage.ensures.selected managed
-
-pub returns-in-PutKey-clause-idle : goal.returns-in-PutKey-clause-idle
-returns-in-PutKey-clause-idle g c = λ other unmanaged. absurd (unmanaged (managed c.args.request.now c.in-PutKey.is))
+    record {
+      done = rw (c.from-at.ensures ∙ at, c.requires.empty) (answer_carried page c.args.records.now.tables c.args.live.now c.args.held.now judged stands four low c.args.received.now.selected
+          c.external_authenticate.new.held c.external_authenticate.result is.form opened
+          (subst (λ (h : ChannelSession). AnswersAs judged h c.external_authenticate.new.held c.external_authenticate.result) here answers));
+      loads = loads_same page c.args.records.now.tables c.args.loading.now.session judged c.external_authenticate.result (not_loading c.args.request.now (subst (λ (r : Request). AsksForLoad r → ⊥) (sym c.in-Authenticate.is) (λ no. no)) judged.command asked.asks) shown.loading;
+    })
 
 -- GET STATUS
 pub get_status-requires-clause-in_order : goal.get_status-requires-clause-in_order
@@ -156,79 +145,159 @@ pub get_status-requires-clause-formed : goal.get_status-requires-clause-formed
 get_status-requires-clause-formed g c = subst IsWellFormed c.in-List.is c.requires.formed
 
 pub returns-in-List-clause-done : goal.returns-in-List-clause-done
-returns-in-List-clause-done g c = λ page judged stands passed.
+returns-in-List-clause-done g c = rw c.requires.unwritten (λ page judged whole shown asked.
+    let stands = shown.on in
     let tables = c.args.records.now.tables in
     let live = c.args.live.now in
     let all = c.args.held.now in
     let slot = c.args.received.now.selected in
-    let low = low page tables live all judged stands c.told-held c.args.received.now.channel slot c.requires.channel passed.on c.requires.selected in
-    let acts = acts_for page tables live all judged stands c.told-held c.args.received.now.channel slot c.requires.channel passed.on c.requires.selected in
+    let low = low page tables live all judged stands c.told-held c.args.received.now.channel slot c.requires.channel asked.on c.requires.selected in
+    let acts = acts_for page tables live all judged stands c.told-held c.args.received.now.channel slot c.requires.channel asked.on c.requires.selected in
     let here = subst (λ (t : Tables). ActsIn page t slot judged) (sym c.tables-in-List.ensures.tables) acts in
     let says = subst (λ (t : Tables). RepresentsState page t live judged.at) (sym c.tables-in-List.ensures.tables) stands.shows.says in
     let lists = c.get_status.ensures.done page judged here says (record {
-      on = passed.on;
-      asks = subst (λ (r : Request). IsRequestOf r judged.command) c.in-List.is passed.asks;
-      goes_on = λ lists. passed.goes_on (ap (λ (r : Request). (form_in r).instruction) c.in-List.is);
+      on = asked.on;
+      asks = subst (λ (r : Request). IsRequestOf r judged.command) c.in-List.is asked.asks;
+      goes_on = λ lists. asked.goes_on (ap (λ (r : Request). (form_in r).instruction) c.in-List.is);
     }) in
-    listing_carried page tables live all judged stands (record { held = c.told-held; channels = stands.sound.fits.channels }) low c.get_status.new.live c.get_status.new.reply.items c.get_status.result
-    (subst (λ (t : Tables). Lists judged page t live c.get_status.new.live c.get_status.new.reply.items c.get_status.result) c.tables-in-List.ensures.tables lists)
+    record {
+      done = listing_carried page tables live all judged stands (record { held = c.told-held; channels = stands.sound.fits.channels }) low c.get_status.new.live c.get_status.new.reply.items c.get_status.result
+          (subst (λ (t : Tables). Lists judged page t live c.get_status.new.live c.get_status.new.reply.items c.get_status.result) c.tables-in-List.ensures.tables lists);
+      loads = loads_same page c.args.records.now.tables c.args.loading.now.session judged c.get_status.result (not_loading c.args.request.now (subst (λ (r : Request). AsksForLoad r → ⊥) (sym c.in-List.is) (λ no. no)) judged.command asked.asks) shown.loading;
+    })
 
--- what is kept of the load session goes with it
-not_loading : (request : Request) → ChangesRegistry request → (command : Apdu) → IsRequestOf request command → IsLoading command → ⊥
-not_loading request (inl put) command is = loads_not command 0xD8 (subst (λ (r : Request). IsRequestOf r command) put.3 is).form.0 (λ e. absurd (omega (arith, e))) (λ e. absurd (omega (arith, e)))
-not_loading request (inr (inl store)) command is = loads_not command 0xE2 (subst (λ (r : Request). IsRequestOf r command) store.1 is).form.0 (λ e. absurd (omega (arith, e))) (λ e. absurd (omega (arith, e)))
-not_loading request (inr (inr (inl delete))) command is = loads_not command 0xE4 (subst (λ (r : Request). IsRequestOf r command) delete.2 is).form.0 (λ e. absurd (omega (arith, e))) (λ e. absurd (omega (arith, e)))
-not_loading request (inr (inr (inr (inl deletion)))) command is = loads_not command 0xE4 (subst (λ (r : Request). IsRequestOf r command) deletion.1 is).form.0 (λ e. absurd (omega (arith, e))) (λ e. absurd (omega (arith, e)))
-not_loading request (inr (inr (inr (inr (inl install))))) command is = other_install command (subst (λ (r : Request). IsRequestOf r command) install.1 is).form.0 (subst (λ (r : Request). IsRequestOf r command) install.1 is).form.1.0
-not_loading request (inr (inr (inr (inr (inr (inl selecting)))))) command is =
-    installs_not command 0x08 (subst (λ (r : Request). IsRequestOf r command) selecting.1 is).form.0 (subst (λ (r : Request). IsRequestOf r command) selecting.1 is).form.1.0 (λ e. absurd (omega (arith, e)))
-not_loading request (inr (inr (inr (inr (inr (inr (inl move))))))) command is =
-    installs_not command 0x10 (subst (λ (r : Request). IsRequestOf r command) move.1 is).form.0 (subst (λ (r : Request). IsRequestOf r command) move.1 is).form.1.0 (λ e. absurd (omega (arith, e)))
-not_loading request (inr (inr (inr (inr (inr (inr (inr (inl card)))))))) command is = loads_not command 0xF0 (subst (λ (r : Request). IsRequestOf r command) card.1 is).form.0 (λ e. absurd (omega (arith, e))) (λ e. absurd (omega (arith, e)))
-not_loading request (inr (inr (inr (inr (inr (inr (inr (inr entry)))))))) command is = loads_not command 0xF0 (subst (λ (r : Request). IsRequestOf r command) entry.1 is).form.0 (λ e. absurd (omega (arith, e))) (λ e. absurd (omega (arith, e)))
+-- card content management
+changes_as : (request other : Request) → request ≡ other → Contains changing (form_in other).instruction → Contains changing (form_in request).instruction
+changes_as request other is changes = subst (λ (r : Request). Contains changing (form_in r).instruction) (sym is) changes
 
-pub returns-in-Select-clause-loads : goal.returns-in-Select-clause-loads
-returns-in-Select-clause-loads g c = λ page judged loading all asked.
-    let is = subst (λ (r : Request). IsRequestOf r judged.command) c.in-Select.is asked.asks in
-    loads_same page c.args.records.now.tables loading judged c.select.result (loads_not judged.command 0xA4 is.form.0 (λ e. absurd (omega (arith, e))) (λ e. absurd (omega (arith, e)))) all.loading
+pub manage-requires-clause-changing : goal.manage-requires-clause-changing
+manage-requires-clause-changing g c = (0, omega arith, refl)
 
-pub returns-in-MoreChannel-clause-loads : goal.returns-in-MoreChannel-clause-loads
-returns-in-MoreChannel-clause-loads g c = λ page judged loading all asked.
-    let is = subst (λ (r : Request). IsRequestOf r judged.command) c.in-MoreChannel.is asked.asks in
-    loads_same page c.args.records.now.tables loading judged c.open_channel.result (loads_not judged.command 0x70 is.form.0 (λ e. absurd (omega (arith, e))) (λ e. absurd (omega (arith, e)))) all.loading
+pub returns-in-PutKey-clause-done : goal.returns-in-PutKey-clause-done
+returns-in-PutKey-clause-done g c = rw (c.requires.unwritten, c.in-PutKey.is) (c.manage.ensures.done _ _)
 
-pub returns-in-LessChannel-clause-loads : goal.returns-in-LessChannel-clause-loads
-returns-in-LessChannel-clause-loads g c = λ page judged loading all asked.
-    let is = subst (λ (r : Request). IsRequestOf r judged.command) c.in-LessChannel.is asked.asks in
-    loads_same page c.args.records.now.tables loading judged c.close_channel.result (loads_not judged.command 0x70 is.form.0 (λ e. absurd (omega (arith, e))) (λ e. absurd (omega (arith, e)))) all.loading
+pub returns-in-PutKey-clause-idle : goal.returns-in-PutKey-clause-idle
+returns-in-PutKey-clause-idle g c = λ other unmanaged. absurd (unmanaged (changes_as c.args.request.now _ c.in-PutKey.is (0, omega arith, refl)))
 
-pub returns-in-Get-clause-loads : goal.returns-in-Get-clause-loads
-returns-in-Get-clause-loads g c = λ page judged loading all asked.
-    let is = subst (λ (r : Request). IsRequestOf r judged.command) c.in-Get.is asked.asks in
-    loads_same page c.args.records.now.tables loading judged c.get_data.result (loads_not judged.command 0xCA is.form.0 (λ e. absurd (omega (arith, e))) (λ e. absurd (omega (arith, e)))) all.loading
+pub manage-requires-in-Store-clause-changing : goal.manage-requires-in-Store-clause-changing
+manage-requires-in-Store-clause-changing g c = (1, omega arith, refl)
 
-pub returns-in-Authenticate-clause-loads : goal.returns-in-Authenticate-clause-loads
-returns-in-Authenticate-clause-loads g c = λ page judged loading all asked.
-    let is = subst (λ (r : Request). IsRequestOf r judged.command) c.in-Authenticate.is asked.asks in
-    loads_same page c.args.records.now.tables loading judged c.external_authenticate.result (loads_not judged.command 0x82 is.form.0 (λ e. absurd (omega (arith, e))) (λ e. absurd (omega (arith, e)))) all.loading
+pub returns-in-Store-clause-done : goal.returns-in-Store-clause-done
+returns-in-Store-clause-done g c = rw (c.requires.unwritten, c.in-Store.is) (c.manage-in-Store.ensures.done _ _)
 
-pub returns-in-List-clause-loads : goal.returns-in-List-clause-loads
-returns-in-List-clause-loads g c = λ page judged loading all asked.
-    let is = subst (λ (r : Request). IsRequestOf r judged.command) c.in-List.is asked.asks in
-    loads_same page c.args.records.now.tables loading judged c.get_status.result (loads_not judged.command 0xF2 is.form.0 (λ e. absurd (omega (arith, e))) (λ e. absurd (omega (arith, e)))) all.loading
+pub returns-in-Store-clause-idle : goal.returns-in-Store-clause-idle
+returns-in-Store-clause-idle g c = λ other unmanaged. absurd (unmanaged (changes_as c.args.request.now _ c.in-Store.is (1, omega arith, refl)))
 
-pub returns-in-Initialize-clause-loads : goal.returns-in-Initialize-clause-loads
-returns-in-Initialize-clause-loads g c = λ page judged loading all asked.
-    let is = subst (λ (r : Request). IsRequestOf r judged.command) c.in-Initialize.is asked.asks in
-    let before = c.args.records.now.tables in
-    let after = c.initialize_update.new.records.tables in
-    loads_same page after loading judged c.initialize_update.result (loads_not judged.command 0x50 is.form.0 (λ e. absurd (omega (arith, e))) (λ e. absurd (omega (arith, e))))
-    (over_loading page before after loading judged.at.volatile.load (files_free before after c.initialize_update.ensures.files)
-    (λ kept there. ap (λ (es : List (Option Entry)). domain_aid es (load_slot kept)) c.initialize_update.ensures.entries) all.loading)
+pub manage-requires-in-DeleteKey-clause-changing : goal.manage-requires-in-DeleteKey-clause-changing
+manage-requires-in-DeleteKey-clause-changing g c = (2, omega arith, refl)
 
-pub returns-in-PutKey-clause-loads : goal.returns-in-PutKey-clause-loads
-returns-in-PutKey-clause-loads g c = λ page judged loading all asked.
-    let before = c.args.records.now.tables in
-    let after = c.manage.new.records.tables in
-    loads_same page after loading judged c.manage.result (not_loading c.args.request.now c.in-PutKey.is judged.command asked.asks)
-    (kept_loading page before after c.args.live.now judged.at c.manage.ensures.selected c.manage.ensures.free all.on.sound all.on.shows.says loading all.loading)
+pub returns-in-DeleteKey-clause-done : goal.returns-in-DeleteKey-clause-done
+returns-in-DeleteKey-clause-done g c = rw (c.requires.unwritten, c.in-DeleteKey.is) (c.manage-in-DeleteKey.ensures.done _ _)
+
+pub returns-in-DeleteKey-clause-idle : goal.returns-in-DeleteKey-clause-idle
+returns-in-DeleteKey-clause-idle g c = λ other unmanaged. absurd (unmanaged (changes_as c.args.request.now _ c.in-DeleteKey.is (2, omega arith, refl)))
+
+pub manage-requires-in-DeleteObject-clause-changing : goal.manage-requires-in-DeleteObject-clause-changing
+manage-requires-in-DeleteObject-clause-changing g c = (2, omega arith, refl)
+
+pub returns-in-DeleteObject-clause-done : goal.returns-in-DeleteObject-clause-done
+returns-in-DeleteObject-clause-done g c = rw (c.requires.unwritten, c.in-DeleteObject.is) (c.manage-in-DeleteObject.ensures.done _ _)
+
+pub returns-in-DeleteObject-clause-idle : goal.returns-in-DeleteObject-clause-idle
+returns-in-DeleteObject-clause-idle g c = λ other unmanaged. absurd (unmanaged (changes_as c.args.request.now _ c.in-DeleteObject.is (2, omega arith, refl)))
+
+pub manage-requires-in-Install-clause-changing : goal.manage-requires-in-Install-clause-changing
+manage-requires-in-Install-clause-changing g c = (3, omega arith, refl)
+
+pub returns-in-Install-clause-done : goal.returns-in-Install-clause-done
+returns-in-Install-clause-done g c = rw (c.requires.unwritten, c.in-Install.is) (c.manage-in-Install.ensures.done _ _)
+
+pub returns-in-Install-clause-idle : goal.returns-in-Install-clause-idle
+returns-in-Install-clause-idle g c = λ other unmanaged. absurd (unmanaged (changes_as c.args.request.now _ c.in-Install.is (3, omega arith, refl)))
+
+pub manage-requires-in-MakeSelectable-clause-changing : goal.manage-requires-in-MakeSelectable-clause-changing
+manage-requires-in-MakeSelectable-clause-changing g c = (3, omega arith, refl)
+
+pub returns-in-MakeSelectable-clause-done : goal.returns-in-MakeSelectable-clause-done
+returns-in-MakeSelectable-clause-done g c = rw (c.requires.unwritten, c.in-MakeSelectable.is) (c.manage-in-MakeSelectable.ensures.done _ _)
+
+pub returns-in-MakeSelectable-clause-idle : goal.returns-in-MakeSelectable-clause-idle
+returns-in-MakeSelectable-clause-idle g c = λ other unmanaged. absurd (unmanaged (changes_as c.args.request.now _ c.in-MakeSelectable.is (3, omega arith, refl)))
+
+pub manage-requires-in-Extradite-clause-changing : goal.manage-requires-in-Extradite-clause-changing
+manage-requires-in-Extradite-clause-changing g c = (3, omega arith, refl)
+
+pub returns-in-Extradite-clause-done : goal.returns-in-Extradite-clause-done
+returns-in-Extradite-clause-done g c = rw (c.requires.unwritten, c.in-Extradite.is) (c.manage-in-Extradite.ensures.done _ _)
+
+pub returns-in-Extradite-clause-idle : goal.returns-in-Extradite-clause-idle
+returns-in-Extradite-clause-idle g c = λ other unmanaged. absurd (unmanaged (changes_as c.args.request.now _ c.in-Extradite.is (3, omega arith, refl)))
+
+pub manage-requires-in-CardStatus-clause-changing : goal.manage-requires-in-CardStatus-clause-changing
+manage-requires-in-CardStatus-clause-changing g c = (5, omega arith, refl)
+
+pub returns-in-CardStatus-clause-done : goal.returns-in-CardStatus-clause-done
+returns-in-CardStatus-clause-done g c = rw (c.requires.unwritten, c.in-CardStatus.is) (c.manage-in-CardStatus.ensures.done _ _)
+
+pub returns-in-CardStatus-clause-idle : goal.returns-in-CardStatus-clause-idle
+returns-in-CardStatus-clause-idle g c = λ other unmanaged. absurd (unmanaged (changes_as c.args.request.now _ c.in-CardStatus.is (5, omega arith, refl)))
+
+pub manage-requires-in-EntryStatus-clause-changing : goal.manage-requires-in-EntryStatus-clause-changing
+manage-requires-in-EntryStatus-clause-changing g c = (5, omega arith, refl)
+
+pub returns-in-EntryStatus-clause-done : goal.returns-in-EntryStatus-clause-done
+returns-in-EntryStatus-clause-done g c = rw (c.requires.unwritten, c.in-EntryStatus.is) (c.manage-in-EntryStatus.ensures.done _ _)
+
+pub returns-in-EntryStatus-clause-idle : goal.returns-in-EntryStatus-clause-idle
+returns-in-EntryStatus-clause-idle g c = λ other unmanaged. absurd (unmanaged (changes_as c.args.request.now _ c.in-EntryStatus.is (5, omega arith, refl)))
+
+-- INSTALL [for load]
+pub begin_load-requires-clause-in_order : goal.begin_load-requires-clause-in_order
+begin_load-requires-clause-in_order g c = subst IsInOrder (sym c.tables-in-InstallLoad.ensures.tables) (in_order c.args.records.now.tables c.requires.cards)
+
+pub begin_load-requires-clause-formed : goal.begin_load-requires-clause-formed
+begin_load-requires-clause-formed g c = subst IsWellFormed c.in-InstallLoad.is c.requires.formed
+
+pub returns-in-InstallLoad-clause-done : goal.returns-in-InstallLoad-clause-done
+returns-in-InstallLoad-clause-done g c = λ page judged whole shown asked.
+    let stands = shown.on in
+    let tables = c.args.records.now.tables in
+    let live = c.args.live.now in
+    let all = c.args.held.now in
+    let slot = c.args.received.now.selected in
+    let four : HasFour (kept_of tables live all) judged.at = record { held = c.told-held; channels = stands.sound.fits.channels } in
+    let low = low page tables live all judged stands c.told-held c.args.received.now.channel slot c.requires.channel asked.on c.requires.selected in
+    let acts = acts_for page tables live all judged stands c.told-held c.args.received.now.channel slot c.requires.channel asked.on c.requires.selected in
+    let asks = subst (λ (r : Request). IsRequestOf r judged.command) c.in-InstallLoad.is asked.asks in
+    let loads = (rw c.tables-in-InstallLoad.ensures.tables at c.begin_load.ensures.done) page judged acts stands.shows.says stands.sound.fits.channels asked.on asks in
+    let left = begin_left page tables live c.begin_load.new.live c.args.loading.now c.begin_load.new.loading c.begin_load.result c.begin_load.ensures.refused in
+    rw (c.begin_load.ensures.writes, c.requires.unwritten) (loaded_on page page tables tables live c.begin_load.new.live all judged stands four low
+    c.args.loading.now.session c.begin_load.new.loading.session c.begin_load.new.reply.items c.begin_load.result left shown.loading loads)
+
+-- LOAD
+pub load-requires-clause-formed : goal.load-requires-clause-formed
+load-requires-clause-formed g c = subst IsWellFormed c.in-Load.is c.requires.formed
+
+pub load-requires-clause-holds : goal.load-requires-clause-holds
+load-requires-clause-holds g c =
+    let some = c.requires.some in
+    record { page = some.page; whole = some.whole; state = some.state; sound = some.shows.on.sound; says = some.shows.on.shows.says; kept = some.shows.loading }
+
+pub returns-in-Load-clause-done : goal.returns-in-Load-clause-done
+returns-in-Load-clause-done g c = λ page judged whole shown asked.
+    let stands = shown.on in
+    let tables = c.args.records.now.tables in
+    let live = c.args.live.now in
+    let all = c.args.held.now in
+    let slot = c.args.received.now.selected in
+    let four : HasFour (kept_of tables live all) judged.at = record { held = c.told-held; channels = stands.sound.fits.channels } in
+    let low = low page tables live all judged stands c.told-held c.args.received.now.channel slot c.requires.channel asked.on c.requires.selected in
+    let acts = acts_for page tables live all judged stands c.told-held c.args.received.now.channel slot c.requires.channel asked.on c.requires.selected in
+    let asks = subst (λ (r : Request). IsRequestOf r judged.command) c.in-Load.is asked.asks in
+    let loads = c.load.ensures.done page judged acts stands.shows.says stands.sound.fits.channels whole stands.sound shown.loading asked.on asks in
+    let left = load_left page c.args.records.now c.load.new.records live c.load.new.live c.args.loading.now c.load.new.loading c.load.result c.requires.unwritten c.load.ensures.refused in
+    loaded_on page (loaded page c.load.new.loading.writes.items) tables c.load.new.records.tables live c.load.new.live all judged stands four low
+    c.args.loading.now.session c.load.new.loading.session c.load.new.reply.items c.load.result left shown.loading loads
+
+pub returns-in-Load-clause-idle : goal.returns-in-Load-clause-idle
+returns-in-Load-clause-idle g c = λ other unmanaged. absurd (unmanaged (changes_as c.args.request.now _ c.in-Load.is (4, omega arith, refl)))

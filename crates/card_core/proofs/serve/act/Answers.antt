@@ -20,7 +20,7 @@ returns-in-Err-clause-done g c = λ page judged whole stands passed.
     ∙ ap without_offer_held (read_at all c.from-at.result judged.channel c.index-held-at.result four (subst (λ (n : ℕ). n < CHANNELS) at c.requires.channel) place) in
     refused_carried (loaded page c.carry_out-served.new.loading.writes.items) (record { tables = c.carry_out-served.new.records.tables; live = c.carry_out-served.new.live; held = all })
     judged c.carry_out-served.new.reply.items c.in-Err.rule c.args.received.now.channel c.from-at.result c.refuse.new.live c.refuse.new.held at place c.refuse.ensures.live dropped
-    (c.in-Err.ensures.done page judged whole stands passed) c.carry_out-served.new.loading.session (c.in-Err.ensures.loads page judged whole stands passed)
+    (c.in-Err.ensures.done page judged whole stands passed).done c.carry_out-served.new.loading.session (c.in-Err.ensures.done page judged whole stands passed).loads
 
 pub returns-in-Err-clause-kept : goal.returns-in-Err-clause-kept
 returns-in-Err-clause-kept g c = λ secured kinds.
@@ -34,4 +34,4 @@ returns-in_default-clause-done g c = λ page judged whole stands passed.
     done_carried (loaded page c.carry_out-served.new.loading.writes.items)
     (record { tables = c.carry_out-served.new.records.tables; live = c.carry_out-served.new.live; held = c.carry_out-served.new.held }) judged
     c.carry_out-served.new.reply.items c.carry_out-served.result c.carry_out-served.new.loading.session c.in_default.not-Err
-    (c.carry_out-served.ensures.done page judged whole stands passed) (c.carry_out-served.ensures.loads page judged whole stands passed)
+    (c.carry_out-served.ensures.done page judged whole stands passed).done (c.carry_out-served.ensures.done page judged whole stands passed).loads
