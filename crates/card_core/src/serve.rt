@@ -6,9 +6,9 @@ ghost use Rattle.apdu_core.specs.Reply.{status_bytes};
 ghost use Rattle.card_check.specs.IsCard.{HasPages};
 ghost use Rattle.card_core.specs.Commits.{MayCommit};
 ghost use Rattle.card_core.specs.Domains.{is_domain_in};
-ghost use Rattle.card_core.specs.SecureChannels.{RepresentsSecureChannel, IsInSession, held_on, held_passed, without_offer_held};
 ghost use Rattle.card_core.specs.Kept.{AreCards, kept_of};
 ghost use Rattle.card_core.specs.Loading.{AreFree, RepresentsAll, RepresentsSome};
+ghost use Rattle.card_core.specs.SecureChannels.{RepresentsSecureChannel, IsInSession, held_on, held_passed, without_offer_held};
 ghost use Rattle.card_core.specs.Serves.{CarriesOutLoading, ForPassed, IsPassedOver, IsTerminatedFor, ServesLoading, live_passed, live_refused, rule_of, status_word};
 ghost use Rattle.policy_rules.specs.Classes.{changing, managing};
 ghost use Rattle.policy_rules.specs.Commands.{IsBuilt};
@@ -20,9 +20,10 @@ ghost use Rattle.scp03_card.specs.Protected.{protected};
 ghost use Rattle.scp03_card.specs.Session.{Session};
 
 use crate::admit::{Received, admit, is_over};
-use crate::carry_out::carry_out;
 use crate::channel_session::ChannelSession;
 use crate::loading::Loading;
+use crate::perform::perform;
+use crate::read_request::read_request;
 use crate::reply::{REPLY_LIMIT, write_status};
 use crate::secure_messaging::{close_reply, open_command};
 use apdu_core::{Command, Status};
@@ -120,11 +121,18 @@ fn act<F: Flash>(
     ensures kept { IsInSession (held_on held.old received.now.channel) → (command.now.ins ≡ GET_DATA) ⊎ Contains managing command.now.ins → held.new ≡ held.old }
     ensures room { length reply.new.items ≤ 239 }
 {
-    let served = carry_out(
-        records, live, held, loading, received, command, place, reply,
+    let at = usize::from(received.channel);
+    let request = match read_request(&held[at], command) {
+        Ok(request) => request,
+        Err(rule) => {
+            refuse(rule, received.channel, live, &mut held[at]);
+            return Err(rule);
+        }
+    };
+    let served = perform(
+        records, live, held, loading, received, &request, place, reply,
     );
     if let Err(rule) = served {
-        let at = usize::from(received.channel);
         refuse(rule, received.channel, live, &mut held[at]);
     }
     served
