@@ -1,4 +1,4 @@
--- A command that has changed the registry, and is answered by a receipt or by 00, has done what it does.
+-- What a command leaves as it was that changes the registry, and the room for the pages of its answer.
 use Rattle.std.proofs.Common.{◌≡◌, ℕ, ◌≤◌, ◌==◌, ◌++◌, List, [], ◌∷◌, Bool, true, false, cond, Option, None, Some, length, refl, sym, ap, subst, ◌∙◌, arith}
 use Rattle.std.specs.Prelude.{IfSome, count_by, not}
 use Rattle.std.specs.List.{list_any}
@@ -29,20 +29,6 @@ use Rattle.rec_store.specs.Keeper.{key_pages}
 use Rattle.rec_store.specs.Places.{file_page}
 use Rattle.rec_store.specs.Room.{HasRoomFor, with_staged}
 use Rattle.registry.specs.Pages.{KeepsRoom, entry_pages, object_pages, owner_pages, thing_page, thing_pages}
-
-pub answered_managed : (form : CommandForm) → IsListed form → (admitted : Admitted) → TakesCommand form admitted.command → rules_before_form form.instruction ≡ []
-    → IsFirst (form.fails admitted) form.rules None → (page : ℕ → List ℕ) (tables : Tables) (aids : List (List ℕ)) (changed : Registry) (body : List ℕ)
-    → (receipter : Option ℕ) (answers : AnswersFor page tables receipter admitted aids changed body) → form.does admitted (leaves admitted answers.0 body) → (status : Status) → status.0 ≡ 0x9000
-    → IsManaged admitted page tables body status
-answered_managed form listed admitted takes none first page tables aids changed body receipter answers does status is = record {
-  judges = judged form listed admitted takes none None first;
-  done = leaves admitted answers.0 body;
-  does = does_so form listed admitted takes (leaves admitted answers.0 body) does;
-  volatile = refl;
-  says = answers.1;
-  body_is = refl;
-  status_is = is;
-}
 
 -- what is selected stays where each entry does
 pub aids_selected : (live : Live) (before after : List (Option Entry)) → KeepsAids before after → KeepsSelected live before after

@@ -22,7 +22,6 @@ pub mod LoadJudged
 pub mod LoadReads
 pub mod LoadTaken
 pub mod LoadsKept
-pub mod ManagedAs
 pub mod Managing
 pub mod ObjectSlots
 pub mod ObjectsPut

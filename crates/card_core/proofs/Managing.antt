@@ -1,12 +1,27 @@
--- A refusal of a command of card content management.
-use Rattle.std.proofs.Common.{◌≡◌, ℕ, List, [], Some, Result, Ok, Err, refl, sym, subst}
+-- What comes of a command of card content management.
+use Rattle.std.proofs.Common.{◌≡◌, ℕ, List, [], None, Option, Some, Result, Ok, Err, refl, sym, subst}
 use Rattle.std.specs.Result.{IsErrAnd}
 use Rattle.apdu_core.specs.declared.reply.Status.{Status}
+use Rattle.card_types.specs.Registry.{Registry}
+use Rattle.card_types.specs.Represents.{Represents}
 use Rattle.card_types.specs.declared.tables.Tables.{Tables}
+use Rattle.policy_rules.proofs.Judging.{IsListed, does_so, judged}
+use Rattle.policy_rules.proofs.ManagedLawful.{replied}
 use Rattle.policy_rules.specs.Admission.{Admitted}
-use Rattle.policy_rules.specs.Commands.{Judges}
+use Rattle.policy_rules.specs.CommandForm.{CommandForm}
+use Rattle.policy_rules.specs.Commands.{Judges, TakesCommand}
+use Rattle.policy_rules.specs.Delegation.{IsAnswered, unconfirmed}
+use Rattle.policy_rules.specs.ExternalAuthenticate.{rules_before_form}
+use Rattle.policy_rules.specs.FirstFailing.{IsFirst}
+use Rattle.policy_rules.specs.HoldersFound.{FindsConfirmer}
+use Rattle.policy_rules.specs.ManagedForm.{CommandAsks, ManagedForm, command_form}
+use Rattle.policy_rules.specs.Requests.{ActsIn}
 use Rattle.policy_rules.specs.declared.rule.Rule.{Rule}
-use Rattle.card_core.specs.Manages.{Manages}
+use Rattle.card_core.proofs.Cards.{in_order}
+use Rattle.card_core.proofs.Confirming.{answered_so, finds_receipter}
+use Rattle.card_core.specs.Confirms.{AnswersFor, Confirms, KeepsReceipts, leaves}
+use Rattle.card_core.specs.Kept.{AreCards}
+use Rattle.card_core.specs.Manages.{IsManaged, Manages}
 
 -- a refusal that is handed on changes nothing
 pub refusal_managed : (admitted : Admitted) (page : ℕ → List ℕ) (tables : Tables) (body : List ℕ) (result : Result Status Rule) (found : Rule)
@@ -14,3 +29,62 @@ pub refusal_managed : (admitted : Admitted) (page : ℕ → List ℕ) (tables : 
 refusal_managed admitted page tables body (Ok status) found given judges empty = absurd given
 refusal_managed admitted page tables body (Err rule) found given judges empty =
     (subst (λ (r : Rule). Judges admitted (Some r)) (sym given) judges, refl, empty)
+
+-- one by a rule of the form's own
+pub refused_as : (form : CommandForm) → IsListed form → (admitted : Admitted) → TakesCommand form admitted.command → rules_before_form form.instruction ≡ []
+    → (page : ℕ → List ℕ) (tables : Tables) (body : List ℕ) (result : Result Status Rule) (found : Rule)
+    → IsErrAnd result (λ rule. rule ≡ found) → IsFirst (form.fails admitted) form.rules (Some found) → body ≡ [] → Manages admitted page tables tables body result
+refused_as form listed admitted takes none page tables body result found given first empty =
+    refusal_managed admitted page tables body result found given (judged form listed admitted takes none (Some found) first) empty
+
+module _ (form : ManagedForm) (listed : IsListed (command_form form)) (admitted : Admitted) (takes : TakesCommand (command_form form) admitted.command)
+    (asked : form.judged.Asked) (asks : CommandAsks form.judged admitted asked) (changed : Registry) (becomes : form.becomes admitted asked changed) where
+  -- a command that nobody confirms has changed the registry, and is answered by its reply
+  pub replied_managed : Judges admitted None → (form.judged.delegation.is_delegated admitted → ⊥) → (page : ℕ → List ℕ) (tables : Tables) → Represents page tables changed
+      → (body : List ℕ) → body ≡ form.reply asked → (status : Status) → status.0 ≡ 0x9000 → IsManaged admitted page tables body status
+  replied_managed judges undelegated page tables says body is status word = record {
+    judges = judges;
+    done = record { state = record { registry = changed; volatile = admitted.at.volatile }; body = form.reply asked; status = 0x9000 };
+    does = does_so (command_form form) listed admitted takes _ (replied form admitted asked changed asks becomes undelegated);
+    volatile = refl;
+    says = says;
+    body_is = is;
+    status_is = word;
+  }
+
+  -- one that may be confirmed has changed the registry, and is answered by a receipt or by 00
+  pub confirmed_managed : form.reply asked ≡ unconfirmed → rules_before_form form.judged.instruction ≡ [] → IsFirst ((command_form form).fails admitted) (command_form form).rules None
+      → (page : ℕ → List ℕ) (before mid after : Tables) (domain : ℕ) → AreCards before → ActsIn page before domain admitted
+      → (receipter : Option ℕ) → FindsConfirmer (form.judged.delegation.is_delegated admitted) before admitted receipter → KeepsReceipts before mid receipter → Represents page mid changed
+      → (aids : List (List ℕ)) → aids ≡ form.judged.delegation.about admitted asked → (body : List ℕ) → Confirms mid after receipter aids body
+      → (status : Status) → status.0 ≡ 0x9000 → IsManaged admitted page after body status
+  confirmed_managed reply none first page before mid after domain cards acts receipter finds keeps says aids about body confirms status word =
+      let delegated = form.judged.delegation.is_delegated admitted in
+      let named = form.judged.delegation.about admitted asked in
+      let answers = confirms page admitted before domain changed (record {
+        acts = acts;
+        issuer = (in_order before cards).layout.issuer;
+        finds = finds_receipter delegated before admitted receipter finds;
+        keeps = keeps;
+        says = says;
+      }) in
+      let told = subst (λ (names : List (List ℕ)). AnswersFor page after receipter admitted names changed body) about answers in
+      let left = leaves admitted told.0 body in
+      let answered = answered_so delegated before admitted receipter finds named changed left told.2 in
+      record {
+        judges = judged (command_form form) listed admitted takes none None first;
+        done = left;
+        does = does_so (command_form form) listed admitted takes left (record {
+          asked = asked;
+          asks = asks;
+          changed = changed;
+          becomes = becomes;
+          answered = subst (λ (bytes : List ℕ). IsAnswered delegated admitted named changed bytes left) (sym reply) answered;
+          volatile = refl;
+          status = refl;
+        });
+        volatile = refl;
+        says = told.1;
+        body_is = refl;
+        status_is = word;
+      }

@@ -12,7 +12,6 @@ pub mod LoadedFile
 pub mod Loading
 pub mod Loads
 pub mod Manages
-pub mod ManagesAs
 pub mod ObjectsPut
 pub mod Offers
 pub mod PowerOn

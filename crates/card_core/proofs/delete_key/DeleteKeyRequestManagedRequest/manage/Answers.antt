@@ -3,18 +3,15 @@ use Rattle.card_core.proofs.Answered.{entries_selected}
 use Rattle.card_core.proofs.Cards.{in_order}
 use Rattle.card_core.proofs.FreePages.{files_free}
 use Rattle.card_core.proofs.DeleteKeyDone.{deleted_cards, deleted_says}
-use Rattle.card_core.proofs.Managing.{refusal_managed}
+use Rattle.card_core.proofs.Managing.{refusal_managed, replied_managed}
 use Rattle.card_types.specs.InOrder.{IsInOrder}
 use Rattle.card_types.specs.Represents.{Represents}
 use Rattle.card_types.specs.declared.tables.Tables.{Tables}
-use Rattle.policy_rules.proofs.ManagedLawful.{replied}
 use Rattle.policy_rules.proofs.DeleteKeyKeeps.{without_version}
-use Rattle.policy_rules.proofs.Judging.{does_so}
 use Rattle.policy_rules.specs.DeleteKey.{managed_delete_key}
 use Rattle.policy_rules.specs.Requests.{ActsIn}
 use Rattle.policy_rules.specs.Management.{acting}
 use Rattle.card_core.proofs.delete_key.DeleteKeyRequestManagedRequest.manage.Goals as goal
-use Rattle.policy_rules.specs.ManagedForm.{command_form}
 
 pub judge_delete_key-requires : goal.judge_delete_key-requires
 judge_delete_key-requires g c = record { in_order = subst IsInOrder (sym c.tables.ensures.tables) (in_order c.args.records.now.tables c.requires.cards) }
@@ -32,16 +29,10 @@ returns-clause-done g c page admitted acts says channels request holds =
     let registry = without_version admitted.at.registry (acting admitted) c.args.self.now.version in
     let says = deleted_says c.args.records.now c.delete.new.keeper c.delete.ensures.same_else c.args.domain c.args.self.now.version c.delete.ensures.deletes page
     admitted.at.registry acts.says acts.well acts.entry acts.at in
-    record {
-      judges = c.in_ok-judge_delete_key.ensures.passed page admitted here request;
-      done = record { state = record { registry = registry; volatile = admitted.at.volatile }; body = 0x00 ∷ []; status = 0x9000 };
-      does = does_so (command_form managed_delete_key) (λ holds here. inl here) admitted request.form _
-          (replied managed_delete_key admitted (record { version = c.args.self.now.version; identifier = c.args.self.now.identifier }) registry request.means refl (λ no. no));
-      volatile = refl;
-      says = subst (λ (aid : List ℕ). Represents page c.delete.new.keeper.tables (without_version admitted.at.registry aid c.args.self.now.version)) (sym acts.on) says;
-      body_is = c.push.ensures.items ∙ ap (λ (items : List ℕ). items ++ 0x00 ∷ []) c.requires.empty;
-      status_is = refl;
-    }
+    replied_managed managed_delete_key (λ holds here. inl here) admitted request.form (record { version = c.args.self.now.version; identifier = c.args.self.now.identifier }) request.means
+    registry refl (c.in_ok-judge_delete_key.ensures.passed page admitted here request) (λ no. no) page c.delete.new.keeper.tables
+    (subst (λ (aid : List ℕ). Represents page c.delete.new.keeper.tables (without_version admitted.at.registry aid c.args.self.now.version)) (sym acts.on) says)
+    _ (c.push.ensures.items ∙ ap (λ (items : List ℕ). items ++ 0x00 ∷ []) c.requires.empty) (record { 0 = 0x9000 }) refl
 
 pub returns-clause-cards : goal.returns-clause-cards
 returns-clause-cards g c =

@@ -1,10 +1,10 @@
-use Rattle.std.proofs.Common.{◌≡◌, ℕ, Ok, inl, inr, List, [], ◌∷◌, None, Some, refl, sym, subst, arith}
+use Rattle.std.proofs.Common.{◌≡◌, ℕ, ap, inl, inr, List, [], ◌∷◌, None, Some, refl, sym, subst, arith}
 use Rattle.std.specs.Prelude.{IfSome, IsSome}
 use Rattle.card_core.proofs.Answered.{aids_selected, selected_on}
 use Rattle.card_core.proofs.Cards.{in_order}
 use Rattle.card_core.proofs.Confirming.{answered_so, finds_receipter}
 use Rattle.card_core.proofs.Deleting.{confirmer_stays, deletion_able, deletion_keeps, deletion_selected, issuer_stays}
-use Rattle.card_core.proofs.ManagedAs.{managed_as, refused_as}
+use Rattle.card_core.proofs.Managing.{confirmed_managed, refused_as}
 use Rattle.card_core.proofs.SomeAdmitted.{some_acts, some_admitted}
 use Rattle.card_core.specs.Confirms.{AnswersFor, leaves}
 use Rattle.card_types.specs.Found.{aid_of}
@@ -31,9 +31,8 @@ returns-in_err-found-clause-done g c page admitted acts state four is holds =
     let here = subst (λ (t : Tables). ActsIn page t c.args.domain admitted) (sym c.tables.ensures.tables) acts in
     let shown = subst (λ (t : Tables). RepresentsState page t c.args.live.now admitted.at) (sym c.tables.ensures.tables) state in
     let rule = c.in_err-found.field-0.0 in
-    managed_as (command_form managed_delete_object) (λ held here. inr (inl here)) admitted is.form refl page _ _ _ _
-    (refused_as (command_form managed_delete_object) admitted page c.args.records.now.tables c.args.reply.now.items c.from_residual.result rule c.from_residual.ensures.1
-    (c.in_err-found.ensures.refused page admitted here shown four request) c.requires.empty)
+    refused_as (command_form managed_delete_object) (λ held here. inr (inl here)) admitted is.form refl page c.args.records.now.tables c.args.reply.now.items c.from_residual.result rule c.from_residual.ensures.1
+    (c.in_err-found.ensures.refused page admitted here shown four request) c.requires.empty
 
 pub returns-in_err-found-clause-selected : goal.returns-in_err-found-clause-selected
 returns-in_err-found-clause-selected g c =
@@ -90,7 +89,6 @@ returns-clause-done g c page admitted acts state four is holds =
     let related = c.args.self.now.related in
     let thing = c.in_ok-found.found.thing in
     let receipter = c.in_ok-found.found.receipter in
-    let body = c.confirm.new.reply.items in
     let registry = admitted.at.registry in
     let asked = request.asked in
     let here = subst (λ (t : Tables). ActsIn page t c.args.domain admitted) (sym c.tables.ensures.tables) acts in
@@ -105,26 +103,12 @@ returns-clause-done g c page admitted acts state four is holds =
     let finds = subst (λ (t : Tables). FindsConfirmer delegated t admitted receipter) c.tables.ensures.tables (c.in_ok-found.ensures.receipter page admitted here) in
     let found = finds_receipter delegated before admitted receipter finds in
     let issuer = (in_order before c.requires.cards).layout.issuer in
-    let answers = c.confirm.ensures.answered page admitted before c.args.domain changed (record {
-      acts = acts;
-      issuer = issuer;
-      finds = found;
-      keeps = deletion_keeps before after related thing c.remove.ensures.slots receipter
-          (confirmer_stays page before c.args.domain admitted acts related thing alone receipter found)
-          (issuer_stays page before registry acts.says acts.well issuer related thing lasting);
-      says = says;
-    }) in
-    let told = subst (λ (name : List ℕ). AnswersFor page c.confirm.new.records.tables receipter admitted (name ∷ []) changed body) request.aid answers in
-    let answered = answered_so delegated before admitted receipter finds (asked.aid ∷ []) changed (leaves admitted told.0 body) told.2 in
-    managed_as (command_form managed_delete_object) (λ held here. inr (inl here)) admitted is.form refl page before c.confirm.new.records.tables body (Ok (record { 0 = 0x9000 })) (record {
-      first = c.in_ok-found.ensures.passed page admitted here shown four request;
-      done = leaves admitted told.0 body;
-      does = record { asked = asked; asks = request.asks; changed = changed; becomes = refl; answered = answered; volatile = refl; status = refl };
-      volatile = refl;
-      says = told.1;
-      body_is = refl;
-      status_is = refl;
-    })
+    confirmed_managed managed_delete_object (λ held here. inr (inl here)) admitted is.form asked request.asks changed refl refl refl
+    (c.in_ok-found.ensures.passed page admitted here shown four request) page before after c.confirm.new.records.tables c.args.domain c.requires.cards acts receipter finds
+    (deletion_keeps before after related thing c.remove.ensures.slots receipter
+    (confirmer_stays page before c.args.domain admitted acts related thing alone receipter found)
+    (issuer_stays page before registry acts.says acts.well issuer related thing lasting))
+    says _ (ap (λ (name : List ℕ). name ∷ []) request.aid) c.confirm.new.reply.items c.confirm.ensures.answered (record { 0 = 0x9000 }) refl
 
 pub returns-clause-free : goal.returns-clause-free
 returns-clause-free g c =

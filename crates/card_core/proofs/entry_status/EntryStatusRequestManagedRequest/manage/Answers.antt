@@ -1,8 +1,8 @@
-use Rattle.std.proofs.Common.{◌≡◌, [], Ok, inl, inr, None, Some, refl, ap, sym, subst, ◌∙◌}
+use Rattle.std.proofs.Common.{◌≡◌, inl, inr, None, Some, refl, ap, sym, subst, ◌∙◌}
 use Rattle.card_core.proofs.Answered.{aids_selected}
 use Rattle.card_core.proofs.Cards.{in_order}
 use Rattle.card_core.proofs.FreePages.{files_free}
-use Rattle.card_core.proofs.ManagedAs.{managed_as, refused_as}
+use Rattle.card_core.proofs.Managing.{refused_as, replied_managed}
 use Rattle.card_core.proofs.SomeAdmitted.{of_card, some_acts, some_admitted}
 use Rattle.card_core.proofs.StatusChanged.{change_says, changed_aids, changed_cards, used_by_name}
 use Rattle.card_types.specs.Found.{aid_of}
@@ -10,7 +10,7 @@ use Rattle.card_types.specs.InOrder.{IsInOrder}
 use Rattle.card_types.specs.declared.found.Found.TheVariants as found
 use Rattle.card_types.specs.declared.tables.Tables.{Tables}
 use Rattle.domain_tree.proofs.AboveNamed.{free_of_loops}
-use Rattle.policy_rules.proofs.ManagedLawful.{replied}
+use Rattle.policy_rules.proofs.Judging.{judged}
 use Rattle.policy_rules.proofs.EntryStatusLaws.{set_of_card}
 use Rattle.policy_rules.specs.EntryStatus.{managed_entry_status}
 use Rattle.policy_rules.specs.Requests.{ActsIn}
@@ -27,9 +27,8 @@ judge_entry_status-requires g c = record { in_order = subst IsInOrder (sym c.tab
 pub returns-in_err-change-clause-done : goal.returns-in_err-change-clause-done
 returns-in_err-change-clause-done g c page admitted acts says channels request holds =
     let here = subst (λ (t : Tables). ActsIn page t c.args.domain admitted) (sym c.tables.ensures.tables) acts in
-    managed_as (command_form managed_entry_status) (λ held here. inr (inl here)) admitted request.form refl page _ _ _ _
-    (refused_as (command_form managed_entry_status) admitted page c.args.records.now.tables c.args._reply.now.items c.from_residual.result c.in_err-change.field-0.0 c.from_residual.ensures.1
-    (c.in_err-change.ensures.refused page admitted here request.means) c.requires.empty)
+    refused_as (command_form managed_entry_status) (λ held here. inr (inl here)) admitted request.form refl page c.args.records.now.tables c.args._reply.now.items c.from_residual.result c.in_err-change.field-0.0 c.from_residual.ensures.1
+    (c.in_err-change.ensures.refused page admitted here request.means) c.requires.empty
 
 pub make_change-requires-clause-slot : goal.make_change-requires-clause-slot
 make_change-requires-clause-slot g c =
@@ -54,15 +53,9 @@ returns-clause-done g c page admitted acts says channels request holds =
     let named = subst (λ (t : Tables). aid_of t (found.Entry (slot_of change)) ≡ Some c.args.self.now.aid) c.tables.ensures.tables c.in_ok-change.ensures.named in
     let left = change_says page before after admitted change (named ∙ ap Some request.means.aid) (c.in_ok-change.ensures.change page admitted here request.means)
     (c.make_change.ensures.said page admitted.at.registry acts.says acts.well) in
-    rw c.requires.empty (managed_as (command_form managed_entry_status) (λ held here. inr (inl here)) admitted request.form refl page before after [] (Ok (record { 0 = 0x9000 })) (record {
-      first = c.in_ok-change.ensures.passed page admitted here request.means;
-      done = record { state = record { registry = left.0; volatile = admitted.at.volatile }; body = []; status = 0x9000 };
-      does = replied managed_entry_status admitted tt left.0 request.means.field left.2 (λ no. no);
-      volatile = refl;
-      says = left.1;
-      body_is = refl;
-      status_is = refl;
-    }))
+    replied_managed managed_entry_status (λ held here. inr (inl here)) admitted request.form tt request.means.field left.0 left.2
+    (judged (command_form managed_entry_status) (λ held here. inr (inl here)) admitted request.form refl None (c.in_ok-change.ensures.passed page admitted here request.means)) (λ no. no)
+    page after left.1 c.args._reply.now.items c.requires.empty (record { 0 = 0x9000 }) refl
 
 pub returns-clause-selected : goal.returns-clause-selected
 returns-clause-selected g c =

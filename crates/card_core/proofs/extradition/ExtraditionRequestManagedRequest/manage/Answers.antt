@@ -2,10 +2,10 @@ use Rattle.std.proofs.Common.{rules, ◌≡◌, ℕ, inl, inr, List, [], ◌∷�
 use Rattle.std.specs.Prelude.{IfSome, IsSome, unwrap_or}
 use Rattle.std.specs.Option.{option_map}
 use Rattle.card_types.proofs.Domains.{domain_aid_is}
-use Rattle.card_core.proofs.Answered.{aids_on, aids_selected, answered_managed, still_able, thing_room, thing_room_again}
+use Rattle.card_core.proofs.Answered.{aids_on, aids_selected, still_able, thing_room, thing_room_again}
 use Rattle.card_core.proofs.Cards.{in_order}
 use Rattle.card_core.proofs.EntryCards.{aids_kept, moved_cards, moving_keeps, receipts_kept}
-use Rattle.card_core.proofs.Managing.{refusal_managed}
+use Rattle.card_core.proofs.Managing.{confirmed_managed, refused_as}
 use Rattle.card_core.proofs.SomeAdmitted.{of_card, some_acts, some_admitted}
 use Rattle.card_core.proofs.Confirming.{answered_so, finds_receipter}
 use Rattle.card_core.specs.Confirms.{AnswersFor, leaves}
@@ -37,10 +37,8 @@ judge_extradition-requires-clause-short g c = omega (arith, c.requires.formed.1.
 pub returns-in_err-found-clause-done : goal.returns-in_err-found-clause-done
 returns-in_err-found-clause-done g c page admitted acts says channels request holds =
     let here = subst (λ (t : Tables). ActsIn page t c.args.domain admitted) (sym c.tables.ensures.tables) acts in
-    let rule = c.in_err-found.field-0.0 in
-    refusal_managed admitted page c.args.records.now.tables c.args.reply.now.items c.from_residual.result rule c.from_residual.ensures.1
-    (judged (command_form managed_extradition) (λ holds found. inr (inr (inl found))) admitted request.form refl (Some rule) (c.in_err-found.ensures.refused page admitted here request.means))
-    c.requires.empty
+    refused_as (command_form managed_extradition) (λ holds found. inr (inr (inl found))) admitted request.form refl page c.args.records.now.tables c.args.reply.now.items c.from_residual.result c.in_err-found.field-0.0
+    c.from_residual.ensures.1 (c.in_err-found.ensures.refused page admitted here request.means) c.requires.empty
 
 -- the AID of an entry that is found in its slot
 slot_aid : (tables : Tables) (slot : ℕ) (aid : List ℕ) → aid_of tables (Entry slot) ≡ Some aid → domain_aid tables.entries.items slot ≡ aid
@@ -125,28 +123,16 @@ returns-clause-done g c page admitted acts says channels request holds =
     let delegated = Holds admitted delegated_management in
     let finds = subst (λ (t : Tables). FindsConfirmer delegated t admitted c.in_ok-found.found.receipter) c.tables.ensures.tables (c.in_ok-found.ensures.receipter page admitted here) in
     let changed = moved registry given.third given.first in
-    let answers = c.confirm.ensures.answered page admitted before c.args.domain changed (record {
-      acts = acts;
-      issuer = (in_order before c.requires.cards).layout.issuer;
-      finds = finds_receipter delegated before admitted c.in_ok-found.found.receipter finds;
-      keeps = receipts_kept before after (moving_keeps before after thing to c.move_to.ensures.slots) c.in_ok-found.found.receipter;
-      says = says;
-    }) in
     let at : held before.entries.items c.in_ok-found.found.from ≡ Some c.unwrap.result.now = search rules in
     let from : c.unwrap.result.now.aid ≡ domain_of_thing registry given.third =
     sym (domain_aid_is before.entries.items c.in_ok-found.found.from c.unwrap.result.now at)
     ∙ subst (λ (t : Tables). domain_aid t.entries.items c.in_ok-found.found.from ≡ domain_of_thing registry c.args.self.now.aid) c.tables.ensures.tables
     (c.in_ok-found.ensures.from page registry here.says acts.well)
     ∙ ap (domain_of_thing registry) request.means.aid in
-    let Told : List ℕ → List ℕ → List ℕ → Type 0 = (λ (a b d : List ℕ). AnswersFor page c.confirm.new.records.tables c.in_ok-found.found.receipter admitted (a ∷ b ∷ d ∷ []) changed c.confirm.new.reply.items) in
-    let told : Told (domain_of_thing registry given.third) given.third given.first =
-    subst (λ (d : List ℕ). Told (domain_of_thing registry given.third) given.third d) request.means.to
-    (subst (λ (b : List ℕ). Told (domain_of_thing registry given.third) b c.args.self.now.to) request.means.aid
-    (subst (λ (a : List ℕ). Told a c.args.self.now.aid c.args.self.now.to) from answers)) in
-    let answered = answered_so delegated before admitted c.in_ok-found.found.receipter finds (domain_of_thing registry given.third ∷ given.third ∷ given.first ∷ []) changed (leaves admitted told.0 c.confirm.new.reply.items) told.2 in
-    answered_managed (command_form managed_extradition) (λ holds found. inr (inr (inl found))) admitted request.form refl (c.in_ok-found.ensures.passed page admitted here request.means) page
-    c.confirm.new.records.tables (domain_of_thing registry given.third ∷ given.third ∷ given.first ∷ []) changed c.confirm.new.reply.items c.in_ok-found.found.receipter told
-    (record { asked = given; asks = request.means.asks; changed = changed; becomes = refl; answered = answered; volatile = refl; status = refl }) (record { 0 = 0x9000 }) refl
+    confirmed_managed managed_extradition (λ holds found. inr (inr (inl found))) admitted request.form given request.means.asks changed refl refl refl
+    (c.in_ok-found.ensures.passed page admitted here request.means) page before after c.confirm.new.records.tables c.args.domain c.requires.cards acts c.in_ok-found.found.receipter finds
+    (receipts_kept before after (moving_keeps before after thing to c.move_to.ensures.slots) c.in_ok-found.found.receipter)
+    says _ (λ i. from i ∷ request.means.aid i ∷ request.means.to i ∷ []) c.confirm.new.reply.items c.confirm.ensures.answered (record { 0 = 0x9000 }) refl
 
 pub returns-clause-free : goal.returns-clause-free
 returns-clause-free g c =

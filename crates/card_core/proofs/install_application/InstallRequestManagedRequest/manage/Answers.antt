@@ -1,12 +1,12 @@
 use Rattle.std.proofs.Common.{◌≡◌, ℕ, inl, List, [], ◌∷◌, Option, None, Some, refl, ap, sym, subst, ◌∙◌, arith}
 use Rattle.std.specs.Prelude.{IfSome, IsSome}
 use Rattle.std.specs.Option.{option_map}
-use Rattle.card_core.proofs.Answered.{aids_on, aids_selected, answered_managed, entry_room, room_again, still_able}
+use Rattle.card_core.proofs.Answered.{aids_on, aids_selected, entry_room, room_again, still_able}
 use Rattle.card_core.proofs.Cards.{in_order}
 use Rattle.card_core.proofs.EntryCards.{adding_keeps, aids_kept, entry_cards, receipts_kept}
 use Rattle.card_core.proofs.Installing.{made_named}
 use Rattle.card_core.proofs.FreePages.{files_free}
-use Rattle.card_core.proofs.Managing.{refusal_managed}
+use Rattle.card_core.proofs.Managing.{confirmed_managed, refused_as}
 use Rattle.card_core.proofs.SomeAdmitted.{domain_named, domain_there, of_card, some_acts, some_admitted, some_load}
 use Rattle.card_core.proofs.Confirming.{answered_so, finds_receipter}
 use Rattle.card_core.specs.Confirms.{AnswersFor, leaves}
@@ -43,10 +43,8 @@ returns-in_err-found-clause-done g c page admitted acts says channels request ho
     let load = says.load in
     let here = subst (λ (t : Tables). ActsIn page t c.args.domain admitted) (sym c.tables.ensures.tables) acts in
     let named = subst (λ (t : Tables). IsLoadNamed t.entries.items c.args.live.now.load admitted.at.volatile.load) (sym c.tables.ensures.tables) load in
-    let rule = c.in_err-found.field-0.0 in
-    refusal_managed admitted page c.args.records.now.tables c.args.reply.now.items c.from_residual.result rule c.from_residual.ensures.1
-    (judged (command_form managed_install) (λ holds found. inl found) admitted request.form refl (Some rule) (c.in_err-found.ensures.refused page admitted here named request.means))
-    c.requires.empty
+    refused_as (command_form managed_install) (λ holds found. inl found) admitted request.form refl page c.args.records.now.tables c.args.reply.now.items c.from_residual.result c.in_err-found.field-0.0
+    c.from_residual.ensures.1 (c.in_err-found.ensures.refused page admitted here named request.means) c.requires.empty
 
 file_there : (tables : Tables) (slot : ℕ) (aid : List ℕ) → aid_of tables (File slot) ≡ Some aid → IsSome (held tables.files.items slot)
 file_there tables slot aid is = by (held tables.files.items slot) is
@@ -133,20 +131,10 @@ returns-clause-done g c page admitted acts says channels request holds =
     let joined = subst (λ (entry : registry.Entry). IsEntryAdded entry said added.0) made added.1 in
     let delegated = Holds admitted delegated_management in
     let finds = subst (λ (t : Tables). FindsConfirmer delegated t admitted c.in_ok-found.found.receipter) c.tables.ensures.tables (c.in_ok-found.ensures.receipter page admitted here) in
-    let answers = c.confirm.ensures.answered page admitted before c.args.domain added.0 (record {
-      acts = acts;
-      issuer = (in_order before c.requires.cards).layout.issuer;
-      finds = finds_receipter delegated before admitted c.in_ok-found.found.receipter finds;
-      keeps = receipts_kept before after (adding_keeps before after c.place_entry.result c.made.result c.place_entry.ensures.slots) c.in_ok-found.found.receipter;
-      says = added.2;
-    }) in
-    let Told : List ℕ → List ℕ → Type 0 = (λ (a b : List ℕ). AnswersFor page c.confirm.new.records.tables c.in_ok-found.found.receipter admitted (a ∷ b ∷ []) added.0 c.confirm.new.reply.items) in
-    let told : Told asked.given.first asked.given.third =
-    subst (λ (b : List ℕ). Told asked.given.first b) request.means.aid (subst (λ (a : List ℕ). Told a c.args.self.now.aid) request.means.file answers) in
-    let answered = answered_so delegated before admitted c.in_ok-found.found.receipter finds (asked.given.first ∷ asked.given.third ∷ []) added.0 (leaves admitted told.0 c.confirm.new.reply.items) told.2 in
-    answered_managed (command_form managed_install) (λ holds found. inl found) admitted request.form refl (c.in_ok-found.ensures.passed page admitted here named request.means) page
-    c.confirm.new.records.tables (asked.given.first ∷ asked.given.third ∷ []) added.0 c.confirm.new.reply.items c.in_ok-found.found.receipter told
-    (record { asked = asked; asks = request.means.asks; changed = added.0; becomes = joined; answered = answered; volatile = refl; status = refl }) (record { 0 = 0x9000 }) refl
+    confirmed_managed managed_install (λ holds found. inl found) admitted request.form asked request.means.asks added.0 joined refl refl
+    (c.in_ok-found.ensures.passed page admitted here named request.means) page before after c.confirm.new.records.tables c.args.domain c.requires.cards acts c.in_ok-found.found.receipter finds
+    (receipts_kept before after (adding_keeps before after c.place_entry.result c.made.result c.place_entry.ensures.slots) c.in_ok-found.found.receipter)
+    added.2 _ (λ i. request.means.file i ∷ request.means.aid i ∷ []) c.confirm.new.reply.items c.confirm.ensures.answered (record { 0 = 0x9000 }) refl
 
 pub returns-clause-free : goal.returns-clause-free
 returns-clause-free g c = files_free c.args.records.now.tables c.confirm.new.records.tables (c.confirm.ensures.files ∙ c.place_entry.ensures.slots.set.files)

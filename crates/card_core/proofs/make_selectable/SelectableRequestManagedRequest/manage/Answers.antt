@@ -1,10 +1,10 @@
-use Rattle.std.proofs.Common.{◌≡◌, ℕ, inl, inr, List, [], ◌∷◌, Option, None, Some, refl, sym, subst, ◌∙◌, arith}
+use Rattle.std.proofs.Common.{◌≡◌, ℕ, ap, inl, inr, List, [], ◌∷◌, Option, None, Some, refl, sym, subst, ◌∙◌, arith}
 use Rattle.std.specs.Prelude.{IfSome, IsSome}
-use Rattle.card_core.proofs.Answered.{aids_on, aids_selected, answered_managed, entry_room, room_again, still_able}
+use Rattle.card_core.proofs.Answered.{aids_on, aids_selected, entry_room, room_again, still_able}
 use Rattle.card_core.proofs.Cards.{in_order}
 use Rattle.card_core.proofs.EntryCards.{aids_kept, changing_keeps, entry_cards, receipts_kept}
 use Rattle.card_core.proofs.FreePages.{files_free}
-use Rattle.card_core.proofs.Managing.{refusal_managed}
+use Rattle.card_core.proofs.Managing.{confirmed_managed, refused_as}
 use Rattle.card_core.proofs.SomeAdmitted.{of_card, some_acts, some_admitted}
 use Rattle.card_core.proofs.Confirming.{answered_so, finds_receipter}
 use Rattle.card_core.specs.Confirms.{AnswersFor, leaves}
@@ -47,10 +47,8 @@ judge_selectable-requires-clause-short g c = omega (arith, c.requires.formed.1.m
 pub returns-in_err-found-clause-done : goal.returns-in_err-found-clause-done
 returns-in_err-found-clause-done g c page admitted acts says channels request holds =
     let here = subst (λ (t : Tables). ActsIn page t c.args.domain admitted) (sym c.tables.ensures.tables) acts in
-    let rule = c.in_err-found.field-0.0 in
-    refusal_managed admitted page c.args.records.now.tables c.args.reply.now.items c.from_residual.result rule c.from_residual.ensures.1
-    (judged (command_form managed_selectable) (λ holds found. inr (inl found)) admitted request.form refl (Some rule) (c.in_err-found.ensures.refused page admitted here request.means))
-    c.requires.empty
+    refused_as (command_form managed_selectable) (λ holds found. inr (inl found)) admitted request.form refl page c.args.records.now.tables c.args.reply.now.items c.from_residual.result c.in_err-found.field-0.0
+    c.from_residual.ensures.1 (c.in_err-found.ensures.refused page admitted here request.means) c.requires.empty
 
 pub set_life-requires-clause-slot : goal.set_life-requires-clause-slot
 set_life-requires-clause-slot g c =
@@ -117,15 +115,7 @@ returns-clause-done g c page admitted acts says channels request holds =
     let says = subst (λ (name : List ℕ). Represents page after (with_life admitted.at.registry name selectable_life)) aid (c.set_life.ensures.said page admitted.at.registry acts.says) in
     let delegated = Holds admitted delegated_management in
     let finds = subst (λ (t : Tables). FindsConfirmer delegated t admitted c.in_ok-found.found.receipter) c.tables.ensures.tables (c.in_ok-found.ensures.receipter page admitted here) in
-    let answers = c.confirm.ensures.answered page admitted before c.args.domain changed (record {
-      acts = acts;
-      issuer = (in_order before c.requires.cards).layout.issuer;
-      finds = finds_receipter delegated before admitted c.in_ok-found.found.receipter finds;
-      keeps = receipts_kept before after (changing_keeps before after slot (λ entry. record entry { life = selectable_life }) (λ e. (refl, refl)) c.set_life.ensures.slots) c.in_ok-found.found.receipter;
-      says = says;
-    }) in
-    let told = subst (λ (name : List ℕ). AnswersFor page c.confirm.new.records.tables c.in_ok-found.found.receipter admitted (name ∷ []) changed c.confirm.new.reply.items) request.means.aid answers in
-    let answered = answered_so delegated before admitted c.in_ok-found.found.receipter finds (given.third ∷ []) changed (leaves admitted told.0 c.confirm.new.reply.items) told.2 in
-    answered_managed (command_form managed_selectable) (λ holds found. inr (inl found)) admitted request.form refl (c.in_ok-found.ensures.passed page admitted here request.means) page
-    c.confirm.new.records.tables (given.third ∷ []) changed c.confirm.new.reply.items c.in_ok-found.found.receipter told
-    (record { asked = given; asks = request.means.asks; changed = changed; becomes = refl; answered = answered; volatile = refl; status = refl }) (record { 0 = 0x9000 }) refl
+    confirmed_managed managed_selectable (λ holds found. inr (inl found)) admitted request.form given request.means.asks changed refl refl refl
+    (c.in_ok-found.ensures.passed page admitted here request.means) page before after c.confirm.new.records.tables c.args.domain c.requires.cards acts c.in_ok-found.found.receipter finds
+    (receipts_kept before after (changing_keeps before after slot (λ entry. record entry { life = selectable_life }) (λ e. (refl, refl)) c.set_life.ensures.slots) c.in_ok-found.found.receipter)
+    says _ (ap (λ (name : List ℕ). name ∷ []) request.means.aid) c.confirm.new.reply.items c.confirm.ensures.answered (record { 0 = 0x9000 }) refl

@@ -6,14 +6,13 @@ use Rattle.card_types.specs.InOrder.{IsInOrder}
 use Rattle.card_types.specs.Represents.{used}
 use Rattle.card_types.specs.Well.{IsObject}
 use Rattle.card_types.specs.declared.limits.TheConstants.{OBJECTS}
-use Rattle.policy_rules.proofs.ManagedLawful.{replied}
 use Rattle.policy_rules.proofs.StoreDataElements.{elements_behind, none_left}
 use Rattle.policy_rules.specs.Requests.{ActsIn}
 use Rattle.policy_rules.specs.ObjectsFound.{has_object_in, new_tags}
 use Rattle.card_core.proofs.Answered.{entries_selected}
 use Rattle.card_core.proofs.Cards.{in_order}
 use Rattle.card_core.proofs.FreePages.{files_free}
-use Rattle.card_core.proofs.Managing.{refusal_managed}
+use Rattle.card_core.proofs.Managing.{refusal_managed, replied_managed}
 use Rattle.card_core.proofs.ObjectSlots.{room_first}
 use Rattle.card_core.proofs.ObjectsPut.{ArePut, all_same, are_cards_after, at_most, none_put, put_after, same_after}
 use Rattle.card_core.specs.ObjectsPut.{object_with}
@@ -21,17 +20,15 @@ use Rattle.apdu_core.specs.Apdu.{Apdu}
 use Rattle.apdu_core.specs.declared.reply.Status.{Status}
 use Rattle.card_types.specs.Ascending.{object_order}
 use Rattle.card_types.specs.declared.tables.Tables.{Tables}
-use Rattle.policy_rules.proofs.Judging.{does_so}
 use Rattle.policy_rules.specs.Admission.{Admitted}
 use Rattle.policy_rules.specs.Arranged.{IsArranged}
 use Rattle.policy_rules.specs.Commands.{TakesCommand, Judges}
-use Rattle.policy_rules.specs.State.{Effect}
 use Rattle.policy_rules.specs.DataObjects.{with_data, with_objects}
 use Rattle.policy_rules.specs.StoreData.{HasObjects, StoreDataField, managed_store_data}
 use Rattle.card_core.specs.Manages.{IsManaged}
 use Rattle.card_types.specs.Registry as registry
 use Rattle.card_core.proofs.store_data.StoreRequestManagedRequest.manage.Goals as goal
-use Rattle.policy_rules.specs.ManagedForm.{ManagedEffect, command_form}
+use Rattle.policy_rules.specs.ManagedForm.{command_form}
 
 -- the data objects of a command
 objects_of : (objects : List ℕ) (command : Apdu) → objects ≡ command.body → StoreDataField command.body
@@ -46,21 +43,11 @@ all_managed page before now domain admitted acts takes judges elements has put s
     let said = admitted.at.registry in
     let part = put.shows page said acts.says acts.well in
     let things = part.rest ∙ ap (λ (owner : List ℕ). with_objects owner said.objects elements) (sym acts.on) in
-    let effect : Effect = record { state = record { registry = with_data said part.objects; volatile = admitted.at.volatile }; body = []; status = 0x9000 } in
-    let does : ManagedEffect managed_store_data admitted effect = replied managed_store_data admitted elements (with_data said part.objects) has (record {
+    replied_managed managed_store_data (λ holds here. inl here) admitted takes elements has (with_data said part.objects) (record {
       objects = part.objects;
       arranged = subst (λ (os : List registry.Object). IsArranged object_order os part.objects) things part.arranged;
       registry = refl;
-    }) (λ no. no) in
-    record {
-      judges = judges;
-      done = effect;
-      does = does_so (command_form managed_store_data) (λ holds here. inl here) admitted takes effect does;
-      volatile = refl;
-      says = part.says;
-      body_is = refl;
-      status_is = done;
-    }
+    }) judges (λ no. no) page now part.says [] refl status done
 
 pub judge_store_data-requires : goal.judge_store_data-requires
 judge_store_data-requires g c = record { in_order = subst IsInOrder (sym c.tables.ensures.tables) (in_order c.args.records.now.tables c.requires.cards) }
