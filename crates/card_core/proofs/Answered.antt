@@ -4,27 +4,18 @@ use Rattle.std.specs.Prelude.{IfSome, count_by, not}
 use Rattle.std.specs.List.{list_any}
 use Rattle.std.proofs.lemmas.List.Elements.{Contains-append_left, Contains-append_right}
 use Rattle.std.proofs.lemmas.List.Sums.{sum_by-append, sum_by-cons}
-use Rattle.apdu_core.specs.declared.reply.Status.{Status}
 use Rattle.card_types.specs.KeySets.{HasKey}
-use Rattle.card_types.specs.Registry.{Registry}
 use Rattle.card_types.specs.Slots.{held}
 use Rattle.card_types.specs.declared.tables.Entry.{Entry}
 use Rattle.card_types.specs.declared.found.Found.{Found}
 use Rattle.card_types.specs.declared.found.Found.TheVariants as Thing
 use Rattle.card_types.specs.declared.tables.KeyRec.{KeyRec}
 use Rattle.card_types.specs.declared.tables.Tables.{Tables}
-use Rattle.policy_rules.proofs.Judging.{IsListed, does_so, judged}
-use Rattle.policy_rules.specs.Admission.{Admitted}
-use Rattle.policy_rules.specs.CommandForm.{CommandForm}
-use Rattle.policy_rules.specs.Commands.{TakesCommand}
-use Rattle.policy_rules.specs.ExternalAuthenticate.{rules_before_form}
-use Rattle.policy_rules.specs.FirstFailing.{IsFirst}
 use Rattle.policy_rules.specs.HoldersFound.{MayReceipt}
 use Rattle.policy_rules.specs.declared.live.Live.{Live}
 use Rattle.policy_rules.specs.declared.live.LoadName.{LoadName}
 use Rattle.card_core.proofs.EntryCards.{KeepsNumbers, may_still}
-use Rattle.card_core.specs.Confirms.{AnswersFor, leaves}
-use Rattle.card_core.specs.Manages.{IsManaged, KeepsAid, KeepsAids, KeepsSelected}
+use Rattle.card_core.specs.Manages.{KeepsAid, KeepsAids, KeepsSelected}
 use Rattle.rec_store.specs.Keeper.{key_pages}
 use Rattle.rec_store.specs.Places.{file_page}
 use Rattle.rec_store.specs.Room.{HasRoomFor, with_staged}

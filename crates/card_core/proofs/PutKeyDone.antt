@@ -6,29 +6,26 @@ use Rattle.std.proofs.lemmas.Bool.{and_from, and_parts}
 use Rattle.std.proofs.lemmas.List.{append-nil}
 use Rattle.apdu_core.specs.declared.reply.Status.{Status}
 use Rattle.card_types.specs.Ascending.{counter_order, key_order}
-use Rattle.card_types.specs.Registry.{Counter, Key, is_domain}
+use Rattle.card_types.specs.Registry.{Counter, Key}
 use Rattle.card_types.specs.Represents.{domain_aid}
 use Rattle.card_types.specs.declared.tables.Tables.{Tables}
 use Rattle.key_rules.specs.PutFails.{NoneHolds, PutFails}
 use Rattle.key_sets.specs.Puts.{Puts}
 use Rattle.key_rules.specs.declared.refusal.PutRefusal.TheVariants.{Unknown, Taken, Full}
-use Rattle.policy_rules.proofs.ManagedLawful.{replied}
+use Rattle.card_core.proofs.Managing.{replied_managed}
 use Rattle.policy_rules.proofs.PutKeyJudging.{none_holds}
 use Rattle.policy_rules.proofs.PutKeyKeeps.{AreOfVersion, HaveLengths}
 use Rattle.policy_rules.specs.Admission.{Admitted}
 use Rattle.policy_rules.specs.Arranged.{IsArranged}
 use Rattle.policy_rules.specs.Commands.{Judges}
-use Rattle.policy_rules.proofs.Judging.{does_so}
 use Rattle.policy_rules.specs.PutKey.{AreKeysPut, AreOpened, ChecksFit, SentKey, check_value, counters_from, keys_from, managed_put_key}
 use Rattle.policy_rules.specs.KeyVersions.{counters_but, keys_but, with_keys}
 use Rattle.policy_rules.specs.Requests.{ActsIn, IsRequestOf, sent_keys}
-use Rattle.policy_rules.specs.State.{Effect}
 use Rattle.policy_rules.specs.declared.put_key.PutKeys.{PutKeys}
 use Rattle.policy_rules.specs.declared.request.Request.TheVariants.{PutKey}
 use Rattle.card_core.proofs.PutKeyTables.{put_counters, put_keys, says_after, slot_keys}
 use Rattle.card_core.specs.Domains.{is_domain_in}
 use Rattle.card_core.specs.Manages.{IsManaged}
-use Rattle.policy_rules.specs.ManagedForm.{ManagedEffect, command_form}
 
 -- one check value fits, or three do
 pub fits_one : (fit : Bool) (sent : SentKey) (key : List ℕ) → IsTrue fit ↔ (check_value key ≡ sent.check) → IsTrue fit ↔ ChecksFit (sent ∷ []) (key ∷ [])
@@ -85,13 +82,6 @@ module _ (old new : Tables) (life : new.life ≡ old.life) (entries : new.entrie
   abbrev counters_after : (cs : List Counter) × IsArranged counter_order (counters_from (domain_aid old.entries.items domain) version ++ counters_but (domain_aid old.entries.items domain) replaced admitted.at.registry.counters) cs
   counters_after = put_counters old new life entries files objects domain replaced version bytes puts sizes versioned none is_domain page admitted.at.registry acts.says acts.well
 
-  abbrev done : Effect
-  done = record {
-    state = record { registry = with_keys admitted.at.registry keys_after.0 counters_after.0; volatile = admitted.at.volatile };
-    body = version ∷ concat (map (λ (one : SentKey). one.check) (sent_keys keys));
-    status = 0x9000;
-  }
-
   put : AreKeysPut admitted (record { version = version; sent = sent_keys keys }) (with_keys admitted.at.registry keys_after.0 counters_after.0)
   put = record {
     bytes = bytes;
@@ -105,17 +95,9 @@ module _ (old new : Tables) (life : new.life ≡ old.life) (entries : new.entrie
     registry = refl;
   }
 
-  does : ManagedEffect managed_put_key admitted done
-  does = replied managed_put_key admitted (record { version = version; sent = sent_keys keys }) (with_keys admitted.at.registry keys_after.0 counters_after.0) request.means.1 put (λ no. no)
-
   pub put_managed : (body : List ℕ) (status : Status) → Judges admitted None → body ≡ version ∷ concat (map (λ one. one.check) (sent_keys keys))
       → status.0 ≡ 0x9000 → IsManaged admitted page new body status
-  put_managed body status judges written word = record {
-    judges = judges;
-    done = done;
-    does = does_so (command_form managed_put_key) (λ holds here. inl here) admitted request.form done does;
-    volatile = refl;
-    says = says_after old new life entries files objects domain replaced version bytes puts sizes versioned none is_domain page admitted.at.registry acts.says acts.well;
-    body_is = written;
-    status_is = word;
-  }
+  put_managed body status judges written word =
+      replied_managed managed_put_key (λ holds here. inl here) admitted request.form (record { version = version; sent = sent_keys keys }) request.means.1
+      (with_keys admitted.at.registry keys_after.0 counters_after.0) put judges (λ no. no) page new
+      (says_after old new life entries files objects domain replaced version bytes puts sizes versioned none is_domain page admitted.at.registry acts.says acts.well) body written status word

@@ -23,7 +23,7 @@ use Rattle.policy_rules.specs.declared.request.Request.{Request}
 use Rattle.policy_rules.specs.declared.request.Request.TheVariants.{InstallLoad, Load}
 use Rattle.policy_rules.specs.declared.rule.Rule.{Rule}
 use Rattle.card_core.specs.SecureChannels.{held_on, without_offer_held}
-use Rattle.card_core.specs.Kept.{Kept, KeptRepresents, RepresentsSoundly}
+use Rattle.card_core.specs.Kept.{Kept, KeptRepresents}
 use Rattle.card_core.specs.Loading.{RepresentsAll, RepresentsLoading, with_due}
 use Rattle.card_core.specs.declared.loading.Loading.{Loading}
 use Rattle.load_session.specs.declared.session.LoadSession.{LoadSession}

@@ -1,27 +1,18 @@
-use Rattle.std.proofs.Common.{rules, ◌≡◌, ◌⊎◌, inl, inr, arith, Bor, Option, ℕ, ◌<◌, List, [], ◌∷◌, None, Some, refl, sym, ap, subst, ◌∙◌}
+use Rattle.std.proofs.Common.{rules, ◌≡◌, arith, Option, ℕ, ◌<◌, List, None, Some, refl, sym, ap, subst, ◌∙◌}
 use Rattle.std.specs.Prelude.{Contains, slice_index_or}
 use Rattle.std.proofs.lemmas.List.{get_or_default}
-use Rattle.apdu_core.specs.Apdu.{Apdu}
 use Rattle.card_types.specs.InOrder.{IsInOrder}
-use Rattle.policy_rules.specs.Classes.{changing, managing}
-use Rattle.std.proofs.lemmas.List.Elements.{Contains-append_left}
+use Rattle.policy_rules.specs.Classes.{changing}
 use Rattle.policy_rules.specs.Requests.{ActsIn, IsRequestOf, IsWellFormed, RepresentsState, form_in}
 use Rattle.card_types.specs.declared.tables.Tables.{Tables}
 use Rattle.card_core.specs.Lists.{Lists}
-use Rattle.policy_rules.specs.declared.delete_object.DeletionRequest.{DeletionRequest}
-use Rattle.policy_rules.specs.declared.entry_status.EntryStatusRequest.{EntryStatusRequest}
-use Rattle.policy_rules.specs.declared.extradition.ExtraditionRequest.{ExtraditionRequest}
-use Rattle.policy_rules.specs.declared.install_application.InstallRequest.{InstallRequest}
-use Rattle.policy_rules.specs.declared.make_selectable.SelectableRequest.{SelectableRequest}
 use Rattle.policy_rules.specs.declared.live.TheConstants.{CHANNELS}
 use Rattle.policy_rules.specs.declared.request.Request.{Request}
-use Rattle.policy_rules.specs.declared.request.Request.TheVariants.{CardStatus, DeleteKey, DeleteObject, EntryStatus, Extradite, Install, MakeSelectable, PutKey, Store}
-use Rattle.policy_rules.specs.declared.put_key.PutKeys.{PutKeys}
-use Rattle.card_core.proofs.Acting.{acts_for, answer_carried, held_there, listing_carried, low, managed_carried, offer_carried}
+use Rattle.card_core.proofs.Acting.{acts_for, answer_carried, listing_carried, low, offer_carried}
 use Rattle.card_core.proofs.Cards.{in_order}
 use Rattle.card_core.proofs.ChannelChanges.{HasFour}
 use Rattle.card_core.proofs.Passed.{read_at}
-use Rattle.card_core.specs.SecureChannels.{RepresentsSecureChannel, IsInSession}
+use Rattle.card_core.specs.SecureChannels.{RepresentsSecureChannel}
 use Rattle.card_core.specs.Kept.{kept_of}
 use Rattle.card_core.specs.Serves.{AsksForLoad}
 use Rattle.card_core.specs.Offers.{AnswersAs, OffersAs, secure_channel_for}
@@ -34,7 +25,6 @@ use Rattle.card_types.specs.Represents.{domain_aid}
 use Rattle.card_types.specs.declared.tables.Entry.{Entry}
 use Rattle.load_session.specs.Loaded.{loaded}
 use Rattle.load_session.specs.Session.{load_slot}
-use Rattle.policy_rules.proofs.Lawful.{IsLoading}
 use Rattle.card_core.proofs.perform.perform.Goals as goal
 
 pub select-requires-clause-in_order : goal.select-requires-clause-in_order

@@ -1,10 +1,9 @@
-use Rattle.std.proofs.Common.{rules, ◌≡◌, ℕ, List, Some, Result, Ok, Err, sym, ap, subst, ◌∙◌}
+use Rattle.std.proofs.Common.{rules, ◌≡◌, Some, Result, Ok, Err, sym, ap, subst, ◌∙◌}
 use Rattle.std.specs.Prelude.{IfErr, IfOk}
 use Rattle.apdu_core.specs.Apdu.{Apdu, apdu_of}
 use Rattle.policy_rules.proofs.ExternalAuthenticateLaws.{begin_passes, unoffered_judged}
 use Rattle.policy_rules.proofs.FirstLike.{handed_on}
 use Rattle.policy_rules.proofs.Judging.{malformed_judged}
-use Rattle.policy_rules.specs.Admission.{Admitted}
 use Rattle.policy_rules.specs.Commands.{Judges, Takes}
 use Rattle.policy_rules.specs.Requests.{Decodes, IsMalformed, IsRequestOf, form_in}
 use Rattle.policy_rules.specs.declared.external_authenticate.RuleEA.TheVariants.{EA1}

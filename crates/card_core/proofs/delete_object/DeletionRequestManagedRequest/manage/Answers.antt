@@ -2,11 +2,10 @@ use Rattle.std.proofs.Common.{◌≡◌, ℕ, ap, inl, inr, List, [], ◌∷◌,
 use Rattle.std.specs.Prelude.{IfSome, IsSome}
 use Rattle.card_core.proofs.Answered.{aids_selected, selected_on}
 use Rattle.card_core.proofs.Cards.{in_order}
-use Rattle.card_core.proofs.Confirming.{answered_so, finds_receipter}
+use Rattle.card_core.proofs.Confirming.{finds_receipter}
 use Rattle.card_core.proofs.Deleting.{confirmer_stays, deletion_able, deletion_keeps, deletion_selected, issuer_stays}
 use Rattle.card_core.proofs.Managing.{confirmed_managed, refused_as}
 use Rattle.card_core.proofs.SomeAdmitted.{some_acts, some_admitted}
-use Rattle.card_core.specs.Confirms.{AnswersFor, leaves}
 use Rattle.card_types.specs.Found.{aid_of}
 use Rattle.card_types.specs.InOrder.{IsInOrder}
 use Rattle.card_types.specs.Represents.{Represents}
