@@ -44,6 +44,7 @@ pub fn manage<M: ManagedRequest, F: Flash>(
     requires empty { reply.old.items ≡ [] }
     ensures done { (place : Option Place) (loading : Option LoadSession) → ForAsked received.now.channel (M.request request.now) place (kept_of records.old.tables live.now held.now) loading
         (λ page told. CarriesOn page told (kept_of records.new.tables live.now held.now) loading reply.new.items result) }
+    ensures changing { Contains changing (form_in (M.request request.now)).instruction }
     ensures cards { AreCards records.new.tables }
     ensures same { (records.new.flash ≡ records.old.flash) × (records.new.live ≡ true) }
     ensures refused { OnErr result (records.new ≡ records.old) }

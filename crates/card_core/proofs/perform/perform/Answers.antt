@@ -166,17 +166,11 @@ manage-requires-clause-changing g c = (0, omega arith, refl)
 pub returns-in-PutKey-clause-done : goal.returns-in-PutKey-clause-done
 returns-in-PutKey-clause-done g c = rw (c.requires.unwritten, c.in-PutKey.is) (c.manage.ensures.done _ _)
 
-pub returns-in-PutKey-clause-idle : goal.returns-in-PutKey-clause-idle
-returns-in-PutKey-clause-idle g c = λ other unmanaged. absurd (unmanaged (changes_as c.args.request.now _ c.in-PutKey.is (0, omega arith, refl)))
-
 pub manage-requires-in-Store-clause-changing : goal.manage-requires-in-Store-clause-changing
 manage-requires-in-Store-clause-changing g c = (1, omega arith, refl)
 
 pub returns-in-Store-clause-done : goal.returns-in-Store-clause-done
 returns-in-Store-clause-done g c = rw (c.requires.unwritten, c.in-Store.is) (c.manage-in-Store.ensures.done _ _)
-
-pub returns-in-Store-clause-idle : goal.returns-in-Store-clause-idle
-returns-in-Store-clause-idle g c = λ other unmanaged. absurd (unmanaged (changes_as c.args.request.now _ c.in-Store.is (1, omega arith, refl)))
 
 pub manage-requires-in-DeleteKey-clause-changing : goal.manage-requires-in-DeleteKey-clause-changing
 manage-requires-in-DeleteKey-clause-changing g c = (2, omega arith, refl)
@@ -184,17 +178,11 @@ manage-requires-in-DeleteKey-clause-changing g c = (2, omega arith, refl)
 pub returns-in-DeleteKey-clause-done : goal.returns-in-DeleteKey-clause-done
 returns-in-DeleteKey-clause-done g c = rw (c.requires.unwritten, c.in-DeleteKey.is) (c.manage-in-DeleteKey.ensures.done _ _)
 
-pub returns-in-DeleteKey-clause-idle : goal.returns-in-DeleteKey-clause-idle
-returns-in-DeleteKey-clause-idle g c = λ other unmanaged. absurd (unmanaged (changes_as c.args.request.now _ c.in-DeleteKey.is (2, omega arith, refl)))
-
 pub manage-requires-in-DeleteObject-clause-changing : goal.manage-requires-in-DeleteObject-clause-changing
 manage-requires-in-DeleteObject-clause-changing g c = (2, omega arith, refl)
 
 pub returns-in-DeleteObject-clause-done : goal.returns-in-DeleteObject-clause-done
 returns-in-DeleteObject-clause-done g c = rw (c.requires.unwritten, c.in-DeleteObject.is) (c.manage-in-DeleteObject.ensures.done _ _)
-
-pub returns-in-DeleteObject-clause-idle : goal.returns-in-DeleteObject-clause-idle
-returns-in-DeleteObject-clause-idle g c = λ other unmanaged. absurd (unmanaged (changes_as c.args.request.now _ c.in-DeleteObject.is (2, omega arith, refl)))
 
 pub manage-requires-in-Install-clause-changing : goal.manage-requires-in-Install-clause-changing
 manage-requires-in-Install-clause-changing g c = (3, omega arith, refl)
@@ -202,17 +190,11 @@ manage-requires-in-Install-clause-changing g c = (3, omega arith, refl)
 pub returns-in-Install-clause-done : goal.returns-in-Install-clause-done
 returns-in-Install-clause-done g c = rw (c.requires.unwritten, c.in-Install.is) (c.manage-in-Install.ensures.done _ _)
 
-pub returns-in-Install-clause-idle : goal.returns-in-Install-clause-idle
-returns-in-Install-clause-idle g c = λ other unmanaged. absurd (unmanaged (changes_as c.args.request.now _ c.in-Install.is (3, omega arith, refl)))
-
 pub manage-requires-in-MakeSelectable-clause-changing : goal.manage-requires-in-MakeSelectable-clause-changing
 manage-requires-in-MakeSelectable-clause-changing g c = (3, omega arith, refl)
 
 pub returns-in-MakeSelectable-clause-done : goal.returns-in-MakeSelectable-clause-done
 returns-in-MakeSelectable-clause-done g c = rw (c.requires.unwritten, c.in-MakeSelectable.is) (c.manage-in-MakeSelectable.ensures.done _ _)
-
-pub returns-in-MakeSelectable-clause-idle : goal.returns-in-MakeSelectable-clause-idle
-returns-in-MakeSelectable-clause-idle g c = λ other unmanaged. absurd (unmanaged (changes_as c.args.request.now _ c.in-MakeSelectable.is (3, omega arith, refl)))
 
 pub manage-requires-in-Extradite-clause-changing : goal.manage-requires-in-Extradite-clause-changing
 manage-requires-in-Extradite-clause-changing g c = (3, omega arith, refl)
@@ -220,26 +202,17 @@ manage-requires-in-Extradite-clause-changing g c = (3, omega arith, refl)
 pub returns-in-Extradite-clause-done : goal.returns-in-Extradite-clause-done
 returns-in-Extradite-clause-done g c = rw (c.requires.unwritten, c.in-Extradite.is) (c.manage-in-Extradite.ensures.done _ _)
 
-pub returns-in-Extradite-clause-idle : goal.returns-in-Extradite-clause-idle
-returns-in-Extradite-clause-idle g c = λ other unmanaged. absurd (unmanaged (changes_as c.args.request.now _ c.in-Extradite.is (3, omega arith, refl)))
-
 pub manage-requires-in-CardStatus-clause-changing : goal.manage-requires-in-CardStatus-clause-changing
 manage-requires-in-CardStatus-clause-changing g c = (5, omega arith, refl)
 
 pub returns-in-CardStatus-clause-done : goal.returns-in-CardStatus-clause-done
 returns-in-CardStatus-clause-done g c = rw (c.requires.unwritten, c.in-CardStatus.is) (c.manage-in-CardStatus.ensures.done _ _)
 
-pub returns-in-CardStatus-clause-idle : goal.returns-in-CardStatus-clause-idle
-returns-in-CardStatus-clause-idle g c = λ other unmanaged. absurd (unmanaged (changes_as c.args.request.now _ c.in-CardStatus.is (5, omega arith, refl)))
-
 pub manage-requires-in-EntryStatus-clause-changing : goal.manage-requires-in-EntryStatus-clause-changing
 manage-requires-in-EntryStatus-clause-changing g c = (5, omega arith, refl)
 
 pub returns-in-EntryStatus-clause-done : goal.returns-in-EntryStatus-clause-done
 returns-in-EntryStatus-clause-done g c = rw (c.requires.unwritten, c.in-EntryStatus.is) (c.manage-in-EntryStatus.ensures.done _ _)
-
-pub returns-in-EntryStatus-clause-idle : goal.returns-in-EntryStatus-clause-idle
-returns-in-EntryStatus-clause-idle g c = λ other unmanaged. absurd (unmanaged (changes_as c.args.request.now _ c.in-EntryStatus.is (5, omega arith, refl)))
 
 -- INSTALL [for load]
 pub begin_load-requires-clause-in_order : goal.begin_load-requires-clause-in_order
