@@ -1,13 +1,13 @@
 -- How `cap` ends, by how its lines were taken, what was written of their bytes, and how the flush was answered.
-use Rattle.std.proofs.Common.{◌≡◌, ◌≢◌, ◌⊎◌, ℕ, ◌++◌, Bool, true, false, List, [], take, refl, ap, sym, subst, ◌∙◌, inl, inr, arith}
+use Rattle.std.proofs.Common.{◌≡◌, ◌≢◌, ◌⊎◌, ℕ, ◌++◌, Bool, true, false, List, [], take, refl, ap, sym, subst, ◌∙◌, inl, inr}
 use Rattle.std.specs.List.{concat, flat_map}
 use Rattle.std.proofs.lemmas.List.{append-nil}
 use Rattle.cap_pack.specs.Cap.{CapOf}
 use Rattle.cap_pack.specs.Held.{IsCap, pack_of}
-use Rattle.cap_pack.specs.Input.{JoinsLine, SpellLines, limited}
+use Rattle.cap_pack.specs.Input.{SpellLines}
 use Rattle.cap_pack.specs.Pack.{pack}
 use Rattle.cap_pack.specs.declared.cap.Cap.{Cap}
-use Rattle.faults.specs.Faults.{Rose, next_count}
+use Rattle.faults.specs.Faults.{Rose}
 use Rattle.io_edge.specs.Streams.{SinkState, SourceState}
 use Rattle.line_runs.specs.Ends.{EndsAt}
 use Rattle.line_runs.specs.Outside.{Outside, outside}

@@ -13,7 +13,6 @@ ghost use Rattle.gp_tool.specs.Cap.{CapCourse, CapEnds, CapEndsAt, WritesJoined,
 ghost use Rattle.gp_tool.specs.Ends.{EndCause};
 ghost use Rattle.gp_tool.specs.declared.ending.Ending.TheVariants.{BadLine, InputTooLong};
 
-use crate::desk_verb::ending_of_lines;
 use crate::ending::Ending;
 use crate::run::flush_at_end;
 use arrayvec::ArrayVec;
@@ -93,7 +92,7 @@ fn pack<S: Source, K: Sink>(joined: &mut Joined, source: &mut S, sink: &mut K) -
 {
     match take_lines(joined, source, sink) {
         LinesEnd::Finished => write_joined(joined, sink),
-        end => ending_of_lines(end, false),
+        end => Ending::of_lines(end, false),
     }
 }
 

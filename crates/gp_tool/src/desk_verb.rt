@@ -6,26 +6,12 @@ ghost use Rattle.line_runs.specs.Ends.{IsGoodInput};
 ghost use Rattle.line_runs.specs.Outside.{outside};
 ghost use Rattle.receipt_desk.specs.Audit.{TakesDesk, new_audit};
 ghost use Rattle.gp_tool.specs.Desk.{DeskEnds, desk_status};
-ghost use Rattle.gp_tool.specs.LineEndings.{ending_of_lines};
 
 use crate::ending::Ending;
-use crate::run::{end_of_input, flush_at_end};
+use crate::run::flush_at_end;
 use io_edge::{Sink, Source};
-use line_runs::{LinesEnd, take_lines};
+use line_runs::take_lines;
 use receipt_desk::Audit;
-
-/// How the program ends with lines that no card took part in.
-pub fn ending_of_lines(end: LinesEnd, differs: bool) -> Ending
-    ensures { result ≡ ending_of_lines end differs }
-{
-    match end {
-        LinesEnd::Finished => end_of_input(differs),
-        LinesEnd::BadLine => Ending::BadLine,
-        LinesEnd::ReadFault => Ending::ReadFault,
-        LinesEnd::WriteFault => Ending::WriteFault,
-        LinesEnd::InputTooLong => Ending::InputTooLong,
-    }
-}
 
 // The status where a desk ends so.
 fn status_of(ending: Ending) -> u8
@@ -46,6 +32,6 @@ pub fn desk_verb<S: Source, K: Sink>(source: &mut S, sink: &mut K) -> u8
 {
     let mut audit = Audit::new();
     let end = take_lines(&mut audit, source, sink);
-    let ending = ending_of_lines(end, audit.differs());
+    let ending = Ending::of_lines(end, audit.differs());
     status_of(flush_at_end(ending, sink))
 }

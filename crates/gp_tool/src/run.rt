@@ -10,7 +10,7 @@ ghost use Rattle.gp_tool.specs.Flush.{AfterFlush};
 ghost use Rattle.gp_tool.specs.declared.ending.Ending.TheVariants.{FlashFault};
 ghost use Rattle.gp_tool.specs.RunCause.{RunCause};
 ghost use Rattle.gp_tool.specs.Standing.{standing_in};
-ghost use Rattle.gp_tool.specs.Turn.{EndsWith, GoesOn, Refuses, ending_of};
+ghost use Rattle.gp_tool.specs.Turn.{EndsWith, GoesOn, Refuses};
 ghost use Rattle.gp_tool.specs.Verbs.{RunEnds};
 
 use crate::card_end::CardEnd;
@@ -32,17 +32,6 @@ fn refuse_line<K: Sink>(number: u32, sink: &mut K) -> Ending
     match write_bad_line(number, sink) {
         Ok(()) => Ending::BadLine,
         Err(_) => Ending::WriteFault,
-    }
-}
-
-/// How a run ends at the end of its input.
-pub fn end_of_input(differs: bool) -> Ending
-    ensures { result ≡ ending_of differs }
-{
-    if differs {
-        Ending::Differs
-    } else {
-        Ending::Finished
     }
 }
 
@@ -79,7 +68,7 @@ fn take_turn<S: Source, K: Sink, F: Flash>(
             LineEnd::WriteFault => Some(Ending::WriteFault),
             LineEnd::FlashFault => Some(Ending::FlashFault),
         },
-        Err(LineStop::End) => Some(end_of_input(*differs)),
+        Err(LineStop::End) => Some(Ending::at_end(*differs)),
         Err(LineStop::ReadFailed) => Some(Ending::ReadFault),
         Err(LineStop::TooLong(number)) => Some(refuse_line(number, sink)),
         Err(LineStop::InputTooLong) => Some(Ending::InputTooLong),

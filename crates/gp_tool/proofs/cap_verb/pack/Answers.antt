@@ -1,4 +1,4 @@
-use Rattle.std.proofs.Common.{◌≡◌, false, List, [], Option, ℕ, sym, ◌∙◌, refl, subst}
+use Rattle.std.proofs.Common.{false, [], sym, ◌∙◌, refl}
 use Rattle.cap_pack.proofs.InputLines.{lines_joined}
 use Rattle.line_runs.specs.Outside.{outside}
 use Rattle.gp_tool.proofs.CapEnding.{finished_ends, stopped_ends, stopped_well, written_well}
@@ -32,7 +32,7 @@ returns-in_default g c =
     let old = outside (S.state c.args.source.now) (K.state c.args.sink.now) in
     let new = outside (S.state c.take_lines.new.source) (K.state c.take_lines.new.sink) in
     let end = c.take_lines.result in
-    rw c.ending_of_lines.ensures (record {
+    rw c.of_lines.ensures (record {
       ends = (taken.course, stopped_ends K.tells old new taken.course end c.in_default.not-Finished taken.ends);
       complete = λ told good. (let well = (rw c.requires.none at c.take_lines.ensures.complete) told good in stopped_well end well.0 well.1);
       flushes = c.take_lines.ensures.flushes;

@@ -1,4 +1,4 @@
-use Rattle.std.proofs.Common.{◌≡◌, ◌≤◌, ◌++◌, ℕ, List, take}
+use Rattle.std.proofs.Common.{◌≡◌, ◌++◌, ℕ, List, take}
 use Rattle.std.specs.List.{flat_map}
 use Rattle.cap_pack.specs.Held.{IsCap, pack_of}
 use Rattle.gp_tool.specs.Cap.{pack_line}
