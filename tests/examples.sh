@@ -5,8 +5,11 @@
 #   tests/examples.sh
 #
 # Receipts, check values and the token of a script are compared with those of OpenSSL (tests/receipt.py). cut.script is ended by
-# tests/power_cut.py at the write that it names, and then at each write in turn, and recovery.script is played behind it. That is
+# tests/power_cut.py at the write that it names, and then at each write in turn, and recovery.script is played after it. That is
 # skipped where ptrace is refused.
+#
+# The lines of auditor.desk and issuer.desk are given to `gp desk`. tools/receipts has to make the receipts of auditor.desk out of the
+# provider's day, on the factory card and on one that has been in use.
 #
 # It says what differs, then 'N passed, M failed', and ends with 0 where nothing failed.
 set -euo pipefail
@@ -74,7 +77,46 @@ for example in issuer provider auditor; do
     compare_macs "$example"
 done
 
-# Who may do what on the auditor's card, which is the last one.
+make_card
+play applet
+
+# Gives lines to the desk, and compares what it writes: the example, its lines, the wanted text, the wanted status.
+ask_desk() {
+    local status=0
+    "$gp" desk <"$2" >written || status=$?
+    wants "$1: the status of desk" "$4" "$status"
+    wants "$1: what desk writes" "" "$(diff "$3" written)"
+}
+
+ask_desk auditor "$examples/auditor.desk" "$examples/auditor.verdicts" 10
+ask_desk issuer "$examples/issuer.desk" "$examples/issuer.tokens" 0
+
+# The receipts of the provider's day: its eight lines, which fit. The day is then played in two parts, and the second one audited
+# from what `gp show` wrote between them.
+key=$(grep '^key' "$examples/auditor.desk")
+"$top/tools/receipts" "$examples/provider.script" "$examples/provider.text" >day
+wants "provider: the receipts" "$(grep '^receipt' "$examples/auditor.desk" | head -n 8)" "$(<day)"
+(echo "$key" && cat day) >lines
+seq -f 'ok %04g' 8 >fitting
+ask_desk provider lines fitting 0
+
+cut=$(grep -n '^extradite' "$examples/provider.script" | tail -n 1 | cut -d : -f 1)
+opening=$(grep -E '^(keys|tokenkey) ' "$examples/provider.script" | sort -u)
+head -n "$((cut - 1))" "$examples/provider.script" >morning
+(echo select d100000001 && echo "$opening" && echo open 01 33 0001020304050607 && tail -n "+$cut" "$examples/provider.script") >evening
+make_card
+"$gp" play <morning >/dev/null
+"$gp" show >shown
+"$gp" play <evening >printed
+"$top/tools/receipts" --before shown evening printed >day
+wants "provider: the receipts of the evening" "$(grep '^receipt' "$examples/auditor.desk" | sed -n 5,8p)" "$(<day)"
+(echo "$key" && echo from 0004 && cat day) >lines
+seq -f 'ok %04g' 5 8 >fitting
+ask_desk provider lines fitting 0
+
+# Who may do what on the auditor's card.
+make_card
+"$gp" play <"$examples/auditor.script" >/dev/null
 status=0
 "$gp" access >printed || status=$?
 wants "auditor: the status of access" 0 "$status"
