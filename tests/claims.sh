@@ -1,5 +1,5 @@
 #!/usr/bin/env bash
-# Checks that README.md stays short, that the clauses which README.md and docs/PROOFS.md cite are there, and by
+# Checks that README.md stays short, that the clauses which README.md, docs/PROOFS.md and docs/DESK.md cite are there, and by
 # tests/citations.py that definitions stand where README.md and docs/ say.
 #
 # A citation is a code span of a crate, a function and one or more labels: `card_core Card::process step changes`. The
@@ -63,7 +63,7 @@ while read -r clause; do
     there[$clause]=1
 done < <(clauses)
 
-for file in README.md docs/PROOFS.md; do
+for file in README.md docs/PROOFS.md docs/DESK.md; do
     while read -r line crate name labels; do
         if [[ -z $labels ]]; then
             judge 1 "$file:$line: $crate $name: no label"
