@@ -8,6 +8,8 @@
 # tests/power_cut.py at the write that it names, and then at each write in turn, and recovery.script is played after it. That is
 # skipped where ptrace is refused.
 #
+# The commands of commands.lines are given to `gp why`, part by part, each on a new card.
+#
 # The lines of auditor.desk and issuer.desk are given to `gp desk`. tools/receipts has to make the receipts of auditor.desk out of the
 # provider's day, on the factory card and on one that has been in use.
 #
@@ -79,6 +81,14 @@ done
 
 make_card
 play applet
+
+# Each part of commands.lines.
+csplit --quiet --elide-empty-files --prefix part. "$examples/commands.lines" '/^# ----/' '{*}'
+for part in part.*; do
+    make_card
+    "$gp" why <"$part"
+done >printed
+wants_text commands
 
 # Gives lines to the desk, and compares what it writes: the example, its lines, the wanted text, the wanted status.
 ask_desk() {
