@@ -1,7 +1,8 @@
 #!/usr/bin/env bash
 # Checks that docs/STATUS.md says what the code says: each rule with its status word and its place in the order, each status
 # word, life cycle state, privilege, security level, key and exit status. It reads them from the code and from the definitions
-# (crates/*/src and crates/*/specs), which have to agree too, and looks in docs/POLICY.md and README.md for the same.
+# (crates/*/src and crates/*/specs), which have to agree too. It looks in README.md for the exit statuses, in docs/POLICY.md for the
+# commands and the instructions of each class, and in all pages for rules that are not there.
 #
 # What is to be found is a row of a table. That the sentence in it is right is for the reader.
 #
@@ -96,10 +97,13 @@ RULE_HEAD = ("rule", "status word", "what it means", "section")
 compare("rule", STATUS, rows_by(STATUS, 0, lambda row: row[1], *RULE_HEAD), "the code", statuses)
 for row in tables(STATUS, *RULE_HEAD):
     judge(row[2].endswith(".") and bool(row[3]), f"{STATUS}: {row[0]} has no sentence or no section")
-general = rows_by("docs/POLICY.md", 1, lambda row: row[3], "stage", "rule", "fails where")
-own = rows_by("docs/POLICY.md", 0, lambda row: row[2], "rule", "fails where", "reply")
-both = {rule: status for rule, status in (general | own).items() if rule in statuses or status.strip()}
-compare("rule", "docs/POLICY.md", both, "the code", statuses)
+
+# A rule that a page names is there.
+letters = "|".join(sorted({name.rstrip("0123456789") for name in statuses if name[-1].isdigit()}))
+for page in (Path("README.md"), *sorted(Path("docs").glob("*.md"))):
+    named = re.findall(rf"(?<![\w`/-])((?:{letters})\d+)(?!\w)", page.read_text())
+    for name in sorted(set(named) - set(statuses)):
+        judge(False, f"{page}: there is no rule {name}")
 
 # How many there are, in words.
 units = "one two three four five six seven eight nine".split()
@@ -147,19 +151,9 @@ compare("the order of", STATUS, rows_by(STATUS, 0, lambda row: [row[1], listed(r
 judge(expand(lists["general_rules"]) == [f"G{n}" for n in range(1, 9)], "the definitions: G1 to G8 are not in order")
 
 
-# docs/POLICY.md has the same order, with ranges, where P never refuses GET DATA, and the instructions of each class.
-def ranged(cell):
-    rules = []
-    for word in listed(cell):
-        name, low, high = re.fullmatch(r"([A-Z]+)(\d*)(?: to [A-Z]+(\d+))?", word).groups()
-        rules += [f"{name}{n}" for n in range(int(low), int(high or low) + 1)] if low else [name]
-    return rules
-
-
-told = {row[0].removesuffix(" of a key set"): row[1] for row in tables("docs/POLICY.md", "instruction", "its rules in order")}
-told = {title: ranged(cell) for title, cell in told.items() if cell != "the same"}
-ordered = {title: rules[title == "GET DATA" :] for title, (_, rules) in orders.items()}
-compare("the order of", "docs/POLICY.md", told, "the definitions", ordered)
+# docs/POLICY.md says of the same commands which form they have, and the instructions of each class.
+told = {row[0].removesuffix(" of a key set").removesuffix(" of one key") for row in tables("docs/POLICY.md", "instruction", "P1; P2 (else P)")}
+compare("the form of", "docs/POLICY.md", dict.fromkeys(sorted(told), True), "the definitions", dict.fromkeys(sorted(orders), True))
 
 ins_bytes = pairs(r"^pub const (\w+): u8 = 0x(\w\w);$", (RULES / "src" / "instruction.rt").read_text())
 source = (RULES / "src" / "class.rt").read_text()
