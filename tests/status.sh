@@ -293,7 +293,7 @@ judge(f"a key set of key version number {version}" in Path(STATUS).read_text(), 
 
 # How the program ends: endings, cards that are not powered on, words, and the script that builds it.
 tool = Path("crates/gp_tool/src")
-tool_text = "".join((tool / name).read_text() for name in ("ending.rt", "run_verb.rt", "desk_verb.rt", "cap_verb.rt", "top.rt"))
+tool_text = "".join((tool / name).read_text() for name in ("ending.rt", "run_verb.rt", "top.rt", "desk_verb.rt", "cap_verb.rt"))
 ends = set(re.findall(r"=> (\d+),$", tool_text, re.M))
 ends |= set(re.findall(r"ExitCode::from\((\d+)\)", Path("crates/gp_tool/src/program.rt").read_text()))
 ends = dict.fromkeys(sorted(ends, key=int), True)
