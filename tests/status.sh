@@ -2,7 +2,8 @@
 # Checks that docs/STATUS.md says what the code says: each rule with its status word and its place in the order, each status
 # word, life cycle state, privilege, security level, key and exit status. It reads them from the code and from the definitions
 # (crates/*/src and crates/*/specs), which have to agree too. It looks in README.md for the exit statuses, in docs/POLICY.md for the
-# commands and the instructions of each class, and in all pages for rules that are not there.
+# commands, the instructions of each class, the limits and the pages of a card, in docs/DESK.md for lines, verdicts, stops and statuses,
+# and in all pages for rules that are not there.
 #
 # What is to be found is a row of a table. That the sentence in it is right is for the reader.
 #
@@ -300,6 +301,82 @@ ends = dict.fromkeys(sorted(ends, key=int), True)
 script = re.search(r"^readonly no_binary=(\d+)$", Path("tools/prove").read_text(), re.M).group(1)
 compare("exit status", STATUS, rows_by(STATUS, 0, lambda row: True, "exit status", "what it means"), "the code", ends | {script: True})
 compare("exit status", "README.md", rows_by("README.md", 0, lambda row: True, "status", "when"), "the code", ends)
+
+# docs/DESK.md: the lines of a desk, its verdicts, the stops of a CAP file, and how the two verbs end.
+DESK = "docs/DESK.md"
+
+
+def first_words(path, *head):
+    """The first word of each code span that begins a row."""
+    return {span.split()[0] for row in tables(path, *head) for span in re.findall("`([^`]*)`", row[0])}
+
+
+def said(folder, file):
+    return {text.split()[0] for text in re.findall(r'codes "([a-z][^"]*)"', (Path("crates") / folder / "specs" / file).read_text())}
+
+
+def same_set(what, page, words, others):
+    judge(bool(others), f"{what}: the definitions have none")
+    judge(words == others, f"{what}: {page} and the definitions differ in {sorted(words ^ others)}")
+
+
+same_set("the lines of a desk", DESK, first_words(DESK, "line", "what it does", "writes"), said("receipt_desk", "Lines.antt"))
+same_set("the verdicts", DESK, first_words(DESK, "verdict", "what is wrong"), said("receipt_desk", "Text.antt") - {"none", "want"})
+stops = {span.rstrip(" N") for row in tables(DESK, "line", "what is wrong") for span in re.findall("`([^`]*)`", row[0])}
+same_set("the stops", DESK, stops, {text.strip() for text in re.findall(r'codes "([^"]*)"', Path("crates/cap_pack/specs/Said.antt").read_text())})
+ended = [row[0] for row in tables(DESK, "status", "when", "what has been written")]
+same_set("the statuses of desk and cap", DESK, set(ended), {"0", "2", "5", "6", "7", "9"} | {re.search(r"Differs => (\d+)", (tool / name).read_text()).group(1) for name in ("desk_verb.rt", "cap_verb.rt")})
+
+# docs/POLICY.md: the limits, and the pages of a card with the byte that each begins at.
+POLICY = "docs/POLICY.md"
+limits = pairs(r"^pub const (\w+): \w+ = (\w+);$", (TYPES / "src" / "limits.rt").read_text())
+limits = {name: int(value.replace("_", ""), 0) for name, value in limits.items()}
+blocks = int(re.search(r"^const BLOCKS: u16 = (\d+);$", (RULES / "src" / "load.rt").read_text(), re.M).group(1))
+compare(
+    "the limit of",
+    POLICY,
+    rows_by(POLICY, 0, lambda row: re.findall(r"\b[0-9A-F]+\b", row[1].replace(",", "")), "what", "at most"),
+    "the code",
+    {
+        "entries": [str(limits["ENTRIES"])],
+        "Executable Load Files": [str(each) for each in (limits["FILES"], 1, limits["FILE_LIMIT"], limits["LOAD_PAGES"], 256)],
+        "keys": [str(limits["KEYS"]), str(limits["DOMAIN_KEYS"])],
+        "data objects": [str(limits["OBJECTS"])],
+        "receipt number of a domain": [f"{limits['RECEIPT_LIMIT']:X}"],
+        "sequence counter": [f"{limits['COUNTER_LIMIT']:X}"],
+        "blocks of a load session": [str(blocks)],
+    },
+)
+
+store = text_of("crates/rec_store/src", "*_slot.rt")
+journal = text_of("crates/page_journal/src", "*.rt")
+
+
+def number_in(text, name):
+    return int(re.search(rf"^ *(?:pub )?const {name}: \w+ = (\w+);", text, re.M).group(1), 0)
+
+
+def page_range(first, count):
+    return (first, first + count - 1)
+
+
+wanted = {0: page_range(0, 1)}
+for kind, count in (("entry", "ENTRIES"), ("file", "FILES"), ("key", "KEYS"), ("object", "OBJECTS")):
+    slots = Path(f"crates/rec_store/src/{kind}_slot.rt").read_text()
+    first = number_in(slots, "FIRST")
+    wanted[first] = page_range(first, limits[count] * number_in(slots, "SIZE") // 256)
+for name in ("GATE", "DESCRIPTOR"):
+    wanted[number_in(journal, name)] = page_range(number_in(journal, name), 1)
+copies = page_range(number_in(journal, "COPIES"), number_in(Path("crates/frame_pool/src/pool.rt").read_text(), "FRAMES"))
+load = page_range(number_in(store, "LOAD"), limits["LOAD_PAGES"])
+wanted |= {copies[0]: copies, copies[1] + 1: (copies[1] + 1, load[0] - 1), load[0]: load}
+judge(load[1] + 1 == number_in(Path("crates/flash_core/src/page.rt").read_text(), "PAGES"), "the code: the load pages are not the last ones")
+drawn = {}
+for first, last, rest in re.findall(r"^ +(\d+)(?: - +(\d+))?  +(\S.*)$", Path(POLICY).read_text().split("## The card in its file")[1], re.M):
+    drawn[int(first)] = (int(first), int(last or first))
+    at = re.search(r" (\d+)$", rest)
+    judge(at is None or int(at.group(1)) == 256 * int(first), f"{POLICY}: page {first} begins elsewhere")
+compare("the pages from", POLICY, drawn, "the code", wanted)
 
 print(f"{passed} passed, {failed} failed")
 sys.exit(failed != 0)
