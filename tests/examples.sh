@@ -115,9 +115,12 @@ opening=$(grep -E '^(keys|tokenkey) ' "$examples/provider.script" | sort -u)
 head -n "$((cut - 1))" "$examples/provider.script" >morning
 (echo select d100000001 && echo "$opening" && echo open 01 33 0001020304050607 && tail -n "+$cut" "$examples/provider.script") >evening
 make_card
-"$gp" play <morning >/dev/null
-"$gp" show >shown
-"$gp" play <evening >printed
+for part in morning evening; do
+    "$gp" show >shown
+    status=0
+    "$gp" play <"$part" >printed || status=$?
+    wants "provider: the status of the $part" 0 "$status"
+done
 "$top/tools/receipts" --before shown evening printed >day
 wants "provider: the receipts of the evening" "$(grep '^receipt' "$examples/auditor.desk" | sed -n 5,8p)" "$(<day)"
 (echo "$key" && echo from 0004 && cat day) >lines
@@ -126,7 +129,7 @@ ask_desk provider lines fitting 0
 
 # Who may do what on the auditor's card.
 make_card
-"$gp" play <"$examples/auditor.script" >/dev/null
+play auditor
 status=0
 "$gp" access >printed || status=$?
 wants "auditor: the status of access" 0 "$status"

@@ -325,7 +325,8 @@ same_set("the verdicts", DESK, first_words(DESK, "verdict", "what is wrong"), sa
 stops = {span.rstrip(" N") for row in tables(DESK, "line", "what is wrong") for span in re.findall("`([^`]*)`", row[0])}
 same_set("the stops", DESK, stops, {text.strip() for text in re.findall(r'codes "([^"]*)"', Path("crates/cap_pack/specs/Said.antt").read_text())})
 ended = [row[0] for row in tables(DESK, "status", "when", "what has been written")]
-same_set("the statuses of desk and cap", DESK, set(ended), {"0", "2", "5", "6", "7", "9"} | {re.search(r"Differs => (\d+)", (tool / name).read_text()).group(1) for name in ("desk_verb.rt", "cap_verb.rt")})
+differing = {re.search(r"Differs => (\d+)", (tool / name).read_text()).group(1) for name in ("desk_verb.rt", "cap_verb.rt")}
+same_set("the statuses of desk and cap", DESK, set(ended), {"0", "2", "5", "6", "7", "9"} | differing)
 
 # docs/POLICY.md: the limits, and the pages of a card with the byte that each begins at.
 POLICY = "docs/POLICY.md"
