@@ -106,6 +106,10 @@ ask_desk issuer "$examples/issuer.desk" "$examples/issuer.tokens" 0
 key=$(grep '^key' "$examples/auditor.desk")
 "$top/tools/receipts" "$examples/provider.script" "$examples/provider.text" >day
 wants "provider: the receipts" "$(grep '^receipt' "$examples/auditor.desk" | head -n 8)" "$(<day)"
+head -n 20 "$examples/provider.text" >half
+status=0
+"$top/tools/receipts" "$examples/provider.script" half >half.day 2>errors || status=$?
+wants "receipts: the status for a text that is cut" 1 "$status"
 (echo "$key" && cat day) >lines
 seq -f 'ok %04g' 8 >fitting
 ask_desk provider lines fitting 0
