@@ -28,6 +28,9 @@ CALLS = [
     ("io_edge", "sink.rt", "pub trait Sink"),
     ("policy_rules", "laws.rt", "pub fn "),
     ("scp03_host", "laws.rt", "pub fn "),
+    ("access_matrix", "laws.rt", "pub fn "),
+    ("receipt_desk", "laws.rt", "pub fn "),
+    ("cap_pack", "laws.rt", "pub fn "),
 ]
 
 WORD = re.compile(r"[^\W\d][\w'-]*(?:\.[A-Za-z_][\w']*)*")
