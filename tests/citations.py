@@ -1,5 +1,5 @@
 #!/usr/bin/env python3
-"""Checks where README.md and docs/ say that a definition stands: that the file is there, and defines that name.
+"""Checks where README.md, docs/ and the README.md of each crate say that a definition stands: that the file is there, and defines that name.
 
     tests/citations.py            what is wrong, and then 'N passed, M failed'; it ends with 1 where something is
     tests/citations.py --list     before it each citation: page and line, name and place
@@ -20,7 +20,7 @@ import sys
 
 TOP = pathlib.Path(__file__).resolve().parent.parent
 CRATES = TOP / "crates"
-PAGES = [TOP / "README.md", *sorted((TOP / "docs").glob("*.md"))]
+PAGES = [TOP / "README.md", *sorted((TOP / "docs").glob("*.md")), *sorted((TOP / "crates").glob("*/README.md"))]
 
 # gp is the program and its top call too, and nothing is cited from that crate.
 CRATE_NAMES = {path.name for path in CRATES.iterdir()} - {"gp"}
