@@ -1,6 +1,6 @@
 #!/usr/bin/env bash
-# Checks that README.md stays short, that the clauses which README.md, docs/PROOFS.md and the README.md of each crate cite are there,
-# and by tests/citations.py that definitions stand where README.md, docs/ and those pages say.
+# Checks that README.md stays short, that the clauses which README.md, docs/PROOFS.md, docs/DESK.md and the README.md of each crate
+# cite are there, and by tests/citations.py that definitions stand where README.md, docs/ and those pages say.
 #
 # A citation is a code span of a crate, a function and one or more labels: `card_core Card::process step changes`. The
 # function stands with its type or trait, where it has one. It is there where the crate's src has that function with a
@@ -63,7 +63,8 @@ while read -r clause; do
     there[$clause]=1
 done < <(clauses)
 
-for file in README.md docs/PROOFS.md crates/*/README.md; do
+for file in README.md docs/PROOFS.md docs/DESK.md crates/*/README.md; do
+    [[ -f $file ]] || continue
     while read -r line crate name labels; do
         if [[ -z $labels ]]; then
             judge 1 "$file:$line: $crate $name: no label"
