@@ -10,7 +10,7 @@ ghost use Rattle.script_tool.specs.Tokens.{key_of};
 ghost use Rattle.tokens_receipts.specs.Receipt.{aids_of};
 
 use crate::confirmation;
-use crate::key::{key_from, receipt_fits, token_under};
+use crate::key::{MadeKey, key_from, made, receipt_fits, token_under};
 use crate::verdict::Verdict;
 use arrayvec::ArrayVec;
 use card_types::{Aid, RECEIPT_LIMIT};
@@ -20,7 +20,7 @@ use std::marker::Model;
 /// A key of AES, a card's unique data, and the number of the last receipt.
 #[derive(Drop)]
 pub struct Desk {
-    key: Option<Key>,
+    key: Option<MadeKey>,
     unique: ArrayVec<u8, 20>,
     last: u16,
 }
@@ -78,7 +78,7 @@ impl Desk {
     pub(crate) fn put_key(&mut self, key: Key)
         ensures { self.new ≡ record self.old { key = Some (key_of key) } }
     {
-        self.key = Some(key);
+        self.key = Some(made(&key));
     }
 
     /// Whether it has a key.

@@ -8,11 +8,13 @@ ghost use Rattle.tokens_receipts.specs.Receipt as confirmed;
 ghost use Rattle.tokens_receipts.specs.Receipt.{aids_of};
 ghost use Rattle.tokens_receipts.specs.Token as approved;
 
-use aes_block::{BlockKey, SealingAes128, SealingAes192, SealingAes256};
-use arrayvec::ArrayVec;
+use crate::made::Made;
+use aes_block::{SealingAes128, SealingAes192, SealingAes256};
 use card_types::Aid;
 use script_tool::{Key, OfSize};
-use tokens_receipts::{receipt, token};
+
+/// A key with its key schedule made.
+pub type MadeKey = OfSize<Made<SealingAes128>, Made<SealingAes192>, Made<SealingAes256>>;
 
 /// The key with these bytes.
 pub fn key_from(bytes: &[u8]) -> Option<Key>
@@ -26,40 +28,32 @@ pub fn key_from(bytes: &[u8]) -> Option<Key>
     }
 }
 
+/// The key with its key schedule made.
+pub fn made(key: &Key) -> MadeKey
+    ensures { key_of result ≡ key_of key.now }
+{
+    match key {
+        OfSize::Aes128(key) => OfSize::Aes128(Made::from_bytes(key)),
+        OfSize::Aes192(key) => OfSize::Aes192(Made::from_bytes(key)),
+        OfSize::Aes256(key) => OfSize::Aes256(Made::from_bytes(key)),
+    }
+}
+
 /// The token under a key.
-pub fn token_under(key: &Key, p1: u8, p2: u8, before: &[u8]) -> [u8; 16]
+pub fn token_under(key: &MadeKey, p1: u8, p2: u8, before: &[u8]) -> [u8; 16]
     requires short { length before.now ≤ 255 }
     ensures { result ≡ approved.token (key_of key.now) p1 p2 before.now }
 {
     match key {
-        OfSize::Aes128(key) => token(&SealingAes128::from_key(key), p1, p2, before),
-        OfSize::Aes192(key) => token(&SealingAes192::from_key(key), p1, p2, before),
-        OfSize::Aes256(key) => token(&SealingAes256::from_key(key), p1, p2, before),
+        OfSize::Aes128(key) => key.token(p1, p2, before),
+        OfSize::Aes192(key) => key.token(p1, p2, before),
+        OfSize::Aes256(key) => key.token(p1, p2, before),
     }
-}
-
-// Whether a data field is the receipt under a key.
-fn fits<K: BlockKey>(
-    key: &K,
-    number: u16,
-    unique: &[u8],
-    first: &Aid,
-    second: Option<&Aid>,
-    third: Option<&Aid>,
-    given: &[u8],
-) -> bool
-    requires short { length unique.now ≤ 20 }
-    ensures { IsTrue result ↔ (given.now ≡ confirmed.receipt (K.key_bytes key.now) number unique.now
-        (aids_of first.now (option_copied second.entry) (option_copied third.entry))) }
-{
-    let mut wanted = ArrayVec::new();
-    receipt(key, number, unique, first, second, third, &mut wanted);
-    given == wanted.as_slice()
 }
 
 /// Whether a data field is the receipt under a key.
 pub fn receipt_fits(
-    key: &Key,
+    key: &MadeKey,
     number: u16,
     unique: &[u8],
     first: &Aid,
@@ -72,32 +66,8 @@ pub fn receipt_fits(
         (aids_of first.now (option_copied second.entry) (option_copied third.entry))) }
 {
     match key {
-        OfSize::Aes128(key) => fits(
-            &SealingAes128::from_key(key),
-            number,
-            unique,
-            first,
-            second,
-            third,
-            given,
-        ),
-        OfSize::Aes192(key) => fits(
-            &SealingAes192::from_key(key),
-            number,
-            unique,
-            first,
-            second,
-            third,
-            given,
-        ),
-        OfSize::Aes256(key) => fits(
-            &SealingAes256::from_key(key),
-            number,
-            unique,
-            first,
-            second,
-            third,
-            given,
-        ),
+        OfSize::Aes128(key) => key.fits(number, unique, first, second, third, given),
+        OfSize::Aes192(key) => key.fits(number, unique, first, second, third, given),
+        OfSize::Aes256(key) => key.fits(number, unique, first, second, third, given),
     }
 }

@@ -27,6 +27,7 @@ mod desk;
 mod key;
 mod laws;
 mod line;
+mod made;
 mod receipted;
 mod signing;
 mod text;

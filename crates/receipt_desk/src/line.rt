@@ -76,6 +76,9 @@ fn read_from(words: Words<'_>) -> Option<u16>
 fn read_words(words: Words<'_>) -> Option<DeskLine>
     ensures { Reads (SaysWords (left words.entry)) result }
 {
+    if let Some(receipted) = receipted::read(words) {
+        return Some(DeskLine::Receipt(receipted));
+    }
     if let Some(key) = read_key(words) {
         return Some(DeskLine::Key(key));
     }
@@ -87,9 +90,6 @@ fn read_words(words: Words<'_>) -> Option<DeskLine>
     }
     if let Some(signing) = signing::read(words) {
         return Some(DeskLine::Sign(signing));
-    }
-    if let Some(receipted) = receipted::read(words) {
-        return Some(DeskLine::Receipt(receipted));
     }
     None
 }
