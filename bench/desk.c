@@ -1,16 +1,42 @@
-/* A desk for receipts over the AES of OpenSSL: what bench/verbs.sh compares `gp desk` with.
+/* A desk for receipts over the CMAC of OpenSSL: what bench/verbs.sh compares `gp desk` with.
  *
  *   desk lines COUNT    writes a key line and so many receipts that fit, with `from 0000` where the numbers begin anew
  *   desk judge          reads such lines, and writes `ok NNNN` or `mac` for each receipt, by one write each
  *
- * It makes the key schedule and the subkeys of CMAC once for a key line. It looks for no line of another form, so that what gp reads of a
- * line is not measured against less. */
+ * It sets the key of its CMAC once for a key line. It looks for no line of another form, and for no digit that is none. */
+#define OPENSSL_SUPPRESS_DEPRECATED
+#include <openssl/cmac.h>
+#include <openssl/evp.h>
+#include <stdint.h>
 #include <stdio.h>
 #include <stdlib.h>
+#include <string.h>
 #include <unistd.h>
-#include "scp03.h"
 
 enum { FIRST = 5, SECOND = 5, SIGNED = 3 + 1 + 1 + FIRST + 1 + SECOND };
+
+static const uint8_t key_bytes[16] = {
+    0x40, 0x41, 0x42, 0x43, 0x44, 0x45, 0x46, 0x47, 0x48, 0x49, 0x4a, 0x4b, 0x4c, 0x4d, 0x4e, 0x4f,
+};
+
+/* The CMAC of what a key was set for. */
+static CMAC_CTX *code_key;
+
+static void set_code(const uint8_t *bytes, size_t size)
+{
+    const EVP_CIPHER *cipher = size == 16 ? EVP_aes_128_cbc() : size == 24 ? EVP_aes_192_cbc() : EVP_aes_256_cbc();
+
+    if (!CMAC_Init(code_key, bytes, size, cipher, NULL))
+        exit(3);
+}
+
+static void code(const uint8_t *message, size_t size, uint8_t *out)
+{
+    size_t made;
+
+    if (!CMAC_Init(code_key, NULL, 0, NULL, NULL) || !CMAC_Update(code_key, message, size) || !CMAC_Final(code_key, out, &made))
+        exit(3);
+}
 
 static const uint8_t first[FIRST] = { 0xd2, 0, 0, 0, 0xaa };
 static const uint8_t second[SECOND] = { 0xd1, 0, 0, 0, 0x01 };
@@ -31,11 +57,9 @@ static void put_signed(uint8_t *to, unsigned number, const uint8_t *aids, size_t
 
 static void write_lines(long count)
 {
-    struct code_key key;
-    uint8_t aids[FIRST + SECOND], message[SIGNED];
-    block mac;
+    uint8_t aids[FIRST + SECOND], message[SIGNED], mac[16];
 
-    set_code(&key, static_key);
+    set_code(key_bytes, sizeof key_bytes);
     memcpy(aids, first, FIRST);
     memcpy(aids + FIRST, second, SECOND);
     printf("key 404142434445464748494a4b4c4d4e4f\n");
@@ -45,7 +69,7 @@ static void write_lines(long count)
         if (number == 1)
             printf("from 0000\n");
         put_signed(message, number, aids, FIRST, SECOND);
-        code(&key, message, SIGNED, mac);
+        code(message, SIGNED, mac);
         printf("receipt 1510");
         for (int b = 0; b < 16; b++)
             printf("%02x", mac[b]);
@@ -67,11 +91,10 @@ static size_t decode(const char **at, uint8_t *to)
     return size;
 }
 
-static void judge(const char *line, const struct code_key *key, unsigned *last)
+static void judge(const char *line, unsigned *last)
 {
-    uint8_t reply[64], aids[64], message[128];
+    uint8_t reply[64], aids[64], message[128], mac[16];
     size_t one, other;
-    block mac;
     char text[16];
     int fits;
 
@@ -79,7 +102,7 @@ static void judge(const char *line, const struct code_key *key, unsigned *last)
     one = decode(&line, aids);
     other = decode(&line, aids + one);
     put_signed(message, *last + 1, aids, one, other);
-    code(key, message, 6 + one + other, mac);
+    code(message, 6 + one + other, mac);
     fits = memcmp(mac, reply + 2, 16) == 0 && (unsigned)(reply[19] << 8 | reply[20]) == *last + 1;
     if (fits)
         ++*last;
@@ -90,7 +113,6 @@ static void judge(const char *line, const struct code_key *key, unsigned *last)
 static void judge_lines(void)
 {
     static char line[1024];
-    struct code_key key;
     uint8_t bytes[32];
     unsigned last = 0;
 
@@ -99,18 +121,20 @@ static void judge_lines(void)
 
         if (line[0] == 'k') {
             at += 4;
-            key_size = decode(&at, bytes);
-            set_code(&key, bytes);
+            set_code(bytes, decode(&at, bytes));
         } else if (line[0] == 'f') {
             last = (unsigned)strtoul(line + 5, NULL, 16);
         } else if (line[0] == 'r') {
-            judge(line + 8, &key, &last);
+            judge(line + 8, &last);
         }
     }
 }
 
 int main(int count, char **words)
 {
+    code_key = CMAC_CTX_new();
+    if (code_key == NULL)
+        return 3;
     if (count == 3 && strcmp(words[1], "lines") == 0)
         write_lines(atol(words[2]));
     else if (count == 2 && strcmp(words[1], "judge") == 0)

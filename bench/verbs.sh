@@ -8,7 +8,7 @@
 # `why` and `replay` get the lines of `run`: sessions of SCP03 at level 33 with GET DATA (session.sh),
 # and plain commands. `replay` gets the sessions also with the wanted reply behind each command.
 # `play` gets a script whose commands are those of the sessions; there both ends are computed.
-# `desk` judges 200,000 receipts that fit, beside a C program over the AES of OpenSSL (desk.c). `cap` packs the largest CAP file, and `run`
+# `desk` judges 200,000 receipts that fit, beside a C program over the CMAC of OpenSSL (desk.c). `cap` packs the largest CAP file, and `run`
 # reads as many lines of the same length that are no commands, each a hundred times.
 # `mill` plays 1,000, 2,000 and 10,000 rounds, and is timed alone.
 #
@@ -96,7 +96,7 @@ for ((i = 0; i < 500000; i++)); do
     printf '00A4040005A000000151\n00700000\n80CA00E000\n00708001\n'
 done >"$tmp/plain"
 make_script >"$tmp/script"
-cc -std=c99 -D_DEFAULT_SOURCE -O2 -Wno-unused-function -o "$tmp/desk" "$here/desk.c" -lcrypto
+cc -std=c99 -D_DEFAULT_SOURCE -O2 -o "$tmp/desk" "$here/desk.c" -lcrypto
 "$tmp/desk" lines 200000 >"$tmp/receipts"
 make_cap >"$tmp/cap_file"
 sed 's/./f/g' "$tmp/cap_file" >"$tmp/no_commands"
