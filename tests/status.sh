@@ -1,8 +1,9 @@
 #!/usr/bin/env bash
 # Checks that the pages say what the code says. tools/tables/make --check compares the tables that it makes: of docs/STATUS.md all, of
-# docs/POLICY.md the instructions of each class and the limits. The rest stands here: code and definitions (crates/*/src and
-# crates/*/specs) agree on rules, status words, codes and privileges; README.md has the exit statuses and the number of rules, docs/POLICY.md
-# the commands and the pages of a card, docs/DESK.md lines, verdicts, stops and statuses; and no page names a rule that is not there.
+# docs/POLICY.md the instructions of each class, the data objects and the limits. The rest stands here: code and definitions
+# (crates/*/src and crates/*/specs) agree on rules, status words, codes and privileges; README.md has the exit statuses and the number
+# of rules, docs/POLICY.md the commands and the pages of a card, docs/DESK.md lines, verdicts, stops and statuses; and no page names a
+# rule that is not there.
 #
 # What is to be found is a row of a table, or a line of a drawing. That the sentence in it is right is for the reader.
 #

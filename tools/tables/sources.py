@@ -127,6 +127,13 @@ key_name = re.search(r"^IsKeyName version identifier =\n((?:    .*\n)+)", (TYPES
 lowest, highest, least, most, *lone_versions, lone_identifier = [int(number, 16) for number in re.findall(r"0x(\w\w)", key_name)]
 lone_keys = {constant(RULES / "src/delegation.rt", name): name.replace("_", " ").lower() for name in ("TOKEN_KEY", "RECEIPT_KEY")}
 
+# The data objects: for each tag how many bytes its value has.
+is_object = re.search(r"^fn is_object\(.*?^\}", (RULES / "src/store_data.rt").read_text(), re.M | re.S).group(0)
+object_sizes = {}
+for tags, sizes in re.findall(r"^        (0x.*) => (.*),$", is_object, re.M):
+    for tag in tags.split(" | "):
+        object_sizes[f"{int(tag, 16):04X}"] = " to ".join(re.findall(r"\d+", sizes))
+
 # How the program ends: endings, cards that are not powered on, words; and the script that builds it.
 tool_text = "".join((TOOL / name).read_text() for name in ("ending.rt", "run_verb.rt", "top.rt", "desk_verb.rt", "cap_verb.rt"))
 ends = set(re.findall(r"=> (\d+),$", tool_text, re.M)) | set(re.findall(r"ExitCode::from\((\d+)\)", (TOOL / "program.rt").read_text()))
