@@ -1,11 +1,10 @@
 #!/usr/bin/env bash
 # Checks that the pages say what the code says. tools/tables/make --check compares the tables that it makes: of docs/STATUS.md all, of
-# docs/POLICY.md the instructions of each class, the data objects and the limits. The rest stands here: code and definitions
+# docs/POLICY.md the instructions of each class, data objects, limits and the pages of a card. The rest stands here: code and definitions
 # (crates/*/src and crates/*/specs) agree on rules, status words, codes and privileges; README.md has the exit statuses and the number
-# of rules, docs/POLICY.md the commands and the pages of a card, docs/DESK.md lines, verdicts, stops and statuses; and no page names a
-# rule that is not there.
+# of rules, docs/POLICY.md the commands, docs/DESK.md lines, verdicts, stops and statuses; and no page names a rule that is not there.
 #
-# What is to be found is a row of a table, or a line of a drawing. That the sentence in it is right is for the reader.
+# What is to be found is a row of a table. That the sentence in it is right is for the reader.
 #
 # It prints what stands in one and not in the other, and then 'N passed, M failed', and ends with 1 where something differs.
 set -euo pipefail
@@ -147,32 +146,10 @@ ended = [row[0] for row in tables(DESK, "status", "when", "what has been written
 differing = {re.search(r"Differs => (\d+)", (code.TOOL / name).read_text()).group(1) for name in ("desk_verb.rt", "cap_verb.rt")}
 same_set("the statuses of desk and cap", DESK, set(ended), {"0", "2", "5", "6", "7", "9"} | differing)
 
-# docs/POLICY.md: the pages of a card with the byte that each begins at.
-store = code.text_of("crates/rec_store/src", "*_slot.rt")
-journal = code.text_of("crates/page_journal/src", "*.rt")
-
-
-def page_range(first, count):
-    return (first, first + count - 1)
-
-
-wanted = {0: page_range(0, 1)}
-for kind, count in (("entry", "ENTRIES"), ("file", "FILES"), ("key", "KEYS"), ("object", "OBJECTS")):
-    slots = Path(f"crates/rec_store/src/{kind}_slot.rt").read_text()
-    first = code.number_in(slots, "FIRST")
-    wanted[first] = page_range(first, code.limits[count] * code.number_in(slots, "SIZE") // 256)
-for name in ("GATE", "DESCRIPTOR"):
-    wanted[code.number_in(journal, name)] = page_range(code.number_in(journal, name), 1)
-copies = page_range(code.number_in(journal, "COPIES"), code.number_in(Path("crates/frame_pool/src/pool.rt").read_text(), "FRAMES"))
-load = page_range(code.number_in(store, "LOAD"), code.limits["LOAD_PAGES"])
-wanted |= {copies[0]: copies, copies[1] + 1: (copies[1] + 1, load[0] - 1), load[0]: load}
-judge(load[1] + 1 == code.number_in(Path("crates/flash_core/src/page.rt").read_text(), "PAGES"), "the code: the load pages are not the last ones")
-drawn = {}
-for first, last, rest in re.findall(r"^ +(\d+)(?: - +(\d+))?  +(\S.*)$", Path(POLICY).read_text().split("## The card in its file")[1], re.M):
-    drawn[int(first)] = (int(first), int(last or first))
-    at = re.search(r" (\d+)$", rest)
-    judge(at is None or int(at.group(1)) == 256 * int(first), f"{POLICY}: page {first} begins elsewhere")
-compare("the pages from", POLICY, drawn, "the code", wanted)
+# The pages of a card: the load pages are the last ones, and POLICY says how many there are.
+judge(code.pages["load"][1] + 1 == code.limits["PAGES"], "the code: the load pages are not the last ones")
+size = f"{code.limits['PAGES']} pages of {code.limits['PAGE']} bytes"
+judge(size in Path(POLICY).read_text(), f"{POLICY}: a card has {size}")
 
 print(f"{passed} passed, {failed} failed")
 sys.exit(failed != 0)

@@ -144,3 +144,20 @@ limits = pairs(r"^pub const (\w+): \w+ = (\w+);$", (TYPES / "src/limits.rt").rea
 limits = {name: int(value.replace("_", ""), 0) for name, value in limits.items()}
 limits["BLOCKS"] = constant(RULES / "src/load.rt", "BLOCKS")
 limits["PAGE"] = int(re.search(r"pub bytes: \[u8; (\d+)\]", (CRATES / "flash_core/src/page.rt").read_text()).group(1))
+
+# The pages of a card, first and last of each part; and how many slots of a kind a page has, of how many bytes.
+pages = {"superblock": (0, 0)}
+for kind, count in (("entry", "ENTRIES"), ("file", "FILES"), ("key", "KEYS"), ("object", "OBJECTS")):
+    slots = CRATES / f"rec_store/src/{kind}_slot.rt"
+    first, size = constant(slots, "FIRST"), constant(slots, "SIZE")
+    pages[kind] = (first, first + limits[count] * size // limits["PAGE"] - 1)
+    limits |= {f"{count}_A_PAGE": limits["PAGE"] // size, f"{kind.upper()}_BYTES": size}
+journal = text_of(CRATES / "page_journal/src", "*.rt")
+for name in ("GATE", "DESCRIPTOR"):
+    pages[name.lower()] = (number_in(journal, name), number_in(journal, name))
+limits["COPIES"] = constant(CRATES / "frame_pool/src/pool.rt", "FRAMES")
+pages["copies"] = (number_in(journal, "COPIES"), number_in(journal, "COPIES") + limits["COPIES"] - 1)
+load = number_in(text_of(CRATES / "rec_store/src", "*_slot.rt"), "LOAD")
+pages["unused"] = (pages["copies"][1] + 1, load - 1)
+pages["load"] = (load, load + limits["LOAD_PAGES"] - 1)
+limits["PAGES"] = constant(CRATES / "flash_core/src/page.rt", "PAGES")
