@@ -1,6 +1,7 @@
 #!/usr/bin/env bash
 # Checks that README.md stays short, that the clauses which README.md, docs/PROOFS.md, docs/DESK.md and the README.md of each crate
-# cite are there, and by tests/citations.py that definitions stand where README.md, docs/ and those pages say.
+# cite are there, by tests/citations.py that definitions stand where README.md, docs/ and those pages say, and by tools/lists that the
+# lists which it has made in docs/ are those of the code.
 #
 # A citation is a code span of a crate, a function and one or more labels: `card_core Card::process step changes`. The
 # function stands with its type or trait, where it has one. It is there where the crate's src has that function with a
@@ -57,6 +58,10 @@ judge "$((bytes > most_bytes))" "README.md has $bytes bytes, more than $most_byt
 misplaced=0
 tests/citations.py || misplaced=1
 judge "$misplaced" "a definition stands elsewhere"
+
+stale=0
+tools/lists --check || stale=1
+judge "$stale" "a list differs: run tools/lists"
 
 declare -A there
 while read -r clause; do
