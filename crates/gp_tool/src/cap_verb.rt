@@ -5,9 +5,9 @@ ghost use Rattle.std.specs.List.{flat_map};
 ghost use Rattle.cap_pack.specs.Held.{IsCap, pack_of};
 ghost use Rattle.cap_pack.specs.Input.{JoinsLine, limited};
 ghost use Rattle.cap_pack.specs.Said.{stop_text};
-ghost use Rattle.faults.specs.Faults.{HasCause, Rose};
+ghost use Rattle.faults.specs.Faults.{HasCause};
 ghost use Rattle.line_runs.specs.Ends.{IsGoodInput};
-ghost use Rattle.line_runs.specs.Outside.{outside};
+ghost use Rattle.line_runs.specs.Outside.{WhereNothingFailed, outside};
 ghost use Rattle.gp_tool.specs.Around.{around};
 ghost use Rattle.gp_tool.specs.Cap.{CapCourse, CapEnds, CapEndsAt, WritesJoined, cap_status, pack_line};
 ghost use Rattle.gp_tool.specs.Ends.{EndCause};
@@ -101,8 +101,8 @@ pub fn cap_verb<S: Source, K: Sink>(alloc: Global, source: &mut S, sink: &mut K)
     ensures memory { result ≡ 7 → (source.new ≡ source.old) × (sink.new ≡ sink.old) }
     ensures ends { result ≢ 7 → CapEnds S.tells K.tells result (outside (S.state source.old) (K.state sink.old)) (outside (S.state source.new) (K.state sink.new)) }
     ensures complete { S.tells → IsGoodInput JoinsLine (limited []) (S.state source.old).left
-        → (Rose (S.state source.old).faults (S.state source.new).faults → ⊥) → (Rose (K.state sink.old).faults (K.state sink.new).faults → ⊥)
-        → (result ≡ 0) ⊎ (result ≡ 11) ⊎ (result ≡ 7) }
+        → WhereNothingFailed (outside (S.state source.old) (K.state sink.old)) (outside (S.state source.new) (K.state sink.new))
+            ((result ≡ 0) ⊎ (result ≡ 11) ⊎ (result ≡ 7)) }
 {
     match Joined::new(alloc) {
         Ok(mut joined) => {

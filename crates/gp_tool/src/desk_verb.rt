@@ -1,9 +1,8 @@
 //! The verb `desk`.
 
 ghost use Rattle.std.specs.Prelude.{◌≡◌, ◌⊎◌};
-ghost use Rattle.faults.specs.Faults.{Rose};
 ghost use Rattle.line_runs.specs.Ends.{IsGoodInput};
-ghost use Rattle.line_runs.specs.Outside.{outside};
+ghost use Rattle.line_runs.specs.Outside.{WhereNothingFailed, outside};
 ghost use Rattle.receipt_desk.specs.Audit.{TakesDesk, new_audit};
 ghost use Rattle.gp_tool.specs.Desk.{DeskEnds, desk_status};
 
@@ -27,8 +26,8 @@ fn status_of(ending: Ending) -> u8
 pub fn desk_verb<S: Source, K: Sink>(source: &mut S, sink: &mut K) -> u8
     ensures ends { DeskEnds S.tells K.tells result (outside (S.state source.old) (K.state sink.old)) (outside (S.state source.new) (K.state sink.new)) }
     ensures complete { S.tells → IsGoodInput TakesDesk new_audit (S.state source.old).left
-        → (Rose (S.state source.old).faults (S.state source.new).faults → ⊥) → (Rose (K.state sink.old).faults (K.state sink.new).faults → ⊥)
-        → (result ≡ 0) ⊎ (result ≡ 10) }
+        → WhereNothingFailed (outside (S.state source.old) (K.state sink.old)) (outside (S.state source.new) (K.state sink.new))
+            ((result ≡ 0) ⊎ (result ≡ 10)) }
 {
     let mut audit = Audit::new();
     let end = take_lines(&mut audit, source, sink);

@@ -4,7 +4,7 @@ ghost use Rattle.std.specs.Prelude.{◌≡◌, ◌≢◌, ◌⊎◌, ◌≤◌, 
 ghost use Rattle.faults.specs.Faults.{HasCause, Rose};
 ghost use Rattle.cap_pack.specs.Input.{JoinsLine, limited};
 ghost use Rattle.line_runs.specs.Ends.{IsGoodInput};
-ghost use Rattle.line_runs.specs.Outside.{outside};
+ghost use Rattle.line_runs.specs.Outside.{WhereNothingFailed, outside};
 ghost use Rattle.receipt_desk.specs.Audit.{TakesDesk, new_audit};
 ghost use Rattle.gp_tool.specs.Around.{around};
 ghost use Rattle.gp_tool.specs.Cap.{CapEnds};
@@ -120,16 +120,16 @@ pub fn gp<S: Source, K: Sink, F: Flash>(
     ensures desk { AreOf Desk words.now → (result.flash ≡ flash) × (result.done ≡ 0)
         × DeskEnds S.tells K.tells result.status (outside (S.state source.old) (K.state sink.old)) (outside (S.state source.new) (K.state sink.new)) }
     ensures desk_complete { AreOf Desk words.now → S.tells → IsGoodInput TakesDesk new_audit (S.state source.old).left
-        → (Rose (S.state source.old).faults (S.state source.new).faults → ⊥) → (Rose (K.state sink.old).faults (K.state sink.new).faults → ⊥)
-        → (result.status ≡ 0) ⊎ (result.status ≡ 10) }
+        → WhereNothingFailed (outside (S.state source.old) (K.state sink.old)) (outside (S.state source.new) (K.state sink.new))
+            ((result.status ≡ 0) ⊎ (result.status ≡ 10)) }
 
     // `cap`: no call is made on the device. The lines of the source were joined and packed, and the status is that of an ending, which says
     // what was read, written and handed on.
     ensures cap { AreOf Cap words.now → result.status ≢ 7 → (result.flash ≡ flash) × (result.done ≡ 0)
         × CapEnds S.tells K.tells result.status (outside (S.state source.old) (K.state sink.old)) (outside (S.state source.new) (K.state sink.new)) }
     ensures cap_complete { AreOf Cap words.now → S.tells → IsGoodInput JoinsLine (limited []) (S.state source.old).left
-        → (Rose (S.state source.old).faults (S.state source.new).faults → ⊥) → (Rose (K.state sink.old).faults (K.state sink.new).faults → ⊥)
-        → (result.status ≡ 0) ⊎ (result.status ≡ 11) ⊎ (result.status ≡ 7) }
+        → WhereNothingFailed (outside (S.state source.old) (K.state sink.old)) (outside (S.state source.new) (K.state sink.new))
+            ((result.status ≡ 0) ⊎ (result.status ≡ 11) ⊎ (result.status ≡ 7)) }
     ensures later { F.faults flash ≤ F.faults result.flash }
 {
     match read_task(words) {

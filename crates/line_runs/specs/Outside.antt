@@ -1,6 +1,7 @@
 -- What is around the taking of lines: a source and a sink.
 use Rattle.std.specs.Prelude.{◌≡◌, ℕ, List, [], ◌∷◌, ◌++◌, codes, decimal, take}
 use Rattle.std.specs.List.{concat}
+use Rattle.faults.specs.Faults.{Rose}
 use Rattle.io_edge.specs.Streams.{SinkState, SourceState}
 
 pub record Outside : Type 0 where
@@ -9,6 +10,10 @@ pub record Outside : Type 0 where
 
 abbrev pub outside : SourceState → SinkState → Outside
 outside source sink = record { source = source; sink = sink }
+
+-- a fact where neither the source nor the sink has failed on the way
+abbrev pub WhereNothingFailed : Outside → Outside → Type 0 → Type 0
+WhereNothingFailed old new fact = (Rose old.source.faults new.source.faults → ⊥) → (Rose old.sink.faults new.sink.faults → ⊥) → fact
 
 -- In what follows `writes` is a fact where the sink tells its bytes, and `⊥` where it doesn't.
 
