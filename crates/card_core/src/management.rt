@@ -42,8 +42,8 @@ pub fn manage<M: ManagedRequest, F: Flash>(
     requires formed { IsWellFormed (M.request request.now) }
     requires other { AsksForLoad (M.request request.now) → ⊥ }
     requires empty { reply.old.items ≡ [] }
-    ensures done { (place : Option Place) (loading : Option LoadSession) → ForAsked received.now.channel (M.request request.now) place (kept_of records.old.tables live.now held.now) loading
-        (λ page told. CarriesOn page told (kept_of records.new.tables live.now held.now) loading reply.new.items result) }
+    ensures done { (place : Option Place) (load : Option LoadSession) → ForAsked received.now.channel (M.request request.now) place (kept_of records.old.tables live.now held.now) load
+        (λ page told. CarriesOn page told (kept_of records.new.tables live.now held.now) load reply.new.items result) }
     ensures changing { Contains changing (form_in (M.request request.now)).instruction }
     ensures cards { AreCards records.new.tables }
     ensures same { (records.new.flash ≡ records.old.flash) × (records.new.live ≡ true) }

@@ -59,7 +59,7 @@ pub fn perform<F: Flash>(
     requires unwritten { loading.old.writes.items ≡ [] }
     requires empty { reply.old.items ≡ [] }
     ensures done { ForAsked received.now.channel request.now (option_copied place.entry) (kept_of records.old.tables live.old held.old) loading.old.session
-        (λ page told. CarriesOn (with_due page loading.new) told (kept_of records.new.tables live.new held.new) loading.new.session reply.new.items result) }
+        (λ at told. CarriesOn (with_due at loading.new) told (kept_of records.new.tables live.new held.new) loading.new.session reply.new.items result) }
     ensures cards { AreCards records.new.tables }
     ensures same { (records.new.flash ≡ records.old.flash) × (records.new.live ≡ true) }
     ensures writes { AreFree records.old.tables loading.new.writes.items }
