@@ -59,9 +59,7 @@ impl RunningHash {
 fn sha1_with(hasher: &Sha1, bytes: &[u8]) -> [u8; 20]
     ensures { (before : List ℕ) → Holds hasher.now before → result ≡ sha1 (before ++ bytes.now) }
 {
-    let Ok(mut copy) = hasher.clone() else {
-        unreachable!()
-    };
+    let mut copy = hasher.clone().unwrap();
     copy.update(bytes);
     copy.finalize()
 }
@@ -70,9 +68,7 @@ fn sha1_with(hasher: &Sha1, bytes: &[u8]) -> [u8; 20]
 fn sha256_with(hasher: &Sha256, bytes: &[u8]) -> [u8; 32]
     ensures { (before : List ℕ) → Holds256 hasher.now before → result ≡ sha256 (before ++ bytes.now) }
 {
-    let Ok(mut copy) = hasher.clone() else {
-        unreachable!()
-    };
+    let mut copy = hasher.clone().unwrap();
     copy.update(bytes);
     copy.finalize()
 }
