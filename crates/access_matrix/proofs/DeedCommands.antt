@@ -39,7 +39,7 @@ use Rattle.access_matrix.specs.declared.deed.Deed.TheVariants.{Delete, Related, 
 use Rattle.access_matrix.proofs.OneCommand.{accepted_by}
 use Rattle.access_matrix.proofs.RequestsMade.{HasTokenSize, asks_to_delete, asks_to_install, asks_to_load, asks_to_move, deletion_asked, install_given, load_asked, move_asked}
 
--- the same token, where the code tells whether the command is delegated
+-- the token of a command is the one wanted, where the code tells whether the command is delegated
 pub told_token : (registry : Registry) (domain : List ℕ) (told delegated : Type 0) (p1 p2 : ℕ) (front shown : List ℕ) (given : Option (List ℕ))
     → told ↔ delegated → shown ≡ front → IsTokenFor registry domain told p1 p2 shown given → IsTokenFor registry domain delegated p1 p2 front given
 told_token registry domain told delegated p1 p2 front shown given tells same approved =

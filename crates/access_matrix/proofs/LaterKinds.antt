@@ -67,7 +67,7 @@ module _ (tables : Tables) where
               next.least other (spot_of deed) (of_kind k other another has.0 alike) tt)));
         }
 
-    -- and where there is none, the first of those does
+    -- where there is no act of a kind, the first of those of later kinds comes first
     module _ (none : NoneNext (HasSpot tables k) place_order None) (l : ℕ) (later : l ≡ k + 1) where
       pub first_of_later : (act : Act) → IsNext (HasPlaceFrom tables l) place_order None act → IsNext (HasPlaceFrom tables k) place_order None act
       first_of_later act next = record {
@@ -101,7 +101,7 @@ module _ (tables : Tables) where
           ]));
     }
 
-    -- and those of later kinds come where there is none
+    -- acts of later kinds come where there is no next one of the same kind
     module _ (none : NoneNext (HasSpot tables (kind_of last)) place_order (Some (spot_of last))) where
       later : (act : Act) (place : List (List ℕ)) → HasPlace tables act place → place_order (deed_place last) place ≡ Less
           → kind_of last + 1 ≤ kind_of (deed_of tables act)

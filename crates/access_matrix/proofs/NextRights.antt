@@ -50,7 +50,7 @@ module _ (registry : Registry) where
       by Equal same = inl (same_right next right same)
       by Greater greater = absurd (is.least right there after greater)
 
-  -- and each right after the last one is one of them
+  -- each right after the last one is one of the list
   each_is_there : (last : Option Right) (rights : List Right) (end : Option Right) → AreNextRights registry last rights end → NoRightAfter registry end
       → (right : Right) → IsRight registry right → ComesAfter last right → Contains rights right
   each_is_there last [] end are none right is after = absurd (none right is (subst (λ (o : Option Right). ComesAfter o right) (sym are) after))

@@ -45,7 +45,7 @@ by_choice : (P : Volatile → Type 0) (b : Bool) (v w : Volatile) → P v → P 
 by_choice P true v w one other = one
 by_choice P false v w one other = other
 
--- the same command, of class 84
+-- a command with its class changed to 84
 abbrev secured : Apdu → Apdu
 secured sent = record { class = 0x84; ins = sent.ins; p1 = sent.p1; p2 = sent.p2; body = sent.body; le = sent.le }
 

@@ -15,7 +15,7 @@ use Rattle.access_matrix.specs.Deeds.{IsThere}
 use Rattle.access_matrix.specs.There.{judged_there, with_domain}
 use Rattle.access_matrix.specs.declared.deed.Deed.{Deed}
 
--- the same card, where the basic channel has a session besides
+-- a card that was powered on with this domain selected, where the basic channel has a session besides
 abbrev pub in_session : Registry → List ℕ → Session → State
 in_session registry domain session = record {
   registry = registry;

@@ -23,7 +23,7 @@ use Rattle.access_matrix.specs.There.{judged_there, plain}
 use Rattle.access_matrix.specs.declared.deed.Deed.{Deed}
 use Rattle.access_matrix.specs.declared.deed.Deed.TheVariants.{Delete, Related, Lock, Move, Install, Load}
 
--- by which rules a deed is judged
+-- the rules by which a deed is judged
 abbrev pub judged_as : Deed → JudgedForm
 judged_as (Delete aid) = managed_delete_object.judged
 judged_as (Related file) = managed_delete_object.judged
@@ -32,7 +32,7 @@ judged_as (Move aid domain) = managed_extradition.judged
 judged_as (Install file) = managed_install.judged
 judged_as Load = judged_install_load
 
--- and of which form its command is
+-- the form that the command of a deed has
 abbrev pub form_of : Deed → CommandForm
 form_of (Delete aid) = command_form managed_delete_object
 form_of (Related file) = command_form managed_delete_object

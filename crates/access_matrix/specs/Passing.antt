@@ -12,7 +12,7 @@ use Rattle.access_matrix.specs.There.{judged_there}
 use Rattle.access_matrix.specs.declared.deed.Deed.{Deed}
 use Rattle.access_matrix.specs.declared.deed.Deed.TheVariants.{Delete, Related}
 
--- so it is of each registry that the tables say, of those that a card may have
+-- `So` holds of each registry that the tables say, of those that a card may have.
 abbrev pub ForSaid : Tables → (Registry → Type 0) → Type 0
 ForSaid tables So = (page : ℕ → List ℕ) (said : Registry) → Represents page tables said → Well said → So said
 

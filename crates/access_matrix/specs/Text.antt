@@ -18,7 +18,7 @@ verb_of registry (Move aid domain) = codes "move "
 verb_of registry (Install file) = codes "install "
 verb_of registry Load = codes "load "
 
--- an AID in hexadecimal digits, behind a space
+-- an AID in hexadecimal digits, after a space
 abbrev pub named : List ℕ → List ℕ
 named aid = codes " " ++ encode_lower aid
 

@@ -38,8 +38,9 @@ fn accepts(tables: &Tables, domain: u8, act: &Act) -> bool
     }
 }
 
-/// Whether the security domain in a slot may do a deed. The card is taken as it is once it was powered on: no other channel is open,
-/// and no load session stands. What the deed would leave is not told, nor that the host has the keys for a session.
+/// Whether the security domain in a slot may do a deed. The card is taken as it is once it was powered on: no other
+/// channel is open, and no load session stands. What the deed would leave is not told, nor that the host has the keys
+/// for a session.
 pub fn may(tables: &Tables, domain: u8, act: &Act) -> bool
     requires in_order { IsInOrder tables.now }
     requires domain { HoldsDomain tables.now domain }

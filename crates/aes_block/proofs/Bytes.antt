@@ -23,7 +23,7 @@ same_below n f g e x h =
     sym (get_or-map-range_with_len f 0 n x x 0 h (omega arith)) ∙ ap (λ (l : List ℕ). get_or l x 0) e
     ∙ get_or-map-range_with_len g 0 n x x 0 h (omega arith)
 
--- and on the list of all bytes
+-- functions that agree on the list of all bytes agree at each byte
 pub same_at : (f g : ℕ → ℕ) → map f bytes ≡ map g bytes → (x : ℕ) → x < 256 → f x ≡ g x
 same_at f g e x h = same_below 256 f g e x h
 

@@ -232,7 +232,7 @@ inverted_all w v n i ei s =
           (λ t. s.done (4 * r) (omega arith) (omega arith) t ++ at r 1 high low (omega arith) t ++ at r 2 high low (omega arith) t ++ at r 3 high low (omega arith) t);
     }
 
--- the same of schedules that are the fronts of longer arrays
+-- schedules that are the fronts of longer arrays are inverted too
 pub schedule_inverted : (n r : ℕ) (w v z : List ℕ) → r ≡ n / 4 + 6 → length v ≡ 4 * r + 4 → IsInverseSchedule (take (4 * r + 4) w) v r
     → IsInverseSchedule (schedule_of n w) (schedule_of n (v ++ z)) (n / 4 + 6)
 schedule_inverted n r w v z er len h =

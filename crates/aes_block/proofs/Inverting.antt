@@ -91,7 +91,7 @@ module _ (w v : List ℕ) (n : ℕ) (positive : 0 < n) (inverse : IsInverseSched
       ∙ ap (λ (s : List ℕ). xor_bytes s key) (forward 0)
       ∙ kept b key (four_words v (4 * n)) block (four_words_is_block w (4 * n)) inverse.last
 
--- the same of a key's schedule, read as the key of its first words
+-- the cipher and its inverse over a key's schedule, read as the key of its first words
 module _ (w v : List ℕ) (nk : ℕ) (schedule : w ≡ key_words (first_bytes w nk)) where
   pub cipher_of : (b : List ℕ) → cipher (first_bytes w nk) b ≡ cipher_rounds w (nk + 6) b
   unfolding cipher rounds

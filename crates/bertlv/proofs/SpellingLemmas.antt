@@ -58,7 +58,7 @@ one_spelling t v r s h k =
     let lengths = one_length_field (length v) h.length_field k.length_field h.is_length k.is_length in
     h.joined ∙ ap (λ z. z ++ h.length_field ++ v) tags ∙ ap (λ z. k.tag_field ++ z ++ v) lengths ∙ sym k.joined
 
--- and so have several, one after the other
+-- several elements have one spelling, one after the other
 pub one_spelling_each : (elements : List Element) (r s : List ℕ) → AreElements elements r → AreElements elements s → r ≡ s
 one_spelling_each [] r s h k = h ∙ sym k
 one_spelling_each (element ∷ elements) r s (first, rest, spelled, more, joined) (other, others, again, further, split) =
@@ -66,7 +66,7 @@ one_spelling_each (element ∷ elements) r s (first, rest, spelled, more, joined
     let rests = one_spelling_each elements rest others more further in
     joined ∙ ap (λ z. z ++ rest) firsts ∙ ap (λ z. other ++ z) rests ∙ sym split
 
--- one more element behind others
+-- one more element after others
 pub elements_more : (elements : List Element) (element : Element) (bytes more : List ℕ) → AreElements elements bytes
     → Spelling element.tag element.value more → AreElements (elements ++ element ∷ []) (bytes ++ more)
 elements_more [] element bytes more none spelled =

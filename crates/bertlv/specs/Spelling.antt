@@ -15,7 +15,7 @@ pub record Spelling (tag : ℕ) (value bytes : List ℕ) : Type 0 where
 abbrev pub BeginsWith : (tag : ℕ) (value rest bytes : List ℕ) → Type 0
 BeginsWith tag value rest bytes = (front : List ℕ) × Spelling tag value front × (bytes ≡ front ++ rest)
 
--- new is old with the element's spelling behind it
+-- new is old with the element's spelling after it
 abbrev pub Appends : (tag : ℕ) (value old new : List ℕ) → Type 0
 Appends tag value old new = (bytes : List ℕ) × Spelling tag value bytes × (new ≡ old ++ bytes)
 

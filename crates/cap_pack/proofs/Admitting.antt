@@ -92,6 +92,6 @@ module _ (state : State) (channel : ℕ) (session : Session) (has : HasOpen stat
   taken_session =
       either (λ (v : Volatile). session_on v number ≡ Some (having_sent session command)) (command.ins == LOAD) joined (without_load joined number) joined_session joined_session
 
-  -- and the same is selected on it
+  -- the channel has selected what it had
   pub taken_selected : selected_on taken.at.volatile number ≡ selected_on state.volatile number
   taken_selected = admitted_selected state sent has.sound.fits (Some (having_sent session command)) command.body

@@ -41,7 +41,7 @@ pub next_applet : (later : List (List ℕ)) (bytes : List ℕ) → 0 < length la
 next_applet [] bytes some lists = absurd (omega arith)
 next_applet (aid ∷ later) bytes some (last, (unread, next, is_aid, two, is, others)) = (aid, next, (unread, is_aid, two, is), refl)
 
--- so many applets were passed
+-- `count` applets of the list were passed
 pub record Passed (count : ℕ) (rest bytes : List ℕ) : Type 0 where
   pub aids : List (List ℕ)
   pub many : length aids ≡ count

@@ -44,7 +44,7 @@ element_octets bytes most are =
     bytes_more 0xC4 (length_field (length bytes) ++ bytes) (omega arith)
     (bytes_joined (length_field (length bytes)) bytes (field_octets (length bytes) most) are)
 
--- Of the bytes of a file some have come, and this is what is still to come: before the first block all of it, behind its tag and its length.
+-- Of the bytes of a file some have come, and this is what is still to come: before the first block all of it, after its tag and its length.
 abbrev pub IsAhead : List ℕ → Option ℕ → (so_far rest : List ℕ) → Type 0
 IsAhead bytes None so_far rest = (so_far ≡ []) × (rest ≡ block_element bytes)
 IsAhead bytes (Some size) so_far rest = (size ≡ length bytes) × (so_far ++ rest ≡ bytes)
@@ -79,7 +79,7 @@ brought bytes some most (Some size) last so_far rest ahead = record {
   joined = append_assoc so_far (take 239 rest) (drop 239 rest) ∙ ap (λ (s : List ℕ). so_far ++ s) (take-append-drop 239 rest) ∙ ahead.1;
 }
 
--- so many blocks are still to come
+-- `left` blocks are still to come
 pub record AreLeft (left : ℕ) (rest : List ℕ) : Type 0 where
   pub few : length rest ≤ 239 * left
   pub more : 239 * left < length rest + 239

@@ -51,7 +51,7 @@ pub record Comes (state : State) (channel : ℕ) (session : Session) (file domai
 abbrev pub file_with : (file domain bytes : List ℕ) → LoadFile
 file_with file domain bytes = record { aid = file; domain = domain; bytes = bytes }
 
--- behind the command the file comes on, and what follows leads from there
+-- after the command the file comes on, and what follows leads from there
 pub record GoesOnAs (state : State) (channel : ℕ) (session : Session) (file domain bytes so_far rest : List ℕ) (blocks : ℕ) (command : Apdu) : Type 0 where
   pub next : State
   pub piece : List ℕ

@@ -20,7 +20,7 @@ same_component c d x y ic id is =
     let both = same_fronts c.content d.content x y len rest in
     (λ i. record { tag = tag i; content = both.0 i }, both.1)
 
--- and they are not such as begin none
+-- bytes that begin with a component are not such as begin none
 pub begins_one : (c : Component) (x : List ℕ) → IsComponent c → BeginNone (spelled c ++ x) → ⊥
 begins_one c x ic (inl none) = ic.tag none
 begins_one c x ic (inr cut) =

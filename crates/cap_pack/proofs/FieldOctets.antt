@@ -1,11 +1,11 @@
--- Fields behind their lengths: their bytes, and how many these are.
+-- Fields after their lengths: their bytes, and how many these are.
 use Rattle.std.proofs.Common.{◌≡◌, ℕ, ◌+◌, ◌≤◌, List, [], ◌∷◌, length, arith, length-append}
 use Rattle.std.specs.List.{flat_map}
 use Rattle.cmac_kdf.specs.Blocks.{IsBytes}
 use Rattle.tokens_receipts.specs.Receipt.{with_length}
 use Rattle.cap_pack.proofs.Octets.{bytes_joined, bytes_more, no_bytes}
 
--- fields behind their lengths are bytes
+-- fields after their lengths are bytes
 abbrev pub AreShort : List (List ℕ) → Type 0
 AreShort [] = Unit {0}
 AreShort (field ∷ fields) = IsBytes field × (length field ≤ 0x7F) × AreShort fields

@@ -177,7 +177,7 @@ one_stop bytes (Applets n) (Applets m) stops other =
     let both = both_such (λ cs. HasSomeHeader cs × NoneRepeats cs × ListsNoneAt n cs) (λ cs. HasSomeHeader cs × NoneRepeats cs × ListsNoneAt m cs) bytes stops other in
     ap (λ (k : ℕ). Applets k) (one_lack n m both.0 both.1.1 both.1.2 both.2.2)
 
--- and a CAP file has none
+-- a CAP file has no stop
 no_stop : (bytes file : List ℕ) (aids : List (List ℕ)) (stop : CapStop) → CapOf bytes file aids → Stops bytes stop → ⊥
 no_stop bytes file aids Large cap stops = omega (arith, cap.0, stops)
 no_stop bytes file aids (Broken n) cap stops = no_break bytes n cap.1.0 stops.1 cap.1.1

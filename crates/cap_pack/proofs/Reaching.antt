@@ -66,12 +66,12 @@ module _ (state : State) (channel : ℕ) (session : Session) (has : HasOpen stat
     reply : after.reply ≡ protected (having_sent session command) (0x00 ∷ []) 0x9000
     reply = (λ i. protected (having_sent session command) (body i) (status i))
 
-    -- and the others go on from there
+    -- the others go on from the state after the command
     pub leads_on : (others : List Apdu) → done.state.registry ≡ state.registry → Leads channel file done.state (having_sent session command) others
         → Leads channel file state session (command ∷ others)
     leads_on others same rest =
         (after ∷ rest.0, rest.1, (step, rest.2), (refl, reply, rest.3), subst (λ (r : Registry). IsFileAdded file r rest.1.registry) same rest.4)
 
-    -- or it is the last one
+    -- the command is the last one
     pub leads_there : IsFileAdded file state.registry done.state.registry → Leads channel file state session (command ∷ [])
     leads_there added = (after ∷ [], done.state, (step, (refl, refl)), (refl, reply, tt), added)

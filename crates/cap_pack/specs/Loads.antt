@@ -81,13 +81,13 @@ pub record IsLoaded (state : State) (channel : ℕ) (session : Session) (file by
 abbrev pub LoadRun : State → ℕ → Session → (file bytes : List ℕ) → List Outcome → State → Type 0
 LoadRun state channel session file bytes = Run state (sent_in session channel (load_commands file bytes))
 
--- A card that may take an Executable Load File takes it whole: the commands that load it have a run,
+-- A card that may take an Executable Load File takes it whole: the commands that load it have a run that does so.
 abbrev pub LoadsWhole : Type 0
 LoadsWhole =
     (state : State) (channel : ℕ) (session : Session) (file bytes : List ℕ) → MayLoad state channel session file bytes
     → (outcomes : List Outcome) × (last : State) × LoadRun state channel session file bytes outcomes last × IsLoaded state channel session file bytes outcomes last
 
--- and each run that they have is such a one, since from one state the same inputs have at most one.
+-- Each run that these commands have loads the file whole, since from one state the same inputs have at most one run.
 abbrev pub AlwaysLoadsWhole : Type 0
 AlwaysLoadsWhole =
     (state : State) (channel : ℕ) (session : Session) (file bytes : List ℕ) → MayLoad state channel session file bytes

@@ -22,7 +22,7 @@ use std::marker::Model;
 // How many bytes a line spells, at most.
 const LINE_BYTES: usize = LINE_LIMIT / 2;
 
-// The bytes that a line spells, or nothing where it has no form.
+// The bytes that a line spells, or nothing where it is malformed.
 #[tactic(auto, unfolding(script_tool::specs::Values::SpellsUpTo))]
 fn spelled(line: &[u8]) -> Option<ArrayVec<u8, LINE_BYTES>>
     requires { length line.now ≤ LINE_LIMIT }

@@ -42,7 +42,7 @@ module _ {T X : Type 0} (view : T → X) (p : X → Bool) (q : Option T → Bool
       let first = at_most (p (view thing)) (q (Some thing)) (follows zero thing refl) in
       omega (arith, sum_by-cons (λ (o : Option T). cond (q o) 1 0) (Some thing) slots, sum_by-cons (λ (x : X). cond (p x) 1 0) (view thing) (map view (used slots)))
 
-  -- and the other way round
+  -- no more are counted by slots than by views where each slot that counts does so there too
   pub count_of_slots : (slots : List (Option T)) → q None ≡ false → ((slot : ℕ) (thing : T) → held slots slot ≡ Some thing → q (Some thing) ≡ true → p (view thing) ≡ true)
       → count_by q slots ≤ count_by p (map view (used slots))
   count_of_slots [] free follows = omega arith

@@ -16,7 +16,7 @@ use Rattle.card_check.proofs.LoadPagesNamed.{AreMarked, are_front, are_none, no_
 abbrev IsShort : LoadFile → Type 0
 IsShort file = file.len ≤ FILE_LIMIT
 
--- so far the files are short, and their pages are named and marked
+-- The files passed so far are short, and their pages are named and marked.
 pub record HaveMarks (marks : List Bool) (files : List (Option LoadFile)) : Type 0 where
   pub arrays : All HasPageNumbers (used files)
   pub lengths : All (λ file. file.len ≤ FILE_LIMIT) (used files)

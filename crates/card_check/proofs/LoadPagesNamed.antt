@@ -105,7 +105,7 @@ taken_more : (before pages : List ℕ) (i : ℕ) → i < length pages → (befor
 taken_more before pages i within =
     append_assoc before (take i pages) (get_or pages i 0 ∷ []) ∙ ap (λ (pages : List ℕ). before ++ pages) (sym (take_more pages i 0 within))
 
--- so far the pages are named and marked
+-- the pages passed so far are named and marked
 pub record AreMarked (marks : List Bool) (pages : List ℕ) : Type 0 where
   pub marked : HasMarks marks pages
   pub are : AreLoadPages pages

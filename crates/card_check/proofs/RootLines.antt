@@ -10,7 +10,7 @@ use Rattle.domain_tree.proofs.Climb.{line_behind}
 use Rattle.domain_tree.proofs.LineLength.{line_length}
 use Rattle.card_check.specs.CardSlots.{LeadsToRoot}
 
--- so far up: a line from here is one from the slot, and the other way round, but for what is behind
+-- The climb so far: a line from here is one from the slot, and the other way round, but for what comes after.
 pub record IsOnWay (entries : List (Option Entry)) (slot at count : ℕ) : Type 0 where
   pub down : LeadsToRoot entries at → LeadsToRoot entries slot
   pub up : (leads : LeadsToRoot entries slot) → (rest : List ℕ) × IsLine (domain_slot entries) at rest × (length rest + count ≤ length leads.0)

@@ -29,12 +29,12 @@ aids_selected live before after keeps = record { selected = λ number slot low a
     of None = tt
     of (Some name) = keeps name.domain
 
--- or where the entries are the same
+-- what is selected stays where the entries are the same
 pub entries_selected : (live : Live) (before after : List (Option Entry)) → after ≡ before → KeepsSelected live before after
 entries_selected live before after same =
     aids_selected live before after (λ slot entry at. (entry, subst (λ (es : List (Option Entry)). held es slot ≡ Some entry) (sym same) at, refl))
 
--- and where the next change leaves each entry with its AID
+-- what is selected stays where the next change leaves each entry with its AID
 pub selected_on : (live : Live) (a b c : List (Option Entry)) → KeepsSelected live a b → KeepsAids b c → KeepsSelected live a c
 selected_on live a b c first then = record {
   selected = λ number slot low at. on slot (first.selected number slot low at);
@@ -71,7 +71,7 @@ entry_room staged none = subst (HasRoomFor entry_pages) (sym none) (omega arith)
 pub room_again : (staged after : List ℕ) → staged ≡ [] → KeepsRoom entry_pages staged after → HasRoomFor entry_pages after
 room_again staged after none keeps = keeps entry_pages (λ page there. there) (entry_room staged none)
 
--- the same where a thing is moved, and then its answer may change an entry
+-- with nothing staged there is room for the pages of a thing that is moved
 pub thing_room : (thing : Found) (staged : List ℕ) → staged ≡ [] → HasRoomFor (thing_pages thing) staged
 thing_room (Thing.Entry slot) staged none = entry_room staged none
 thing_room (Thing.File slot) staged none = subst (HasRoomFor (file_page slot ∷ [])) (sym none) (omega arith)
@@ -100,7 +100,7 @@ room_first pages others staged room = omega (arith, room, sum_by-append (is_new 
 room_last : (pages others staged : List ℕ) → HasRoomFor (pages ++ others) staged → HasRoomFor others staged
 room_last pages others staged room = omega (arith, room, sum_by-append (is_new staged) pages others)
 
--- so it is where an entry goes with what it owns
+-- with nothing staged there is room for the pages of an entry that goes with what it owns
 pub owner_room : (staged : List ℕ) → staged ≡ [] → HasRoomFor owner_pages staged
 owner_room staged none = subst (HasRoomFor owner_pages) (sym none) (omega arith)
 
@@ -108,7 +108,7 @@ pub owner_room_again : (staged after : List ℕ) → staged ≡ [] → KeepsRoom
 owner_room_again staged after none keeps =
     room_first entry_pages key_pages after (room_first (entry_pages ++ key_pages) object_pages after (keeps owner_pages (λ page there. there) (owner_room staged none)))
 
--- and where entries go, and then the Executable Load File that they come from
+-- the room where entries go, and then the Executable Load File that they come from
 module _ (slot : ℕ) (staged between : List ℕ) (none : staged ≡ []) (keeps : KeepsRoom entry_pages staged between) where
   abbrev file_pages : List ℕ
   file_pages = file_page slot ∷ []

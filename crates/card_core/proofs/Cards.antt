@@ -67,13 +67,13 @@ module _ (before after : Tables) (entries : length after.entries.items ≡ lengt
         };
       }
 
-  -- and so where they say it over any
+  -- such tables are a card's, where they say it over any load pages
   pub cards_from : (HasIssuer before.entries.items → HasIssuer after.entries.items) → (AreFiles before.files.items → AreFiles after.files.items)
       → ((page : ℕ → List ℕ) (said : Registry) → Represents page before said → Well said → (now : Registry) × Represents page after now × Well now)
       → AreCards before → AreCards after
   cards_from issuer pages each cards = cards_over issuer pages (λ page said whole. each page said) cards
 
--- and so with the same entries and Executable Load Files
+-- tables with the same entries and Executable Load Files are a card's too
 module _ (before after : Tables) (entries : after.entries.items ≡ before.entries.items) (files : after.files.items ≡ before.files.items)
     (keys : length after.keys.items ≡ length before.keys.items) (objects : length after.objects.items ≡ length before.objects.items) where
   pub cards_after : ((page : ℕ → List ℕ) (said : Registry) → Represents page before said → Well said → (now : Registry) × Represents page after now × Well now)
@@ -82,7 +82,7 @@ module _ (before after : Tables) (entries : after.entries.items ≡ before.entri
       cards_from before after (ap (λ (slots : List (Option Entry)). length slots) entries) (ap (λ (slots : List (Option LoadFile)). length slots) files) keys objects
       (λ issuer. subst HasIssuer (sym entries) issuer) (λ are. subst AreFiles (sym files) are)
 
--- and so they are after a sequence counter was drawn
+-- tables are a card's after a sequence counter was drawn
 pub drawn_cards : (before after : Tables) (slot : ℕ) (key : KeyRec) → held before.keys.items slot ≡ Some key → keeps_counter key ≡ true
     → SetsKey before after slot (Some (raised_key key)) → key.counter < COUNTER_LIMIT → AreCards before → AreCards after
 drawn_cards before after slot key at keeps set below cards =

@@ -50,7 +50,7 @@ refusal_carried page card admitted body (Ok status) found given four low shows j
 refusal_carried page card admitted body (Err rule) found given four low shows judges empty =
     (refusal_shows page card admitted four low shows rule, subst (λ (r : Rule). Judges admitted (Some r)) (sym given) judges, empty)
 
--- and what is kept of the load session goes with it
+-- what is kept of the load session goes with a refusal
 pub refusal_loads : (page : ℕ → List ℕ) (tables : Tables) (loading : Option LoadSession) (admitted : Admitted) (result : Result Status Rule) (found : Rule)
     → IsErrAnd result (λ rule. rule ≡ found) → RepresentsLoading page tables loading admitted.at.volatile.load → LoadsBy page admitted tables loading result
 refusal_loads page tables loading admitted (Ok status) found given loads = absurd given

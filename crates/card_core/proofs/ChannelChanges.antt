@@ -153,7 +153,7 @@ module _ (page : ℕ → List ℕ) (tables : Tables) (live : Live) (all : List C
       secure_channel_passed (without_offer_held (slice_index_or all number held.Nothing)) here
       (offer_dropped (slice_index_or all number held.Nothing) (secure_channel_of here) holds_here)
 
-  -- behind the check of the class
+  -- after the check of the class
   pub passed_shows : (keeps : Bool)
       → KeptRepresents page (record { tables = tables; live = live_without_place live number; held = slice_set all number (held_passed keeps (slice_index_or all number held.Nothing)) })
       (record { registry = state.registry; volatile = without_place state.volatile number keeps })
@@ -242,7 +242,7 @@ session_passed_shows page card registry volatile command shows = by (command.ins
     by true = shows
     by false = load_ended_shows page card registry volatile (channel_of command.class) shows
 
--- the same is said over tables whose entries are the same
+-- what is kept says the state over tables whose entries are the same
 pub says_over : (page : ℕ → List ℕ) (tables tables' : Tables) (live : Live) (state : State) (registry : Registry) (volatile : Volatile)
     → tables'.entries.items ≡ tables.entries.items → Represents page tables' registry → volatile ≡ state.volatile → RepresentsState page tables live state
     → RepresentsState page tables' live (record { registry = registry; volatile = volatile })
@@ -255,7 +255,7 @@ says_over page tables tables' live state registry volatile entries says same tol
       load = subst (λ (es : List (Option Entry)). IsLoadNamed es live.load state.volatile.load) (sym entries) told.load;
     })
 
--- and over tables where what is selected keeps its AID
+-- what is kept says the state over tables where what is selected keeps its AID
 module _ (page : ℕ → List ℕ) (tables tables' : Tables) (live : Live) (state : State) (keeps : KeepsSelected live tables.entries.items tables'.entries.items) where
   selected_kept : (slot : Option ℕ) (channel : Option Channel) → IfSome slot (KeepsAid tables.entries.items tables'.entries.items)
       → IsSelectedIn tables.entries.items slot channel → IsSelectedIn tables'.entries.items slot channel
@@ -304,7 +304,7 @@ held_same page card state number now same shows =
     subst (λ (all : List ChannelSession). KeptRepresents page (record { tables = card.tables; live = card.live; held = all }) state)
     (sym (ap (slice_set card.held number) (sym same) ∙ set-get_or card.held number held.Nothing)) shows
 
--- the same volatile state
+-- what is kept shows the state with an equal volatile state
 pub shows_same : (page : ℕ → List ℕ) (card : Kept) (registry : Registry) (a b : Volatile) → a ≡ b → KeptRepresents page card (record { registry = registry; volatile = a })
     → KeptRepresents page card (record { registry = registry; volatile = b })
 shows_same page card registry a b same shows = subst (λ (v : Volatile). KeptRepresents page card (record { registry = registry; volatile = v })) same shows

@@ -41,7 +41,7 @@ module _ {F : Type 0} (old new : Contents F) (same : SameElse old new) (tables :
   pub raised_are_cards : AreCards old.tables → AreCards new.tables
   raised_are_cards = drawn_cards old.tables new.tables slot key at next.0 set next.1
 
-  -- and say the registry with that counter one higher
+  -- the tables say the registry with that counter one higher
   module _ (page : ℕ → List ℕ) (said : Registry) (says : Represents page old.tables said) where
     pub says_raised : Represents page new.tables (raised said (domain_aid tables.entries.items key.owner) key.version)
     says_raised =

@@ -41,7 +41,7 @@ confirmer_stays page tables domain admitted acts related thing alone None found 
 confirmer_stays page tables domain admitted acts related thing alone (Some slot) found =
     λ goes. alone slot goes (receipter_has_others page tables domain admitted acts slot found)
 
--- nor is the Issuer Security Domain
+-- the Issuer Security Domain is not to go
 module _ (page : ℕ → List ℕ) (tables : Tables) (said : registry.Registry) (says : Represents page tables said) (well : Well said) (issuer : HasIssuer tables.entries.items) where
   issuer_file : (entry : Entry) → held tables.entries.items ISSUER_SLOT ≡ Some entry → file_aid tables.files.items entry.file ≡ FACTORY_FILE
   issuer_file entry at =
@@ -78,7 +78,7 @@ module _ (before after : Tables) (related : Bool) (thing : Found) (leaves : Leav
       of None stays = tt
       of (Some slot) stays = entry_stays slot stays
 
-  -- and who may make it still may
+  -- the domain that may make the receipt still may
   pub deletion_able : (receipter : Option ℕ) → IfSome receipter Stays → IfSome receipter (MayReceipt before) → IfSome receipter (MayReceipt after)
   deletion_able None stays may = tt
   deletion_able (Some slot) stays may = may_still before after slot (entry_stays slot stays) (λ place. by place (held before.keys.items place) refl) may

@@ -50,7 +50,7 @@ module _ (before after : Tables) (keeps : KeepsNumbers before after) where
   pub aids_kept : KeepsAids before.entries.items after.entries.items
   aids_kept slot entry at = (let other = keeps.entries slot entry at in (other.0, other.1, other.2))
 
-  -- so what a receipt is made from is as it was
+  -- what a receipt is made from is as it was
   pub receipts_kept : (receipter : Option ℕ) → KeepsReceipts before after receipter
   receipts_kept receipter = record {
     entry = of receipter;
@@ -102,7 +102,7 @@ module _ (before after : Tables) (slot : ℕ) (change : Entry → Entry) (set : 
     | inr other ↦ (e, still before.entries.items slot (option_map change (held before.entries.items slot)) after.entries.items set.entries s e other at, inr refl)
   ]
 
-  -- and has the AID that it had
+  -- the entry that is changed has the AID that it had
   pub changing_aids : ((e : Entry) → (change e).aid ≡ e.aid) → KeepsAids before.entries.items after.entries.items
   changing_aids alike s e at =
       let other = changed_or_still s e at in (
@@ -114,7 +114,7 @@ module _ (before after : Tables) (slot : ℕ) (change : Entry → Entry) (set : 
         ],
       )
 
--- and the receipt number that it had
+-- the entry that is changed has the receipt number that it had
 pub changing_keeps : (before after : Tables) (slot : ℕ) (change : Entry → Entry) → ((e : Entry) → ((change e).aid ≡ e.aid) × ((change e).receipts ≡ e.receipts))
     → ChangesEntry before after slot change → KeepsNumbers before after
 changing_keeps before after slot change alike set = record {
@@ -169,7 +169,7 @@ entries_cards before after entries files keys objects keeps each cards =
     (λ are. subst AreFiles (sym files) are)
     each cards
 
--- and so after an entry joined, went or was changed
+-- tables are a card's after an entry joined, went or was changed
 pub entry_cards : (before after : Tables) (slot : ℕ) (entry : Option Entry) → SetsEntry before after slot entry → KeepsAids before.entries.items after.entries.items
     → ((page : ℕ → List ℕ) (said : Registry) → Represents page before said → Well said → (now : Registry) × Represents page after now × Well now)
     → AreCards before → AreCards after
@@ -210,7 +210,7 @@ factory_still domain (None ∷ slots) zero is = is
 factory_still domain (Some file ∷ slots) zero is = is
 factory_still domain (s ∷ slots) (suc slot) is = is
 
--- and after a thing was moved to another domain
+-- tables are a card's after a thing was moved to another domain
 pub moved_cards : (before after : Tables) (thing : Found) (domain : ℕ) → Moves before after thing domain
     → ((page : ℕ → List ℕ) (said : Registry) → Represents page before said → Well said → (now : Registry) × Represents page after now × Well now)
     → AreCards before → AreCards after

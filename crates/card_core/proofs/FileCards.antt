@@ -55,7 +55,7 @@ other_than page others apart =
     recursion_from_All (λ y. nat_eq page y ≡ false) others
     (All-weaker (Contains others) (λ y. nat_eq page y ≡ false) (λ y there. ne_eqb page y (λ same. apart (subst (Contains others) (sym same) there))) others (All-contains_itself others))
 
--- so does one that no file names from each page that a file names
+-- a page that no file names differs from each page that a file names
 other_than_named : (page : ℕ) (files : List LoadFile) → All (λ file. Contains (pages_named file) page → ⊥) files
     → AllByRecursion (λ y. nat_eq page y ≡ false) (concat (map pages_named files))
 other_than_named page [] free = tt
@@ -65,7 +65,7 @@ other_than_named page (first ∷ rest) free =
     (other_than_named page rest (All-tail (λ file. Contains (pages_named file) page → ⊥) first rest free))
 
 module _ (tables : Tables) where
-  -- pages of its own, and behind them those that files have
+  -- pages of its own, and after them those that files have
   distinct_joined : (pages : List ℕ) → IsDistinct nat_eq pages → All (IsFree tables) pages → IsDistinct nat_eq (all_pages tables.files.items)
       → IsDistinct nat_eq (pages ++ all_pages tables.files.items)
   distinct_joined [] apart free others = others
@@ -95,13 +95,13 @@ module _ (file : LoadFile) where
       IsPermutation-trans _ _ _ turned (IsPermutation-append_right named _ _ rest)
 
   module _ (before after : Tables) (slot : ℕ) (adds : AddsFile before after slot file) where
-    -- so are the files
+    -- the files are those that they were, and the new one
     files_joined : IsPermutation (file ∷ used before.files.items) (used after.files.items)
     files_joined =
         subst (λ (slots : List (Option LoadFile)). IsPermutation (file ∷ used before.files.items) (used slots)) (sym adds.set.files)
         (rw adds.free.free at (set_shown (λ (thing : Option LoadFile). thing) before.files.items slot (Some file) adds.free.within))
 
-    -- and they stand as a card's do
+    -- the files stand as a card's do
     files_stand : IsInLoadPages file → AreOwn before (pages_named file) → AreFiles before.files.items → AreFiles after.files.items
     files_stand is own are = record {
       factory = subst IsFactoryIn (sym adds.set.files)
@@ -151,7 +151,7 @@ module _ (before after : Tables) (slot : ℕ) (file : LoadFile) (adds : AddsFile
         pages = omega (arith, ap pages_of long, counted, fewer, few);
       }) added).well
 
-  -- and the tables are a card's
+  -- the tables with the file are a card's
   pub joined_cards : AreOwn before (pages_named file)
       → ((page : ℕ → List ℕ) (said : registry.Registry) → Represents page before said → Well said
       → (now : registry.Registry) × IsFileAdded (file_of page before.entries.items file) said now × Represents page after now)

@@ -19,7 +19,7 @@ use Rattle.policy_rules.specs.GetData.{IsKeyInformation, key_information}
 use Rattle.policy_rules.specs.KeyOrder.{follows, is_past, name_order}
 use Rattle.policy_rules.specs.declared.key_order.KeyName.{KeyName}
 
--- So many keys of the domain are written; then comes this one, and those past it.
+-- `count` keys of the domain are written; then comes this one, and those past it.
 pub record IsListing (tables : Tables) (said : registry.Registry) (owner : ℕ) (key : KeyRec) (count : ℕ) (value : List ℕ) : Type 0 where
   pub listed : List registry.Key
   pub counted : length listed ≡ count

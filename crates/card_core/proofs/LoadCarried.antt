@@ -70,7 +70,7 @@ module _ (page after : ℕ → List ℕ) (tables tables' : Tables) (live live' :
       (subst (λ (l : Live). KeptRepresents page (kept_of tables l all) admitted.at) (sym left.live_is) stands.shows)) in
       (refusal_shows after (kept_of tables' live' all) admitted (record { held = four.held; channels = four.channels }) low shows rule, judges, empty)
 
-  -- and what is kept of the load session goes with it
+  -- what is kept of the load session goes with what the command did
   loaded_by : (result : Result Status Rule) → OnErr result (IsLeft page after tables tables' live live' session session')
       → RepresentsLoading page tables session admitted.at.volatile.load → LoadsAs admitted after tables' live' session' body result
       → LoadsBy after admitted tables' session' result

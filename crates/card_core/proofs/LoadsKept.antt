@@ -58,14 +58,14 @@ module _ (page : ℕ → List ℕ) (tables : Tables) (loading : Option Kept) whe
       by true = is
       by false = ended_loading (channel_of command.class) volatile.load is
 
-  -- behind secure messaging
+  -- after secure messaging
   pub admitted_loading : (state : State) (command : Apdu) (session : Option Session) (plain : List ℕ) → RepresentsLoading page tables loading state.volatile.load
       → RepresentsLoading page tables loading (admitted_as state command session plain).at.volatile.load
   admitted_loading state command None plain is = passed_loading (class_passed state.volatile command) command is
   admitted_loading state command (Some session) plain is =
       passed_loading (message_joined (class_passed state.volatile command) (channel_of command.class) (Some session)) command is
 
-  -- behind a refusal
+  -- after a refusal
   pub refusal_loading : (admitted : Admitted) (rule : Rule) → RepresentsLoading page tables loading admitted.at.volatile.load
       → RepresentsLoading page tables loading (refusal_leaves admitted rule).load
   refusal_loading admitted rule is = by (keeps_load rule)

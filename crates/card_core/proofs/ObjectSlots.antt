@@ -118,7 +118,7 @@ room_after slots owner element elements slot all is room =
     let first = first_new (has_object_in slots owner) element elements in
     omega (arith, number, tags, first, room)
 
--- and there is room for a first one that is new
+-- there is room for a first element whose tag is new
 pub room_first : (slots : List (Option Object)) (owner : ℕ) (element : Element) (elements : List Element)
     → length (used slots) + new_tags (has_object_in slots owner) (element ∷ elements) ≤ OBJECTS
     → has_object_in slots owner element.tag ≡ false → length (used slots) < OBJECTS

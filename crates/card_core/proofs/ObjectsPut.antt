@@ -64,7 +64,7 @@ pub record SaysPart (page : ℕ → List ℕ) (now : Tables) (said : registry.Re
   pub says : Represents page now (with_data said objects)
   pub rest : with_objects owner things behind ≡ with_objects owner said.objects elements
 
--- some of the elements are put, and these are behind them
+-- some of the elements are put, and these are after them
 pub record ArePut (before now : Tables) (domain : ℕ) (elements behind : List Element) : Type 0 where
   pub forms : All (λ element. IsObject element.tag (length element.value)) behind
   pub room : length (used now.objects.items) + new_tags (has_object_in now.objects.items domain) behind ≤ OBJECTS

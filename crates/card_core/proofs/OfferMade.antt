@@ -22,7 +22,7 @@ pub object_diversifies : (said : Registry) (owner value : List ℕ) → IsDataOb
     → value ≡ diversification_of (object_named said owner 0xCF)
 object_diversifies said owner value is = is.2 ∙ ap diversification_of (sym is.1)
 
--- and there is none where GET DATA finds nothing
+-- there is no such data object where GET DATA finds nothing
 pub none_named : (said : Registry) (owner : List ℕ) → ((value : List ℕ) → HasData said owner 0xCF value → ⊥) → object_named said owner 0xCF ≡ None
 none_named said owner none = by (object_named said owner 0xCF) refl
   where

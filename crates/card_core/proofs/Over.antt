@@ -60,7 +60,7 @@ module _ {F : Type 0} (device : Flash F) (live : Live) (all : List ChannelSessio
         shows = record { on = powered_on_stands page tables live all is.said is.of.layout is.of.says is.of.well first nothing; loading = tt };
       }
 
-  -- and one that was reset
+  -- a card that was reset shows the state after power on
   pub reset_stands : (card : CardOver F) (state : State) → AreCards card.tables → CardRepresents device card state
       → CardRepresents device (record { flash = card.flash; tables = card.tables; volatile = live; held = all; loading = loading; live = card.live }) (powered_on state.registry)
   reset_stands card state cards stands = record {
@@ -103,13 +103,13 @@ module _ {F : Type 0} (device : Flash F) (card : CardOver F) (state : State)
       subst (λ flash. LeavesOnly device flash new (λ outcome. Reopens outcome state.registry ⊎ Reopens outcome next)) same
       (moments told state.registry next (served_keeps told) (served_says writes tables next says told))
 
-  -- and while load pages are read
+  -- what power lost while load pages are read leaves
   pub reading : (new : F)
       → (device.tells → (registry : Registry) → Keeps device served registry → LeavesOnly device served new (λ outcome. Reopens outcome registry))
       → device.tells → LeavesOnly device card.flash new (λ outcome. Reopens outcome state.registry)
   reading new moments told =
       subst (λ flash. LeavesOnly device flash new (λ outcome. Reopens outcome state.registry)) same (moments told state.registry (served_keeps told))
 
--- where the pages are the same, what is spare on the device is so too
+-- where the pages are the same, what was spare on the device still is
 pub spare_over : {F : Type 0} (device : Flash F) (old new : F) (tables : Tables) → device.pages new ≡ device.pages old → AreSpare device old tables → AreSpare device new tables
 spare_over device old new tables same spare page free = spare_same device old new (λ n lt. ap (λ pages. store_page pages n) same) page (spare page free)

@@ -1,4 +1,4 @@
--- What a card keeps behind the check of the class, and behind secure messaging.
+-- What a card keeps after the check of the class, and after secure messaging.
 use Rattle.std.proofs.Common.{◌≡◌, ℕ, ◌<◌, List, Bool, true, false, Option, None, Some, Err, refl, sym, ap, subst, ◌∙◌, inl, inr, length}
 use Rattle.std.specs.Prelude.{MatchOption, if◌then◌else◌, slice_index_or, slice_set, ◌==◌}
 use Rattle.std.proofs.lemmas.List.{get_or-set_same, get_or_default, length-set, set-get_or}
@@ -50,7 +50,7 @@ pub read_at : (all : List ChannelSession) (place number : ℕ) (other : ChannelS
 read_at all place number other four low is =
     ap (λ (n : ℕ). slice_index_or all n other) is ∙ get_or_default all number other held.Nothing (within all number four low)
 
--- and when something was written to it
+-- what is read of a channel when something was written to it
 pub written_at : (all : List ChannelSession) (place number : ℕ) (now other : ChannelSession) → length all ≡ CHANNELS → number < CHANNELS → place ≡ number
     → slice_index_or (slice_set all place now) place other ≡ now
 written_at all place number now other four low is = get_or-set_same all place now other (subst (λ (n : ℕ). n < length all) (sym is) (within all number four low))
@@ -89,7 +89,7 @@ pub protects_so : (command : Apdu) (class : Class) (answer test : Bool) → clas
     → answer ≡ test → is_protected command ≡ test
 protects_so command class answer test is_class answers is = ap (λ (c : Option Class). protects c command.ins) is_class ∙ sym answers ∙ is
 
--- behind secure messaging what is selected is what it was
+-- after secure messaging what is selected is what it was
 pub selected_same : (ins number : ℕ) (live : Live) → (live_passed ins number live).selected ≡ live.selected
 selected_same ins number live = by (ins == LOAD)
   where
@@ -102,7 +102,7 @@ pub opened_so : (live : Live) (command : Apdu) (channel selected : ℕ) → chan
 opened_so live command channel selected is opened = subst (λ (n : ℕ). slice_index_or live.selected n None ≡ Some selected) is opened
 
 module _ (all : List ChannelSession) (held_four : length all ≡ CHANNELS) (command : Apdu) where
-  -- what the command's channel holds behind the check of the class
+  -- what the command's channel holds after the check of the class
   abbrev pub passed_held : ChannelSession
   passed_held = held_passed (command.ins == EXTERNAL_AUTHENTICATE) (slice_index_or all (channel_of command.class) held.Nothing)
 
@@ -129,7 +129,7 @@ module _ (page : ℕ → List ℕ) (tables : Tables) (live : Live) (all : List C
   four : HasFour (record { tables = tables; live = live; held = all }) state
   four = record { held = held_four; channels = stands.sound.fits.channels }
 
-  -- what is held behind the check of the class
+  -- what is held after the check of the class
   abbrev pub all_passed : List ChannelSession
   all_passed = slice_set all number (passed_held all held_four command)
 

@@ -108,7 +108,7 @@ protected_one (Some Secure) ins known protected = elim (contains_cases EXTERNAL_
   ]
 ]
 
--- and has secure messaging
+-- a protected command has secure messaging, so it is no management in plain
 pub protected_unmanaged : (command : Apdu) → is_protected command ≡ true → IsPlainManagement command → ⊥
 protected_unmanaged command protected (plain, managed) = (let clash = subst (λ (c : Option Class). protects c command.ins ≡ true) plain protected in cc)
 

@@ -14,7 +14,7 @@ use Rattle.policy_rules.specs.GetStatusRequests.{IsFirstShown, IsListOf, IsNextL
 use Rattle.policy_rules.specs.declared.get_status.ListRequest.{ListRequest}
 use Rattle.card_core.specs.ShownParts.{IsPart}
 
--- one more template behind others
+-- one more template after others
 templates_more : (registry : Registry) (p1 : ℕ) (things : List Thing) (thing : Thing) (bytes more : List ℕ) → AreTemplates registry p1 things bytes
     → IsTemplate registry p1 thing more → AreTemplates registry p1 (things ++ thing ∷ []) (bytes ++ more)
 templates_more registry p1 [] thing bytes more none is = (more, [], is, refl, ap (λ (front : List ℕ). front ++ more) none ∙ sym (append-nil more))
@@ -26,7 +26,7 @@ templates_more registry p1 (first ∷ things) thing bytes more (front, rest, fir
   ap (λ (all : List ℕ). all ++ more) joined ∙ append_assoc front rest more,
 )
 
--- So much was shown: these bytes are the templates, and this is the last AID.
+-- What was shown so far: these bytes are the templates, and this is the last AID.
 pub record HasShown (page : ℕ → List ℕ) (tables : Tables) (domain : ℕ) (admitted : Admitted) (acts : ActsIn page tables domain admitted)
     (request : ListRequest) (last bytes : List ℕ) : Type 0 where
   pub after : Option (List ℕ)
@@ -61,7 +61,7 @@ module _ (page : ℕ → List ℕ) (tables : Tables) (domain : ℕ) (admitted : 
       }
 
   module _ (last bytes : List ℕ) (has : Shown last bytes) where
-    -- and with each further one
+    -- with each further template
     pub next_shown : (found : Found) (next : IsNextListed page tables admitted request.kind request.prefix.now (Some last) found) (aid template new : List ℕ)
         → aid_of tables found ≡ Some aid → IsTemplate admitted.at.registry request.kind next.thing template → new ≡ bytes ++ template → Shown aid new
     next_shown found next aid template new named is joined =

@@ -35,7 +35,7 @@ module _ (tables : Tables) (tag : ℕ) (which : (tag ≡ 0x42) ⊎ (tag ≡ 0x45
   pub value_found : IsValueIn tables.objects.items tag found.thing.now.value.items
   value_found = inl (found.slot, found.thing.now, at, tagged.0, tagged.1, refl)
 
-  -- which is short
+  -- the value is short
   pub value_small : IsInOrder tables → length found.thing.now.value.items ≤ 10
   value_small order =
       let there = (objects_shown order.page tables order.said order.says).there found.slot found.thing.now at refl in

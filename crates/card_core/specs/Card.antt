@@ -44,6 +44,6 @@ abbrev pub LeavesEither : {F : Type 0} → Flash F → F → F → Registry → 
 LeavesEither device old new before after =
     device.tells → LeavesOnly device old new (ReopensEither before after)
 
--- the card stands behind the outcome, whose reply and rule were answered
+-- the card stands for the state after the outcome, whose reply and rule were answered
 abbrev pub Answers : {F : Type 0} → Flash F → CardOver F → Outcome → List ℕ → Option Rule → Type 0
 Answers device card outcome reply rule = CardRepresents device card outcome.state × (reply ≡ outcome.reply) × (rule ≡ outcome.rule)

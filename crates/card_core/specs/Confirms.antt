@@ -50,7 +50,7 @@ abbrev pub IsAnsweredBy : Option ℕ → Admitted → List (List ℕ) → Regist
 IsAnsweredBy None admitted aids changed done = IsUnconfirmed changed unconfirmed done
 IsAnsweredBy (Some slot) admitted aids changed done = IsConfirmed admitted aids changed done
 
--- so it is answered, and the tables say the registry that it leaves then
+-- The command is answered by these bytes, confirmed or not, and the tables say the registry that it leaves.
 abbrev pub AnswersFor : (ℕ → List ℕ) → Tables → Option ℕ → Admitted → List (List ℕ) → Registry → List ℕ → Type 0
 AnswersFor page tables receipter admitted aids changed body =
     (left : Registry) × Represents page tables left × IsAnsweredBy receipter admitted aids changed (leaves admitted left body)

@@ -16,7 +16,7 @@ is_domain_held (Some entry) = has security_domain entry.privileges
 abbrev pub is_domain_in : List (Option Entry) → ℕ → Bool
 is_domain_in entries slot = is_domain_held (held entries slot)
 
--- so it is of the AID of the entry in a slot, in any well registry that the tables represent
+-- `So` holds of the AID of the entry in a slot, in any well registry that the tables represent.
 abbrev pub ForEntry : Tables → ℕ → (Registry → List ℕ → Type 0) → Type 0
 ForEntry tables slot So =
     (page : ℕ → List ℕ) (said : Registry) (entry : Entry) → Represents page tables said → Well said

@@ -11,7 +11,7 @@ use Rattle.policy_rules.specs.declared.live.TheConstants.{CHANNELS}
 use Rattle.card_core.specs.SecureChannels.{RepresentsChannels}
 use Rattle.card_core.specs.declared.channel_session.ChannelSession.{ChannelSession}
 
--- its tables, its channels, and what these hold
+-- the tables of a card, its channels, and what these hold
 pub record Kept : Type 0 where
   pub tables : Tables
   pub live : Live
@@ -29,12 +29,12 @@ pub record KeptRepresents (page : ℕ → List ℕ) (card : Kept) (state : State
   pub says : RepresentsState page card.tables card.live state
   pub holds : RepresentsChannels card.held state.volatile
 
--- and the state is sound
+-- What is kept shows this state, and the state is sound.
 pub record RepresentsSoundly (page : ℕ → List ℕ) (card : Kept) (state : State) : Type 0 where
   pub shows : KeptRepresents page card state
   pub sound : IsSound state
 
--- so it is of each command that is judged by a sound state which tables and channels show, whatever these hold
+-- `So` holds of each command that is judged by a sound state which tables and channels show, whatever these hold.
 abbrev pub ForShown : Tables → Live → ((ℕ → List ℕ) → List ChannelSession → Admitted → Type 0) → Type 0
 ForShown tables live So =
     (page : ℕ → List ℕ) (all : List ChannelSession) (admitted : Admitted) → RepresentsSoundly page (kept_of tables live all) admitted.at

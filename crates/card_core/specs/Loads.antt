@@ -49,7 +49,7 @@ pub record HoldsLoad (tables : Tables) (live : Live) (loading : Option LoadSessi
   pub says : RepresentsState page tables live state
   pub kept : RepresentsLoading page tables loading state.volatile.load
 
--- so it is of each command that is judged by a sound state of which this is kept, and acts for the domain in a slot
+-- `So` holds of each command that is judged by a sound state of which this is kept, and acts for the domain in a slot.
 abbrev pub ForLoading : Tables → Live → Option LoadSession → ℕ → ((ℕ → List ℕ) → Admitted → Type 0) → Type 0
 ForLoading tables live loading domain So =
     ForActingLive tables live domain (λ page admitted. HasPages page → IsSound admitted.at → RepresentsLoading page tables loading admitted.at.volatile.load → So page admitted)
@@ -75,6 +75,6 @@ pub record IsForBlock (page : ℕ → List ℕ) (tables : Tables) (kept : LoadSe
   pub stands : RepresentsLoading page tables (Some kept) admitted.at.volatile.load
   pub front : IsFirst (LoadFails admitted) front_rules None
 
--- so it is of each such command
+-- `So` holds of each command that brings such a block.
 abbrev pub ForBlock : Tables → LoadSession → LoadName → ℕ → LoadRequest → (Admitted → Type 0) → Type 0
 ForBlock tables kept name domain request So = (page : ℕ → List ℕ) (admitted : Admitted) → IsForBlock page tables kept name domain request admitted → So admitted

@@ -17,11 +17,11 @@ use Rattle.rec_store.specs.Reopens.{IsFree}
 abbrev pub KeepsAid : List (Option Entry) → List (Option Entry) → ℕ → Type 0
 KeepsAid before after slot = (entry : Entry) → held before slot ≡ Some entry → (other : Entry) × (held after slot ≡ Some other) × (other.aid ≡ entry.aid)
 
--- each slot that is used does
+-- Each slot that is used holds an entry with the AID that it had.
 abbrev pub KeepsAids : List (Option Entry) → List (Option Entry) → Type 0
 KeepsAids before after = (slot : ℕ) → KeepsAid before after slot
 
--- so does the slot that is selected on a channel, and that of the load session's domain
+-- The slots selected on the channels and that of the load session's domain hold entries with the AIDs that they had.
 pub record KeepsSelected (live : Live) (before after : List (Option Entry)) : Type 0 where
   pub selected : (number slot : ℕ) → number < CHANNELS → held live.selected number ≡ Some slot → KeepsAid before after slot
   pub load : IfSome live.load (λ name. KeepsAid before after name.domain)

@@ -41,7 +41,7 @@ held_on all number = slice_index_or all number held.Nothing
 abbrev pub RepresentsChannels : List ChannelSession → Volatile → Type 0
 RepresentsChannels all volatile = (number : ℕ) → number < CHANNELS → RepresentsSecureChannel (held_on all number) (secure_channel_of (channel_at volatile number))
 
--- what is held behind the check of the class, by whether an offer is kept
+-- what is held after the check of the class, by whether an offer is kept
 abbrev pub held_passed : Bool → ChannelSession → ChannelSession
 held_passed true held = held
 held_passed false held = without_offer_held held

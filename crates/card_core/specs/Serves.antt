@@ -33,7 +33,7 @@ abbrev pub Serves : (ℕ → List ℕ) → State → List ℕ → Kept → Optio
 Serves page state bytes card loading reply rule =
     (next : State) × RepresentsAll page card loading next × Step state bytes (record { state = next; reply = reply; rule = rule })
 
--- it was, over the load pages with those that are to be written
+-- One step was made, over the load pages with those that are to be written.
 abbrev pub ServesLoading : (ℕ → List ℕ) → State → List ℕ → Kept → Loading → List ℕ → Option Rule → Type 0
 ServesLoading page state bytes card loading reply rule = Serves (with_due page loading) state bytes card loading.session reply rule
 
@@ -43,13 +43,13 @@ pub record IsPassed (channel : ℕ) (command : Apdu) (place : Option Place) (jud
   pub is : judged.command ≡ command
   pub goes_on : command.ins ≡ GET_STATUS → IsPlaceBefore place judged
 
--- so it has, by what it asks for
+-- The command that has passed asks for this and came on the channel; it may go on with a listing at this place.
 pub record IsAsked (channel : ℕ) (request : Request) (place : Option Place) (judged : Admitted) : Type 0 where
   pub on : channel ≡ judged.channel
   pub asks : IsRequestOf request judged.command
   pub goes_on : (form_in request).instruction ≡ GET_STATUS → IsPlaceBefore place judged
 
--- so it is of each command that asks so, over what a card keeps
+-- `So` holds of each command that asks for this request, over what a card keeps.
 abbrev pub ForAsked : ℕ → Request → Option Place → Kept → Option LoadSession → ((ℕ → List ℕ) → Admitted → Type 0) → Type 0
 ForAsked channel request place card loading So =
     (page : ℕ → List ℕ) (judged : Admitted) → HasPages page → RepresentsAll page card loading judged.at → IsAsked channel request place judged → So page judged
@@ -68,7 +68,7 @@ pub record IsPassedOver (channel : ℕ) (command : Apdu) (place : Option Place) 
   pub shows : RepresentsAll page card loading judged.at
   pub passed : IsPassed channel command place judged
 
--- so it is of each command that has passed so
+-- `So` holds of each command that has passed as this one, over what a card keeps.
 abbrev pub ForPassed : ℕ → Apdu → Option Place → Kept → Option LoadSession → ((ℕ → List ℕ) → Admitted → Type 0) → Type 0
 ForPassed channel command place card loading So =
     (page : ℕ → List ℕ) (judged : Admitted) → HasPages page → RepresentsAll page card loading judged.at → IsPassed channel command place judged → So page judged
@@ -83,11 +83,11 @@ abbrev pub IsRefusedBy : (ℕ → List ℕ) → Admitted → Kept → List ℕ �
 IsRefusedBy page admitted card body rule =
     KeptRepresents page card (record { registry = admitted.at.registry; volatile = refusal_leaves admitted rule }) × Judges admitted (Some rule) × (body ≡ [])
 
--- behind secure messaging the channel's load session has ended, unless the command goes on with it
+-- After secure messaging the channel's load session has ended, unless the command goes on with it.
 abbrev pub live_passed : (ins number : ℕ) → Live → Live
 live_passed ins number live = if ins == LOAD then live else live_without_load live number
 
--- and behind a refusal, unless the rule keeps it
+-- After a refusal the channel's load session has ended, unless the rule keeps it.
 abbrev pub live_refused : Rule → ℕ → Live → Live
 live_refused rule number live = if keeps_load rule then live else live_without_load live number
 
@@ -106,11 +106,12 @@ CarriesOut page admitted card loading body (Ok status) =
 CarriesOut page admitted card loading body (Err rule) =
     IsRefusedBy page admitted card body rule × RepresentsLoading page card.tables loading (refusal_leaves admitted rule).load
 
--- so it was, over the load pages with those that are to be written
+-- An admitted command was carried out or refused, over the load pages with those that are to be written.
 abbrev pub CarriesOutLoading : (ℕ → List ℕ) → Admitted → Kept → Loading → List ℕ → Result Status Rule → Type 0
 CarriesOutLoading page admitted card loading body result = CarriesOut (with_due page loading) admitted card loading.session body result
 
--- So it was, whatever is kept of the load session. Where it was refused, what a refusal ends is still to end.
+-- An admitted command was carried out or refused, whatever is kept of the load session. Where it was refused, what a
+-- refusal ends is still to end.
 abbrev pub CarriesOutBut : (ℕ → List ℕ) → Admitted → Kept → List ℕ → Result Status Rule → Type 0
 CarriesOutBut page admitted card body (Ok status) = IsDone page admitted card body status
 CarriesOutBut page admitted card body (Err rule) = IsRefusedBy page admitted (refused_at card admitted.channel rule) body rule
@@ -120,7 +121,7 @@ abbrev pub LoadsBy : (ℕ → List ℕ) → Admitted → Tables → Option LoadS
 LoadsBy page admitted tables loading (Ok status) = (done : Effect) → HasEffect admitted done → RepresentsLoading page tables loading done.state.volatile.load
 LoadsBy page admitted tables loading (Err rule) = RepresentsLoading page tables loading admitted.at.volatile.load
 
--- so it was, and what is kept of the load session goes with it
+-- An admitted command was carried out or refused, and what is kept of the load session goes with it.
 pub record CarriesOn (page : ℕ → List ℕ) (admitted : Admitted) (card : Kept) (loading : Option LoadSession) (body : List ℕ) (result : Result Status Rule) : Type 0 where
   pub done : CarriesOutBut page admitted card body result
   pub loads : LoadsBy page admitted card.tables loading result

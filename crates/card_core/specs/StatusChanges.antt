@@ -18,7 +18,7 @@ abbrev pub MakesChange : Tables → Tables → StatusChange → Type 0
 MakesChange before after (One slot life) = ChangesEntry before after slot (λ entry. record entry { life = life })
 MakesChange before after (Tree domain locked) = LocksTree before after domain locked
 
--- and the tables say so
+-- The tables say the registry with that change made.
 abbrev pub SaysChange : (ℕ → List ℕ) → Registry → Tables → Tables → StatusChange → Type 0
 SaysChange page said before after (One slot life) = Represents page after (with_life said (domain_aid before.entries.items slot) life)
 SaysChange page said before after (Tree domain locked) =

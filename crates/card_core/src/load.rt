@@ -47,7 +47,7 @@ fn rule_of(stop: BlockStop) -> RuleLO
     }
 }
 
-// Judges a block behind the rules on its number.
+// Judges a block after the rules on its number.
 fn judge_block(
     tables: &Tables,
     session: &LoadSession,

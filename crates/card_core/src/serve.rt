@@ -68,7 +68,7 @@ fn take_place(live: &mut Live, received: &Received<'_>) -> Option<Place>
     None
 }
 
-// Behind secure messaging the load session of the channel ends, unless the command goes on with it.
+// After secure messaging the load session of the channel ends, unless the command goes on with it.
 fn pass_session(received: &Received<'_>, live: &mut Live)
     ensures { live.new ≡ live_passed received.now.command.ins received.now.channel live.old }
 {
@@ -156,7 +156,7 @@ fn close_plain(served: Result<Status, Rule>, reply: &mut ArrayVec<u8, REPLY_LIMI
     }
 }
 
-// The same of a reply to a protected command.
+// Closes a reply to a protected command, and answers the rule.
 fn close_protected(
     served: Result<Status, Rule>,
     held: &mut ChannelSession,

@@ -71,7 +71,7 @@ module _ {X : Type 0} (order : X → X → Ordering) (total : IsTotalOrder order
     ]
   ]
 
-  -- what is behind the first is not the first
+  -- what is after the first is not the first
   other_behind : (x z : X) (xs : List X) → AtMostOnce (x ∷ xs) → Contains xs z → x ≡ z → ⊥
   other_behind x z xs once there same =
       let one = tie_at z x (ap (λ y. order y z) same ∙ tied_itself total z) in
@@ -98,7 +98,7 @@ module _ {X : Type 0} (order : X → X → Ordering) (total : IsTotalOrder order
       ]) in
       IsPermutation-trans (x ∷ xs) (x ∷ rest) ys (IsPermutation-cons x xs rest behind) (IsPermutation-sym ys (x ∷ rest) out)
 
-  -- what is behind the one that both begin with
+  -- what is after the one that both begin with
   moves : (x : X) (us vs : List X) → AtMostOnce us → AtMostOnce vs → IsPermutation (x ∷ us) (x ∷ vs) → (z : X) → Contains us z → Contains vs z
   moves x us vs once_u once_v same z there = elim (contains_cases x vs z (Contains-permutation (x ∷ us) (x ∷ vs) z same (contains_later x us z there))) [
     | inr later ↦ later

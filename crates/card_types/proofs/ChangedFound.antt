@@ -54,7 +54,7 @@ module _ {X : Type 0} (order : X → X → Ordering) (total : IsTotalOrder order
       least_found order total p after put.ascending new (Contains-permutation _ after new put.same (contains_first new before)) fits
       (λ y there fit above. (let tied = alone y fit in cc))
 
-  -- and so is what is put in place of another
+  -- what is put in place of another is found by a test that fits it alone
   pub replaced_found : (p : X → Bool) (gone new : X) (before after : List X) → IsReplaced order gone new before after → Contains before gone → p new ≡ true
       → ((y : X) → p y ≡ true → order new y ≡ Equal) → find p after ≡ Some new
   replaced_found p gone new before after replaced was fits alone =

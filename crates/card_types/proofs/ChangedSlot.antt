@@ -82,7 +82,7 @@ module _ {T X : Type 0} where
       let long = shown_list view' keep slots' ∙ shown_alike view view' keep slots' alike ∙ ap (filter_map h) set in
       subst (λ (xs : List X). IsPermutation xs after) (sym long) rest
 
-  -- and where nothing changes
+  -- the list that is shown where nothing changes
   pub same_slots : (view view' : T → X) (keep : T → Bool) (slots slots' : List (Option T)) (before : List X)
       → IsPermutation (map view (filter keep (used slots))) before → slots' ≡ slots
       → ((other : ℕ) (thing : T) → held slots other ≡ Some thing → view' thing ≡ view thing)
@@ -95,7 +95,7 @@ module _ {T X : Type 0} where
   shown_all view None = refl
   shown_all view (Some thing) = refl
 
-  -- the same where all is kept
+  -- the list that is shown after the change, where all is kept
   pub changed_all : (view view' : T → X) (slots slots' : List (Option T)) (slot : ℕ) (new : Option T) (order : X → X → Ordering) (total : IsTotalOrder order) (before after : List X)
       → IsPermutation (map view (used slots)) before → slot < length slots → slots' ≡ slice_set slots slot new
       → ((other : ℕ) (thing : T) → held slots' other ≡ Some thing → view' thing ≡ view thing)

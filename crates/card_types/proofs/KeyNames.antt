@@ -40,7 +40,7 @@ module _ (page : ℕ → List ℕ) (tables : Tables) (said : registry.Registry) 
   pub no_key : (p : registry.Key → Bool) → NoneFits (λ k. p (key_of tables.entries.items k)) tables.keys.items → find p said.keys ≡ None
   no_key p none = none_shown (key_of tables.entries.items) (λ _. true) tables.keys.items said.keys keys_shown p none
 
-  -- and so of the counters, which some of the keys keep
+  -- the first counter that fits is that of the least of the slots whose keys keep one
   pub least_counter : (p : registry.Counter → Bool) (slot : ℕ) (key : KeyRec)
       → IsLeast (λ k. keeps_counter k && p (counter_of tables.entries.items k)) (λ x y. counter_order (counter_of tables.entries.items x) (counter_of tables.entries.items y)) tables.keys.items slot key
       → find p said.counters ≡ Some (counter_of tables.entries.items key)

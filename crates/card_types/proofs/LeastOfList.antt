@@ -152,7 +152,7 @@ module _ {X : Type 0} (c : X → X → Ordering) where
         let rest = no_tie k ys (λ z there. none z (contains_later y ys z there)) in
         omega (arith, sum_by-cons (tie k) y ys)
 
-    -- behind one that ties there is no other
+    -- after one that ties there is no other
     none_behind : (k y : X) (ys : List X) → IsStrictlySortedBy c (y ∷ ys) → c y k ≡ Equal → sum_by (tie k) ys ≡ 0
     none_behind k y ys sorted is = no_tie k ys (λ z there tied.
         (let below = first_below y ys sorted z there in

@@ -69,7 +69,7 @@ module _ {T : Type 0} (fits : T → Bool) (order : T → T → Ordering) (slots 
   free_stays n least free before = stays n least before (λ thing at fit. absurd cc)
 
   module _ (total : IsTotalOrder order) where
-    -- and where it is not nearer
+    -- the least so far stays where what is newest is not nearer
     pub not_nearer_stays : (n : ℕ) (least : Option (InSlot T)) (thing : T) → held slots n ≡ Some thing → is_nearer fits order least thing ≡ false
         → LeastBefore fits order slots n least → LeastBefore fits order slots (n + 1) least
     not_nearer_stays n None thing at not_nearer before = stays n None before (λ other here fit.
@@ -112,7 +112,7 @@ module _ {T : Type 0} (fits : T → Bool) (order : T → T → Ordering) (slots 
         less Equal is = cc
         less Greater is = cc
 
-  -- behind the last slot it is the least of all
+  -- after the last slot it is the least of all
   pub least_of_all : (n slot : ℕ) (thing : T) → length slots ≤ n → IsLeastBefore fits order slots n slot thing → IsLeast fits order slots slot thing
   least_of_all n slot thing past before = record {
     at = before.at;

@@ -59,7 +59,7 @@ module _ (registry : Registry) (aid domain : List ℕ) where
           (λ hit. absurd (other (sym named ∙ (same_aid_decides entry.aid aid).0 hit))) (λ missed. refl))
 
   module _ (of : IsOfCard registry) (may : MayMove registry aid domain) where
-    -- and from an entry that is moved to its new domain
+    -- the step from an entry that is moved leads to its new domain
     pub step_thing : (entry : Entry) → entry_named registry aid ≡ Some entry → domain_of (moved registry aid domain) aid ≡ Some domain
     step_thing entry at =
         let hit = (found_fits (λ (e : Entry). same_aid e.aid aid) registry.entries entry at).1 in

@@ -81,7 +81,7 @@ other_held (s ∷ slots) slot =
     let long : length (s ∷ slots) - 1 ≡ length slots = omega arith in
     rw long (ap (λ list. held list slot) (take_length slots))
 
--- the Issuer Security Domain is in the first slot, the other entries are in those behind it
+-- the Issuer Security Domain is in the first slot, the other entries are in those after it
 pub holds_issuer : (tables : Tables) → HoldsKind (λ entry. entry.aid) tables Issuer (take 1 tables.entries.items) Entry
 holds_issuer tables = record {
   there = λ slot entry at.

@@ -25,7 +25,7 @@ use Rattle.card_types.proofs.SetNames.{same_number}
 
 -- A list in which one thing alone is changed.
 module _ {X : Type 0} (order : X → X → Ordering) (total : IsTotalOrder order) (f : X → X) (fits : X → Bool) (kept : (x : X) → fits x ≡ false → f x ≡ x) where
-  -- nothing changes behind the one that fits
+  -- nothing changes after the one that fits
   none_behind : (x : X) → ((y : X) → fits y ≡ true → order x y ≡ Equal) → (ys : List X) → ((y : X) → Contains ys y → order x y ≡ Less) → map f ys ≡ ys
   none_behind x alone [] below = refl
   none_behind x alone (y ∷ ys) below =
@@ -164,7 +164,7 @@ module _ (registry : Registry) (owner : List ℕ) (version : ℕ) where
       objects = All-weaker (IsWellObject registry) (IsWellObject (raised registry owner version)) still_well_object registry.objects well.objects;
     }
 
-  -- so where it is found and has a next number
+  -- where the counter is found and has a next number, the registry is well with it
   pub raised_found_well : IsStrictlySortedBy counter_order registry.counters → (counter : Counter) → counter_named registry owner version ≡ Some counter
       → counter.number < COUNTER_LIMIT → Well registry → Well (raised registry owner version)
   raised_found_well sorted counter found below = raised_well (λ other there owned versioned.

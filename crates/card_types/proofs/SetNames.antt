@@ -81,7 +81,7 @@ module _ (page : ℕ → List ℕ) (tables : Tables) (said : registry.Registry) 
       let same_identifier = eqb-true other.identifier key.identifier parts.1 in
       rw (aid_same_equal owner other.owner (sym same_owner), same_number key.version other.version (sym same_version), same_number key.identifier other.identifier (sym same_identifier)) refl))
 
-  -- and so is the counter that it keeps
+  -- the counter that a key in a slot keeps is the one with its name
   pub counter_in_slot : (slot : ℕ) (key : KeyRec) → held tables.keys.items slot ≡ Some key → keeps_counter key ≡ true
       → counter_named said (domain_aid tables.entries.items key.owner) key.version ≡ Some (counter_of tables.entries.items key)
   counter_in_slot slot key at keeps =
@@ -149,7 +149,7 @@ module _ (page : ℕ → List ℕ) (tables : Tables) (said : registry.Registry) 
           ),
         )
 
-    -- so too of a key in a slot that keeps a counter
+    -- where a key in a slot keeps a counter, the keys of its set are in slots
     pub set_beside : (slot : ℕ) (key : KeyRec) → held tables.keys.items slot ≡ Some key → keeps_counter key ≡ true
         → (slots : List ℕ) × HasKeys tables.keys.items key.owner key.version slots
     set_beside slot key at keeps =

@@ -16,8 +16,8 @@ abbrev pub aid_of : Tables → Found → Option (List ℕ)
 aid_of tables (Entry slot) = option_map (λ entry. entry.aid) (held tables.entries.items slot)
 aid_of tables (File slot) = option_map (λ file. file.aid) (held tables.files.items slot)
 
--- the kinds of GET STATUS (GlobalPlatform Card Specification 2.3.1, 11.4.2.1): the Issuer Security Domain is the entry in slot 0,
--- and the other entries are in all other slots
+-- the kinds of GET STATUS (GlobalPlatform Card Specification 2.3.1, 11.4.2.1): the Issuer Security Domain is the entry in slot
+-- 0, and the other entries are in all other slots
 abbrev pub IsOf : Kind → Found → Type 0
 IsOf Issuer (Entry slot) = slot ≡ 0
 IsOf Issuer (File slot) = ⊥

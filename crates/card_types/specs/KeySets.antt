@@ -10,7 +10,7 @@ pub record IsKeyOf (owner version identifier : ℕ) (key : KeyRec) : Type 0 wher
   pub same_version : key.version ≡ version
   pub same_identifier : key.identifier ≡ identifier
 
--- the same, as a test
+-- a test whether a key is the one of this owner with this key version number and key identifier
 abbrev pub is_key : ℕ → ℕ → ℕ → KeyRec → Bool
 is_key owner version identifier key = key.owner == owner && key.version == version && key.identifier == identifier
 

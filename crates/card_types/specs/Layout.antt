@@ -19,7 +19,7 @@ pub record HasSlots (tables : Tables) : Type 0 where
   pub keys : length tables.keys.items ≡ KEYS
   pub objects : length tables.objects.items ≡ OBJECTS
 
--- and the Issuer Security Domain is in its own
+-- There is a slot for each such thing, and the Issuer Security Domain is in its own.
 pub record HasLayout (tables : Tables) : Type 0 where
   pub entries : length tables.entries.items ≡ ENTRIES
   pub files : length tables.files.items ≡ FILES

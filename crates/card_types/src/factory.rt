@@ -81,7 +81,7 @@ pub fn factory_key(identifier: u8) -> KeyRec
     }
 }
 
-// Free slots, behind those that are used.
+// Free slots, after those that are used.
 fn fill<T: Drop>(mut slots: Vec<Option<T>>, count: usize) -> Result<Vec<Option<T>>, AllocError>
     ensures { IfOk result (λ v. v.items ≡ slots.items ++ replicate count None) }
 {

@@ -11,18 +11,19 @@ pub fn changes_keep_order()
     ensures card_life { CardLifeKeeps }
 {}
 
-/// So where a thing is moved to a domain that is not below it.
+/// A registry that a card may have is one still where a thing is moved to a domain that is not below it.
 pub fn moves_keep_order()
     ensures { MovedKeeps }
 {}
 
-/// So where an entry or an Executable Load File is added that may be.
+/// A registry that a card may have is one still where an entry or an Executable Load File is added that may be.
 pub fn additions_keep_order()
     ensures entry { EntryAddedKeeps }
     ensures file { FileAddedKeeps }
 {}
 
-/// So where an entry or an Executable Load File is removed that may be, or the applications that come from one.
+/// A registry that a card may have is one still where an entry or an Executable Load File is removed that may be, or
+/// the applications that come from one.
 pub fn removals_keep_order()
     ensures entry { EntryRemovedKeeps }
     ensures applications { ApplicationsRemovedKeep }

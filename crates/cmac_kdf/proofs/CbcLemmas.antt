@@ -61,7 +61,7 @@ pub record SealsUpTo (key icv old now chain : List ℕ) (i : ℕ) : Type 0 where
   pub front : Encrypts key icv (take (16 * i) old) (take (16 * i) now) chain
   pub back : drop (16 * i) now ≡ drop (16 * i) old
 
--- the same of unsealing
+-- a buffer that was old, after i blocks of unsealing
 pub record UnsealsUpTo (key icv old now chain : List ℕ) (i : ℕ) : Type 0 where
   pub front : Encrypts key icv (take (16 * i) now) (take (16 * i) old) chain
   pub back : drop (16 * i) now ≡ drop (16 * i) old

@@ -168,7 +168,7 @@ masked_cut key b k p le ne ek ep = (λ i. xor_bytes (ek i) (ep i)) ∙ last_bloc
 
 -- ---- what feed writes
 
--- d written behind the first n bytes of the held block
+-- d written after the first n bytes of the held block
 pub held_more : (held d ys : List ℕ) (n k : ℕ) → length held ≡ 16 → n ≤ 16 → ys ≡ d → take (n + length d) (put_mid n k held ys) ≡ take n held ++ d
 held_more held d ys n k lh le e =
     take-put_mid n k held ys (n + length d) (omega (arith, ap length e)) (omega arith) ∙ ap (λ (x : List ℕ). take n held ++ x) e

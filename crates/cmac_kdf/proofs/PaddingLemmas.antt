@@ -109,7 +109,7 @@ stripped s n whole lt near mark zeros =
       ]
     ])
 
--- in padded bytes the byte 80 has fewer than sixteen bytes behind it
+-- in padded bytes the byte 80 has fewer than sixteen bytes after it
 pub mark_near : (p s : List ℕ) → padded p ≡ s → (length p < length s) × (length s ≤ length p + 16)
 mark_near p s e = let l : length s ≡ padded_length (length p) = sym (ap length e) ∙ length-padded p in (omega arith, omega arith)
 
@@ -119,7 +119,7 @@ mark_in p s e = ap (λ (t : List ℕ). get_or t (length p) 0) (sym e) ∙ padded
 pub zeros_in : (p s : List ℕ) → padded p ≡ s → (k : ℕ) → length p < k → get_or s k 0 ≡ 0
 zeros_in p s e k h = ap (λ (t : List ℕ). get_or t k 0) (sym e) ∙ padded_zeros p k h
 
--- where the bytes behind n are 00 and byte n is neither 00 nor 80, the bytes are no padded ones
+-- where the bytes after n are 00 and byte n is neither 00 nor 80, the bytes are no padded ones
 pub not_padded_at : (s p : List ℕ) (n x : ℕ) → x ≡ get_or s n 0 → (x ≡ 0 → ⊥) → (x ≡ 0x80 → ⊥) → ((k : ℕ) → n < k → get_or s k 0 ≡ 0) → padded p ≡ s → ⊥
 not_padded_at s p n x ex nz nm zeros e = elim (cases_lt (length p) n) [
   | inl below ↦ nz (ex ∙ zeros_in p s e n below)
@@ -129,7 +129,7 @@ not_padded_at s p n x ex nz nm zeros e = elim (cases_lt (length p) n) [
   ]
 ]
 
--- nor where the last sixteen are 00
+-- where the last sixteen bytes are 00, the bytes are no padded ones
 pub not_padded_zeros : (s p : List ℕ) → ((k : ℕ) → length s ≤ k + 16 → get_or s k 0 ≡ 0) → padded p ≡ s → ⊥
 not_padded_zeros s p zeros e = absurd (omega (arith, zeros (length p) (mark_near p s e).1, mark_in p s e))
 
@@ -138,7 +138,7 @@ pub stripped_length : (s : List ℕ) (n : ℕ) → n < length s → padded (take
 stripped_length s n lt e =
     omega (arith, length-padded (take n s), ap length e, length-take-le n s)
 
--- fewer than sixteen bytes over a block of zeros, and 80 behind them
+-- fewer than sixteen bytes over a block of zeros, and 80 after them
 pub block_padded : (x p : List ℕ) → x ≡ p → length p < 16 → set (x ++ drop (length p) (replicate 16 0)) (length p) 0x80 ≡ padded p
 block_padded x p ex few =
     let n : ℕ = length p in

@@ -15,7 +15,7 @@ state_of key message = record {
   held = last_bytes message;
 }
 
--- the same with the bytes of the key
+-- the bytes of a key, and what is kept of a message under it
 pub record MacState : Type 0 where
   pub key : List ℕ
   pub state : MessageState

@@ -15,7 +15,7 @@ use std::marker::Model;
 #[derive(Drop)]
 pub struct CmacState {
     chain: [u8; 16],
-    // The bytes behind the blocks that the chaining value has taken in. A whole block stays here
+    // The bytes after the blocks that the chaining value has taken in. A whole block stays here
     // until another byte comes, since the message's last block is treated apart.
     held: [u8; 16],
     held_len: usize,

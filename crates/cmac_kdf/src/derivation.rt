@@ -34,7 +34,7 @@ fn derived_block<K: BlockKey>(
     code_of(key, subkeys, &input[..HEADER + context.len()])
 }
 
-/// The same as `derive`, with the subkeys of the key.
+/// Does what `derive` does, with the subkeys of the key.
 pub fn derive_under<K: BlockKey>(
     key: &K,
     subkeys: &Subkeys,
@@ -61,8 +61,8 @@ pub fn derive_under<K: BlockKey>(
     out[16..].copy_from_slice(&second[..len - 16]);
 }
 
-/// Fills `out`, of 1 to 32 bytes, with the bytes derived from the key for the derivation constant
-/// and the context, which has at most 32 bytes (GlobalPlatform Amendment D, 4.1.5).
+/// Fills `out`, of 1 to 32 bytes, with the bytes derived from the key for the derivation constant and
+/// the context, which has at most 32 bytes (GlobalPlatform Amendment D, 4.1.5).
 pub fn derive<K: BlockKey>(key: &K, constant: u8, context: &[u8], out: &mut [u8])
     requires some { 0 < length out.old }
     requires most { length out.old ≤ 32 }

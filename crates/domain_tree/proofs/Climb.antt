@@ -35,7 +35,7 @@ module _ (step : ℕ → Option ℕ) where
             | inr other ↦ inr (record { other = other; path = path; leads = subst (λ (n : ℕ). IsPath step n path a) same leads.1 })
           ])
 
-  -- behind the first the line is shorter
+  -- after the first the line is shorter
   pub line_behind : (from next : ℕ) (line : List ℕ) → IsLine step from line → step from ≡ Some next → next ≢ from
       → (rest : List ℕ) × IsLine step next rest × (length rest < length line)
   line_behind from next [] is steps on = absurd is
@@ -68,7 +68,7 @@ module _ (step : ℕ → Option ℕ) where
     }
   ]
 
--- so far up: all that is looked for above the first is above this one too
+-- The climb so far: all that is looked for above the first is above this one too.
 pub record IsReached (entries : List (Option Entry)) (fits : ℕ → Bool) (from at count : ℕ) : Type 0 where
   pub line : (entry : Entry) → held entries at ≡ Some entry → (line : List ℕ) × IsLine (domain_slot entries) at line × (length line + count ≤ length entries)
   pub up : (at ≡ from) ⊎ Above (domain_slot entries) at from

@@ -23,7 +23,7 @@ module _ {A : Type 0} where
         let path = path_while b a above.path q above.leads in
         (record { other = above.other; path = above.path; leads = path.0 }, path.1)
 
-  -- and the same the other way round
+  -- what is above a thing is above it by the other steps, and the other way round
   pub same_above : (step step' : A → Option A) (Q : A → Type 0) → ((x next : A) → Q x → step x ≡ Some next → Q next) → ((x : A) → Q x → step' x ≡ step x)
       → (a b : A) → Q b → Above step' a b ↔ Above step a b
   same_above step step' Q on alike a b q = (

@@ -92,7 +92,7 @@ module _ {A : Type 0} (step : A → Option A) where
     | inr later ↦ (let rest = path_to_member y (y ∷ line) member is.3 later in (y ∷ rest.0, (is.2, rest.1)))
   ]
 
-  -- and what a path leads to is on the line
+  -- what a path leads to is on the line
   pub path_on_line : (from to : A) (line path : List A) → IsLine step from line → IsPath step from path to → Contains line to
   path_on_line from to [] path is leads = absurd is
   path_on_line from to (x ∷ []) path is leads =

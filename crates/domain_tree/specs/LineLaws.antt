@@ -30,11 +30,11 @@ pub record StepsStay (before after : Registry) (b : List ℕ) : Type 0 where
   pub itself : domain_of after b ≡ domain_of before b
   pub above : (a : List ℕ) → IsAboveIn before a b → domain_of after a ≡ domain_of before a
 
--- above such a thing are those as before
+-- The same things are above such a thing as before.
 abbrev pub AboveStays : Type 0
 AboveStays = (before after : Registry) (b : List ℕ) → StepsStay before after b → (a : List ℕ) → IsAboveIn after a b ↔ IsAboveIn before a b
 
--- and its line up to its root is the one that it had
+-- The line of such a thing up to its root is the one that it had.
 abbrev pub LineStays : Type 0
 LineStays =
     (before after : Registry) (b : List ℕ) → StepsStay before after b → (line : List (List ℕ)) → IsLine (domain_of before) b line → IsLine (domain_of after) b line
@@ -49,16 +49,16 @@ DomainsAfterApplications =
 abbrev pub DomainsAfterEntry : Type 0
 DomainsAfterEntry = (registry : Registry) (aid x : List ℕ) → x ≢ aid → domain_of (without_entry registry aid) x ≡ domain_of registry x
 
--- so does what is another thing than the one that is moved
+-- what is another thing than the one that is moved keeps its domain
 abbrev pub DomainsAfterMove : Type 0
 DomainsAfterMove = (registry : Registry) (aid domain x : List ℕ) → x ≢ aid → domain_of (moved registry aid domain) x ≡ domain_of registry x
 
--- so does what is another thing than the entry that is added
+-- what is another thing than the entry that is added keeps its domain
 abbrev pub DomainsAfterEntryAdded : Type 0
 DomainsAfterEntryAdded =
     (entry : Entry) (before after : Registry) → IsOfCard before → IsEntryAdded entry before after → (x : List ℕ) → x ≢ entry.aid → domain_of after x ≡ domain_of before x
 
--- and so does each thing where entries are changed in neither AID nor domain
+-- each thing keeps its domain where entries are changed in neither AID nor domain
 abbrev pub DomainsAfterChange : Type 0
 DomainsAfterChange =
     (registry : Registry) (these : List ℕ → Bool) (change : Entry → Entry) → ((entry : Entry) → ((change entry).aid ≡ entry.aid) × ((change entry).domain ≡ entry.domain))

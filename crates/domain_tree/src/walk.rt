@@ -60,8 +60,8 @@ pub fn above(entries: &[Option<Entry>], a: u8, b: u8) -> bool
     first_above(entries, b, &IsSlot(a)).is_some()
 }
 
-/// Whether the entry in the slot `thing` would be above itself with the domain in the slot `new`,
-/// which is then below it. With itself as its domain it is a root.
+/// Whether the entry in the slot `thing` would be above itself with the domain in the slot `new`, a domain that is then
+/// below it. With itself as its domain it is a root.
 pub fn would_loop(entries: &[Option<Entry>], thing: u8, new: u8) -> bool
     requires whole { length entries.now ≡ ENTRIES }
     requires no_loops { IsFreeOfLoops entries.now }

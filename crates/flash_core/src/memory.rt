@@ -103,8 +103,8 @@ impl MemFlash {
         Ok(())
     }
 
-    /// Takes the power away. Of the pages written since the last good sync each comes back as that sync kept it,
-    /// or stays as it was written last, or is torn, by the seed and its number. Then nothing is pending, and the
+    /// Takes the power away. Of the pages written since the last good sync each comes back as that sync kept it, or
+    /// stays as it was written last, or is torn, by the seed and its number. Then nothing is pending, and the
     /// list is empty.
     pub fn power_cut(&mut self, seed: u64)
         ensures outcome { MayLeave (medium self.old) (medium self.new).seen }

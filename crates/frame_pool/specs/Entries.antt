@@ -7,6 +7,6 @@ use Rattle.frame_pool.specs.declared.pool.Frame.{Frame}
 abbrev pub entries : List Frame → List (ℕ × Page)
 entries frames = map (λ f. (f.number, f.page)) frames
 
--- each frame is linked to the one behind it
+-- each frame is linked to the next one
 abbrev pub AreLinked : List Frame → Type 0
 AreLinked frames = (i : ℕ) (frame : Frame) → slice_get frames i ≡ Some frame → frame.next ≡ i + 1

@@ -7,7 +7,7 @@ abbrev pub staged : List (ℕ × Page) → ℕ → Option Page
 staged [] number = None
 staged (first ∷ rest) number = if first.0 == number then Some first.1 else staged rest number
 
--- the list with this page in its place, or behind the others where it was not staged
+-- the list with this page in its place, or after the others where it was not staged
 abbrev pub with_page : List (ℕ × Page) → ℕ → Page → List (ℕ × Page)
 with_page [] number page = (number, page) ∷ []
 with_page (first ∷ rest) number page = if first.0 == number then (number, page) ∷ rest else first ∷ with_page rest number page

@@ -134,7 +134,7 @@ impl FramePool {
         (frame.number, &frame.page)
     }
 
-    /// Lends a page for writing: the one that is staged, or another of zeros behind the others.
+    /// Lends a page for writing: the one that is staged, or another of zeros after the others.
     pub fn stage(&mut self, page: u16) -> &mut Page
         requires { IsSome (staged self.old page) ⊎ (length self.old < 30) }
         ensures* writes_back { sem 𝓛 (LendsPage self.entry page result) }
@@ -144,7 +144,7 @@ impl FramePool {
         self.lend(at)
     }
 
-    // The place of a page, which is added behind the others where it was not staged.
+    // The place of a page, which is added after the others where it was not staged.
     fn place(&mut self, page: u16) -> usize
         requires { IsSome (staged self.old page) ⊎ (length self.old < 30) }
         ensures found { slice_get self.new result ≡ Some (page, unwrap_or (staged self.old page) (filled 0)) }

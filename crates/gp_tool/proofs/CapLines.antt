@@ -21,7 +21,7 @@ module _ {X : Type 0} (line_of : X → List ℕ) (xs : List X) where
   line_more i x old mid new at before wrote =
       wrote ∙ ap (λ m. m ++ line_of x) before ∙ flat_map_more line_of old (take i xs) x ∙ ap (λ (ys : List X). old ++ flat_map line_of ys) (sym (next_taken i x at))
 
-  -- or a part of it
+  -- a part of the next line was written
   pub line_part : (i : ℕ) (x : X) (old mid new : List ℕ) → slice_get xs i ≡ Some x → mid ≡ old ++ flat_map line_of (take i xs) → (n : ℕ) × (new ≡ mid ++ take n (line_of x))
       → (n : ℕ) × (new ≡ old ++ take n (flat_map line_of xs))
   line_part i x old mid new at before part =
@@ -35,7 +35,7 @@ module _ {X : Type 0} (line_of : X → List ℕ) (xs : List X) where
   pub lines_all : (i : ℕ) (old new : List ℕ) → length xs ≤ i → new ≡ old ++ flat_map line_of (take i xs) → new ≡ old ++ flat_map line_of xs
   lines_all i old new most wrote = wrote ∙ ap (λ (ys : List X). old ++ flat_map line_of ys) (take_all i xs most)
 
--- the same of the line that is made of the command with this index
+-- the next line, which is made of the command with this index
 module _ (commands : List Apdu) (i : ℕ) (line old mid new : List ℕ) (made : MatchOption (slice_get commands i) ⊥ (λ command. line ≡ send_line command))
     (before : mid ≡ old ++ flat_map pack_line (take i commands)) where
   at_command : {Y : Type 0} → ((command : Apdu) → slice_get commands i ≡ Some command → line ≡ send_line command → Y) → Y

@@ -21,7 +21,7 @@ use Rattle.gp_tool.specs.declared.ending.Ending.TheVariants.{Finished, Differs, 
 use Rattle.gp_tool.specs.declared.verb.Verb.{Verb}
 use Rattle.gp_tool.specs.declared.verb.Verb.TheVariants as verb
 
--- a line that comes behind others is good
+-- a line that comes after others is good
 good_after : (v : Verb) (number : ℕ) (given : List (List ℕ)) (line : List ℕ) (more : List (List ℕ)) (at last : Place (Memory v)) (effect : Effect)
     → RunsLines v number given at effect last → AreServable v number (given ++ line ∷ more) at → HasForm v line last.memory × (length line ≤ LINE_LIMIT)
 good_after v number [] line more at last effect runs good =

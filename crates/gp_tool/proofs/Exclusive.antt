@@ -86,7 +86,7 @@ module _ (verb : Verb) where
       let there : Halts verb last.memory room input = subst (λ (bytes : List ℕ). Halts verb last.memory room bytes) come here in
       subst (λ (place : Place (Memory verb)). Halts verb place.memory room input) runs.1 there
 
-  -- it is behind the first line too
+  -- it is after the first line too
   halts_after : (number room : ℕ) (input : List ℕ) (at : Place (Memory verb)) (line : List ℕ) (given : List (List ℕ)) (effect : Effect) (last : Place (Memory verb)) (ahead : List ℕ)
       → (behind : HaltsBehind number room input at (line ∷ given) effect last ahead)
       → HaltsBehind (number + 1) (room_left room input behind.come.0) behind.come.0 behind.runs.1 given behind.runs.2 last ahead

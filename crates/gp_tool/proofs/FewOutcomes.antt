@@ -56,7 +56,7 @@ card_few line state inputs outcomes last spells runs =
     let few = run_few state inputs outcomes last runs in
     omega (arith, given, few)
 
--- and one that wants a reply gives it none
+-- a line that wants a reply gives the card no command
 compared_few : (number : ℕ) (want got : List ℕ) (effect : Effect) → Compares number want got effect → length effect.outcomes ≡ 0
 compared_few number want got effect (inl same) = ap (λ (e : Effect). length e.outcomes) same.1
 compared_few number want got effect (inr differs) = ap (λ (e : Effect). length e.outcomes) differs.1

@@ -1,4 +1,4 @@
--- A run behind its flush.
+-- A run after its flush.
 use Rattle.std.proofs.Common.{◌≡◌, ◌≢◌, ℕ, ◌+◌, List, length, sym, ap, ◌∙◌, inl, inr}
 use Rattle.faults.specs.Faults.{next_count}
 use Rattle.io_edge.specs.Streams.{SinkState, SourceState}

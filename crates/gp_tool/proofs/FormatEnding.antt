@@ -1,4 +1,4 @@
--- How the verb `format` ends behind its flush.
+-- How the verb `format` ends after its flush.
 use Rattle.std.proofs.Common.{◌≡◌, sym, subst, inl, inr}
 use Rattle.flash_core.specs.declared.flash.Flash.{Ghosts as Flash}
 use Rattle.io_edge.specs.Streams.{SinkState}
@@ -13,6 +13,6 @@ module _ {F : Type 0} (device : Flash F) (writes : Type 0) (flash : F) (old new 
   format_done result (inl done) card = subst (λ ending. FormatEnds device writes ending flash old new) (sym done.0) (card, same)
   format_done result (inr refused) card = subst (λ ending. FormatEnds device writes ending flash old new) (sym refused.0) (card, same, refused.1)
 
-  -- or it failed
+  -- the device failed
   pub format_failed : (result : Ending) → AfterFlush writes FlashFault old new result → FormatEnds device writes result flash old new
   format_failed result behind = subst (λ ending. FormatEnds device writes ending flash old new) (sym behind.0) same

@@ -72,7 +72,7 @@ module _ {F : Type 0} (device : Flash F) (work : Workload) (made : F) (first : S
     pub mill_failed : PlaysSome device work made first new count → (writes → mid.written ≡ old.written) → (result : Ending) → AfterFlush writes FlashFault mid last result → Ended result
     mill_failed plays silent result behind = subst Ended (sym behind.0) (plays, λ told. same told ∙ silent told)
 
--- the same since a moment before the card was powered on
+-- how a workload ends, since a moment before the card was powered on
 module _ {F : Type 0} (device : Flash F) (made : F) (card : CardOver F) (first : State) (stands : CardRepresents device card first)
     (powered : device.tells → (all : List Registry) → Always (device.may_leave made) (ReopensAsOne all) → LeavesOnly device made card.flash (ReopensAsOne all))
     (work : Workload) (new : F) (count : ℕ) where
@@ -158,7 +158,7 @@ mills_all device writes work made first ReadFault new count old last before afte
 mills_all device writes work made first WriteFault new count old last before after ends cause no_sink no_device = absurd (no_sink cause.1)
 mills_all device writes work made first InputTooLong new count old last before after ends cause no_sink no_device = absurd ends.2
 
--- the same since a moment before the card was made
+-- how a workload ends, since a moment before the card was made
 module _ {K F : Type 0} (work : Workload) (sink : Sink K) (device : Flash F) (status count : ℕ) (before mid new : F) (old now : K) (same : device.faults mid ≡ device.faults before) where
   abbrev since : F → Around (Unit {0}) K F
   since flash = around tt old flash

@@ -41,7 +41,7 @@ ten_lines (suc n) g = (let rest = ten_lines n (after_round g) in omega (arith, r
 pub workload_long : (seed count : ℕ) → length (workload seed count) ≡ 10 * count
 workload_long seed count = ten_lines count (generator seed)
 
--- texts behind texts
+-- texts after texts
 counts_all : (some more : List (List ℕ)) (tally : Tally) → with_texts more (with_texts some tally) ≡ with_texts (some ++ more) tally
 counts_all [] more tally = refl
 counts_all (text ∷ some) more tally = counts_all some more (with_text text tally)
@@ -98,7 +98,7 @@ module _ {F : Type 0} (device : Flash F) (work : Workload) (first : State) (from
           tally_is = mills.tally_is ∙ ap (with_texts run.effect.texts) milling.tally_is ∙ counts_all milling.effect.texts run.effect.texts (record { success = 0; other = 0 });
         }
 
-    -- or the device failed in it
+    -- the device failed in the line
     pub milling_broken : (player' : HostState) → work.rounds ≤ 10_000 → length line ≤ LINE_LIMIT → BreaksLine (BreaksScript line) device (standing old player false) (standing new player' false) milling.place
         → PlaysSome device work from first new.card.flash new.done
     milling_broken player' rounds fits breaks = record {

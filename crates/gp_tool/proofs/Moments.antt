@@ -24,7 +24,7 @@ Among some all = (registry : Registry) → Contains some registry → Contains a
 abbrev pub Joins : (List Registry → Type 0) → (List Registry → Type 0) → (List Registry → Type 0) → Type 0
 Joins Before Between Since = (some more all : List Registry) → Among some all → Among more all → Before some → Between more → Since all
 
--- the last registry is one of those behind the commands
+-- the last registry is one of those after the commands
 pub run_ends : (state : State) (inputs : List Input) (outcomes : List Outcome) (last : State) → Run state inputs outcomes last → Contains (registries state outcomes) last.registry
 run_ends state [] outcomes last run =
     subst (λ (r : Registry). Contains (registries state outcomes) r) (ap (λ (s : State). s.registry) (sym run.1)) (contains_first state.registry (map (λ outcome. outcome.state.registry) outcomes))
@@ -40,7 +40,7 @@ module _ (first : State) (some more : List Outcome) where
       subst (λ (rs : List Registry). Contains (first.registry ∷ rs) registry) (sym (map-append (λ (o : Outcome). o.state.registry) some more))
       (Contains-append_left (registries first some) (map (λ (o : Outcome). o.state.registry) more) registry there)
 
-  -- those of the commands behind them
+  -- those of the commands after them
   pub among_more : (state : State) → Contains (registries first some) state.registry → Among (registries state more) (registries first (some ++ more))
   among_more state there registry among = elim (contains_cases state.registry (map (λ (o : Outcome). o.state.registry) more) registry among) [
     | inl same ↦ among_first registry (subst (Contains (registries first some)) same there)

@@ -86,7 +86,7 @@ line_once play number line at next another one other plays again =
     let same = script_once line at next another one other plays again in
     same_parts one other next another same.outcomes same.texts same.differs same.memory same.state
 
--- the registry behind a line is one of the run's
+-- the registry after a line is one of the run's
 pub line_ends : (verb : Verb) (number : ℕ) (line : List ℕ) (at next : Place (Memory verb)) (effect : Effect)
     → PlaysLine verb number line at effect next → Contains (registries at.state effect.outcomes) next.state.registry
 line_ends run number line at next effect plays = run_ends at.state plays.0 effect.outcomes next.state plays.2

@@ -10,11 +10,11 @@ part_of_longer text more n =
     let within : min n (length text) ≤ length text = omega arith in
     (min n (length text), sym (take-append-le (min n (length text)) text more within ∙ take_min n text))
 
--- a text, and a part of what stands behind it
+-- a text, and a part of what stands after it
 pub part_behind : (text more : List ℕ) (n : ℕ) → text ++ take n more ≡ take (length text + n) (text ++ more)
 part_behind text more n = sym (take-append-add text more n)
 
--- the part of a text that was written behind another text
+-- the part of a text that was written after another text
 pub part_written : (old front text more mid new : List ℕ) → mid ≡ old ++ front → (n : ℕ) × (new ≡ mid ++ take n text)
     → (n : ℕ) × (new ≡ old ++ take n (front ++ (text ++ more)))
 part_written old front text more mid new before part =

@@ -5,7 +5,7 @@ use Rattle.std.proofs.lemmas.List.{length-append, take_at}
 use Rattle.std.proofs.lemmas.Slice.{take-put_mid}
 use borrow.Rule.Slice.PartMut.{put_mid}
 
--- digits in the front of a buffer, and what was copied behind them
+-- digits in the front of a buffer, and what was copied after them
 pub line_spelled : (digits count k : ℕ) (x z y code after : List ℕ) → count ≡ digits + length y → length x ≡ digits → x ≡ code → y ≡ after
     → take count (put_mid digits k (x ++ z) y) ≡ code ++ after
 line_spelled digits count k x z y code after len lx ex ey =

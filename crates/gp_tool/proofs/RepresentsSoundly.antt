@@ -17,7 +17,7 @@ module _ {F : Type 0} (device : Flash F) (card : CardOver F) (state : State)
   says_told told =
       subst (λ (page : ℕ → List ℕ). Represents page card.tables state.registry) (sym (stands.load told)) stands.on.shows.says.registry
 
-  -- and so do tables that are the same, over the pages that it shows
+  -- tables that are the same say the registry, over the pages that the card shows
   pub says_seen : (seen : Tables) → seen ≡ card.tables → Represents stands.page seen state.registry
   says_seen seen same = subst (λ (tables : Tables). Represents stands.page tables state.registry) (sym same) stands.on.shows.says.registry
 

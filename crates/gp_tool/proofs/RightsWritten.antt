@@ -69,7 +69,7 @@ module _ (registry : Registry) where
         by None none named = absurd none
         by (Some right) after named = part_written told last right after old mid new line named written part
 
-  -- those of all rights, where none is behind the last one
+  -- those of all rights, where none is after the last one
   pub all_written : NextRightsAreAll → (told : Type 0) (last : Option Right) (old new : SinkState) → Written told last old.written new.written → NoRightAfter registry last
       → WritesWhole Rights told registry old new
   all_written law told last old new written none =

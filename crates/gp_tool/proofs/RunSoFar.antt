@@ -57,7 +57,7 @@ module _ {F : Type 0} (verb : Verb) (device : Flash F) (reads writes : Type 0) (
   }
 
   module _ (at at' : Standing F (Held verb)) (now later : Outside) (old : Reading) (going : Going verb device reads writes first from at before now old) where
-    -- the room is that behind the bytes that were passed
+    -- the room is that after the bytes that were passed
     room_is : reads → room old ≡ room_ahead before.source.left (ahead old now.source.left)
     room_is told =
         let passed = going.passed told in
@@ -68,7 +68,7 @@ module _ {F : Type 0} (verb : Verb) (device : Flash F) (reads writes : Type 0) (
     reached_more line after next told =
         come_more INPUT_LIMIT before.source.left going.given (ahead old now.source.left) line after (going.reached told) (rw (← room_is told) (next told))
 
-    -- the next line is bad, by the room behind the bytes that were passed
+    -- the next line is bad, by the room after the bytes that were passed
     bad_there : ((memory : Memory verb) → Means verb at.held memory → reads → IsBad verb memory (room old) (ahead old now.source.left)) → reads
         → IsBad verb going.place.memory (room_ahead before.source.left (ahead old now.source.left)) (ahead old now.source.left)
     bad_there bad told =
@@ -79,7 +79,7 @@ module _ {F : Type 0} (verb : Verb) (device : Flash F) (reads writes : Type 0) (
     taken_there : (ahead left : List ℕ) → (reads → TakesNoMore (total old now) ahead left) → reads → TakesNoMore (length before.source.left) ahead left
     taken_there ahead left taken told = subst (λ (n : ℕ). TakesNoMore n ahead left) (going.passed told) (taken told)
 
-    -- what power lost may leave behind the commands of one line more
+    -- what power lost may leave after the commands of one line more
     leaves_more : (mid new : F) (more : List Outcome) → LeavesOneOf device from mid (registries first going.effect.outcomes)
         → LeavesOneOf device mid new (registries going.place.state more) → LeavesOneOf device from new (registries first (going.effect.outcomes ++ more))
     leaves_more mid new more since leaves = leaves_further verb device going.given (start verb first) going.place going.effect going.plays from mid new more since leaves
@@ -99,7 +99,7 @@ module _ {F : Type 0} (verb : Verb) (device : Flash F) (reads writes : Type 0) (
         let passed : old.passed + length old.held ≤ INPUT_LIMIT = within in
         exactly at.done (length going.effect.outcomes) going.done (omega (arith, few, passed))
 
-    -- nor has it with a line more
+    -- with a line more the count has not come to its end
     exact_more : IsWithin old → (line : List ℕ) (more : List Outcome) (count : ℕ) → length line ≤ LINE_LIMIT → length more ≤ 60 * length line + 1
         → CountsOn at.done count (length more) → count ≡ length (going.effect.outcomes ++ more)
     exact_more within line more count fits one done =
@@ -168,7 +168,7 @@ module _ {F : Type 0} (verb : Verb) (device : Flash F) (reads writes : Type 0) (
               ∙ ap (λ t. before.sink.written ++ t) (sym (concat-append going.effect.texts played.effect.texts));
         }
 
-    -- what holds of the device and the card behind some commands
+    -- what holds of the device and the card after some commands
     abbrev pub Rests : List Outcome → State → Type 0
     Rests outcomes last = HasRun device from at'.card.flash first at'.done outcomes last × CardRepresents device at'.card last
 
@@ -186,7 +186,7 @@ module _ {F : Type 0} (verb : Verb) (device : Flash F) (reads writes : Type 0) (
     so_far : (writes → later.sink.written ≡ now.sink.written) → writes → later.sink.written ≡ before.sink.written ++ concat going.effect.texts
     so_far silent told = silent told ∙ going.written told
 
-    -- the same with the number of a bad line, or a part of it
+    -- the texts so far and the number of a bad line, or a part of it
     with_bad : (text : ℕ → List ℕ) → (writes → later.sink.written ≡ now.sink.written ++ text (old.number + 1))
         → writes → later.sink.written ≡ before.sink.written ++ (concat going.effect.texts ++ text (length going.given + 1))
     with_bad text wrote told =

@@ -55,7 +55,7 @@ answers_once state (Answered command reply ∷ events) (a ∷ some) (b ∷ more)
     let rest = answers_once a.state events some more last another one.2 (subst (λ (o : Outcome). AnswersEvents o.state events more another) same other.2) in
     λ i. sym same i ∷ rest i
 
--- the last registry is one of those behind the commands
+-- the last registry is one of those after the commands
 pub answers_end : (state : State) (events : List Event) (outcomes : List Outcome) (last : State) → AnswersEvents state events outcomes last
     → Contains (registries state outcomes) last.registry
 answers_end state [] outcomes last answers =

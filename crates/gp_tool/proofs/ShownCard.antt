@@ -1,4 +1,4 @@
--- How the verb `show` ends behind its flush, and what it leaves on the device.
+-- How the verb `show` ends after its flush, and what it leaves on the device.
 use Rattle.std.proofs.Common.{◌≡◌, ◌≤◌, ◌++◌, ℕ, List, [], ◌∷◌, length, refl, sym, ap, subst, ◌∙◌, inl, inr, arith}
 use Rattle.std.proofs.Math.Seq.{take-length}
 use Rattle.card_core.specs.Card.{CardOver, CardRepresents}

@@ -12,7 +12,7 @@ use Rattle.std.proofs.Math.ListN.{drop}
 use Rattle.std.proofs.Math.Seq.{take-length}
 use Rattle.std.specs.Prelude.{MatchOption, None, Ok, Option, Some}
 
--- some spaces come first in a text, and this stands behind them
+-- some spaces come first in a text, and this stands after them
 pub record IsSkipped (text rest : List ℕ) : Type 0 where
   pub spaces : List ℕ
   pub is : text ≡ spaces ++ rest
@@ -28,7 +28,7 @@ one_skipped text rest more skipped begins = record {
   blank = All-append (λ byte. byte ≡ 32) skipped.spaces (32 ∷ []) skipped.blank (All-cons (λ byte. byte ≡ 32) 32 [] refl (All-nil (λ byte. byte ≡ 32)));
 }
 
--- what stands behind the first byte
+-- what stands after the first byte
 pub tail_is : (b : ℕ) (rest more : List ℕ) → rest ≡ b ∷ more → take (length rest - 1) (drop 1 rest) ≡ more
 tail_is b rest more is =
     let fewer : length (b ∷ more) - 1 ≡ length more = omega arith in
@@ -37,7 +37,7 @@ tail_is b rest more is =
 pub tail_skipped : (text rest : List ℕ) → IsSkipped text rest → (more : List ℕ) × (rest ≡ 32 ∷ more) → IsSkipped text (take (length rest - 1) (drop 1 rest))
 tail_skipped text rest skipped begins = subst (IsSkipped text) (sym (tail_is 32 rest begins.0 begins.1)) (one_skipped text rest begins.0 skipped begins.1)
 
--- the digits behind the spaces are those that a line wants
+-- the digits after the spaces are those that a line wants
 wanted_digits : (line rest text digits want : List ℕ) → line ≡ 61 ∷ rest → text ≡ rest → SkipsSpaces text digits → (wants : Wants line want) → wants.1 ≡ digits
 wanted_digits line rest text digits want begins is skips wants =
     let two = wants.5 in
@@ -54,7 +54,7 @@ few_digits line rest text digits want begins is skips wants few =
     let as_long = ap length same in
     omega (arith, twice, two, as_long, few)
 
--- nor does one whose digits are none
+-- a line whose digits are none wants no reply
 no_digits : (line rest text digits : List ℕ) → line ≡ 61 ∷ rest → text ≡ rest → SkipsSpaces text digits
     → ((out : List ℕ) → decode_of digits ≡ Ok out → ⊥) → (want : List ℕ) → Wants line want → ⊥
 no_digits line rest text digits begins is skips none want wants =

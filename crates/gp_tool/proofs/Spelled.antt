@@ -80,7 +80,7 @@ not_for_card line rest inputs begins (inr (inr hex)) = cc (begins_digit line hex
 pub no_card_wants : (line : List ℕ) (inputs : List Input) (want : List ℕ) → SpellsInputs line inputs → Wants line want → ⊥
 no_card_wants line inputs want spells wants = not_for_card line (wants.0 ++ wants.1) inputs wants.2 spells
 
--- behind two runs of spaces stands one text, where it begins with a digit
+-- after two runs of spaces stands one text, where it begins with a digit
 digits_once : (spaces others digits more some bytes : List ℕ) → IsBlank spaces → IsBlank others → IsHex digits some → IsHex more bytes
     → spaces ++ digits ≡ others ++ more → digits ≡ more
 digits_once [] [] digits more some bytes blank blank' hex hex' same = same
@@ -95,7 +95,7 @@ digits_once (b ∷ spaces) [] digits more some bytes blank blank' hex hex' same 
 digits_once (b ∷ spaces) (c ∷ others) digits more some bytes blank blank' hex hex' same =
     digits_once spaces others digits more some bytes (All-tail (λ byte. byte ≡ 32) b spaces blank) (All-tail (λ byte. byte ≡ 32) c others blank') hex hex' (cc same)
 
--- behind all spaces of a text stand its digits
+-- after all spaces of a text stand its digits
 pub digits_behind : (spaces others digits rest some : List ℕ) → IsBlank spaces → IsBlank others → IsHex digits some → ((more : List ℕ) → rest ≡ 32 ∷ more → ⊥)
     → spaces ++ digits ≡ others ++ rest → digits ≡ rest
 digits_behind [] [] digits rest some blank blank' hex no_more same = same

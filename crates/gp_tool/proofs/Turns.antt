@@ -63,7 +63,7 @@ failing_line verb device reads at at' place old new left left' line gives fits b
   breaks = breaks;
 }
 
--- a line of no form that was given is a bad one
+-- a malformed line that was given is a bad one
 pub bad_form : (verb : Verb) (held : Held verb) (reads : Type 0) (old new : Reading) (left left' : List ℕ) (line : Line)
     → GivesLine reads old new left left' line → ((memory : Memory verb) → Means verb held memory → HasForm verb line.text.now memory → ⊥)
     → (memory : Memory verb) → Means verb held memory → reads → IsBad verb memory (room old) (ahead old left)

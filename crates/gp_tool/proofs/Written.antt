@@ -11,7 +11,7 @@ use Rattle.gp_tool.proofs.Listed.{IsSplit, end_of, next_of, none_done}
 use Rattle.gp_tool.proofs.Parts.{part_written}
 use Rattle.gp_tool.specs.Listing.{is_past_last}
 
--- So many lines of the list were written, up to that of the last one.
+-- `count` lines of the list were written, up to that of the last one.
 pub record IsWritten {X : Type 0} (c : X → X → Ordering) (line_of : X → List ℕ) (tells : Type 0) (xs : List X) (count : ℕ) (last : Option X) (old new : List ℕ) : Type 0 where
   pub done : List X
   pub rest : List X
@@ -58,7 +58,7 @@ module _ {X : Type 0} {c : X → X → Ordering} {line_of : X → List ℕ} {tel
         text = λ told. wrote told ∙ ap (λ m. m ++ line_of x) (written.text told) ∙ flat_map_more line_of old written.done x;
       }
 
-  -- or a part of it
+  -- a part of the next line was written
   pub part_of_lines : {count : ℕ} {last : Option X} {old mid new : List ℕ} → IsTotalOrder c → IsWritten c line_of tells xs count last old mid
       → (x : X) → find (is_past_last c last) xs ≡ Some x → tells → (n : ℕ) × (new ≡ mid ++ take n (line_of x)) → (n : ℕ) × (new ≡ old ++ take n (flat_map line_of xs))
   part_of_lines {last = last} {old = old} {mid = mid} {new = new} total written x found told part =

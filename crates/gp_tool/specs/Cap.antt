@@ -70,7 +70,8 @@ CutsPack writes old new course =
     (refused : Bool) × (text : List ℕ) × Packs old new course refused text × (new.sink.flushes ≡ old.sink.flushes)
     × (writes → (count : ℕ) × (new.sink.written ≡ old.sink.written ++ take count text))
 
--- The same at each ending. At a refused write or flush the text was cut, or all was written and its flush was refused.
+-- What holds after the course at each ending. At a refused write or flush the text was cut, or all was written and its
+-- flush was refused.
 abbrev pub CapEndsAt : {reads : Type 0} → Type 0 → (old new : Outside) → CapCourse reads old new → Ending → Type 0
 CapEndsAt writes old new course ReadFault = EndsAt writes old new course lines.ReadFault
 CapEndsAt writes old new course WriteFault =

@@ -11,7 +11,7 @@ use Rattle.gp_tool.specs.Serve.{BreaksLine, IsHeld, RunsLine, Standing, StandsAt
 use Rattle.gp_tool.specs.declared.line.LineEnd.{LineEnd}
 use Rattle.gp_tool.specs.declared.line.LineEnd.TheVariants.{Done, NoForm, WriteFault, FlashFault}
 
--- Some spaces come first in a text, and this stands behind them, which begins with none.
+-- Some spaces come first in a text, and this stands after them and begins with none.
 pub record SkipsSpaces (text rest : List ℕ) : Type 0 where
   pub spaces : List ℕ
   pub is : text ≡ spaces ++ rest

@@ -27,7 +27,8 @@ DeskFaultless writes old new course BadLine = EndsAt writes old new course lines
 DeskFaultless writes old new course InputTooLong = EndsAt writes old new course lines.InputTooLong
 DeskFaultless writes old new course ending = ⊥
 
--- The same at each ending. At a refused write or flush a text was refused, or all was written and its flush was refused.
+-- What holds after the course at each ending. At a refused write or flush a text was refused, or all was written and
+-- its flush was refused.
 abbrev pub DeskEndsAt : {reads : Type 0} → Type 0 → (old new : Outside) → DeskCourse reads old new → Ending → Type 0
 DeskEndsAt writes old new course ReadFault = EndsAt writes old new course lines.ReadFault
 DeskEndsAt writes old new course WriteFault =

@@ -17,16 +17,16 @@ use Rattle.gp_tool.specs.declared.ending.Ending.{Ending}
 use Rattle.gp_tool.specs.declared.ending.Ending.TheVariants.{Finished, Differs, BadLine, FlashFault, ReadFault, WriteFault, InputTooLong}
 use Rattle.gp_tool.specs.declared.verb.Verb.{Verb}
 
--- the next line has no form, or is too long
+-- the next line is malformed, or too long
 abbrev pub IsBad : (verb : Verb) → Memory verb → ℕ → List ℕ → Type 0
 IsBad verb memory = IsBadLine (λ text. HasForm verb text memory)
 
 -- In what follows `reads` and `writes` are facts where the source and the sink tell their bytes, and `⊥` where they don't.
--- `Rests` is what holds of the device after some commands and at the state behind them, and `Fails` what holds where it
+-- `Rests` is what holds of the device after some commands and at the state after them, and `Fails` what holds where it
 -- failed in the next one.
 
 -- The course of a run up to its end: the lines that were given to the card, each of a form and not too long, what came of
--- them, and what stands ahead behind them.
+-- them, and what stands ahead after them.
 pub record Course (verb : Verb) (reads : Type 0) (first : State) (input left : List ℕ) : Type 0 where
   pub given : List (List ℕ)
   pub effect : Effect
@@ -48,13 +48,13 @@ pub record WritesLast (verb : Verb) (first : State) (given texts : List (List �
   pub text : List ℕ
   pub texts_are : texts ≡ before.texts ++ text ∷ []
 
--- The device failed in a command of the next line, behind the outcomes of those before it in the line.
+-- The device failed in a command of the next line, after the outcomes of those before it in the line.
 abbrev pub FailsNext : (verb : Verb) → Type 0 → (List Outcome → State → Outcome → Type 0) → Place (Memory verb) → ℕ → List ℕ → Type 0
 FailsNext verb reads Fails at room ahead =
     (line : List ℕ) × (reads → (after : List ℕ) × IsNextLine room ahead line after) × (length line ≤ LINE_LIMIT)
     × (begun : List Outcome) × (mid : State) × (next : Outcome) × FailsLine verb line at begun mid next × Fails begun mid next
 
--- the texts of the lines given, and of a bad line behind them
+-- the texts of the lines given, and of a bad line after them
 abbrev pub with_bad_line : List (List ℕ) → Effect → List (List ℕ)
 with_bad_line given effect = effect.texts ++ bad_line (length given + 1) ∷ []
 
@@ -70,8 +70,8 @@ EndsFaultless verb reads writes first old new course InputTooLong =
     (reads → IsShortCut (room_ahead old.source.left course.ahead) course.ahead) × Wrote writes course.effect.texts old new
 EndsFaultless verb reads writes first old new course ending = ⊥
 
--- The same at each ending. At a refused write or flush the text of the last line given was refused, or that of a bad line after
--- it, or the run had ended without a fault and its flush was refused.
+-- What holds after the course at each ending. At a refused write or flush the text of the last line given was
+-- refused, or that of a bad line after it, or the run had ended without a fault and its flush was refused.
 abbrev pub EndsAt : (verb : Verb) (reads writes : Type 0) → (List Outcome → State → Outcome → Type 0) → (first : State) (old new : Outside) → Course verb reads first old.source.left new.source.left → Ending → Type 0
 EndsAt verb reads writes Fails first old new course FlashFault =
     FailsNext verb reads (λ begun. Fails (course.effect.outcomes ++ begun)) course.last (room_ahead old.source.left course.ahead) course.ahead × Wrote writes course.effect.texts old new
@@ -95,7 +95,7 @@ Flushes writes ReadFault old new = new.flushes ≡ next_count old.flushes
 Flushes writes WriteFault old new = Unit {0}
 Flushes writes ending old new = IsHandedOn writes old new
 
--- Whose count has risen at an ending, or that those of source and sink are as they were. A flush that is refused behind a failed device raises the sink's too.
+-- Whose count has risen at an ending, or that those of source and sink are as they were. A flush that is refused after a failed device raises the sink's too.
 abbrev pub EndCause : Ending → Around ℕ ℕ ℕ → Around ℕ ℕ ℕ → Type 0
 EndCause FlashFault old new = (new.source ≡ old.source) × ((new.sink ≡ old.sink) ⊎ Rose old.sink new.sink) × Rose old.flash new.flash
 EndCause ReadFault old new = Rose old.source new.source

@@ -26,7 +26,7 @@ abbrev pub IsFlushed : Type 0 → Ending → SinkState → SinkState → Ending 
 IsFlushed writes ending old new result =
     ((result ≡ ending) × IsHandedOn writes old new) ⊎ ((result ≡ WriteFault) × (new.flushes ≡ next_count old.flushes))
 
--- How a run ends behind its last line, by how it came to it: no flush follows a refused write, and one that follows a
+-- How a run ends after its last line, by how it came to it: no flush follows a refused write, and one that follows a
 -- refused read or a failed device changes no status.
 abbrev pub AfterFlush : Type 0 → Ending → SinkState → SinkState → Ending → Type 0
 AfterFlush writes FlashFault old new result = (result ≡ FlashFault) × (new.flushes ≡ next_count old.flushes)

@@ -23,7 +23,7 @@ AreShort lines = AllByRecursion (λ line. length line ≤ LINE_LIMIT) lines
 abbrev pub Reached : List ℕ → List (List ℕ) → List ℕ → Type 0
 Reached input given ahead = ComeFirst INPUT_LIMIT input given ahead
 
--- The lines that were given have their texts written, and the reading and the card stand behind them. `from` is the device before
+-- The lines that were given have their texts written, and the reading and the card stand after them. `from` is the device before
 -- the first line. A line makes at most 60 commands for each of its bytes, or one.
 pub record Going {F : Type 0} (verb : Verb) (device : Flash F) (reads writes : Type 0) (first : State) (from : F) (at : Standing F (Held verb)) (before now : Outside) (reading : Reading) : Type 0 where
   pub given : List (List ℕ)

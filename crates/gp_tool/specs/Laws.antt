@@ -22,11 +22,11 @@ OfLines holds =
     (verb : Verb) (first : State) (lines : List (List ℕ)) (effect other : Effect) (last another : Place (Memory verb))
     → RunsLines verb 1 lines (start verb first) effect last → RunsLines verb 1 lines (start verb first) other another → holds effect last.state other another.state
 
--- they write one text
+-- The same lines from one state write one text.
 abbrev pub OneText : Type 0
 OneText = OfLines (λ effect last other another. effect.texts ≡ other.texts)
 
--- and lead to one state
+-- The same lines from one state lead to one state.
 abbrev pub OneLast : Type 0
 OneLast = OfLines (λ effect last other another. last ≡ another)
 
@@ -47,11 +47,11 @@ OfRuns holds =
     (verb : Verb) (first : State) (ending another : Ending) (old new other : Outside) → IsFaultless ending → IsFaultless another
     → EndsTold verb first ending old new → EndsTold verb first another old other → holds ending new another other
 
--- they end alike
+-- Two runs without faults from one state over the same bytes end alike.
 abbrev pub OneEnding : Type 0
 OneEnding = OfRuns (λ ending new another other. ending ≡ another)
 
--- and have written the same
+-- Two runs without faults from one state over the same bytes have written the same.
 abbrev pub OneWritten : Type 0
 OneWritten = OfRuns (λ ending new another other. new.sink.written ≡ other.sink.written)
 

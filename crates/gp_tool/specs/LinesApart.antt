@@ -21,7 +21,7 @@ pub record RunsApart (first : State) (outcomes : List Outcome) (last : State) : 
       → StaysThrough first.registry outcomes domain × TreeStays first.registry last.registry domain × AllNewIsBrought first inputs outcomes domain
   pub receipts : AllCountReceipts first inputs outcomes
 
--- so it is of the lines of each verb that gives lines to a card
+-- The lines of each verb that gives lines to a card have the outcomes of such a run.
 abbrev pub LinesKeepTrees : Type 0
 LinesKeepTrees =
     (verb : Verb) (number : ℕ) (lines : List (List ℕ)) (at last : Place (Memory verb)) (effect : Effect) → IsSound at.state

@@ -27,7 +27,8 @@ abbrev pub Writes : {T E : Type 0} → Type 0 → List ℕ → List ℕ → List
 Writes tells old new text result =
     MatchResult result (λ _. tells → new ≡ old ++ text) (λ _. tells → (n : ℕ) × (new ≡ old ++ take n text))
 
--- so it is of the text of the things in slots that are listed: in ascending order, the line of each by what the registry has of it
+-- `So` holds of the text of the things in slots that are listed: in ascending order, the line of each by what the
+-- registry has of it.
 abbrev pub ForText : {T X : Type 0} → (T → X) → (T → List ℕ) → (T → Bool) → (X → X → Ordering) → List (Option T) → (List ℕ → Type 0) → Type 0
 ForText {T} {X} named text listed order slots So =
     (xs : List X) (line_of : X → List ℕ) → ((thing : T) → text thing ≡ line_of (named thing))

@@ -1,4 +1,4 @@
--- Lines of the verb `replay`: the reply to a command is kept, and compared with the one that a line behind it wants.
+-- Lines of the verb `replay`: the reply to a command is kept, and compared with the one that a line after it wants.
 use Rattle.std.specs.Prelude.{◌≡◌, ◌≢◌, ◌⊎◌, ℕ, ◌≤◌, true, false, List, [], ◌∷◌, ◌++◌, length, None, Ok, Option, Some, codes, decimal}
 use Rattle.hex.specs.Hex.{decode_of, encode_lower}
 use Rattle.policy_rules.specs.Run.{Input, Run}
@@ -11,13 +11,13 @@ use Rattle.script_tool.specs.Line.{IsBlank}
 abbrev pub Kept : Type 0
 Kept = Option (List ℕ)
 
--- the same behind a line for the card: a command's reply, and none behind a reset
+-- what is kept after a line for the card: a command's reply, and none after a reset
 abbrev pub kept_behind : Kept → List Input → List Outcome → Kept
 kept_behind kept [] outcomes = kept
 kept_behind kept (input ∷ inputs) [] = None
 kept_behind kept (input ∷ inputs) (outcome ∷ outcomes) = Some outcome.reply
 
--- the bytes that a line wants: behind '=' and any number of spaces, two or more in digits
+-- the bytes that a line wants: after '=' and any number of spaces, two or more in digits
 abbrev pub Wants : List ℕ → List ℕ → Type 0
 Wants line bytes =
     (spaces digits : List ℕ) × (line ≡ 61 ∷ spaces ++ digits) × IsBlank spaces × (decode_of digits ≡ Ok bytes) × (2 ≤ length bytes)

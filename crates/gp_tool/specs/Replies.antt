@@ -13,12 +13,12 @@ abbrev pub reason : Option Rule → List ℕ
 reason None = codes "-"
 reason (Some rule) = name_of rule
 
--- what stands behind the digits of a reply: why the command was refused, where it is explained, and a newline
+-- what stands after the digits of a reply: why the command was refused, where it is explained, and a newline
 abbrev pub behind_reply : Bool → Option Rule → List ℕ
 behind_reply false rule = 10 ∷ []
 behind_reply true rule = 32 ∷ reason rule ++ 10 ∷ []
 
--- a reply in lower-case hexadecimal digits, and what stands behind them
+-- a reply in lower-case hexadecimal digits, and what stands after them
 abbrev pub reply_line : Bool → Outcome → List ℕ
 reply_line explains outcome = encode_lower outcome.reply ++ behind_reply explains outcome.rule
 

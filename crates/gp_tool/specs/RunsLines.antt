@@ -40,7 +40,7 @@ HasForm Replay line memory = IsForReplay line memory
 HasForm Play line memory = IsScript line
 HasForm verb line memory = IsForCard line
 
--- The device failed in a command of a line, behind the outcomes of those before it in the line.
+-- The device failed in a command of a line, after the outcomes of those before it in the line.
 abbrev pub FailsLine : (verb : Verb) → List ℕ → Place (Memory verb) → List Outcome → State → Outcome → Type 0
 FailsLine Play line at begun mid next = BreaksScript line at begun mid next
 FailsLine verb line at begun mid next = FailsCommand line at begun mid next

@@ -41,7 +41,7 @@ PlaysScript line at effect next =
 abbrev pub IsScript : List ℕ → Type 0
 IsScript line = (said : ScriptLine) × SaysLine line said
 
--- The device failed in a command of the line, behind the outcomes of those before it.
+-- The device failed in a command of the line, after the outcomes of those before it.
 abbrev pub BreaksScript : List ℕ → Place Host → List Outcome → State → Outcome → Type 0
 BreaksScript line at begun mid next =
     (said : ScriptLine) × SaysLine line said × (events : List Event) × (command : List ℕ) × (rest : List ℕ → Talk)

@@ -43,7 +43,7 @@ Means Play held memory = RepresentsHost held memory
 abbrev pub standing : {F H : Type 0} → CardEnd F → H → Bool → Standing F H
 standing end held differs = record { card = end.card; held = held; done = end.done; differs = differs }
 
--- the same by the workspace
+-- a standing of a card, with what the verb holds in the workspace
 abbrev pub standing_in : {F : Type 0} (verb : Verb) → CardEnd F → Workspace → Bool → Standing F (Held verb)
 standing_in verb end space differs = standing end (held_in verb space) differs
 

@@ -31,7 +31,7 @@ pub record HasEnded {S K F : Type 0} (sink : Sink K) (device : Flash F) (ending 
   pub cause : EndCause ending (around reads (sink.state old.sink).faults (device.faults old.flash)) (around reads' (sink.state new.sink).faults (device.faults new.flash))
   pub flushes : Flushes sink.tells ending (sink.state old.sink) (sink.state new.sink)
 
--- How a run from a first state ends that has processed so many commands. `Stands` holds of the state behind it, unless the
+-- How a run from a first state ends that has processed so many commands. `Stands` holds of the state after it, unless the
 -- device failed.
 abbrev pub RunEnds : {S K F : Type 0} → Verb → Source S → Sink K → Flash F → (State → Type 0) → State → Ending → ℕ → Around S K F → Around S K F → Type 0
 RunEnds verb source sink device Stands first ending count old new =

@@ -24,7 +24,7 @@ word_of (Show Rights) = codes "access"
 word_of Desk = codes "desk"
 word_of Cap = codes "cap"
 
--- the words are the task's alone; `mill` has a seed and a number of rounds behind it
+-- the words are the task's alone; `mill` has a seed and a number of rounds after it
 abbrev pub AreOf : Task → List (String Global) → Type 0
 AreOf (Mill work) words =
     (seed rounds : List ℕ) × (map string_bytes words ≡ word_of (Mill work) ∷ seed ∷ rounds ∷ []) × NameWorkload seed rounds work
@@ -34,11 +34,11 @@ AreOf task words = map string_bytes words ≡ word_of task ∷ []
 abbrev pub HaveForm : List (String Global) → Type 0
 HaveForm words = (task : Task) × AreOf task words
 
--- what is written where the words have no form
+-- what is written where the words are malformed
 abbrev pub usage_line : List ℕ
 usage_line = codes "usage: gp format | run | why | replay | play | mill SEED COUNT | show | access | desk | cap" ++ 10 ∷ []
 
--- The words have no form: the line was written and handed on, and nothing failed, or a write or the flush was refused.
+-- The words are malformed: the line was written and handed on, and nothing failed, or a write or the flush was refused.
 abbrev pub EndsInUsage : Type 0 → ℕ → SinkState → SinkState → Type 0
 EndsInUsage writes status old new =
     ((status ≡ 1) × WritesText writes usage_line Finished old new × IsHandedOn writes old new × (new.faults ≡ old.faults))

@@ -15,7 +15,7 @@ pub enum Ending {
     /// The input was read to its end, all was written, and something differed: some reply or status from the one that a line wants, 8; or
     /// some receipt does not fit, 10; or the bytes are no CAP file, 11.
     Differs,
-    /// A line has no form or is too long, and its number was written: 2.
+    /// A line is malformed or too long, and its number was written: 2.
     BadLine,
     /// The device of the card failed: 3.
     FlashFault,

@@ -41,7 +41,7 @@ fn is_reset(line: &[u8]) -> bool
     line == b"reset".as_slice()
 }
 
-/// What a line says, with the bytes of a command in the front of `bytes`, or nothing where it has no form.
+/// What a line says, with the bytes of a command in the front of `bytes`, or nothing where it is malformed.
 pub fn read_form(line: &[u8], bytes: &mut [u8; COMMAND_LIMIT]) -> Option<Form>
     requires { length line.now ≤ LINE_LIMIT }
     ensures spelled { MatchOption result (IsForCard line.now → ⊥) (λ form. SpellsInputs line.now (inputs_of form bytes.new)) }

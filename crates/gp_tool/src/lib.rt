@@ -4,8 +4,8 @@
 //! command in hexadecimal digits writes its reply as a line: of the lines `00700000`, `00700000`, `# x`, `reset`,
 //! `00700000` come the lines `019000`, `029000` and `019000`. A blank line and a comment that begins with `#` do
 //! nothing. `reset` takes the card's power away and gives it back, and writes nothing. The word `why` does the same, and
-//! writes behind each reply the name of the rule that refused the command, or `-`: `80F28002024F00` gives `6982 G6`.
-//! The word `replay` compares each reply with the line behind its command that begins with `=`, if there is one, and writes
+//! writes after each reply the name of the rule that refused the command, or `-`: `80F28002024F00` gives `6982 G6`.
+//! The word `replay` compares each reply with the line after its command that begins with `=`, if there is one, and writes
 //! differences alone: `00700000` and `= 029000` give `line 2 want 029000 got 019000`. The word `play` takes the lines for those of a
 //! script: a host sends the commands, opens sessions and protects what it sends, and what each line prints is written.
 //!

@@ -19,7 +19,7 @@ use io_edge::{LINE_LIMIT, Sink};
 pub enum LineEnd {
     /// All was done that it says, and its text was written, if it has one.
     Done,
-    /// It has no form, and nothing was written.
+    /// It is malformed, and nothing was written.
     NoForm,
     /// The sink refused its text.
     WriteFault,

@@ -14,7 +14,7 @@ use std::fs::{File, Files};
 use std::io::{self, ErrorKind, Input, Print};
 use std::process::ExitCode;
 
-// The words behind the program's name.
+// The words after the program's name.
 fn words_of(alloc: Global, args: Args) -> Result<Vec<String>, AllocError> {
     args.skip(1).collect(alloc)
 }

@@ -28,7 +28,7 @@ fn begins_with_space(text: &[u8]) -> bool
     matches!(text, [b' ', ..])
 }
 
-// What stands behind the spaces that a text begins with.
+// What stands after the spaces that a text begins with.
 fn skip_spaces(text: &[u8]) -> &[u8]
     ensures { SkipsSpaces text.now result.now }
 {

@@ -10,7 +10,7 @@ use card_core::REPLY_LIMIT;
 use io_edge::{Sink, WriteFailed};
 use policy_rules::Rule;
 
-/// How many bytes stand behind the digits of a reply, at most: a space, the name of a rule, and a newline.
+/// How many bytes stand after the digits of a reply, at most: a space, the name of a rule, and a newline.
 const BEHIND_LIMIT: usize = 5;
 
 /// How many bytes a reply's line has, at most.
@@ -27,7 +27,7 @@ fn reason_of(rule: Option<Rule>) -> &'static str
     }
 }
 
-// What stands behind the digits of a reply, with the reason of a refusal where it is to be explained.
+// What stands after the digits of a reply, with the reason of a refusal where it is to be explained.
 fn behind(explains: bool, rule: Option<Rule>) -> ArrayVec<u8, BEHIND_LIMIT>
     ensures { result.items ≡ behind_reply explains rule }
 {

@@ -22,7 +22,7 @@ use flash_core::Flash;
 use io_edge::{LineStop, Lines, Sink, Source};
 use line_runs::write_bad_line;
 
-// Writes the number of a line that has no form or is too long.
+// Writes the number of a line that is malformed or too long.
 fn refuse_line<K: Sink>(number: u32, sink: &mut K) -> Ending
     ensures refused { Refuses K.tells number (K.state sink.old).written (K.state sink.new).written result }
     ensures flushes { (K.state sink.new).flushes ≡ (K.state sink.old).flushes }

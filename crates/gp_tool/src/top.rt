@@ -58,7 +58,7 @@ fn refuse_words<K: Sink>(sink: &mut K) -> u8
 
 /// Does what the words say, and answers the status of the program, how many commands the card has answered, and the device.
 ///
-/// 0: all was done, and the input of `run`, `why`, `replay` or `play` was read to its end. 1: words that have no form. 2: a line that has no form or is too long. 3: the device
+/// 0: all was done, and the input of `run`, `why`, `replay` or `play` was read to its end. 1: malformed words. 2: a line that is malformed or too long. 3: the device
 /// failed. 4: the device holds no card. 5: the source refused a read. 6: the sink refused a write or its flush. 7: want of
 /// memory for the card, or for a CAP file. 8: all was done in `replay` or `play`, and some reply or status differed from the one wanted. 9: the input
 /// is too long. 10: all was done in `desk`, and some receipt did not fit. 11: all lines of `cap` were read, and they are no CAP file that can be packed.
@@ -69,7 +69,7 @@ pub fn gp<S: Source, K: Sink, F: Flash>(
     sink: &mut K,
     flash: F,
 ) -> Ended<F>
-    // The words have no form: the usage line is written, nothing is read, and no call is made on the device.
+    // The words are malformed: the usage line is written, nothing is read, and no call is made on the device.
     ensures usage { (HaveForm words.now → ⊥)
         → EndsInUsage K.tells result.status (K.state sink.old) (K.state sink.new) × (source.new ≡ source.old) × (result.done ≡ 0) × (result.flash ≡ flash) }
 
@@ -104,8 +104,8 @@ pub fn gp<S: Source, K: Sink, F: Flash>(
     ensures no_card { F.tells → ((verb : Verb) × AreOf (Serve verb) words.now) ⊎ ((view : View) × AreOf (Show view) words.now) → (HoldsCard F.Flash flash → ⊥)
         → (result.status ≡ 3) ⊎ (result.status ≡ 4) ⊎ (result.status ≡ 7) }
 
-    // `run`, `why`, `replay` and `play`: where each line has a form, the input is short enough and nothing fails, all is done. Only want of memory comes
-    // then besides.
+    // `run`, `why`, `replay` and `play`: where each line has a form, the input is short enough and nothing fails, all is
+    // done, or memory for the card was wanting.
     ensures complete { (verb : Verb) → AreOf (Serve verb) words.now
         → Completes verb S.Source K.Sink F.Flash result.status (around source.old sink.old flash) (around source.new sink.new result.flash) }
     ensures show_complete { (view : View) → AreOf (Show view) words.now → F.tells → HoldsCard F.Flash flash

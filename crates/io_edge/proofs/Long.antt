@@ -39,7 +39,7 @@ stripped_short : (is_return : Bool) (piece : List ℕ) → length (cond is_retur
 stripped_short true piece = rw (length-take (length piece - 1) piece) (omega arith)
 stripped_short false piece = omega arith
 
--- and no longer
+-- without a carriage return at its end a piece is no longer
 strip_short : (piece : List ℕ) → length (strip_carriage_return piece) ≤ length piece
 strip_short piece = stripped_short (slice_index piece (length piece - 1) == 13) piece
 

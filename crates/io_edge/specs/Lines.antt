@@ -13,8 +13,8 @@ use Rattle.io_edge.specs.declared.line.LineStop.TheVariants.{End, ReadFailed, To
 abbrev pub NoNewline : List ℕ → Type 0
 NoNewline bytes = All (λ b. b ≢ 10) bytes
 
--- How far the reading has come: the lines given, the bytes before those held, the bytes taken and not given yet,
--- and the stop, if one has come.
+-- How far the reading has come: the lines given, the bytes before those held, the bytes taken and not given yet, and
+-- the stop, if one has come.
 pub record Reading : Type 0 where
   pub number : ℕ
   pub passed : ℕ
@@ -83,7 +83,7 @@ StopCause before now End = now ≡ before
 StopCause before now (TooLong n) = now ≡ before
 StopCause before now InputTooLong = now ≡ before
 
--- the same of a line or a stop
+-- the source's count of faults stands still where a line is given, and at a stop rises by its cause
 abbrev pub LineCause : {T : Type 0} → ℕ → ℕ → Result T LineStop → Type 0
 LineCause before now result = MatchResult result (λ _. now ≡ before) (StopCause before now)
 
@@ -91,7 +91,7 @@ LineCause before now result = MatchResult result (λ _. now ≡ before) (StopCau
 abbrev pub IsWithin : Reading → Type 0
 IsWithin reading = reading.passed + length reading.held ≤ INPUT_LIMIT
 
--- what a call passed, and what is held behind that, are no more than may be held at once
+-- what a call passed, and what is held after that, are no more than may be held at once
 abbrev pub IsFew : Reading → Reading → Type 0
 IsFew old new = new.passed + length new.held ≤ old.passed + HELD_LIMIT
 

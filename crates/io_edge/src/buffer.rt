@@ -54,7 +54,7 @@ fn read_front<S: Source>(source: &mut S, buf: &mut [u8], most: usize) -> Result<
     source.read_some(&mut buf[..space])
 }
 
-// Reads once behind the first `end` bytes, at most `most` bytes.
+// Reads once after the first `end` bytes, at most `most` bytes.
 fn read_behind<S: Source>(
     source: &mut S,
     bytes: &mut [u8; ROOM],
@@ -73,7 +73,7 @@ fn read_behind<S: Source>(
     read_front(source, &mut bytes[end..], most)
 }
 
-// Reads once, and moves `end` behind what was read.
+// Reads once, and moves `end` past what was read.
 #[tactic(auto, using(crate::proofs::Ranges::ranges))]
 fn read_on<S: Source>(
     source: &mut S,
@@ -99,7 +99,7 @@ fn read_on<S: Source>(
     Ok(count)
 }
 
-/// The text that was cut off last, and the bytes held behind it.
+/// The text that was cut off last, and the bytes held after it.
 #[derive(Drop)]
 pub struct Buffer {
     bytes: [u8; ROOM],

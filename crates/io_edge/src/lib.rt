@@ -5,7 +5,7 @@
 //! lines, in whatever pieces it comes: of `reset`, 0D 0A, `00A404` it gives line 1 `reset` and line 2
 //! `00A404`, and then `LineStop::End`.
 //!
-//! A line of more than `LINE_LIMIT` bytes is refused, and so is what stands behind the first
+//! A line of more than `LINE_LIMIT` bytes is refused, and so is what stands after the first
 //! `INPUT_LIMIT` bytes of an input. A stop, once given, is given again.
 #![tactic(auto)]
 

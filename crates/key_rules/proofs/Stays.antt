@@ -36,7 +36,7 @@ filter_both p q (thing ∷ things) = elim (cases_Bool (p thing)) [
 ]
 
 module _ (owner version : ℕ) where
-  -- the same keys stay after one that goes is gone
+  -- the keys that stay are the same after one that goes is gone
   pub stay_after : (slots : List (Option KeyRec)) (slot : ℕ) → holds_one_of owner version (held slots slot) ≡ true
       → staying owner version (slice_set slots slot None) ≡ staying owner version slots
   stay_after [] slot goes = refl

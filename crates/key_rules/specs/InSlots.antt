@@ -11,7 +11,7 @@ abbrev pub holds_staying : ℕ → ℕ → Option KeyRec → Bool
 holds_staying owner version None = false
 holds_staying owner version (Some key) = not (is_of owner version key)
 
--- and is one of the domain's
+-- the slot holds a key of the domain that stays
 abbrev pub holds_staying_of : ℕ → ℕ → Option KeyRec → Bool
 holds_staying_of owner version None = false
 holds_staying_of owner version (Some key) = not (is_of owner version key) && key.owner == owner

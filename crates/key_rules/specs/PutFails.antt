@@ -16,7 +16,7 @@ has_version owner version slots = list_any (is_of owner version) (used slots)
 abbrev pub keys_of_owner : ℕ → List KeyRec → List KeyRec
 keys_of_owner owner keys = filter (λ key. key.owner == owner) keys
 
--- so many keys are not put in the place of those with the key version number `replaced`
+-- This many keys, `added`, are not put in the place of those with the key version number `replaced`.
 abbrev pub PutFails : ℕ → ℕ → ℕ → ℕ → List (Option KeyRec) → PutRefusal → Type 0
 PutFails owner replaced version added slots Unknown = (replaced ≢ 0) × (has_version owner replaced slots ≡ false)
 PutFails owner replaced version added slots Taken = (version ≢ replaced) × (has_version owner version slots ≡ true)

@@ -17,7 +17,7 @@ room_left owner replaced version added slots none = elim (cases_lt KEYS (length 
   | inr room ↦ room
 ]
 
--- and a slot for one of them, where this many were put already
+-- a slot is free for one of the keys, where this many were put already
 pub slot_left : (owner replaced version added : ℕ) (slots : List (Option KeyRec)) (put : ℕ) (keys : List KeyRec) → NoneHolds (PutFails owner replaced version added slots)
     → length keys ≡ length (staying owner replaced slots) + put → put < added → length keys < KEYS
 slot_left owner replaced version added slots put keys none long lt =

@@ -1,7 +1,7 @@
 //! The keys of a card's security domains, changed as a list, whatever keeps them.
 //!
-//! Terms. A *key set* has the three keys of a key version number from 01 to 6F: Key-ENC, Key-MAC and Key-DEK. A token key (70)
-//! and a receipt key (71) stand alone. The keys of a domain have the slot of its entry as their `owner`.
+//! Terms. A *key set* has the three keys of a key version number from 01 to 6F: Key-ENC, Key-MAC and Key-DEK. A token key
+//! (70) and a receipt key (71) stand alone. The keys of a domain have the slot of its entry as their `owner`.
 //!
 //! What holds of every keeper of key slots, whether their keys are a card's or not, each with the clause that proves it:
 //!

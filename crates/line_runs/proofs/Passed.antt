@@ -18,7 +18,7 @@ line_leaves reads old new left left' line gives told =
     let all = length-append new.held left' in
     record { held = new.held; rest = refl; few = omega (arith, few, further); within = omega (arith, within, passed, all) }
 
--- and what was taken of what stood ahead of it
+-- what was taken of what stood ahead of the line
 pub line_takes : (reads : Type 0) (old new : Reading) (left left' : List ℕ) (line : Line)
     → GivesLine reads old new left left' line → reads → TakesNoMore (old.passed + length (ahead old left)) (ahead old left) left'
 line_takes reads old new left left' line gives told =

@@ -26,7 +26,7 @@ unfoldable pub given_line : {T : Type 0} (takes : Takes T) (reads : Type 0) (at 
     → TakesNext takes reads at at' text (room old) (ahead old left) (ahead new left')
 given_line takes reads at at' text old new left left' line gives fits taken = record { line = line.text.now; next = gives.line; fits = fits; taken = taken }
 
--- a line of no form that was given is a bad one
+-- a malformed line that was given is a bad one
 pub bad_form : {T : Type 0} (takes : Takes T) (reads : Type 0) (at : T) (old new : Reading) (left left' : List ℕ) (line : Line)
     → GivesLine reads old new left left' line → ((next : T) (said : List ℕ) → takes at line.text.now next said → ⊥)
     → reads → IsBadLine (HasForm takes at) (room old) (ahead old left)

@@ -13,11 +13,11 @@ use Rattle.line_runs.specs.declared.ending.LinesEnd.TheVariants.{Finished, BadLi
 abbrev pub Takes : Type 0 → Type 1
 Takes T = T → List ℕ → T → List ℕ → Type 0
 
--- it takes the line from this state
+-- the taker takes the line from this state
 abbrev pub HasForm : {T : Type 0} → Takes T → T → List ℕ → Type 0
 HasForm {T} takes at line = (next : T) × (text : List ℕ) × takes at line next text
 
--- so one line after the other, each with its text
+-- the taker takes one line after the other, each with its text
 abbrev pub TakesLines : {T : Type 0} → Takes T → T → List (List ℕ) → T → List (List ℕ) → Type 0
 TakesLines takes at [] last texts = (last ≡ at) × (texts ≡ [])
 TakesLines {T} takes at (line ∷ lines) last texts =
@@ -29,7 +29,7 @@ AreTakable takes at [] = Unit {0}
 AreTakable {T} takes at (line ∷ lines) =
     HasForm takes at line × (length line ≤ LINE_LIMIT) × ((next : T) (text : List ℕ) → takes at line next text → AreTakable takes next lines)
 
--- so it is with each line of the input, which is short enough
+-- each line of the input has a form and is not too long, and the input is short enough
 abbrev pub IsGoodInput : {T : Type 0} → Takes T → T → List ℕ → Type 0
 IsGoodInput takes first input = AreTakable takes first (lines input) × (length input < INPUT_LIMIT)
 
@@ -47,7 +47,7 @@ pub record Course {T : Type 0} (takes : Takes T) (reads : Type 0) (first : T) (i
   pub reached : reads → ComeFirst INPUT_LIMIT input given ahead
   pub taken : reads → TakesNoMore (length input) ahead left
 
--- the next line has no form from the state after the course, or is too long
+-- the next line is malformed in the state after the course, or too long
 abbrev pub IsRefused : {T : Type 0} {takes : Takes T} {reads : Type 0} {first : T} {input left : List ℕ} → Course takes reads first input left → Type 0
 IsRefused {takes = takes} {reads = reads} {input = input} course = reads → IsBadLine (HasForm takes course.last) (room_ahead input course.ahead) course.ahead
 

@@ -26,6 +26,6 @@ abbrev pub CutsText : Type 0 → List (List ℕ) → List ℕ → Outside → Ou
 CutsText writes before text old new =
     (new.sink.flushes ≡ old.sink.flushes) × (writes → (count : ℕ) × (new.sink.written ≡ old.sink.written ++ (concat before ++ take count text)))
 
--- what is written of a line that has no form or is too long, by its number
+-- what is written of a line that is malformed or too long, by its number
 abbrev pub bad_line : ℕ → List ℕ
 bad_line number = codes "line " ++ decimal number ++ 10 ∷ []

@@ -8,7 +8,7 @@ use arrayvec::ArrayVec;
 use io_edge::{Sink, WriteFailed};
 use line_text::{push_decimal, push_word};
 
-/// Writes the number of a line that has no form or is too long.
+/// Writes the number of a line that is malformed or too long.
 pub fn write_bad_line<K: Sink>(number: u32, sink: &mut K) -> Result<(), WriteFailed>
     ensures ok { K.tells → OnOk result ((K.state sink.new).written ≡ (K.state sink.old).written ++ bad_line number) }
     ensures err { K.tells → OnErr result ((n : ℕ) × ((K.state sink.new).written ≡ (K.state sink.old).written ++ take n (bad_line number))) }

@@ -5,7 +5,7 @@
 pub enum LinesEnd {
     /// To the end of the input.
     Finished,
-    /// To a line that has no form or is too long: its number was written.
+    /// To a line that is malformed or too long: its number was written.
     BadLine,
     /// The source refused a read.
     ReadFault,

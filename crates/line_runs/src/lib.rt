@@ -2,7 +2,7 @@
 //!
 //! A `LineTaker` takes lines one after the other. Each line has a form for it or has none, and writes a line of text or nothing.
 //! `take_lines` gives it the lines of a source up to the first stop, writes what they write, and says what the stop was: the end of
-//! the input, a line of no form, an input that is too long, or a source or a sink that failed.
+//! the input, a malformed line, an input that is too long, or a source or a sink that failed.
 #![tactic(auto)]
 
 mod bad_line;

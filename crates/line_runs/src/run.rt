@@ -12,7 +12,7 @@ use crate::ending::LinesEnd;
 use crate::taker::{LineTaker, Text};
 use io_edge::{LineStop, Lines, Sink, Source, WriteFailed};
 
-// Writes the number of a line that has no form or is too long.
+// Writes the number of a line that is malformed or too long.
 fn refuse_line<K: Sink>(number: u32, sink: &mut K) -> LinesEnd
     ensures refused { Refuses K.tells number (K.state sink.old).written (K.state sink.new).written result }
     ensures flushes { (K.state sink.new).flushes ≡ (K.state sink.old).flushes }

@@ -65,7 +65,7 @@ module _ (page : ℕ → List ℕ) (whole : HasPages page) (paged : PagedBytes) 
       let few : length written ≤ size_of paged = omega (arith, as_long) in
       take_all (size_of paged) written few ∙ sym (append-nil written) ∙ ap (λ (list : List ℕ). written ++ list) (sym none)
 
-  -- what waited is behind them, and zeros behind that
+  -- what waited is after them, and zeros after that
   pub all_written : (now : List ℕ) → now ≡ written ++ padded paged.rest.items → take (size_of paged) now ≡ bytes_in page paged
   all_written now is =
       let size : size_of paged ≡ length written + length paged.rest.items = omega (arith, as_long) in

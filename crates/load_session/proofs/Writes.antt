@@ -23,7 +23,7 @@ LeavesAlone device old new registry = LeavesOnly device old new (λ outcome. Reo
 abbrev pub IfSpare : {F : Type 0} → Flash F → F → List ℕ → (Registry → Type 0) → Type 0
 IfSpare device flash pages holds = All (IsSpare device flash) pages → (registry : Registry) → Keeps device flash registry → holds registry
 
--- so many of the pages are written
+-- `count` of the pages are written
 pub record AreWritten {F : Type 0} (device : Flash F) (before : Contents F) (writes : List LoadWrite) (count : ℕ) (records : Contents F) : Type 0 where
   pub tables : records.tables ≡ before.tables
   pub staged : records.staged ≡ before.staged

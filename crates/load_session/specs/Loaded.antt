@@ -8,12 +8,12 @@ use Rattle.load_session.specs.declared.load_write.LoadWrite.{LoadWrite}
 abbrev pub page_written : (ℕ → List ℕ) → LoadWrite → ℕ → List ℕ
 page_written page write number = if number == write.number then write.page.bytes else page number
 
--- and with each of these, one after the other
+-- load pages with each of these written, one after the other
 abbrev pub loaded : (ℕ → List ℕ) → List LoadWrite → ℕ → List ℕ
 loaded page [] = page
 loaded page (write ∷ rest) = loaded (page_written page write) rest
 
--- which pages are written
+-- the numbers of the pages that are written
 abbrev pub numbers : List LoadWrite → List ℕ
 numbers writes = map (λ write. write.number) writes
 
@@ -27,7 +27,7 @@ pub record AreNewPages (tables : Tables) (taken : List ℕ) (writes : List LoadW
   pub apart : All (λ page. Contains taken page → ⊥) (numbers writes)
   pub whole : All IsWhole writes
 
--- the pages are those that were taken, and behind them those that are to be written
+-- the pages are those that were taken, and after them those that are to be written
 pub record AreTaken (tables : Tables) (taken pages : List ℕ) (writes : List LoadWrite) : Type 0 where
   pub new : AreNewPages tables taken writes
   pub pages_are : pages ≡ taken ++ numbers writes

@@ -14,7 +14,7 @@ size_of paged = 256 * length paged.pages.items + length paged.rest.items
 abbrev pub bytes_in : (ℕ → List ℕ) → PagedBytes → List ℕ
 bytes_in page paged = concat (map page paged.pages.items) ++ paged.rest.items
 
--- bytes with zeros behind them, as many as a page has
+-- bytes with zeros after them, as many as a page has
 abbrev pub padded : List ℕ → List ℕ
 padded bytes = bytes ++ replicate (256 - length bytes) 0
 

@@ -27,7 +27,7 @@ pub struct Taken {
     pub start: usize,
 }
 
-/// What a first block brings: behind the tag C4 and a length other than 0 stand the first bytes.
+/// What a first block brings: after the tag C4 and a length other than 0 stand the first bytes.
 pub(crate) fn first_block(field: &[u8]) -> Option<Taken>
     ensures within { IfSome result (λ taken. taken.start ≤ length field.now) }
     ensures some { IfSome result (λ taken. Announces field.now taken.size (drop taken.start field.now)) }

@@ -43,7 +43,7 @@ impl RunningHash {
         }
     }
 
-    /// Whether the bytes so far, with these behind them, have the hash.
+    /// Whether the bytes so far, with these after them, have the hash.
     pub(crate) fn fits(&self, bytes: &[u8], hash: &[u8]) -> bool
         ensures { (before : List ℕ) → IsFed hash.now self.now before → (IsTrue result ↔ HaveHash (before ++ bytes.now) hash.now) }
     {
@@ -55,7 +55,7 @@ impl RunningHash {
     }
 }
 
-// The SHA-1 of what the hasher has taken, with these bytes behind it.
+// The SHA-1 of what the hasher has taken, with these bytes after it.
 fn sha1_with(hasher: &Sha1, bytes: &[u8]) -> [u8; 20]
     ensures { (before : List ℕ) → Holds hasher.now before → result ≡ sha1 (before ++ bytes.now) }
 {

@@ -16,7 +16,7 @@ use arrayvec::ArrayVec;
 use card_types::Tables;
 use flash_core::Page;
 
-/// Bytes in load pages, and behind them those that fill none yet.
+/// Bytes in load pages, and after them those that fill none yet.
 #[derive(Drop)]
 pub(crate) struct PagedBytes {
     pub(crate) pages: ArrayVec<u16, 128>,
@@ -91,7 +91,7 @@ impl PagedBytes {
         self.write_rest(tables, writes);
     }
 
-    // The bytes that are in no page are to be written to one, with zeros behind them.
+    // The bytes that are in no page are to be written to one, with zeros after them.
     fn write_rest(&mut self, tables: &Tables, writes: &mut ArrayVec<LoadWrite, WRITES>)
         requires roomy { AreRoomy tables.now }
         requires own { AreOwn tables.now self.old.pages.items }

@@ -31,12 +31,12 @@ module _ {F T : Type 0} (device : Flash F) (only : (f : F) (c : List Page) → T
   abbrev pub Either : List ℕ → List Page → Type 0
   Either loose c = Leaves (stored (device.pages f0)) loose c ⊎ Leaves (current pool (device.pages f0)) [] c
 
-  -- behind a part of a commit: what power lost may have left so far, and what is recorded
+  -- after a part of a commit: what power lost may have left so far, and what is recorded
   pub record SoFar (loose : List ℕ) (f : F) : Type 0 where
     pub moments : LeavesOnly device f0 f (Either loose)
     pub kept : Recorded pool (device.pages f0) (device.pages f)
 
-  -- The copies and the descriptor are written behind the closed gate.
+  -- The copies and the descriptor are written while the gate is closed.
   pub first : (loose : List ℕ) (f1 : F) → Always (device.may_leave f0) (SameBelow (device.pages f0)) → Always (device.may_leave f0) (Leaves (stored (device.pages f0)) loose) → Touches device IsRecord f0 f1 → LeavesOnly device f0 f1 (Either loose)
   first loose f1 calm before run = only_torn device only told IsRecord f0 f1 (Either loose) run here
     where
@@ -79,7 +79,7 @@ module _ {F T : Type 0} (device : Flash F) (only : (f : F) (c : List Page) → T
           by_gate same (inl gate) = inr (opened pool (device.pages f0) c some room homes distinct closed (recorded_after (λ p. p ≡ 45) pool (device.pages f0) (device.pages f1) c homes (λ p is. inl is) same was) gate)
           by_gate same (inr gate) = inl (shut (stored (device.pages f0)) loose c gate (λ p lt. at same p (inl lt)) (λ p le tight. at same p (inr le)))
 
-  -- The pages in place are written behind the open gate.
+  -- The pages in place are written while the gate is open.
   pub third : (loose : List ℕ) (f2 f3 : F) → SoFar loose f2 → is_open (device.pages f2) ≡ true → Only (device.pages f2) (device.may_leave f2) → Touches device (IsStaged pool) f2 f3 → SoFar loose f3
   third loose f2 f3 before gate synced run = record {
     moments = then_only device only told f0 f2 f3 (Either loose) before.moments (only_torn device only told (IsStaged pool) f2 f3 (Either loose) run here);

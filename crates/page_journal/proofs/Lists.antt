@@ -31,7 +31,7 @@ stored_shut pages page closed = ap (λ b. slice_get pages (if b then copied_plac
 pub stored_open : (pages : List Page) (page : ℕ) → is_open pages ≡ true → stored pages page ≡ slice_get pages (copied_place (descriptor pages) page)
 stored_open pages page opened = ap (λ b. slice_get pages (if b then copied_place (descriptor pages) page else page)) opened
 
--- behind a closed gate
+-- with a closed gate
 pub shut : (list : ℕ → Option Page) (loose : List ℕ) (c : List Page) → is_open c ≡ false → ((p : ℕ) → p < 45 → slice_get c p ≡ list p) → ((p : ℕ) → 96 ≤ p → (Contains loose p → ⊥) → slice_get c p ≡ list p) → Leaves list loose c
 shut list loose c closed store load = record {
   sound = λ opened. absurd (false≢true (sym closed ∙ opened));
@@ -124,7 +124,7 @@ module _ (pool : Pages) (start c : List Page) (some : 0 < length pool) (room : l
   list_none : (p : ℕ) → staged pool p ≡ None → slice_get start p ≡ current pool start p
   list_none p none = sym (stored_shut start p closed) ∙ sym (ap (λ (o : Option Page). first_of o (stored start p)) none)
 
-  -- behind an open gate the copies count
+  -- with an open gate the copies count
   at_copy : Recorded pool start c → is_open c ≡ true → (p : ℕ) → IsPage p → stored c p ≡ current pool start p
   at_copy was opened p page = stored_open c p opened ∙ by_look (look pool p)
     where
@@ -154,7 +154,7 @@ module _ (pool : Pages) (start c : List Page) (some : 0 < length pool) (room : l
     load = λ p le tight. at_copy was is p (inr le);
   }
 
-  -- behind a closed one the pages in place do
+  -- with a closed one the pages in place do
   pub at_home : Recorded pool start c → HomesOf (length pool) pool c → (p : ℕ) → IsPage p → slice_get c p ≡ current pool start p
   at_home was put p page = by_look (look pool p)
     where

@@ -37,7 +37,7 @@ same_list a b p gate at45 at46 at =
 
 module _ {F T : Type 0} (device : Flash F) (only : (f : F) (c : List Page) → T → device.left_since f (device.moment f) c → device.may_leave f c) (told : T)
     (bytes : List ℕ) (valid : IsValid bytes) (f0 : F) (gate : is_open (device.pages f0) ≡ true) (named : descriptor (device.pages f0) ≡ bytes) where
-  -- The copies are written in place behind the open gate.
+  -- The copies are written in place while the gate is open.
   pub copied : (loose : List ℕ) (f1 : F) → Always (device.may_leave f0) (SameBelow (device.pages f0)) → Always (device.may_leave f0) (Leaves (stored (device.pages f0)) loose) → Touches device (IsInDescriptor bytes) f0 f1
       → LeavesOnly device f0 f1 (Leaves (stored (device.pages f0)) loose)
   copied loose f1 calm before run = only_torn device only told (IsInDescriptor bytes) f0 f1 (Leaves (stored (device.pages f0)) loose) run here
@@ -68,13 +68,13 @@ module _ {F T : Type 0} (device : Flash F) (only : (f : F) (c : List Page) → T
     desc : slice_get c 46 ≡ slice_get (device.pages f0) 46
     desc = same 46 (λ is. omega (arith, is)) ∙ run.seen 46 (high1 46 (omega arith))
 
-    -- behind the open gate the copies count
+    -- with the open gate the copies count
     at_copy : (p : ℕ) → IsPage p → is_open c ≡ true → stored c p ≡ stored (device.pages f0) p
     at_copy p page opened =
         let there : slice_get c (copied_place bytes p) ≡ slice_get (device.pages f0) (copied_place bytes p) = same (copied_place bytes p) (no_gate bytes p page) ∙ run.seen (copied_place bytes p) (unnamed_place bytes p valid) in
         stored_open c p opened ∙ ap (λ b. slice_get c (copied_place b p)) (descriptor_same c (device.pages f0) desc ∙ named) ∙ there ∙ ap (λ b. slice_get (device.pages f0) (copied_place b p)) (sym named) ∙ sym (stored_open (device.pages f0) p gate)
 
-    -- behind the closed one the pages in place
+    -- with the closed one the pages in place
     pub at_home : (p : ℕ) → IsPage p → slice_get c p ≡ stored (device.pages f0) p
     at_home p page =
         same p (gate_page p page) ∙ ⊎_elim

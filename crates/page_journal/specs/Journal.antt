@@ -1,5 +1,5 @@
 -- What 608 pages stand for. Store page p is page p, the gate is page 45, the descriptor page 46, and
--- copy i page 47 + i. Behind an open gate the copies count, and the pages that the descriptor names do not.
+-- copy i page 47 + i. With an open gate the copies count, and the pages that the descriptor names do not.
 use Rattle.std.specs.Prelude.{◌≡◌, ◌≢◌, ℕ, zero, suc, ◌+◌, ◌<◌, ◌≤◌, Bool, true, if◌then◌else◌, ◌==◌, List, [], Option, None, Some, slice_get, slice_index}
 use Rattle.flash_core.specs.declared.page.Page.{Page}
 
@@ -43,6 +43,6 @@ place pages page = if is_open pages then copied_place (descriptor pages) page el
 abbrev pub stored : List Page → ℕ → Option Page
 stored pages page = slice_get pages (place pages page)
 
--- they stand for a list: behind an open gate the descriptor has a valid form
+-- they stand for a list: where the gate is open the descriptor has a valid form
 abbrev pub HasValidJournal : List Page → Type 0
 HasValidJournal pages = is_open pages ≡ true → IsValid (descriptor pages)

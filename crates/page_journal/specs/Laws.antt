@@ -7,7 +7,7 @@ use Rattle.page_journal.specs.Journal.{HasValidJournal, descriptor, is_open, pla
 abbrev pub IsCopyOf : List Page → ℕ → ℕ → Type 0
 IsCopyOf pages copy page = (copy < slice_index (descriptor pages) 0) × (slice_index (descriptor pages) (copy + 1) ≡ page)
 
--- behind a closed gate a page stands at home, behind an open one in the copy that is named for it, and at home where none is
+-- with a closed gate a page stands at home, with an open one in the copy that is named for it, and at home where none is
 pub record StandsAt (pages : List Page) (page at : ℕ) : Type 0 where
   pub closed : is_open pages ≡ false → at ≡ page
   pub copied : is_open pages ≡ true → (copy : ℕ) → IsCopyOf pages copy page → at ≡ 47 + copy

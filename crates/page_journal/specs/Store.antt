@@ -43,7 +43,7 @@ CauseHolds tells before now pages (Memory refused) = ⊥
 CauseHolds tells before now pages FlashFailed = Rose before now
 CauseHolds tells before now pages BadJournal = tells → (is_open pages ≡ true) × (IsValid (descriptor pages) → ⊥)
 
--- the same, or memory was wanted before any call on the device
+-- A device is not mounted for one of these causes, or memory was wanted before any call on the device.
 abbrev pub MountFails : {F : Type 0} → Flash F → F → MountCause → F → Type 0
 MountFails device old (Memory refused) new = new ≡ old
 MountFails device old FlashFailed new = Rose (device.faults old) (device.faults new)

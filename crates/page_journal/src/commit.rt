@@ -37,7 +37,7 @@ pub fn commit_pages<F: Flash>(flash: &mut F, pool: &FramePool) -> Result<(), Fla
     set_gate(flash, 0)
 }
 
-/// Ends a commit that was cut off behind an open gate.
+/// Ends a commit that was cut off while the gate was open.
 pub fn settle_pages<F: Flash>(flash: &mut F, descriptor: &Page) -> Result<(), FlashFailed>
     requires valid { IsValid descriptor.now.bytes }
     requires gate { F.tells → is_open (F.pages flash.old) ≡ true }

@@ -68,7 +68,7 @@ pub fn place_behind(journal: &Option<Page>, page: u16) -> u16
     }
 }
 
-// Where a page stands behind an open gate.
+// Where a page stands while the gate is open.
 fn place_of(descriptor: &Page, page: u16) -> u16
     requires room { slice_index descriptor.now.bytes 0 ≤ 30 }
     ensures place { result ≡ copied_place descriptor.now.bytes page }

@@ -3,8 +3,8 @@
 //! Terms. A *store page* has a number from 0 to 44, a *load page* one from 96 to 607. Store pages are *staged* in
 //! frames and committed together. The *journal* is the *gate* in page 45, the *descriptor* in page 46 and the
 //! *copies* from page 47 on. The gate is *open* where its first byte is A5. A descriptor has a *valid form* where
-//! it names 1 to 30 distinct store pages; copy i is of the i-th. The device *stands for* a list of pages: behind a
-//! closed gate each page at its own place, behind an open one the copies in the places that the descriptor names
+//! it names 1 to 30 distinct store pages; copy i is of the i-th. The device *stands for* a list of pages: with a
+//! closed gate each page at its own place, with an open one the copies in the places that the descriptor names
 //! for them. A store is *settled* where its gate is closed. A load page is *loose* from its write until a commit
 //! that had a page staged. The *committed pages* are all store pages and the load pages that are not loose.
 //!
@@ -15,7 +15,7 @@
 //!  2. The gate is opened only when copies and descriptor stand on the device: an outcome with an open gate has
 //!     the whole list from after the commit, and one with a closed gate the whole list from before it (`commit`,
 //!     `moments`).
-//!  3. Store pages are written in place only behind an open gate that stands on the device: however they are torn,
+//!  3. Store pages are written in place only after an open gate stands on the device: however they are torn,
 //!     the copies count (`commit` and `settle`, `moments`).
 //!  4. The gate is closed only when the pages in place stand on the device: closing it changes no page of the list
 //!     (`commit` and `settle`, `moments` and `list`).

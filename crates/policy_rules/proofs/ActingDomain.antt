@@ -31,7 +31,7 @@ module _ (page : ℕ → List ℕ) (tables : Tables) (domain : ℕ) (admitted : 
   pub unlocked_passes : acts.entry.life.locked ≡ false → ManagementFails admitted M2 → ⊥
   unlocked_passes unlocked fails = (let locked = subst IsLocked acting_named fails in let clash = sym locked ∙ unlocked in cc)
 
-  -- and the card by the tables
+  -- the card is locked where the tables say so
   pub card_passes : is_card_locked tables.life ≡ false → ManagementFails admitted M1 → ⊥
   card_passes unlocked fails =
       (let locked = subst (λ life. is_card_locked life ≡ true) (sym acts.says.life) fails in let clash = sym locked ∙ unlocked in cc)

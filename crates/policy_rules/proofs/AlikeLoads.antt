@@ -15,7 +15,7 @@ use Rattle.policy_rules.proofs.Alike.{IsAlike, IsAlikeForm, LooksAtSeen, alike_b
 on_alike : (load : LoadSession) → IsAlike (λ x. IsLoadOn x load)
 on_alike load a b alike on = (sym alike.load ∙ on.0, on.1 ∙ alike.channel)
 
--- and what holds of it looks at no more
+-- what holds of the load session looks at no more
 in_load : (holds : Admitted → LoadSession → Type 0) → ((load : LoadSession) → LooksAtSeen (λ x. holds x load)) → IsAlike (λ x. InLoad x (holds x))
 in_load holds looks a b alike is = (is.0, on_alike is.0 a b alike is.1, by_seen (λ x. holds x is.0) (looks is.0) a b alike is.2)
 

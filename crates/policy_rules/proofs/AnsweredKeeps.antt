@@ -68,7 +68,7 @@ module _ (delegated : Type 0) (admitted : Admitted) (aids : List (List ℕ)) (ch
       (receipts_keep changed confirmed.receipter (confirmed.entry.receipts + 1) of (next_number admitted aids changed done well (passes so) confirmed))
   answered_keeps (inr (so, unconfirmed)) of = subst IsOfCard (sym unconfirmed.registry) of
 
-  -- and what the card holds goes with it
+  -- what the card holds goes with the registry
   pub answered_fits : IsAnswered delegated admitted aids changed reply done → (volatile : Volatile) → Fits changed volatile → Fits done.state.registry volatile
   answered_fits (inl (so, confirmed)) volatile fits =
       subst (λ (r : Registry). Fits r volatile) (sym confirmed.registry)

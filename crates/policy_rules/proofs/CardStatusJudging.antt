@@ -1,4 +1,4 @@
--- The rules of SET STATUS of the card behind its form, by the step that is asked for.
+-- The rules of SET STATUS of the card after its form, by the step that is asked for.
 use Rattle.std.proofs.Common.{◌≡◌, ◌≢◌, ◌↔◌, ◌⊎◌, ℕ, true, List, Option, None, Some, refl, sym, subst, ◌∙◌, inl, inr, arith}
 use Rattle.std.specs.Prelude.{IsTrue}
 use Rattle.apdu_core.specs.Apdu.{Apdu}

@@ -42,7 +42,7 @@ module _ (registry : Registry) (of : IsOfCard registry) where
       by None named is = absurd is
       by (Some f) named is = absurd (has (file_has_none aid f named))
 
-  -- and an Executable Load File is in it or below
+  -- an Executable Load File in its charge is in it or below it
   pub charge_place : (domain : List ℕ) (file : LoadFile) → Contains registry.files file → IsInCharge registry domain file.aid → IsAtOrAbove registry domain file.domain
   charge_place domain file there (inl entry) = (let none = file_apart registry of.well file.aid file (file_found file there) in let clash = entry.0 in absurd (no_entry none clash))
     where

@@ -1,4 +1,4 @@
--- The rules of a DELETE of a key behind its form, by its request.
+-- The rules of a DELETE of a key after its form, by its request.
 use Rattle.std.proofs.Common.{◌≡◌, ℕ, Bool, true, List, Option, ap, sym, ◌∙◌, inl, inr, None, Some, refl}
 use Rattle.card_types.specs.declared.tables.KeyRec.{KeyRec}
 use Rattle.card_types.specs.declared.tables.Tables.{Tables}

@@ -36,7 +36,7 @@ module _ (page : ℕ → List ℕ) (tables : Tables) (domain : ℕ) (admitted : 
   root_named : domain_slot tables.entries.items domain ≡ Some domain → IsRoot admitted.at.registry (acting admitted)
   root_named steps = subst (IsRoot admitted.at.registry) (sym acts.on) (step_named page tables admitted.at.registry acts.says domain domain steps)
 
-  -- and one by its name is one by its slot
+  -- a root by its name is one by its slot
   pub root_slot : IsRoot admitted.at.registry (acting admitted) → domain_slot tables.entries.items domain ≡ Some domain
   root_slot root =
       let steps = step_from_used tables.entries.items domain acts.entry acts.at in
@@ -68,7 +68,7 @@ module _ (page : ℕ → List ℕ) (tables : Tables) (domain : ℕ) (admitted : 
         (and_from (keeps_counter_of domain key) (not (key.version == version)) (and_from (keeps_counter key) (key.owner == domain) from.3 mine) other) in
         let clash = sym some ∙ none in cc))
 
-    -- and one is where one is
+    -- a key set is left by names where one is left by slots
     one_left : list_any (holds_counter_but domain version) tables.keys.items ≡ true
         → find (λ counter. same_aid counter.owner owner) (counters_but owner version counters) ≡ None → ⊥
     one_left some none =

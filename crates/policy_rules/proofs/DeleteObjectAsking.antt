@@ -42,7 +42,7 @@ module _ (field : List ℕ) where
   unread_token some refused token (inr spelled) = refused 0x9E token field [] spelled (sym (append-nil field))
 
   module _ (tag : ℕ) (value rest : List ℕ) (begins : BeginsWith tag value rest field) where
-    -- it begins with something else, or something is behind the token
+    -- it begins with something else, or something is after the token
     pub other_token : (tag ≡ 0x9E → ⊥) ⊎ (length rest ≡ 0 → ⊥) → (token : List ℕ) → IsTokenField token field → ⊥
     other_token other token (inl none) =
         (let fewer = rest_shorter tag value rest field begins in absurd (omega (arith, fewer, ap length none.0)))

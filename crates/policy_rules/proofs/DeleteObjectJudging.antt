@@ -1,4 +1,4 @@
--- The rules of DELETE of an object behind its form, by its request.
+-- The rules of DELETE of an object after its form, by its request.
 use Rattle.std.proofs.Common.{◌≡◌, ◌≢◌, ◌↔◌, ◌⊎◌, inl, inr, ℕ, true, false, List, length, Option, None, Some, refl, ap, sym, subst, ◌∙◌, arith}
 use Rattle.std.specs.Prelude.{IsSome, MatchOption}
 use Rattle.std.specs.Option.{option_map}
@@ -33,7 +33,7 @@ use Rattle.policy_rules.proofs.DeleteObjectSlots.{from_used}
 use Rattle.policy_rules.proofs.InstallApplicationJudging.{entry_no_file}
 use Rattle.policy_rules.proofs.ThingsFound.{acting_named, entry_at}
 
--- which of its own rules is the first
+-- the first of the form's own rules that fails
 module _ (admitted : Admitted) (asked : DeletionAsked) where
   abbrev Fails : RuleDO → Type 0
   Fails = DeletingFails admitted asked

@@ -1,4 +1,4 @@
--- The rules of SET STATUS of an entry behind its form, by its request.
+-- The rules of SET STATUS of an entry after its form, by its request.
 use Rattle.std.proofs.Common.{◌≡◌, ◌≢◌, ◌⊎◌, ℕ, Bool, true, false, List, Option, None, Some, refl, ap, sym, subst, ◌∙◌, inl, inr, arith}
 use Rattle.std.specs.Prelude.{IfNone, IfSome, MatchOption}
 use Rattle.std.specs.Option.{option_map}
@@ -171,7 +171,7 @@ module _ (page : ℕ → List ℕ) (tables : Tables) (domain : ℕ) (admitted : 
   one_found None one named = named
   one_found (Some slot) one named = one_known page tables domain admitted acts request is slot named one
 
--- which of its own rules is the first
+-- the first of the form's own rules that fails
 module _ (admitted : Admitted) where
   abbrev First : Option RuleSS → Type 0
   First found = OwnFirst managed_entry_status.judged admitted tt found

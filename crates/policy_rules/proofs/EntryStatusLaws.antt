@@ -101,7 +101,7 @@ unmarked : (p2 : ℕ) (locked : Bool) → p2 ≡ 0x0F → Marks p2 locked → lo
 unmarked p2 locked is (inl mark) = absurd (omega (arith, mark.0, is))
 unmarked p2 locked is (inr mark) = mark.1
 
--- and what is personalized takes no other step
+-- a security domain that is personalized takes no other step by the same command
 module _ (p1 p2 : ℕ) (entry : Entry) (a b : LifeMark) where
   marked_apart : IsMarked p2 entry a → IsPersonalizing p1 p2 entry b → ⊥
   marked_apart marks personalizes =

@@ -1,4 +1,4 @@
--- The rules of INSTALL [for extradition] behind its form, by its request.
+-- The rules of INSTALL [for extradition] after its form, by its request.
 use Rattle.std.proofs.Common.{◌≡◌, ◌≢◌, ◌↔◌, ◌⊎◌, inl, inr, ℕ, Bool, true, false, List, Option, None, Some, refl, ap, sym, subst, ◌∙◌}
 use Rattle.std.specs.Prelude.{IsTrue, MatchOption, not}
 use Rattle.std.proofs.lemmas.Bool.{false_from_ne_true, not-true, not_from_false}
@@ -103,7 +103,7 @@ module _ (page : ℕ → List ℕ) (tables : Tables) (domain : ℕ) (admitted : 
         negated : IsTrue (not above) ↔ (IsAtOrAbove admitted.at.registry verifier is.given.first → ⊥)
         negated = not_told above (to_given verifier above told)
 
--- which of its own rules is the first
+-- the first of the form's own rules that fails
 module _ (admitted : Admitted) (given : InstallData) where
   abbrev Fails : RuleEX → Type 0
   Fails = ExtraditingFails admitted given

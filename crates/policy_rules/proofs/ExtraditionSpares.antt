@@ -68,7 +68,7 @@ module _ (admitted : Admitted) (given : InstallData) (passed : IsPassedFor manag
       by verifier None named some is = cc
       by verifier (Some key) named some is = record { verifier = verifier; key = key; verifies = is key named }
 
-  -- is at the new domain or above it
+  -- the verifier is at the new domain or above it
   reaches : IsAtOrAbove before verified.verifier given.first
   reaches = elim (aid_cases given.first verified.verifier) [
     | inl same ↦ inl same
@@ -89,7 +89,7 @@ module _ (admitted : Admitted) (given : InstallData) (passed : IsPassedFor manag
     ]
   ]
 
-  -- and so above the domain that gets the thing, since it is above the acting one
+  -- the verifier is not in the tree, since it is above the acting domain
   not_in_tree : IsAtOrAbove before domain verified.verifier → ⊥
   not_in_tree at = above_out before apart.of self domain apart.powerless verified.verifier verified.verifies.above.above at
 

@@ -66,7 +66,7 @@ module _ {X : Type 0} (p : X → Bool) where
   swapped (x ∷ xs) i j one other =
       subst (λ (ys : List X). IsPermutation (filter p (x ∷ xs)) (filter p ys)) (swap_is (x ∷ xs) i j x one other) (exchanged (x ∷ xs) i j x one other)
 
-  -- the same things in another order are kept in another order
+  -- a filter keeps the same things of a list in another order
   pub filter_same : (xs ys : List X) → IsPermutation xs ys → IsPermutation (filter p xs) (filter p ys)
   filter_same xs ys same =
       IsPermutation-keeps xs (λ zs. IsPermutation (filter p xs) (filter p zs)) (IsPermutation-refl (filter p xs))

@@ -13,12 +13,12 @@ module _ {R : Type 0} (fails : R → Type 0) where
   one_first (next ∷ rules) a b (inr first) (inl other) = absurd (first.0 other.0)
   one_first (next ∷ rules) a b (inr first) (inr other) = one_first rules a b first.1 other.1
 
-  -- where none fails, the next does not, and none behind it
+  -- where none fails, the next does not, and none after it
   pub passes : (next : R) (rules : List R) → IsFirst fails (next ∷ rules) None → (fails next → ⊥) × IsFirst fails rules None
   passes next rules (inl failed) = (let clash = failed.1 in cc)
   passes next rules (inr passed) = passed
 
-  -- so none of them
+  -- where none fails first, none of the rules fails
   pub none_fails : (rules : List R) (rule : R) → Contains rules rule → IsFirst fails rules None → fails rule → ⊥
   none_fails [] rule (k, within, is) first failed = omega arith
   none_fails (next ∷ rules) rule there first failed =
@@ -34,7 +34,7 @@ module _ {R : Type 0} (fails : R → Type 0) where
   first_fails (next ∷ rules) found (inl first) = (let same : next ≡ found = (let is = first.1 in cc) in subst fails same first.0)
   first_fails (next ∷ rules) found (inr first) = first_fails rules found first.1
 
-  -- rules behind others that pass
+  -- rules after others that pass
   pub behind : (front rest : List R) (found : Option R) → IsFirst fails front None → IsFirst fails rest found → IsFirst fails (front ++ rest) found
   behind [] rest found passed first = first
   behind (next ∷ front) rest found (inl failed) first = (let clash = failed.1 in cc)

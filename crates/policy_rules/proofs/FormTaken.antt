@@ -41,7 +41,7 @@ module _ (admitted : Admitted) (P Q : CommandForm → Type 0) (takes : (form : C
   join_forms =
       joined (forms_of admitted.command.ins) ((all_lawful admitted.command.ins).one admitted.command.ins admitted.command.p1 admitted.command.p2 admitted.command.body)
 
--- and what follows of a lawful form follows
+-- what follows of a lawful form by two such things follows of the command
 pub by_form : (admitted : Admitted) (P Q : CommandForm → Type 0) → ((form : CommandForm) → P form → TakesCommand form admitted.command)
     → ((form : CommandForm) → Q form → TakesCommand form admitted.command) → (R : Type 0) → ((form : CommandForm) → IsLawful form → P form → Q form → R)
     → OneOf P (forms_of admitted.command.ins) → OneOf Q (forms_of admitted.command.ins) → R
@@ -63,7 +63,7 @@ accepted_by admitted done R so judges does =
     pick_form IsLawful (Accepts admitted done) (λ form. Unit {0}) R (forms_of admitted.command.ins) (λ form lawful both there. so form lawful both.0 both.1.1)
     (all_lawful admitted.command.ins).each (accepting_form admitted done judges does)
 
--- and so far as no rule matters, whatever it is judged
+-- a command does what a form that takes it does, whatever rule it is judged by
 pub done_by : (admitted : Admitted) (done : Effect) (R : Type 0) → ((form : CommandForm) → IsLawful form → TakesCommand form admitted.command → form.does admitted done → R)
     → HasEffect admitted done → R
 done_by admitted done R so does =

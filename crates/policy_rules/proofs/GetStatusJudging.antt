@@ -1,4 +1,4 @@
--- The rules of GET STATUS behind its form, by its request.
+-- The rules of GET STATUS after its form, by its request.
 use Rattle.std.proofs.Common.{◌≡◌, inl, inr, ℕ, List, ◌∷◌, Option, None, Some, refl, ap, sym, subst, ◌∙◌, arith}
 use Rattle.std.specs.Prelude.{MatchOption}
 use Rattle.bertlv.specs.Spelling.{Element}

@@ -55,7 +55,7 @@ left_one : (admitted : Admitted) (a b : Effect) (shown left : List Thing) → Is
 left_one admitted a b shown [] one other = (one.0 ∙ sym other.0, one.1 ∙ sym other.1)
 left_one admitted a b shown (next ∷ left) one other = (one.0 ∙ sym other.0, one.1 ∙ sym other.1)
 
--- and that a place is all that it sets
+-- a place is all that GET STATUS sets
 left_loads : (admitted : Admitted) (done : Effect) (shown left : List Thing) → IsLeftAt admitted done shown left → LoadStays admitted.at.volatile done.state.volatile
 left_loads admitted done shown [] at = inl (ap (λ (v : Volatile). v.load) at.0)
 left_loads admitted done shown (next ∷ left) at = inl (ap (λ (v : Volatile). v.load) at.0)

@@ -37,7 +37,7 @@ module _ (registry : Registry) (p1 : ℕ) where
   one_templates (thing ∷ things) a b (first, rest, is, are, joined) (front, more, too, also, split) =
       joined ∙ ap (λ z. z ++ rest) (one_template thing first front is too) ∙ ap (λ z. front ++ z) (one_templates things rest more are also) ∙ sym split
 
-  -- behind so many bytes the next of the things that are left does not fit
+  -- after so many bytes the next of the things that are left does not fit
   abbrev pub IsFullBehind : ℕ → List Thing → List ℕ → Type 0
   IsFullBehind number [] bytes = Unit {0}
   IsFullBehind number (next ∷ left) bytes = (template : List ℕ) × IsTemplate registry p1 next template × (part_limit < number + length bytes + length template)

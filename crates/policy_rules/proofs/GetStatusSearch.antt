@@ -33,7 +33,7 @@ module _ (body : List ℕ) where
       second_part None none = absurd (some (ap length none))
       second_part (Some tags) are = (tags, are)
 
-      -- nothing can be read behind it
+      -- nothing can be read after it
       pub unread_rest : ((tag : ℕ) (value front rest_ : List ℕ) → Spelling tag value front → rest ≡ front ++ rest_ → ⊥) → (partial : List ℕ)
           → IsSearch body partial → ⊥
       unread_rest refused partial search =
@@ -41,7 +41,7 @@ module _ (body : List ℕ) where
           let are = second.1 in
           refused 0x5C second.0 are.0 are.1 are.2 are.4
 
-      -- no list of tags is behind it, or something behind that
+      -- no list of tags is after it, or something after that
       pub other_rest : (next : ℕ) (more end : List ℕ) → BeginsWith next more end rest → (next ≡ 0x5C → ⊥) ⊎ (length end ≡ 0 → ⊥) → (partial : List ℕ)
           → IsSearch body partial → ⊥
       other_rest next more end follows other partial search =

@@ -1,4 +1,4 @@
--- The rules of INITIALIZE UPDATE behind its form, by slots and by names.
+-- The rules of INITIALIZE UPDATE after its form, by slots and by names.
 use Rattle.std.proofs.Common.{◌≡◌, ◌≢◌, ℕ, Bool, true, false, ◌&&◌, List, [], ◌∷◌, Option, None, Some, refl, sym, ap, subst, ◌∙◌, inl, inr, arith}
 use Rattle.std.specs.Prelude.{MatchOption, not}
 use Rattle.std.proofs.lemmas.List.Elements.{All-contains}

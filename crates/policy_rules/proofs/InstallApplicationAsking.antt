@@ -17,7 +17,7 @@ use Rattle.policy_rules.proofs.ManagedJudging.{IsJudgeable, delegation_asked}
 abbrev pub AreSome : List ℕ → Type 0
 AreSome bytes = (elements : List Element) × AreElements elements bytes
 
--- elements behind an element are elements, and with it
+-- elements after an element are elements, and with it
 pub some_with : (tag : ℕ) (value rest bytes : List ℕ) → BeginsWith tag value rest bytes → AreSome rest → AreSome bytes
 some_with tag value rest bytes begins (others, are) = (record { tag = tag; value = value } ∷ others, elements_with others tag value rest bytes begins are)
 

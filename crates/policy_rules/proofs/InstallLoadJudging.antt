@@ -1,4 +1,4 @@
--- The rules of INSTALL [for load] behind its form, by its request.
+-- The rules of INSTALL [for load] after its form, by its request.
 use Rattle.std.proofs.Common.{◌≡◌, ◌≢◌, ◌↔◌, ◌⊎◌, inl, inr, ℕ, Bool, true, false, List, [], ◌∷◌, length, Option, None, Some, refl, ap, sym, subst, ◌∙◌, arith}
 use Rattle.std.specs.Prelude.{IfSome, IsSome, IsTrue, is_some}
 use Rattle.card_types.proofs.Room.{file_room, no_file_room}

@@ -39,7 +39,7 @@ each_byte test (first ∷ bytes) all byte there = by (test first) refl all (λ r
     ]
     by false is rest behind = cc
 
--- what is not in the front is behind it
+-- what is not in the front is after it
 pub any_behind : (front rest : List ℕ) (byte : ℕ) → list_any (λ one. one == byte) front ≡ false
     → list_any (λ one. one == byte) (front ++ rest) ≡ list_any (λ one. one == byte) rest
 any_behind [] rest byte none = refl

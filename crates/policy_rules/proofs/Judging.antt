@@ -33,7 +33,7 @@ module _ (form : CommandForm) (listed : IsListed form) (admitted : Admitted) (ta
     inr ((λ fails. fails (one_here (λ f. TakesCommand f admitted.command) takes)), refl),
   )
 
-  -- and those of the form's own are judged
+  -- the form's own rules are judged
   pub judged_behind : BeginPasses admitted → (found : Option Rule) → IsFirst (form.fails admitted) form.rules found → Judges admitted found
   judged_behind begins found first = inr (
     behind (FormFails admitted) (rules_before_form admitted.command.ins) (PS P ∷ PS S ∷ []) None begins form_passes,

@@ -49,7 +49,7 @@ admitted_is_ready state bytes admitted sound admits =
       session = λ managed. admitted_session state command sound.fits taken.0 taken.1 taken.2 (passed_protected state bytes command admits.1.1 admits.0 managed);
     })
 
--- a session ends behind the check of the class
+-- a session ends after the check of the class
 ends_fits : (registry : Registry) (volatile : Volatile) (command : Apdu) → Fits registry volatile
     → Fits registry (without_session (class_passed volatile command) (channel_of command.class))
 ends_fits registry volatile command fits =

@@ -41,7 +41,7 @@ module _ (page : ℕ → List ℕ) (tables : Tables) (said : registry.Registry) 
       let slot = held_from_used tables.keys.items key (filtered (λ k. not (is_of domain replaced k)) (used tables.keys.items) key there).0 in
       own_is page tables said says well domain entry at slot.0 key slot.1
 
-  -- and of them the domain's own
+  -- of the keys that stay, the domain's own
   pub own_count : length (slots.keys_of_owner domain (staying domain replaced tables.keys.items))
       ≡ length (filter (λ key. same_aid key.owner (domain_aid tables.entries.items domain)) (keys_but (domain_aid tables.entries.items domain) replaced said.keys))
   own_count =

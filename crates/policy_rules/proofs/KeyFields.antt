@@ -97,7 +97,7 @@ module _ (a b : SentKey) (bytes x y : List ℕ) (one : BeginsWithKey a bytes x) 
       ap (drop 1) (sym (drop_at a.sealed (0x03 ∷ a.check) (length a.sealed) refl) ∙ ap (drop (length a.sealed)) same ∙ drop_at b.sealed (0x03 ∷ b.check) (length a.sealed) long) in
       (λ i. record { size = size i; sealed = sealed i; check = check i })
 
--- the first of the key fields, and those behind it
+-- the first of the key fields, and those after it
 pub first_of_fields : (key : SentKey) (keys : List SentKey) (bytes : List ℕ) → All HasFieldLengths (key ∷ keys) → bytes ≡ concat (map key_field (key ∷ keys))
     → BeginsWithKey key bytes (concat (map key_field keys))
 first_of_fields key keys bytes each spelled = record { lengths = All-head HasFieldLengths key keys each; spelled = spelled }
@@ -120,12 +120,12 @@ more_fields key bytes rest count keys begins long fields = record {
   spelled = begins.spelled ∙ ap (λ (s : List ℕ). key_field key ++ s) fields.spelled;
 }
 
--- no bytes are behind the last key field
+-- no bytes are after the last key field
 pub last_field : (key : SentKey) (bytes rest : List ℕ) → BeginsWithKey key bytes rest → length rest ≡ 0 → AreFields 1 bytes (key ∷ [])
 last_field key bytes rest begins none =
     more_fields key bytes rest 0 [] begins (All-nil (has_size key.size)) (subst (λ (behind : List ℕ). AreFields 0 behind []) (sym (nil_from_length rest none)) no_fields)
 
--- the key that the bytes begin with is the first of the fields' keys, and the others' are behind it
+-- the key that the bytes begin with is the first of the fields' keys, and the others' are after it
 behind_first : (key : SentKey) (bytes rest : List ℕ) (count : ℕ) (first : SentKey) (keys : List SentKey) → BeginsWithKey key bytes rest
     → AreFields (suc count) bytes (first ∷ keys) → (key ≡ first) × AreFields count rest keys
 behind_first key bytes rest count first keys begins fields =
@@ -148,7 +148,7 @@ pub none_later : (key : SentKey) (bytes rest : List ℕ) (count : ℕ) → Begin
 none_later key bytes rest count begins none [] fields = (let number = fields.number in absurd (omega arith))
 none_later key bytes rest count begins none (first ∷ keys) fields = none keys (behind_first key bytes rest count first keys begins fields).1
 
--- nor where three keys have two lengths
+-- where three keys have two lengths, the bytes are no key fields
 pub none_unlike : (enc mac dek : SentKey) (bytes second third rest : List ℕ) → BeginsWithKey enc bytes second → BeginsWithKey mac second third
     → BeginsWithKey dek third rest → (mac.size ≡ enc.size → dek.size ≡ enc.size → ⊥) → NoFields 3 bytes
 none_unlike enc mac dek bytes second third rest one two three unlike [] fields = (let number = fields.number in absurd (omega arith))

@@ -78,7 +78,7 @@ module _ (page : ℕ → List ℕ) (tables : Tables) (said : registry.Registry) 
       subst (λ (keys : List registry.Key). IsPermutation keys (keys_but aid version said.keys)) (sym kept)
       (filter_same stay (map named (used tables.keys.items)) said.keys says.keys)
 
-  -- and the sequence counters that they keep
+  -- the sequence counters that the keys that stay keep
   pub counters_staying : IsPermutation (map (counter_of tables.entries.items) (filter keeps_counter (staying domain version tables.keys.items)))
       (counters_but (domain_aid tables.entries.items domain) version said.counters)
   counters_staying =

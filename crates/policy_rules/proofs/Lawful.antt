@@ -98,7 +98,7 @@ same_as before after same = subst (IsSameButCounters before) (sym same) (same_al
 pub some_same : {A : Type 0} (a b : A) → Some a ≡ Some b → a ≡ b
 some_same a b same = cc
 
--- the same volatile state has the same load session
+-- an equal volatile state has the same load session
 pub load_same : (before after : Volatile) → after ≡ before → LoadStays before after
 load_same before after same = inl (ap (λ (v : Volatile). v.load) same)
 

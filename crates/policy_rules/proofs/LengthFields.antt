@@ -1,4 +1,4 @@
--- Fields behind their lengths, one after the other: what bytes begin with one, and what is read from them.
+-- Fields after their lengths, one after the other: what bytes begin with one, and what is read from them.
 use Rattle.std.proofs.Common.{◌≡◌, ℕ, suc, ◌≤◌, List, [], ◌∷◌, ◌++◌, length, get_or, take, drop, refl, sym, ap, ◌∙◌, arith, append_assoc}
 use Rattle.std.specs.List.{flat_map}
 use Rattle.std.proofs.lemmas.List.{drop_at, nil_from_length, take_at}

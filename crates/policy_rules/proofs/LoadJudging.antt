@@ -23,7 +23,7 @@ module _ (admitted : Admitted) where
   abbrev Fails : Rule → Type 0
   Fails = LoadFails admitted
 
-  -- the rules on the number of the block, behind those of card content management
+  -- the rules on the number of the block, after those of card content management
   pub number_decides : (found : Option RuleLO) → (ManagementFails admitted M1 → ⊥) × (ManagementFails admitted M2 → ⊥)
       → IsFirst (LoadingFails admitted) number_rules found → IsFirst Fails front_rules (option_map LO found)
   number_decides found managed first =
@@ -85,7 +85,7 @@ module _ (admitted : Admitted) where
           pub last_decides : (found : Option Rule) → IsFirst Fails last_rules found → IsFirst Fails load_rules found
           last_decides found first = behind_front found (first_behind Fails last_rules block_rules found block_passes first)
 
-          -- and where more come, none fails
+          -- where more blocks come, none of the rules fails
           pub more_passes : admitted.command.p1 ≡ 0x00 → IsFirst Fails load_rules None
           more_passes more =
               last_decides None (inr ((λ fails. absurd (omega (arith, more, fails.0))), inr ((λ fails. absurd (omega (arith, more, fails.0))), refl)))

@@ -1,4 +1,4 @@
--- The rules of INSTALL [for make selectable] behind its form, by its request.
+-- The rules of INSTALL [for make selectable] after its form, by its request.
 use Rattle.std.proofs.Common.{◌≡◌, ◌≢◌, ℕ, List, Option, None, Some, refl, ap, sym, subst, ◌∙◌, inl, inr}
 use Rattle.std.specs.Prelude.{MatchOption}
 use Rattle.card_types.specs.Found.{aid_of}

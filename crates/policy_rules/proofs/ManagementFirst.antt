@@ -16,13 +16,13 @@ module _ (one two : Rule) (fails : Rule → Type 0) (rules : List Rule) where
   two_first rule (inl first) = inl (first.1, ap Some first.0)
   two_first rule (inr second) = inr (second.1, inl (second.2, ap Some second.0))
 
-  -- and is handed on
+  -- the one that fails is handed on
   two_handed : {T : Type 0} (result : Result T Rule) (rule : Rule) → IsErrAnd result (λ r. r ≡ rule) → FailsOfTwo rule
       → IfErr result (λ r. IsFirst fails (one ∷ two ∷ rules) (Some r))
   two_handed (Ok value) rule handed failed = absurd handed
   two_handed (Err other) rule handed failed = subst (λ (r : Rule). IsFirst fails (one ∷ two ∷ rules) (Some r)) (sym handed) (two_first rule failed)
 
-  -- none does
+  -- none of them fails
   behind_two : (found : Option Rule) → (fails one → ⊥) → (fails two → ⊥) → IsFirst fails rules found → IsFirst fails (one ∷ two ∷ rules) found
   behind_two found first second rest = inr (first, inr (second, rest))
 
@@ -36,7 +36,7 @@ module _ (fails : Rule → Type 0) (rules : List Rule) where
       → IsFirst fails (M M1 ∷ M M2 ∷ rules) found
   behind_management = behind_two (M M1) (M M2) fails rules
 
-  -- so where a life cycle state is set
+  -- where a life cycle state is set, the rule that fails is handed on
   pub setting_handed : {T : Type 0} (result : Result T Rule) (rule : Rule) → IsErrAnd result (λ r. r ≡ rule)
       → ((rule ≡ M M2) × fails (M M2)) ⊎ ((rule ≡ M M3) × (fails (M M2) → ⊥) × fails (M M3))
       → IfErr result (λ r. IsFirst fails (M M2 ∷ M M3 ∷ rules) (Some r))

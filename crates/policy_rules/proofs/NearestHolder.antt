@@ -97,7 +97,7 @@ module _ (page : ℕ → List ℕ) (tables : Tables) (said : registry.Registry) 
             let passes = slot_passes (holds_lone_key owner version) tables.keys.items there.0 held_there.0 held_there.1 (key_of_name owner version 1 held_there.0 held_there.2) in
             let clash = sym passes ∙ none in cc)
 
-    -- and a key of its own by its slot is one by its AID
+    -- a privilege with a key of its own is held by the slot exactly where it is by the AID
     alike : (privilege : Privileges) (slot : ℕ) (entry : Entry) → held tables.entries.items slot ≡ Some entry
         → has_with_key_in tables privilege version slot ≡ has_with_key said (bits_of privilege) version (aid slot)
     alike privilege slot entry at =

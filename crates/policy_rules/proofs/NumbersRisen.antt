@@ -82,7 +82,7 @@ module _ (state : State) (bytes : List ℕ) (outcome : Outcome) (domain : List �
           (all_rising admitted.command.ins).each
           (join_forms admitted (TakesToConfirm aids) (Accepts admitted done) (λ form one. one.0) (λ form other. other.0.0) confirms accepting)
 
-    -- or none does
+    -- the domain does not confirm it
     unconfirmed_same : ((aids : List (List ℕ)) (key : Key) → Confirms admitted aids → IsReceipter admitted.at.registry (acting admitted) domain key → ⊥) → after ≡ before
     unconfirmed_same none =
         pick_form IsRising (Accepts admitted done) ConfirmsSome (after ≡ before) (forms_of admitted.command.ins)

@@ -159,7 +159,7 @@ module _ (owner : List ℕ) where
     pub one_stored : IsStored objects arranged element
     one_stored = stored_by (find p arranged) refl
 
-  -- and with several, one after the other
+  -- Arranged objects can be arranged again with several, one after the other.
   pub several_stored : (objects arranged : List Object) (elements : List Element) → IsArranged object_order objects arranged
       → (after : List Object) × IsArranged object_order (with_objects owner objects elements) after
   several_stored objects arranged [] is = (arranged, is)

@@ -60,7 +60,7 @@ one_owner a b owner first second =
     let equal : aid_order a.owner b.owner ≡ Equal = ap (aid_order a.owner) (second ∙ sym first) ∙ aid_equal_itself a.owner in
     ap (λ (o : Ordering). ordering_then o (ordering_then (nat_cmp a.version b.version) (nat_cmp a.identifier b.identifier))) equal
 
--- what is behind a key that was found
+-- what is after a key that was found
 behind_found : (ks : List registry.Key) (owner : List ℕ) (last : Option registry.Key) (key : registry.Key)
     → past_key last key ≡ true → (x : registry.Key) → (own_past owner last x && is_lt (key_order key x)) ≡ own_past owner (Some key) x
 behind_found ks owner None key past x = drop_true (same_aid x.owner owner) (is_lt (key_order key x))

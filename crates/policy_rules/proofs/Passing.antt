@@ -19,7 +19,7 @@ use Rattle.policy_rules.proofs.FirstUnique.{none_fails}
 use Rattle.policy_rules.proofs.SetChannel.{HasSession, set_fits, set_same, without_load_fits}
 use Rattle.policy_rules.proofs.SecureChannelSet.{secured_dropped, secured_fits, session_stands, well_dropped, within}
 
--- behind the check of the class
+-- after the check of the class
 secured_passed : (keeps : Bool) (secure_channel : SecureChannel) → IsSecured secure_channel → IsSecured (offer_passed keeps secure_channel)
 secured_passed true secure_channel secured = secured
 secured_passed false secure_channel secured = secured_dropped secure_channel secured
@@ -140,7 +140,7 @@ module _ (state : State) (command : Apdu) (fits : Fits state.registry state.vola
   low_after : number < length passed.channels
   low_after = within state.registry passed number passed_fits (channel_is_low command.class)
 
-  -- the session on the channel is the same behind the check of the class
+  -- the session on the channel is the same after the check of the class
   pub passed_session : session_on passed number ≡ session_for state command
   passed_session =
       stays (λ c. session_in (secure_channel_of c)) state.volatile number after low (same_session (command.ins == EXTERNAL_AUTHENTICATE) (channel_at state.volatile number))
@@ -193,7 +193,7 @@ module _ (state : State) (command : Apdu) (fits : Fits state.registry state.vola
         let fit = joined_fits session plain taken in
         either (Fits state.registry) (command.ins == LOAD) joined (without_load joined number) fit (without_load_fits state.registry joined number fit)
 
-    -- the same is selected
+    -- the channel has selected what it had
     pub admitted_selected : selected_on (admitted_as state command session plain).at.volatile number ≡ selected_on state.volatile number
     admitted_selected =
         let same = joined_selected session

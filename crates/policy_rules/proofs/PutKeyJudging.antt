@@ -1,4 +1,4 @@
--- The rules of PUT KEY behind those of card content management, by slots and by names.
+-- The rules of PUT KEY after those of card content management, by slots and by names.
 use Rattle.std.proofs.Common.{◌≡◌, ◌≢◌, ℕ, true, false, List, [], ◌∷◌, Option, None, Some, Err, Ok, length, refl, ap, sym, subst, ◌∙◌, inl, inr, arith}
 use Rattle.std.specs.Prelude.{OnOk, Result, filter}
 use Rattle.card_types.specs.AidOrder.{same_aid}

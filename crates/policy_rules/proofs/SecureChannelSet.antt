@@ -105,7 +105,7 @@ module _ (registry : Registry) (volatile : Volatile) (number : ℕ) (fits : Fits
       set_fits registry volatile number (channel_with left here) fits (within registry volatile number fits low)
       (well_so registry left here (fits.each number) (well_dropped registry (selected_of here) (secure_channel_of here) stands)) (first_so left) (session_dropped here)
 
-  -- so its session, and its offer
+  -- its session stands with what is selected, and its offer
   pub session_stands : (session : Session) → session_on volatile number ≡ Some session → FitsSecureChannel registry (selected_on volatile number) (Secured session)
   session_stands session is = by (secure_channel_of (channel_at volatile number)) is stands
     where

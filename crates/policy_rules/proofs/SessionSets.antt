@@ -141,7 +141,7 @@ module _ (page : ℕ → List ℕ) (tables : Tables) (said : registry.Registry) 
         let line = line_in_slots page tables said says well domain entry at in
         found_on line.0 domain line.1 (own_first domain line.0 line.1 has)
 
-    -- or those of the nearest domain above
+    -- the sets of the nearest domain above are used
     pub owns_above : (owner : ℕ) → has_set_in tables.keys.items domain ≡ false
         → IsFirstAbove (domain_slot tables.entries.items) (has_set_in tables.keys.items) domain owner → OwnsSets said (aid domain) (aid owner)
     owns_above owner none above =
@@ -149,7 +149,7 @@ module _ (page : ℕ → List ℕ) (tables : Tables) (said : registry.Registry) 
         let found = first_on_line (domain_slot tables.entries.items) (has_set_in tables.keys.items) domain line.0 owner line.1 none above in
         found_on line.0 owner line.1 found
 
-    -- or there are none
+    -- there are no sets to use
     pub owns_none : has_set_in tables.keys.items domain ≡ false → NoneAbove (domain_slot tables.entries.items) (has_set_in tables.keys.items) domain
         → (owner : List ℕ) → OwnsSets said (aid domain) owner → ⊥
     owns_none none above owner owns =
@@ -185,7 +185,7 @@ module _ (page : ℕ → List ℕ) (tables : Tables) (said : registry.Registry) 
                 (lowest_named page tables said says well owner used.0 used.1 slot key least),
           )
 
-      -- and the one with a key version number is the one that this asks for
+      -- the key set with a key version number is the one that this number asks for
       pub uses_numbered : (version slot : ℕ) (key : KeyRec) → (version ≡ 0 → ⊥)
           → IsLeast (keeps_counter_with owner version) version_order tables.keys.items slot key
           → UsesSet said (aid domain) version (aid key.owner) (counter_of tables.entries.items key)

@@ -50,7 +50,7 @@ IsManagedSparing form =
     (admitted : Admitted) (asked : form.judged.Asked) (changed : Registry) → IsPassedFor form.judged admitted asked → JudgesAs (command_form form) admitted None
     → form.becomes admitted asked changed → (domain : List ℕ) → AreApart admitted domain → SparesTree admitted changed domain
 
--- then its command does
+-- The command of a form that spares the tree spares it.
 pub managed_sparing : (form : ManagedForm) → IsManagedLawful form → Contains changing form.judged.instruction → IsManagedSparing form → IsSparing (command_form form)
 managed_sparing form lawful changes spares = record {
   spares = λ admitted done ready judges does domain named powerless.

@@ -1,4 +1,4 @@
--- The laws of STORE DATA, and how it is judged behind its form.
+-- The laws of STORE DATA, and how it is judged after its form.
 use Rattle.std.proofs.Common.{inl, inr, ℕ, ◌≤◌, ◌<◌, List, [], ◌∷◌, length, sym, subst, arith, ◌≡◌, ap, ◌∙◌, ◌+◌, None, Some, refl, Option}
 use Rattle.std.specs.Prelude.{All, filter, not, map}
 use Rattle.std.proofs.lemmas.Bool.{cases_lt}
@@ -52,7 +52,7 @@ module _ (registry : Registry) (owner : List ℕ) (domain : IsDomainNamed regist
       (All-filter (λ object. not (is_object_of owner element.tag object)) (IsWellObject registry) objects each))
       (All-tail P element elements forms)
 
-  -- and so are they in order
+  -- the objects in order are ones that the domain may have
   pub arranged_well : Well registry → (elements : List Element) (objects : List Object) → All (λ element. IsObject element.tag (length element.value)) elements
       → IsArranged object_order (with_objects owner registry.objects elements) objects → length (with_objects owner registry.objects elements) ≤ OBJECTS
       → Well (with_data registry objects)

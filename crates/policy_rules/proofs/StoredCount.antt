@@ -69,7 +69,7 @@ module _ (owner : List ℕ) where
       rest : Bool
       rest = list_any (is_object_of owner tag) (filter (λ x. not (is_object_of owner element.tag x)) objects)
 
-  -- and there is one more where it was not
+  -- there is one object more where its tag was not there
   length_with : (there : Bool) (objects arranged : List registry.Object) (element : Element) → IsArranged object_order objects arranged
       → list_any (is_object_of owner element.tag) objects ≡ there → length (with_object owner objects element) ≡ length objects + count_if (not there)
   length_with there objects arranged element is has =
@@ -93,7 +93,7 @@ module _ (owner : List ℕ) where
           let none = ap (λ (b : Bool). count_if (not b)) some in
           omega (arith, none, changed))
 
-  -- so many there are with several
+  -- how many objects there are with several more
   pub stored_count : (there : ℕ → Bool) (objects arranged : List registry.Object) (elements : List Element) → IsArranged object_order objects arranged
       → ((tag : ℕ) → list_any (is_object_of owner tag) objects ≡ there tag) → length objects + new_tags there elements ≡ length (with_objects owner objects elements)
   stored_count there objects arranged [] is same = omega arith

@@ -66,6 +66,6 @@ module _ (registry : Registry) where
       above_out x higher (inl there) = not_below (subst (λ (a : List ℕ). IsAboveIn registry a one) there higher)
       above_out x higher (inr above) = not_below (above_further registry of other x one above higher)
 
-      -- and the one is above nothing that is above the other
+      -- the one is above nothing that is above the other
       pub above_apart : (x : List ℕ) → IsAboveIn registry x other → IsAboveIn registry one x → ⊥
       above_apart x higher above = not_above (above_further registry of one x other above higher)

@@ -14,7 +14,7 @@ module _ (form : CommandForm) (listed : IsListed form) (admitted : Admitted) (ta
   pub form_decides : rules_before_form form.instruction ≡ [] → (first found : Option Rule) → FailsFirst form admitted first → Judges admitted found → found ≡ first
   form_decides none first found fails judges = judges_one admitted found first judges (judged form listed admitted takes none first fails)
 
-  -- and where none refuses the command, none of the form's own fails
+  -- where no rule refuses the command, none of the form's own fails
   pub form_passes : Judges admitted None → FailsFirst form admitted None
   form_passes judges =
       let There : CommandForm → Type 0 = (λ (one : CommandForm). TakesCommand one admitted.command × (FailsFirst one admitted None → FailsFirst form admitted None)) in

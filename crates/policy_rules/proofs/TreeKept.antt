@@ -20,7 +20,7 @@ pub record KeepsTree (admitted : Admitted) (after : Registry) (domain : List ℕ
   pub stays : TreeStays admitted.at.registry after domain
   pub new : (member : Member) → InTreeOf after domain member → InTreeOf admitted.at.registry domain member ⊎ IsEntrusted admitted domain member
 
--- and none that is above the acting domain comes to be in it
+-- the tree is kept, and nothing that is above the acting domain comes to be in it
 pub record SparesTree (admitted : Admitted) (after : Registry) (domain : List ℕ) : Type 0 where
   pub keeps : KeepsTree admitted after domain
   pub above_out : (x : List ℕ) → IsAboveIn admitted.at.registry x (acting admitted) → IsAtOrAbove after domain x → ⊥

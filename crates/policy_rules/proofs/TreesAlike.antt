@@ -26,7 +26,7 @@ module _ (before after : Registry) (same : (x : List ℕ) → domain_of after x 
   steps : (x : List ℕ) → StepsStay before after x
   steps x = record { itself = same x; above = λ a higher. same a }
 
-  -- the same places are in the tree
+  -- the places in the tree are the same
   pub places_alike : (x : List ℕ) → IsAtOrAbove after domain x ↔ IsAtOrAbove before domain x
   places_alike x = (to, from)
     where
@@ -38,7 +38,7 @@ module _ (before after : Registry) (same : (x : List ℕ) → domain_of after x 
       from (inl here) = inl here
       from (inr above) = inr ((above_stays before after x (steps x) domain).1 above)
 
-  -- and what is there is as before
+  -- what is in the tree is as before
   pub leaves_tree : ((member : Member) → IsMember before member → IsAtOrAbove before domain (place_of member) → IsMember after member)
       → ((member : Member) → IsMember after member → IsAtOrAbove before domain (place_of member) → IsMember before member) → LeavesTree before after domain
   leaves_tree there back = record {

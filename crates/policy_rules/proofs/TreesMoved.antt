@@ -68,7 +68,7 @@ module _ (admitted : Admitted) (domain : List ℕ) (apart : AreApart admitted do
   elsewhere x away has =
       domains_after_move before thing to x (λ same. reached (has_by x same has) (λ above. away (subst (IsAboveIn before (acting admitted)) (sym same) above)))
 
-  -- so it is not in the tree
+  -- the thing is not in the tree
   thing_out : {P : Type 0} (entry : Entry) → Contains before.entries entry → entry.aid ≡ thing → IsAtOrAbove before domain thing → P
   thing_out entry is same at =
       reached (has_by entry.aid same (entry_has_domain before apart.of entry is)) (λ above. out_of_reach admitted domain apart thing at (inr above))

@@ -31,7 +31,7 @@ entry_was registry thing entry is =
     let first = filtered (λ (e : Entry). not (same_aid e.aid thing)) (without_applications registry thing).entries entry is in
     (filtered (λ (e : Entry). not (same_aid e.file thing)) registry.entries entry first.0).0
 
--- and one that is named is the one that was
+-- an entry that is named is the one that was
 pub named_was : (registry : Registry) → IsOfCard registry → (thing x : List ℕ) (entry : Entry) → entry_named (without_thing registry thing) x ≡ Some entry
     → entry_named registry x ≡ Some entry
 named_was registry of thing x entry named =
@@ -92,7 +92,7 @@ module _ (admitted : Admitted) (domain : List ℕ) (apart : AreApart admitted do
       contains_filter (λ (o : Object). not (same_aid o.owner thing)) before.objects object is
       (owner_stays object.owner (named_has_domain before object.owner (All-contains (IsWellObject before) before.objects object apart.of.well.objects is).owner) at)
 
-  -- so each step is one that was
+  -- each step is one that was
   step_was : (x next : List ℕ) → domain_of after x ≡ Some next → domain_of before x ≡ Some next
   step_was x next steps = by (entry_named after x) refl steps
     where

@@ -1,6 +1,6 @@
 -- What every command passes before the rules of its own are judged: the bytes become a command (G1), then class, channel,
--- instruction and card are checked (G2 to G5), and then secure messaging (G6 to G8). A stage says what a refusal at it leaves,
--- and what passing it changes.
+-- instruction and card are checked (G2 to G5), and then secure messaging (G6 to G8). A stage says what a refusal at it
+-- leaves, and what passing it changes.
 use Rattle.std.specs.Prelude.{◌≡◌, ◌≢◌, ◌⊎◌, ℕ, List, [], ◌∷◌, Bool, true, false, Option, None, Some, MatchOption, if◌then◌else◌, ◌==◌}
 use Rattle.apdu_core.specs.Apdu.{Apdu, Short}
 use Rattle.card_types.specs.Registry.{entry_named, is_domain}
@@ -77,7 +77,7 @@ channel_passed keeps (Some channel) =
 abbrev pub without_place : Volatile → ℕ → Bool → Volatile
 without_place volatile number keeps = with_channel volatile number (channel_passed keeps (channel_at volatile number))
 
--- Behind the checks of class, channel and instruction the offer is dropped, but for EXTERNAL AUTHENTICATE, which answers it.
+-- After the checks of class, channel and instruction the offer is dropped, but for EXTERNAL AUTHENTICATE, which answers it.
 abbrev pub class_passed : Volatile → Apdu → Volatile
 class_passed volatile command = without_place volatile (channel_of command.class) (command.ins == EXTERNAL_AUTHENTICATE)
 
@@ -86,7 +86,7 @@ abbrev pub message_joined : Volatile → ℕ → Option Session → Volatile
 message_joined volatile number None = volatile
 message_joined volatile number (Some session) = with_secure_channel volatile number (Secured session)
 
--- Behind the session's check the channel's load session ends, unless the command goes on with it.
+-- After the session's check the channel's load session ends, unless the command goes on with it.
 abbrev pub session_passed : Volatile → Apdu → Volatile
 session_passed volatile command = if command.ins == LOAD then volatile else without_load volatile (channel_of command.class)
 

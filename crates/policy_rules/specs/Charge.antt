@@ -21,7 +21,7 @@ IsAtOrAbove registry a b = (b ≡ a) ⊎ IsAboveIn registry a b
 abbrev pub IsFileInCharge : Registry → List ℕ → LoadFile → Type 0
 IsFileInCharge registry domain file = IsAtOrAbove registry domain file.domain
 
--- and an entry in that of the domains above it
+-- A thing is in the charge of a domain: an entry below the domain, or an Executable Load File in its charge.
 abbrev pub IsInCharge : Registry → List ℕ → List ℕ → Type 0
 IsInCharge registry domain aid =
     (IsSome (entry_named registry aid) × IsAboveIn registry domain aid)

@@ -74,7 +74,7 @@ TakesCommand form command = Takes form command.ins command.p1 command.p2 command
 abbrev pub HasParameters : ℕ → ℕ → ℕ → Type 0
 HasParameters ins p1 p2 = OneOf (λ form. form.takes p1 p2) (forms_of ins)
 
--- and, with these, this data field
+-- some form of the instruction takes this data field with this P1 and P2
 abbrev pub HasDataField : ℕ → ℕ → ℕ → List ℕ → Type 0
 HasDataField ins p1 p2 body = OneOf (λ form. Takes form ins p1 p2 body) (forms_of ins)
 

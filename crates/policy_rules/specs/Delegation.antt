@@ -1,6 +1,6 @@
 -- Delegated management (GlobalPlatform Card Specification 2.3.1, 9.2 to 9.4): a command of a provider has a token, by which a domain
--- above it approved the command, and is confirmed by a receipt. Which domain verifies and which one confirms, what a receipt covers
--- and that its number rises within the command's own commit are this profile's own.
+-- above it approved the command, and is confirmed by a receipt. Which domain verifies and which one confirms, what a receipt
+-- covers and that its number rises within the command's own commit are this profile's own.
 use Rattle.std.specs.Prelude.{◌≡◌, ◌≢◌, ◌⊎◌, ℕ, ◌+◌, ◌++◌, List, [], ◌∷◌, Bool, Option, None, Some, MatchOption, codes, is_some, length, ◌&&◌}
 use Rattle.card_types.specs.Privileges.{authorized_management, delegated_management, receipt_generation, token_verification}
 use Rattle.card_types.specs.Registry.{Entry, Key, Object, Registry, domain_of, entry_named, key_named, object_named}

@@ -17,6 +17,6 @@ pub record IsDeletionRequest (request : DeletionRequest) (p1 p2 : ℕ) (body : L
   pub approval : approval_of request.signed ≡ asked.approval
   pub short : length request.signed.before.now ≤ length body
 
--- and that of this command
+-- The request is that of this command.
 abbrev pub IsDeletionOf : DeletionRequest → Apdu → Type 0
 IsDeletionOf request command = IsDeletionRequest request command.p1 command.p2 command.body

@@ -16,6 +16,6 @@ pub record IsExtraditionRequest (request : ExtraditionRequest) (p1 p2 : ℕ) (bo
   pub approval : approval_of request.signed ≡ approval_in given
   pub short : length request.signed.before.now ≤ length body
 
--- and that of this command
+-- The request is that of this command.
 abbrev pub IsExtraditionOf : ExtraditionRequest → Apdu → Type 0
 IsExtraditionOf request command = IsExtraditionRequest request command.p1 command.p2 command.body

@@ -4,7 +4,7 @@ use Rattle.tokens_receipts.specs.Receipt.{with_length}
 use Rattle.policy_rules.specs.InstallFields.{InstallData}
 use Rattle.policy_rules.specs.declared.install_fields.InstallFields.{InstallFields}
 
--- the bytes begin with this field behind its length
+-- the bytes begin with this field after its length
 pub record BeginsWithField (field bytes rest : List ℕ) : Type 0 where
   pub short : length field ≤ 0x7F
   pub spelled : bytes ≡ with_length field ++ rest

@@ -146,7 +146,7 @@ AreTemplates registry p1 (thing ∷ things) bytes =
 abbrev pub part_limit : ℕ
 part_limit = 239
 
--- the first of the things that are left has a template that does not fit behind these bytes
+-- the first of the things that are left has a template that does not fit after these bytes
 abbrev pub IsFullFor : Registry → ℕ → List Thing → List ℕ → Type 0
 IsFullFor registry p1 [] bytes = Unit {0}
 IsFullFor registry p1 (next ∷ left) bytes = (template : List ℕ) × IsTemplate registry p1 next template × (part_limit < length bytes + length template)

@@ -27,7 +27,7 @@ pub record IsListRequest (request : ListRequest) (p1 p2 : ℕ) (body : List ℕ)
   pub next : request.next ≡ (p2 == 0x03)
   pub whole : request.body.now ≡ body
 
--- and that of this command
+-- The request is that of this command.
 abbrev pub IsListOf : ListRequest → Apdu → Type 0
 IsListOf request command = IsListRequest request command.p1 command.p2 command.body
 

@@ -41,7 +41,7 @@ pub record IsInstallRequest (request : InstallRequest) (p1 p2 : ℕ) (body : Lis
   pub approval : approval_of request.signed ≡ approval_in asked.given
   pub short : length request.signed.before.now ≤ length body
 
--- and that of this command
+-- The request is that of this command.
 abbrev pub IsInstallOf : InstallRequest → Apdu → Type 0
 IsInstallOf request command = IsInstallRequest request command.p1 command.p2 command.body
 

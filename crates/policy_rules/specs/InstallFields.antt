@@ -1,4 +1,4 @@
--- The data field of INSTALL (GlobalPlatform Card Specification 2.3.1, 11.5.2.3): fields one behind the other, each behind its
+-- The data field of INSTALL (GlobalPlatform Card Specification 2.3.1, 11.5.2.3): fields one after the other, each after its
 -- length in one byte, the last of them the token.
 use Rattle.std.specs.Prelude.{◌≡◌, ℕ, ◌≤◌, List, [], ◌∷◌, ◌++◌, All, length}
 use Rattle.std.specs.List.{flat_map}

@@ -37,7 +37,7 @@ pub record IsLoadInstallRequest (request : LoadInstallRequest) (p1 p2 : ℕ) (bo
   pub approval : approval_of request.signed ≡ load_approval given
   pub short : length request.signed.before.now ≤ length body
 
--- and that of this command
+-- The request is that of this command.
 abbrev pub IsLoadInstallOf : LoadInstallRequest → Apdu → Type 0
 IsLoadInstallOf request command = IsLoadInstallRequest request command.p1 command.p2 command.body
 

@@ -1,5 +1,5 @@
--- Providers apart: what a command of one security domain leaves of the tree of another (GlobalPlatform Card Specification 2.3.1, 7.2
--- and 9.1.3).
+-- Providers apart: what a command of one security domain leaves of the tree of another (GlobalPlatform Card Specification 2.3.1,
+-- 7.2 and 9.1.3).
 use Rattle.std.specs.Prelude.{◌≡◌, ◌⊎◌, ℕ, List, Contains, None}
 use Rattle.card_types.specs.Privileges.{delegated_management}
 use Rattle.card_types.specs.Registry.{Key, Registry}

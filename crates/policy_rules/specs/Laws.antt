@@ -34,7 +34,7 @@ OneForm = (ins p1 p2 : ℕ) (body : List ℕ) → AtMostOne (λ form. Takes form
 abbrev pub OneOutcome : Type 0
 OneOutcome = (state : State) (bytes : List ℕ) (a b : Outcome) → Step state bytes a → Step state bytes b → a ≡ b
 
--- and the same inputs at most one run
+-- from one state the same inputs have at most one run
 abbrev pub OneRun : Type 0
 OneRun =
     (state : State) (inputs : List Input) (some others : List Outcome) (last another : State)
@@ -56,7 +56,7 @@ pub record OthersAreChanges (before after : Registry) : Type 0 where
   pub counters : map without_number after.counters ≢ map without_number before.counters → Changes before after
   pub objects : after.objects ≢ before.objects → Changes before after
 
--- the rules behind the checks of class, channel and instruction
+-- the rules after the checks of class, channel and instruction
 abbrev pub is_later : Rule → Bool
 is_later (G G1) = false
 is_later (G G2) = false

@@ -111,7 +111,7 @@ pub record EndsLoad (admitted : Admitted) (load : LoadSession) (done : Effect) :
   pub answered : IsAnswered (Holds admitted delegated_management) admitted (about_load load) changed unconfirmed done
   pub volatile : done.state.volatile ≡ without_load admitted.at.volatile admitted.channel
 
--- The block is counted and its bytes go behind those that came.
+-- The block is counted and its bytes go after those that came.
 pub record LoadEffect (admitted : Admitted) (done : Effect) : Type 0 where
   pub load : LoadSession
   pub on : IsLoadOn admitted load

@@ -1,5 +1,5 @@
 -- The blocks of an Executable Load File that is loaded (GlobalPlatform Card Specification 2.3.1, 11.6 and C.2): the first one announces
--- how many bytes come, and the bytes of the others go behind. The limits and the order of the rules are this profile's own.
+-- how many bytes come, and the bytes of the others follow. The limits and the order of the rules are this profile's own.
 use Rattle.std.specs.Prelude.{◌≡◌, ◌≢◌, ◌⊎◌, ℕ, ◌+◌, ◌<◌, ◌++◌, List, [], ◌∷◌, Bool, true, Option, None, Some, length}
 use Rattle.std.specs.List.{sum_by}
 use Rattle.bertlv.specs.Length.{LengthBytes}
@@ -15,7 +15,7 @@ pub record Block : Type 0 where
   pub last : Bool
   pub field : List ℕ
 
--- a first block begins with the tag C4 and how many bytes come, one at least; behind it stand the first of them
+-- a first block begins with the tag C4 and how many bytes come, one at least; after it stand the first of them
 pub record Announces (field : List ℕ) (size : ℕ) (bytes : List ℕ) : Type 0 where
   pub length_field : List ℕ
   pub spells : LengthBytes size length_field

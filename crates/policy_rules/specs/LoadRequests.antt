@@ -11,6 +11,6 @@ pub record IsLoadRequest (request : LoadRequest) (p1 p2 : ℕ) (body : List ℕ)
   pub number : request.number ≡ p2
   pub block : request.block.now ≡ body
 
--- and that of this command
+-- The request is that of this command.
 abbrev pub IsLoadOf : LoadRequest → Apdu → Type 0
 IsLoadOf request command = IsLoadRequest request command.p1 command.p2 command.body

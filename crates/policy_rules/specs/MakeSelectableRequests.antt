@@ -24,7 +24,7 @@ pub record IsSelectableRequest (request : SelectableRequest) (p1 p2 : ℕ) (body
   pub approval : approval_of request.signed ≡ approval_in given
   pub short : length request.signed.before.now ≤ length body
 
--- and that of this command
+-- The request is that of this command.
 abbrev pub IsSelectableOf : SelectableRequest → Apdu → Type 0
 IsSelectableOf request command = IsSelectableRequest request command.p1 command.p2 command.body
 

@@ -78,7 +78,7 @@ pub record KeysAsked : Type 0 where
 abbrev pub AsksToPut : (p1 p2 : ℕ) → List ℕ → KeysAsked → Type 0
 AsksToPut p1 p2 body asked = HasKeyFields p2 body asked.version asked.sent
 
--- The bytes of a key that is sent. With the bytes behind it that fill the last block, which are not read, it was enciphered as
+-- The bytes of a key that is sent. With the bytes after it that fill the last block, which are not read, it was enciphered as
 -- what was sent, under the static Key-DEK of the session (CBC without padding, from a zero block; Amendment D, 4.1.4).
 pub record IsKeySent (dek : List ℕ) (sent : SentKey) (key : List ℕ) : Type 0 where
   pub fill : List ℕ
@@ -179,6 +179,6 @@ abbrev pub SaysChecks : Bool → Admitted → Type 0
 SaysChecks true admitted = PutKeyFails admitted (PK PK3) → ⊥
 SaysChecks false admitted = PutKeyFails admitted (PK PK3)
 
--- the same of PUT KEY, and nothing of other commands
+-- the flag says of a PUT KEY whether its check values fit, and nothing of other commands
 abbrev pub TellsChecks : Bool → Admitted → Type 0
 TellsChecks flag admitted = admitted.command.ins ≡ managed_put_key.judged.instruction → SaysChecks flag admitted

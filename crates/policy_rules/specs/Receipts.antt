@@ -42,7 +42,7 @@ CountsReceipts state bytes outcome =
     → ((is : IsReceiptedBy state bytes outcome domain) → (after ≡ before + 1) × RepliesReceipt is after)
     × ((IsReceiptedBy state bytes outcome domain → ⊥) → after ≡ before)
 
--- so it is with each command of a run
+-- each command of a run counts receipts so
 abbrev pub AllCountReceipts : State → List Input → List Outcome → Type 0
 AllCountReceipts state (Command bytes ∷ inputs) (outcome ∷ outcomes) = CountsReceipts state bytes outcome × AllCountReceipts outcome.state inputs outcomes
 AllCountReceipts state (Reset ∷ inputs) outcomes = AllCountReceipts (powered_on state.registry) inputs outcomes

@@ -154,7 +154,7 @@ ActsAsBefore admitted =
     (admitted.at.registry ≡ admitted.before.registry)
     × (selected_on admitted.at.volatile admitted.channel ≡ selected_on admitted.before.volatile admitted.channel)
 
--- so it is of each command that acts for the domain in a slot, over any load pages
+-- `So` holds of each command that acts for the domain in a slot, over any load pages.
 abbrev pub ForActing : Tables → ℕ → ((ℕ → List ℕ) → Admitted → Type 0) → Type 0
 ForActing tables domain So = (page : ℕ → List ℕ) (admitted : Admitted) → ActsIn page tables domain admitted → So page admitted
 
@@ -177,8 +177,8 @@ pub record RepresentsState (page : ℕ → List ℕ) (tables : Tables) (live : L
       → option_map place_of (slice_index_or live.places number None) ≡ place_in (channel_at state.volatile number)
   pub load : IsLoadNamed tables.entries.items live.load state.volatile.load
 
--- so it is of each command that acts for the domain in a slot, over any load pages, where what is kept beside the tables says the
--- volatile state
+-- `So` holds of each command that acts for the domain in a slot, over any load pages, where what is kept beside the
+-- tables says the volatile state.
 abbrev pub ForActingLive : Tables → Live → ℕ → ((ℕ → List ℕ) → Admitted → Type 0) → Type 0
 ForActingLive tables live domain So =
     ForActing tables domain (λ page admitted. RepresentsState page tables live admitted.at → length admitted.at.volatile.channels ≡ CHANNELS → So page admitted)

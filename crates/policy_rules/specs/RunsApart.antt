@@ -20,7 +20,7 @@ abbrev pub NewIsBrought : State → List ℕ → Outcome → List ℕ → Type 0
 NewIsBrought state bytes outcome domain =
     (member : Member) → InTreeOf outcome.state.registry domain member → InTreeOf state.registry domain member ⊎ BringsInto state bytes outcome domain member
 
--- after each command of a run
+-- What is new in the domain's tree after each command of a run was brought into it.
 abbrev pub AllNewIsBrought : State → List Input → List Outcome → List ℕ → Type 0
 AllNewIsBrought state (Command bytes ∷ inputs) (outcome ∷ outcomes) domain = NewIsBrought state bytes outcome domain × AllNewIsBrought outcome.state inputs outcomes domain
 AllNewIsBrought state (Reset ∷ inputs) outcomes domain = AllNewIsBrought (powered_on state.registry) inputs outcomes domain
@@ -41,7 +41,7 @@ abbrev pub StaysThrough : Registry → List Outcome → List ℕ → Type 0
 StaysThrough before [] domain = Unit {0}
 StaysThrough before (outcome ∷ outcomes) domain = TreeStays before outcome.state.registry domain × StaysThrough before outcomes domain
 
--- and so does a run of commands, after each of them and at its end
+-- A run of commands keeps trees so, after each of them and at its end.
 abbrev pub TreesStayInRuns : Type 0
 TreesStayInRuns =
     (state : State) (inputs : List Input) (outcomes : List Outcome) (last : State) (domain : List ℕ) → IsSound state → Run state inputs outcomes last

@@ -38,7 +38,7 @@ IsStepBy Prepare life code = IsPreparing life code
 IsStepBy Lock life code = IsLocking life code
 IsStepBy Terminate life code = IsTerminating code
 
--- and the acting domain may take such a step
+-- the acting domain may take a step of this kind
 abbrev pub MayStep : CardStep → Admitted → Type 0
 MayStep Prepare admitted = acting admitted ≡ ISSUER
 MayStep Lock admitted = Holds admitted card_lock
@@ -52,7 +52,7 @@ pub record IsEntryStatusRequest (request : EntryStatusRequest) (p1 p2 : ℕ) (bo
   pub life : request.life ≡ p2
   pub aid : request.aid ≡ body
 
--- and that of this command
+-- The request is that of this command.
 abbrev pub IsEntryStatusOf : EntryStatusRequest → Apdu → Type 0
 IsEntryStatusOf request command = IsEntryStatusRequest request command.p1 command.p2 command.body
 

@@ -177,8 +177,8 @@ fn lower(before: Option<(Found, Aid)>, thing: Found, aid: Aid) -> (Found, Aid)
     }
 }
 
-/// The next thing that a GET STATUS shows to the domain in a slot: of those that its P1 names, whose AID begins with the partial AID
-/// and is above the given one, if one is given, the one with the least AID. None is left where there is none.
+/// The next thing that a GET STATUS shows to the domain in a slot: of those that its P1 names, whose AID begins with the partial
+/// AID and is above the given one, if one is given, the one with the least AID. None is left where there is none.
 pub fn next_shown(
     tables: &Tables,
     domain: u8,

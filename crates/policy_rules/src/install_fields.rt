@@ -1,4 +1,4 @@
-//! The data field of INSTALL (GlobalPlatform Card Specification 2.3.1, 11.5.2.3): six fields, each behind its length.
+//! The data field of INSTALL (GlobalPlatform Card Specification 2.3.1, 11.5.2.3): six fields, each after its length.
 
 ghost use Rattle.std.specs.Prelude.{◌≡◌, ◌≤◌, ◌++◌, ℕ, List, IfNone, IfSome, length};
 ghost use Rattle.std.specs.List.{flat_map};
@@ -21,7 +21,7 @@ pub struct InstallFields<'a> {
 /// The highest length of a field, in bytes.
 const LONGEST: usize = 0x7F;
 
-// The field that the bytes begin with, and the bytes behind it.
+// The field that the bytes begin with, and the bytes after it.
 pub(crate) fn read_field(bytes: &[u8]) -> Option<(&[u8], &[u8])>
     ensures some { IfSome result (λ read. BeginsWithField read.0.now bytes.now read.1.now) }
     ensures none { IfNone result ((field rest : List ℕ) → BeginsWithField field bytes.now rest → ⊥) }

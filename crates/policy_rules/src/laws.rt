@@ -24,7 +24,7 @@ pub fn one_outcome()
     ensures run { OneRun }
 {}
 
-/// A command that is refused behind the checks of class, channel and instruction leaves no offer on its channel.
+/// A command that is refused after the checks of class, channel and instruction leaves no offer on its channel.
 pub fn refusals_drop_offers()
     ensures { RefusalsDropOffers }
 {}

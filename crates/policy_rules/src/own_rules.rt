@@ -37,7 +37,7 @@ use card_types::Tables;
 /// caller, who has the Key-DEK; of other commands it is not read.
 /// Of EXTERNAL AUTHENTICATE the answer is none, since its rules need the keys of the offer. A GET STATUS is judged by what is kept
 /// before it, since it goes on at the place that the channel had then. Of a LOAD the rules are judged up to the number of its block:
-/// the block is judged where the bytes are kept, and behind it the last one by `judge_loaded`.
+/// the block is judged where the bytes are kept, and after it the last one by `judge_loaded`.
 pub fn judge(
     tables: &Tables,
     live: &Live,

@@ -92,7 +92,7 @@ impl PutKeys<'_> {
     }
 }
 
-/// Where the enciphered bytes of a key field begin: behind the key type, the length of the key data, and that of the key.
+/// Where the enciphered bytes of a key field begin: after the key type, the length of the key data, and that of the key.
 const SEALED: usize = 3;
 
 /// How many bytes a check value has.
@@ -110,7 +110,7 @@ fn sealed_length(key_data: u8, len: u8) -> Option<usize>
     }
 }
 
-// The key of the key field that the bytes begin with, and the bytes behind it.
+// The key of the key field that the bytes begin with, and the bytes after it.
 fn read_field(bytes: &[u8]) -> Option<(SealedKey<'_>, &[u8])>
     ensures some { IfSome result (λ read. BeginsWithKey (sent_key read.0) bytes.now read.1.now) }
     ensures none { IfNone result ((key : SentKey) (rest : List ℕ) → BeginsWithKey key bytes.now rest → ⊥) }
@@ -255,7 +255,7 @@ pub fn judge_put_versions(
     Ok(())
 }
 
-/// Judges the keys of a PUT KEY, for the domain in a slot: the rules behind those of `judge_put_versions`. Whether the check
+/// Judges the keys of a PUT KEY, for the domain in a slot: the rules after those of `judge_put_versions`. Whether the check
 /// values fit is told by the caller, who has the Key-DEK.
 pub fn judge_put_keys(
     tables: &Tables,

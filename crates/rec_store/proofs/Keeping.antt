@@ -14,7 +14,7 @@ among_key_pages slot lt =
     let within : slot / 4 < 12 = omega (arith, lt) in
     (slot / 4, within, get_or-range_with_len 25 12 (slot / 4) (key_page slot) within)
 
--- so many free slots, and all that they hold
+-- `count` free slots, and all that they hold
 abbrev free_slots : {T : Type 0} → ℕ → List (Option T)
 free_slots count = replicate count None
 

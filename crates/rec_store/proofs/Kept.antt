@@ -1,4 +1,4 @@
--- What stands in a slot stays where only bytes behind it are written.
+-- What stands in a slot stays where only bytes after it are written.
 use Rattle.std.proofs.Common.{◌≡◌, ℕ, ◌+◌, ◌<◌, ◌≤◌, Bool, true, false, if◌then◌else◌, List, length, get_or, sym, ◌∙◌, arith}
 use Rattle.std.proofs.lemmas.Grind.{same_number_lists, common_steps}
 use Rattle.std.specs.Prelude.{slice_range}

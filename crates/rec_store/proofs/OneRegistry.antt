@@ -72,7 +72,7 @@ module _ {T : Type 0} where
 one_list : {X : Type 0} (order : X → X → Ordering) → IsTotalOrder order → (all xs ys : List X) → IsPermutation all xs → IsPermutation all ys → IsStrictlySortedBy order xs → IsStrictlySortedBy order ys → xs ≡ ys
 one_list order total all xs ys first second sorted also = one_order order total xs ys sorted also (IsPermutation-trans xs all ys (IsPermutation-sym all xs first) second)
 
--- the same where they are in order of a name
+-- two such lists are one where they are in order of a name
 one_named_list : {X : Type 0} (name : X → List ℕ) (all xs ys : List X) → IsPermutation all xs → IsPermutation all ys → IsStrictlySortedBy aid_order (map name xs) → IsStrictlySortedBy aid_order (map name ys) → xs ≡ ys
 one_named_list name all xs ys first second sorted also =
     one_list (on name aid_order) (on_total name nat_list_cmp_total) all xs ys first second (sorted_by_name aid_order name xs sorted) (sorted_by_name aid_order name ys also)

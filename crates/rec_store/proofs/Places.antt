@@ -47,7 +47,7 @@ whole_page slot all each some lt whole = elim (cases_lt (slot / each) (all / eac
   | inr more ↦ absurd (omega (arith, at_most (all / each) (slot / each) each more, div-mul-le_self slot each, lt, whole, mod-eq-sub-div-mul all each))
 ]
 
--- and is one of the store pages
+-- the page of a slot is one of the store pages
 pub page_within : (first page all each : ℕ) → first * each + all ≤ 45 * each → page * each + each ≤ all → 0 < each → first + page < 45
 page_within first page all each room whole some = elim (cases_lt (first + page) 45) [
   | inl less ↦ less

@@ -62,7 +62,7 @@ module _ {F : Type 0} (device : Flash F) (old mid : Store F) (new : F) (told : d
     pub settled_now : Leaves (stored (device.pages old.flash)) [] (device.pages new)
     settled_now = now_left device old.flash new Stays settled told counts (device.pages new) (as_read new told)
 
-    -- and whatever comes then
+    -- a commit that was cut off is ended, and whatever comes then leaves the registry
     pub settled_first : (last : F) (registry : Registry) → Reopens (device.pages old.flash) registry → (Reopens (device.pages new) registry → LeavesOnly device new last (λ outcome. Reopens outcome registry))
         → LeavesOnly device old.flash last (λ outcome. Reopens outcome registry)
     settled_first last registry was next =

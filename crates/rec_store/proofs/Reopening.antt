@@ -164,7 +164,7 @@ free_same t u page same free =
     All-from_map (file ∷ files) all = All-cons (λ file. Contains (pages_named file) page → ⊥) file files (All-head (λ named. Contains named page → ⊥) (pages_named file) (map pages_named files) all)
         (All-from_map files (All-tail (λ named. Contains named page → ⊥) (pages_named file) (map pages_named files) all))
 
--- the same tables, as other tables that the same store pages hold: no file has a page of which none of theirs has it
+-- two tables that the same store pages hold: no file of the one has a page that no file of the other has
 pub free_of_held : (store : ℕ → List ℕ) (t u : Tables) (page : ℕ) → {first second : Layout} → HoldsTables first store t → HoldsTables second store u → IsFree t page → IsFree u page
 free_of_held store t u page first second = free_same t u page (same_pages store (λ _. []) t u first second)
 

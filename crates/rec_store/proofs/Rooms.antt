@@ -20,7 +20,7 @@ module _ (p q : ℕ → Bool) (each : (x : ℕ) → q x ≡ true → p x ≡ tru
   fewer [] = omega arith
   fewer (x ∷ xs) = omega (arith, fewer xs, cond_fewer (p x) (q x) (each x), sum_by-cons (λ x. cond (q x) 1 0) x xs, sum_by-cons (λ x. cond (p x) 1 0) x xs)
 
-  -- and there is one where the first alone is
+  -- the second counts fewer where the first alone is true of a member
   fewer_by_one : (y : ℕ) → p y ≡ true → q y ≡ false → (xs : List ℕ) → Contains xs y → count_by q xs < count_by p xs
   fewer_by_one y fits misfit [] (k, within, is) = absurd (omega (arith, within))
   fewer_by_one y fits misfit (x ∷ xs) among = elim (contains_cases x xs y among) [

@@ -27,13 +27,13 @@ module _ {T : Type 0} (P : T → Type 0) where
   rest_of None rest all = all
   rest_of (Some thing) rest all = All-tail P thing (used rest) all
 
-  -- and stays so where a slot gets another thing of which it is so
+  -- it stays so of all where a slot gets another thing of which it is so
   pub of_all_set : (slots : List (Option T)) (slot : ℕ) (thing : Option T) → All P (used slots) → IfSome thing P → All P (used (slice_set slots slot thing))
   of_all_set [] slot thing all one = all
   of_all_set (first ∷ rest) zero thing all one = with_first thing rest one (rest_of first rest all)
   of_all_set (first ∷ rest) (suc slot) thing all one = with_first first (slice_set rest slot thing) (first_of first rest all) (of_all_set rest slot thing (rest_of first rest all) one)
 
-  -- so of each slot, and so of all
+  -- where it is so of each slot, it is so of all
   pub of_all : (slots : List (Option T)) → ((slot : ℕ) → slot < length slots → IfSome (held slots slot) P) → All P (used slots)
   of_all [] each = All-nil P
   of_all (first ∷ rest) each = with_first first rest (each 0 (omega arith)) (of_all rest (λ slot lt. each (suc slot) (omega (arith, lt))))

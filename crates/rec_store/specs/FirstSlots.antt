@@ -17,7 +17,7 @@ pub record HaveRoom (entry_list : List (Option Entry)) (file_list : List (Option
   pub keys : length key_list ≤ KEYS
   pub objects : length object_list ≤ OBJECTS
 
--- they are in the first slots, and those behind them are free
+-- they are in the first slots, and those after them are free
 pub record HasFirst (tables : Tables) (state : CardLife) (entry_list : List (Option Entry)) (file_list : List (Option LoadFile)) (key_list : List (Option KeyRec)) (object_list : List (Option Object)) : Type 0 where
   pub slots : HasSlots tables
   pub life : tables.life ≡ state

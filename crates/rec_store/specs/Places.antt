@@ -1,4 +1,4 @@
--- Where the slots of a card stand: which bytes of its store pages each of them is. Slots of one kind stand one behind the
+-- Where the slots of a card stand: which bytes of its store pages each of them is. Slots of one kind stand one after the
 -- other, from the first byte of a page on, and as many in a page as there is room for.
 use Rattle.std.specs.Prelude.{ℕ, ◌+◌, ◌*◌, ◌/◌, ◌%◌, List, slice_range}
 

@@ -22,16 +22,16 @@ pub record HoldsRegistry (store load : ℕ → List ℕ) (registry : Registry) :
   pub held : HoldsTables layout store tables
   pub card : IsCardOf load tables registry
 
--- the bytes of a list of pages: those of a store page
+-- the bytes of a store page in a list of pages
 abbrev pub store_in : (ℕ → Option Page) → ℕ → List ℕ
 store_in list number = bytes_of (list number)
 
--- and the 256 of a load page; there are zeros where no load page is, so under a number below the first, and in a list that lacks
--- one, as that of no device does
+-- The 256 bytes of a load page in a list of pages. There are zeros where no load page is: under a number below the
+-- first, and in a list that lacks one, as that of no device does.
 abbrev pub load_in : (ℕ → Option Page) → ℕ → List ℕ
 load_in list number = take 256 ((if nat_lt number 96 then [] else bytes_of (list number)) ++ replicate 256 0)
 
--- those of a device, an open journal applied
+-- the bytes of a store page of a device, an open journal applied
 abbrev pub store_page : List Page → ℕ → List ℕ
 store_page pages = store_in (stored pages)
 
@@ -47,7 +47,7 @@ pub record IsAtRest (pages : List Page) : Type 0 where
   pub closed : is_open pages ≡ false
   pub layout : IsInLayout Third pages
 
--- and with staged pages in their places
+-- the bytes of a store page, with staged pages in their places
 abbrev pub current_page : List (ℕ × Page) → List Page → ℕ → List ℕ
 current_page staged pages = store_in (current staged pages)
 
@@ -60,7 +60,7 @@ pub record Reopens (pages : List Page) (registry : Registry) : Type 0 where
   pub sound : HasValidJournal pages
   pub holds : HoldsRegistry (store_page pages) (load_page pages) registry
 
--- or one of these
+-- After a power loss that left these pages the card has one of these registries.
 abbrev pub ReopensAsOne : List Registry → List Page → Type 0
 ReopensAsOne registries pages = (registry : Registry) × Contains registries registry × Reopens pages registry
 
@@ -84,7 +84,7 @@ pub record KeepsPages (pages : List Page) (may_leave : List Page → Type 0) (re
   pub leaves : Always may_leave (Leaves (stored pages) loose)
   pub free : (page : ℕ) → Contains loose page → IsFree now.holds.tables page
 
--- the same of a device
+-- The pages of a device, with what power lost now may leave of them, keep this registry.
 abbrev pub Keeps : {F : Type 0} → Flash F → F → Registry → Type 0
 Keeps device flash registry = KeepsPages (device.pages flash) (device.may_leave flash) registry
 

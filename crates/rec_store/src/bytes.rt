@@ -1,4 +1,4 @@
-//! Bytes of any length in a slot: one byte says how many there are, and they stand behind it.
+//! Bytes of any length in a slot: one byte says how many there are, and they stand after it.
 
 ghost use Rattle.std.specs.Prelude.{◌≡◌, ◌+◌, ◌<◌, ◌≤◌, ◌^◌, ℕ, List, length, slice_index, IfOk, OnErr};
 ghost use Rattle.byteorder.specs.Endian.{big_from};

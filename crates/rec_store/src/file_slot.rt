@@ -67,7 +67,7 @@ fn read_used(slot: &[u8]) -> Result<LoadFile, BadSlot>
     })
 }
 
-// The numbers of the first so many load pages, and zeros behind them.
+// The numbers of the first so many load pages, and zeros after them.
 fn read_pages(slot: &[u8], count: usize) -> [u16; 128]
     requires size { length slot.now ≡ 256 }
     requires few { count ≤ 128 }

@@ -43,7 +43,7 @@ impl<F: Flash> Records<F> {
         ensures load { F.tells → IfOk result (λ r. load_page (F.pages r.flash) ≡ load_page (F.pages flash)) }
         // What the tables leave free, the device has to spare.
         ensures spare { F.tells → IfOk result (λ r. AreSpare F.Flash r.flash r.tables) }
-        // And it leaves layout 03.
+        // Power lost from then on leaves layout 03.
         ensures raised { F.tells → IfOk result (λ r. Always (F.may_leave r.flash) (IsInLayout Third)) }
         // Power lost at any moment leaves no registry that it could not leave before.
         ensures moments { F.tells → (registries : List Registry) → Always (F.may_leave flash) (ReopensAsOne registries)

@@ -35,7 +35,7 @@ confirmed key number unique aids = record { code = cmac key (signed_by_receipt n
 receipt_spells : (key : List ℕ) (number : ℕ) (unique : List ℕ) (aids : List (List ℕ)) → Spells (confirmed key number unique aids) (receipt key number unique aids)
 receipt_spells key number unique aids = record { code = (cmac_is_block key (signed_by_receipt number unique aids)).sixteen; number = refl; is = refl }
 
--- and what one has that spells a receipt
+-- what a confirmation has that spells a receipt
 record HasThese (c : Confirmation) (key : List ℕ) (n : ℕ) (data_ : List ℕ) (aids : List (List ℕ)) : Type 0 where
   pub code : c.code ≡ cmac key (signed_by_receipt n data_ aids)
   pub number : number_in c ≡ n

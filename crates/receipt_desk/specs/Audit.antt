@@ -49,6 +49,6 @@ Does at (Receipt r) next said =
     × Judged key at.desk.unique at.desk.last r.reply.items (aids_in r.aids) verdict
     × (next ≡ with_verdict at verdict) × (said ≡ verdict_line verdict)
 
--- so does a text that says it
+-- A text that says such a line leads from the state to the other, and this is written.
 abbrev pub TakesDesk : AuditState → List ℕ → AuditState → List ℕ → Type 0
 TakesDesk at text next said = (line : DeskLine) × SaysDesk text line × Does at line next said

@@ -44,7 +44,7 @@ abbrev pub numbers_from : ℕ → List Slip → List ℕ
 numbers_from last [] = []
 numbers_from last (slip ∷ slips) = (last + 1) ∷ numbers_from (last + 1) slips
 
--- So not all fit in a list in which a receipt is missing before another, comes twice, or is out of order.
+-- Where all receipts of a list fit, none is missing before another, comes twice, or is out of order.
 abbrev pub GapsAreNoticed : Type 0
 GapsAreNoticed =
     (key unique : List ℕ) (last end : ℕ) (slips : List Slip) (verdicts : List Verdict) (numbers : List ℕ)

@@ -12,9 +12,9 @@ use Rattle.receipt_desk.specs.InTurn.{JudgedInTurn, Slip, fits_from}
 use Rattle.receipt_desk.specs.Judgement.{Judged}
 use Rattle.receipt_desk.specs.declared.verdict.Verdict.TheVariants.{Fits}
 
--- The data field of the reply to a command that a domain confirms fits at a desk with the domain's receipt key, the card's unique data,
--- and the domain's number before the command. The number that fits is the domain's number after it. In a session the reply is
--- protected, and opens to this data field at a host whose session is the card's.
+-- The data field of the reply to a command that a domain confirms fits at a desk with the domain's receipt key, the
+-- card's unique data, and the domain's number before the command. The number that fits is the domain's number after it.
+-- In a session the reply is protected, and opens to this data field at a host whose session is the card's.
 abbrev pub ReceiptsFit : Type 0
 ReceiptsFit =
     (state : State) (bytes : List ℕ) (outcome : Outcome) (domain : List ℕ) (before after : ℕ)

@@ -95,7 +95,7 @@ fn read_words(words: Words<'_>) -> Option<DeskLine>
 }
 
 impl DeskLine {
-    /// What a text says, or nothing where it has no form.
+    /// What a text says, or nothing where it is malformed.
     pub fn read(text: &[u8]) -> Option<DeskLine>
         ensures { Reads (SaysDesk text.now) result }
     {

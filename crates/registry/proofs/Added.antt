@@ -34,7 +34,7 @@ module _ (page : ℕ → List ℕ) (before : Tables) (said : registry.Registry) 
   taken_by (found.Entry slot) aid at = inl (subst IsSome (sym (found_entry_named page before said says slot aid at).2) refl)
   taken_by (found.File slot) aid at = inr (subst IsSome (sym (found_file_named page before said says slot aid at).2) refl)
 
-  -- and nothing is where no slot has it
+  -- nothing is there by a name that no slot has
   pub not_taken : (aid : List ℕ) → NoneHas before aid → IsTaken said aid → ⊥
   not_taken aid none (inl there) = (let gone = (none_found_none_named page before said says aid none).0 in let some = subst IsSome gone there in cc)
   not_taken aid none (inr there) = (let gone = (none_found_none_named page before said says aid none).1 in let some = subst IsSome gone there in cc)
@@ -51,7 +51,7 @@ module _ (page : ℕ → List ℕ) (before : Tables) (said : registry.Registry) 
         let none = not_taken aid fails.0 in
         ((λ is. absurd (cc (is, given)), λ taken. absurd (none taken)), (λ is. (none, is_full fails.1), λ both. ap Err given))
 
-    -- and for no reason where a slot is answered
+    -- where a slot is answered, there is no reason to refuse
     pub placed_so : NoneHas before aid → (full → ⊥) → (slot : ℕ)
         → (◌≡◌ {A = Result ℕ AddRefusal} (Ok slot) (Err Taken) ↔ IsTaken said aid) × (◌≡◌ {A = Result ℕ AddRefusal} (Ok slot) (Err Full) ↔ ((IsTaken said aid → ⊥) × full))
     placed_so none has_room slot = ((λ is. cc, λ taken. absurd (not_taken aid none taken)), (λ is. cc, λ both. absurd (has_room both.1)))

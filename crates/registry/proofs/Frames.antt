@@ -45,7 +45,7 @@ module _ (pages staged : List ℕ) (page : ℕ) (among : Contains pages page) wh
   pub keeps_staged : (after : List ℕ) → after ≡ with_staged staged page → KeepsRoom pages staged after
   keeps_staged after is all holds room = subst (HasRoomFor all) (sym is) (room_stays all staged page room (holds page among)).1
 
--- and is where one alone may be
+-- there is a frame for a page that there is room for alone
 pub frame_alone : (staged : List ℕ) (page : ℕ) → HasRoomFor (page ∷ []) staged → HasFrame staged page
 frame_alone staged page = frame_of (page ∷ []) staged page (contains_first page [])
 

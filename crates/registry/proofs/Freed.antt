@@ -87,7 +87,7 @@ module _ {T : Type 0} (owner : T → ℕ) (domain : ℕ) where
       let clash : is_owned owner domain None ≡ true = ap (is_owned owner domain) (sym free ∙ alike ∙ sym same) ∙ goes in
       cc
 
--- and those behind it hold what they held
+-- the slots after one that is freed hold what they held
 pub rest_set : {T : Type 0} (slots start : List (Option T)) (slot : ℕ) → ((k : ℕ) → (k < slot → ⊥) → held slots k ≡ held start k)
     → (k : ℕ) → (k < slot + 1 → ⊥) → held (slice_set slots slot None) k ≡ held start k
 rest_set slots start slot rest k high =

@@ -14,7 +14,7 @@ use Rattle.registry.specs.Tree.{IsInTree, with_lock}
 use Rattle.registry.proofs.Staging.{IsStaged}
 use Rattle.registry.proofs.Tree.{used_in_tree}
 
--- so far: the slots of the tree below the count have the mark, and all others hold what they held
+-- The slots of the tree below the count have the mark, and all others hold what they held.
 pub record IsMarked (start now : List (Option Entry)) (domain : ℕ) (locked : Bool) (count : ℕ) : Type 0 where
   pub long : length now ≡ length start
   pub steps : (slot : ℕ) → domain_slot now slot ≡ domain_slot start slot

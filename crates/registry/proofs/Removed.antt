@@ -129,7 +129,7 @@ module _ (page : ℕ → List ℕ) (before between : Tables) (said : registry.Re
     objects = object_gone;
   }
 
-  -- and without the entry
+  -- what the tables say without the entry
   pub entry_removed : (after : Tables) → IsNoDomain before slot → SetsEntry between after slot None → Represents page after (without_entry said aid)
   entry_removed after alone set =
       let here : held between.entries.items slot ≡ Some entry = ap (λ (slots : List (Option Entry)). held slots slot) entries ∙ at in

@@ -25,7 +25,7 @@ staged_before (first ∷ rest) page other there = elim (cases_Bool (first == pag
   ]
 ]
 
--- so far: each page that is staged was staged, or a slot on it below the count holds another thing
+-- Each page that is staged was staged, or a slot on it below the count holds another thing.
 abbrev pub IsStaged : {T : Type 0} → (ℕ → ℕ) → List ℕ → List ℕ → List (Option T) → List (Option T) → ℕ → Type 0
 IsStaged page_of before staged start now count =
     (page : ℕ) → Contains staged page → Contains before page ⊎ ((slot : ℕ) × (page_of slot ≡ page) × (slot < count) × (held now slot ≢ held start slot))

@@ -31,12 +31,12 @@ gives_by_fits true session field p (bp, ep) =
     omega (arith, length-sealed (s_enc session.offer) (command_icv session) p, ap length ep)
 gives_by_fits false session field p ep = omega (arith, ap length ep)
 
--- and never more bytes than it has
+-- a field never gives more bytes than it has
 pub gives_fits : (session : Session) (field p : List ℕ) → Gives session field p → length p ≤ length field
 gives_fits session [] p ep = omega (arith, ap length ep)
 gives_fits session (b ∷ bs) p g = gives_by_fits (has_c_decryption session.level) session (b ∷ bs) p g
 
--- so of a command
+-- a command opens to at most one data field
 pub opens_one : (session : Session) (command : Apdu) (p q : List ℕ) → Opens session command p → Opens session command q → p ≡ q
 opens_one session command p q g h = gives_one (accepting session command) (field_of command) p q g.gives h.gives
 

@@ -1,4 +1,4 @@
--- Lists that are written into a buffer one behind the other.
+-- Lists that are written into a buffer one after the other.
 use Rattle.std.proofs.Common.{◌≡◌, ℕ, ◌+◌, ◌<◌, ◌≤◌, List, [], ◌++◌, length, take, drop, ap, ◌∙◌, arith, inl, inr}
 use Rattle.std.proofs.lemmas.Bool.{cases_lt}
 use Rattle.std.proofs.lemmas.List.{length-append, length-drop, length-take, take_at, drop_all, append-nil, get_or-take, get_or_past}
@@ -6,7 +6,7 @@ use Rattle.std.proofs.lemmas.Slice.{take-put_mid}
 use Rattle.cmac_kdf.specs.Blocks.{IsBytes}
 use borrow.Rule.Slice.PartMut.{put_mid}
 
--- the second fills the buffer behind the first
+-- the second fills the buffer after the first
 pub written_behind : (h z c : List ℕ) (n k : ℕ) → length h ≡ n → length z ≤ k → put_mid n k (h ++ z) c ≡ h ++ c
 written_behind h z c n k lh lz =
     let none : drop k (drop n (h ++ z)) ≡ [] = drop_all k (drop n (h ++ z)) (omega (arith, length-drop n (h ++ z), length-append h z)) in

@@ -11,7 +11,7 @@ use Rattle.scp03_card.specs.Session.{Session, authentication, message}
 abbrev pub OnePlain : Type 0
 OnePlain = (session : Session) (command : Apdu) (plain another : List ℕ) → Opens session command plain → Opens session command another → plain ≡ another
 
--- and never more bytes than were sent
+-- the plain data field never has more bytes than were sent
 abbrev pub PlainFits : Type 0
 PlainFits = (session : Session) (command : Apdu) (plain : List ℕ) → Opens session command plain → length plain ≤ length (field_of command)
 

@@ -53,6 +53,6 @@ answered offer level = record { offer = offer; level = level; messages = authent
 abbrev pub HasCryptogram : Offer → List ℕ → Type 0
 HasCryptogram offer body = take 8 body ≡ host_cryptogram offer
 
--- and ends in the C-MAC
+-- the body of EXTERNAL AUTHENTICATE ends in the C-MAC
 abbrev pub HasMac : Offer → Level → List ℕ → Type 0
 HasMac offer level body = drop 8 body ≡ c_mac (answered offer level)

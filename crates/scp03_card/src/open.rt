@@ -96,7 +96,7 @@ fn plain_field<K: BlockKey>(
     decipher(keys, level, number, &mut plain[..len])
 }
 
-// The same in place: `field` is the data field at entry.
+// Deciphers a data field in place: `field` is the data field at entry.
 fn decipher<K: BlockKey>(
     keys: &SessionKeys<K>,
     level: Level,

@@ -37,7 +37,7 @@ module _ (kept : KeptSession) (session : Session) (stands : RepresentsSession ke
   kept_reply_sealed p =
       (λ i. sealed (stands.keys.enc i) (cipher (stands.keys.enc i) (0x80 ∷ drop 1 (to_be_bytes w128 (stands.number i)))) p)
 
-  -- the same by the bytes of a counter block
+  -- a data field that is enciphered, by the bytes of a counter block
   pub kept_enciphers : (inside : KeptSession) (block p : List ℕ) → inside ≡ kept → block ≡ to_be_bytes w128 inside.number
       → sealed inside.keys.enc (cipher inside.keys.enc (set block 0 0x80)) p ≡ sealed (s_enc session.offer) (reply_icv session) p
   kept_enciphers inside block p same eb =

@@ -44,12 +44,12 @@ pub record Agrees (session : Session) (exchange : Exchange) : Type 0 where
       (let after = having_sent session exchange.command in
       Unwraps after (protected after exchange.body exchange.status) (told_field after exchange.body exchange.status) exchange.status)
 
--- so one after the other
+-- host and card agree on these exchanges, one after the other
 abbrev pub AgreesOn : Session → List Exchange → Type 0
 AgreesOn session [] = Unit {0}
 AgreesOn session (first ∷ rest) = Agrees session first × AgreesOn (having_sent session first.command) rest
 
--- every list of exchanges, from every session
+-- host and card agree on every list of exchanges, from every session
 abbrev pub GoOnAgreeing : Type 0
 GoOnAgreeing = (session : Session) (exchanges : List Exchange) → All (IsExchange session.level) exchanges → AgreesOn session exchanges
 

@@ -7,8 +7,8 @@ use Rattle.card_types.specs.declared.level.Level.{Level}
 use Rattle.scp03_card.specs.Offer.{Offer, card_cryptogram, host_cryptogram}
 use Rattle.scp03_card.specs.Session.{answered, c_mac}
 
--- The data field of the reply has ten bytes of key diversification data, the key version number, the number of the protocol
--- and its parameter, then the card challenge, the card cryptogram, and the sequence counter: 32 bytes.
+-- The data field of the reply has ten bytes of key diversification data, the key version number, the number of the
+-- protocol and its parameter, then the card challenge, the card cryptogram, and the sequence counter: 32 bytes.
 abbrev pub challenge_in : List ℕ → List ℕ
 challenge_in reply = take 8 (drop 13 reply)
 

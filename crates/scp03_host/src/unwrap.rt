@@ -106,7 +106,7 @@ impl<K: BlockKey> HostSession<K> {
         self.decipher(&mut plain[..len])
     }
 
-    // The same in place: `field` is the data field at entry.
+    // Deciphers the data field of a reply in place: `field` is the data field at entry.
     fn decipher(&self, field: &mut [u8]) -> Option<usize>
         ensures some { (session : model.Session) → RepresentsSession self.now session
             → IfSome result (λ n. (reply_field session (take n field.new) ≡ field.old) × IsBytes (take n field.new)) }

@@ -66,7 +66,7 @@ stopped link old new talk size left number bytes kept (Opened counter status) no
 stopped link old new talk size left number bytes kept (Cryptogram counter) not at = absurd at
 stopped link old new talk size left number bytes kept (Differs want got) not at = absurd at
 
--- and so does the last block's
+-- the last block's reply ends the line
 pub all_sent : {L : Type 0} (link : CardLink L) (old new : L) (talk : Talk) (size number : ℕ) (bytes : List ℕ) (kept : HostState) (printed : Printed)
     → AtBlock link old new talk size 0 number bytes kept printed → IsPlayed link old new talk printed kept
 all_sent link old new talk size number bytes kept (Reply body status) at = record { host = at.0; leads = at.1; stands = at.2 }

@@ -27,7 +27,7 @@ element_short bytes =
 element_fits : (content : List ℕ) → length content ≤ 60_000 → length (block_element content) ≤ 60_004
 element_fits content fits = (let short = element_short content in omega (arith, fits, short))
 
--- so the longest file makes few blocks, at each size
+-- the longest file makes few blocks, at each size
 blocks_239 : (n : ℕ) → n ≤ 60_004 → (n + 239 - 1) / 239 ≤ 252
 blocks_239 n most = omega (arith, most)
 
@@ -54,7 +54,7 @@ most_blocks size (suc left) number bytes host body status =
 under : (count : ℕ) → count ≤ 252 → count < 253
 under count few = omega (arith, few)
 
--- and so is the command before them
+-- The command before the blocks and the blocks are at most 253 commands.
 pub most_load : (host : Host) (file : LoadFile) → length (content_bytes file.content) ≤ 60_000 → SendsAtMost (playing_load host file) 253
 most_load host file fits =
     let bytes : List ℕ = block_element (content_bytes file.content) in

@@ -43,7 +43,7 @@ put_there First kept sessions one session are is = record { basic = are.basic; f
 put_there Second kept sessions one session are is = record { basic = are.basic; first = are.first; second = is; third = are.third }
 put_there Third kept sessions one session are is = record { basic = are.basic; first = are.first; second = are.second; third = is }
 
--- the same for what is kept of a host, on its channel
+-- what is kept of a host, with another session on its channel
 abbrev pub with_own_kept : Option KeptSession → HostState → HostState
 with_own_kept one kept = record {
   channel = kept.channel;
@@ -77,7 +77,7 @@ pub own_some : (kept : HostState) (host : Host) (one : KeptSession) → Represen
     → (session : Session) × (own_session host ≡ Some session) × RepresentsSession one session
 own_some kept host one r is = some_of one (own_session host) (subst (λ (o : Option KeptSession). MayBeSession o (own_session host)) (sym is) (own_kept kept host r))
 
--- and leaves the host without it
+-- the host is left without its session
 pub own_taken : (kept : HostState) (host : Host) (all : ChannelSessions) → RepresentsHost kept host → all ≡ with_kept kept.channel None kept.sessions
     → RepresentsHost (record { channel = kept.channel; keys = kept.keys; tokens = kept.tokens; sessions = all; last = kept.last }) (with_own None host)
 own_taken kept host all r is =

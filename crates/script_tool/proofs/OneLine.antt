@@ -20,7 +20,7 @@ use Rattle.script_tool.specs.declared.tokens.Tokens.TheVariants.{Absent, Made, D
 sends_nothing : ℕ → Bool
 sends_nothing letter = letter == 98 || letter == 99 || letter == 107 || letter == 114 || letter == 116 || letter == 119
 
--- which of four kinds a line is of, by its first word: nothing, a verb that sends nothing, the quiet mark, a verb that
+-- The kind of a line, one of four, by its first word: nothing, a verb that sends nothing, the quiet mark, a verb that
 -- sends. Those of three letters send.
 kind : List ℕ → ℕ
 kind word =

@@ -1,4 +1,4 @@
--- The words behind each verb that sends say one thing.
+-- The words after each verb that sends say one thing.
 use Rattle.std.proofs.Common.{◌≡◌, ℕ, List, [], ◌∷◌, refl, ap, Option, Some, None, sym, ◌∙◌}
 use Rattle.arrayvec.specs.ArrayVec.{ArrayVec}
 use Rattle.script_tool.proofs.OneValue.{one_aid, one_byte, one_count, one_domain, one_hash, one_level, one_p1, one_parameters, one_plain, one_privileges, one_some, one_up_to, one_vec}

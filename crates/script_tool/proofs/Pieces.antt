@@ -22,7 +22,7 @@ take_piece s i =
     let next : 247 * (i + 1) ≡ 247 * i + 247 = omega arith in
     ap (λ (n : ℕ). take n s) next ∙ take-add (247 * i) 247 s
 
--- the front of two lists, one behind the other
+-- the front of two lists, one after the other
 front_of_two : (x b : List ℕ) (size : ℕ) → take size x ++ take (size - length (take size x)) b ≡ take size (x ++ b)
 front_of_two x b size = elim (cases_lt size (length x)) [
   | inl lt ↦

@@ -11,7 +11,7 @@ use Rattle.script_tool.specs.declared.exchange.Exchange as the_type
 use Rattle.script_tool.specs.declared.exchange.Exchange.TheVariants.{Select, Raw, Open, Send, Bad, Install, Selectable, Extradite, Load, Delete, PutKey, Store, Life, List as Listed, More}
 use Rattle.script_tool.specs.declared.load_file.LoadFile.{LoadFile}
 
--- how long words are, each with one byte behind it
+-- how long words are, each with one byte after it
 abbrev pub wide : List (List ℕ) → ℕ
 wide [] = 0
 wide (word ∷ words) = length word + 1 + wide words

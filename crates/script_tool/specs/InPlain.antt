@@ -29,7 +29,7 @@ playing_raw host bytes = in_plain host bytes printing
 abbrev pub has_selected : ℕ → Bool
 has_selected status = status == 0x9000 || status == 0x6283
 
--- which ends the session of the channel
+-- the reply to a SELECT ends the line, and the session of the channel where an application was selected
 abbrev pub selected : Host → List ℕ → ℕ → Talk
 selected host body status = Ends (Reply body status) (if has_selected status then with_own None host else host)
 

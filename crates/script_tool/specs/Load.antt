@@ -60,7 +60,7 @@ length_field size =
     else if nat_lt size 0x100 then 0x81 ∷ size ∷ []
     else 0x82 ∷ size / 0x100 ∷ size % 0x100 ∷ []
 
--- the Load File Data Block behind its tag (11.6.2.3)
+-- the Load File Data Block after its tag (11.6.2.3)
 abbrev pub block_element : List ℕ → List ℕ
 block_element bytes = 0xC4 ∷ length_field (length bytes) ++ bytes
 

@@ -43,12 +43,12 @@ round_of g =
 abbrev pub after_round : ChaCha → ChaCha
 after_round g = after (after (after (after (after g))))
 
--- so many rounds
+-- the first rounds from a generator, as many as the number says
 unfoldable pub rounds : ℕ → ChaCha → List Round
 rounds zero g = []
 rounds (suc n) g = round_of g ∷ rounds n (after_round g)
 
--- the lines of a seed's workload of so many rounds
+-- the lines of a seed's workload of this many rounds
 abbrev pub workload : ℕ → ℕ → List (List ℕ)
 workload seed count = flat_map lines_of (rounds count (generator seed))
 

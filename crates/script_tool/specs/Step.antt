@@ -24,7 +24,7 @@ pub record HasPlayed {L : Type 0} (link : CardLink L) (old new : L) (host : Host
   pub text_is : text ≡ printed_text (is_quiet said) printed
   pub kind : played ≡ kind_of printed
 
--- or the link failed in a command of the line
+-- The host has played the line, or the link failed in a command of it.
 abbrev pub StepPlays : {L : Type 0} → CardLink L → L → L → Host → ScriptLine → HostState → List ℕ → Result the_played.Played StepStop → Type 0
 StepPlays link old new host said kept text (Ok played) = HasPlayed link old new host said kept text played
 StepPlays link old new host said kept text (Err LinkFailed) = IsBroken link old new (playing host said)

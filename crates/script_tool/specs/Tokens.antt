@@ -21,7 +21,7 @@ token_made Absent p1 p2 before = None
 token_made (Made key) p1 p2 before = Some (token (key_of key) p1 p2 before)
 token_made (Damaged key) p1 p2 before = Some (turned_at 15 (token (key_of key) p1 p2 before))
 
--- INSTALL: its fields and the token, each behind its length (11.5.2.3)
+-- INSTALL: its fields and the token, each after its length (11.5.2.3)
 abbrev pub install_command : Tokens → ℕ → List (List ℕ) → Apdu
 install_command tokens p1 fields =
     let before = flat_map with_length fields in

@@ -7,7 +7,7 @@ use Rattle.card_types.specs.Aid.{IsAid}
 use Rattle.card_types.specs.Level.{code_of}
 use Rattle.card_types.specs.declared.level.Level.{Level}
 
--- so many bytes
+-- the word spells `count` bytes
 unfoldable pub SpellsSome : ℕ → List ℕ → List ℕ → Type 0
 SpellsSome count word bytes = (decode_of word ≡ Ok bytes) × (length bytes ≡ count)
 

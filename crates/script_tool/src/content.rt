@@ -13,7 +13,7 @@ use sha2::{Digest, Sha256};
 /// A piece, as long as the data field of a LOAD with a C-MAC can be.
 pub type Piece = ArrayVec<u8, 247>;
 
-/// So many bytes from a place on, or those that there are.
+/// At most `size` bytes, from a place on: as many as there are.
 pub fn part(bytes: &[u8], from: usize, size: usize) -> &[u8]
     ensures { result.now ≡ take size (drop from bytes.now) }
 {
@@ -33,7 +33,7 @@ impl Content {
         }
     }
 
-    /// So many bytes from a place on, or those that there are.
+    /// At most `size` bytes, from a place on: as many as there are.
     pub fn piece(&self, from: usize, size: usize) -> Piece
         requires { size ≤ 247 }
         ensures { result.items ≡ take size (drop from (content_bytes self.now)) }

@@ -52,7 +52,7 @@ impl Installation {
     }
 }
 
-/// INSTALL of the fields that `body` holds, each behind its length, with its token.
+/// INSTALL of the fields that `body` holds, each after its length, with its token.
 pub fn install(tokens: &Tokens, p1: u8, body: DataField) -> Plain
     requires { length body.items ≤ 238 }
     ensures { (fields : List (List ℕ)) → body.items ≡ flat_map with_length fields → plain_of result ≡ install_command tokens.now p1 fields }

@@ -21,13 +21,13 @@
 //! them asks to print the status of the reply alone. A line of spaces, an empty one and one that begins
 //! with `#` say nothing.
 //!
-//! `ScriptLine::read` answers what a line says, or nothing where it has no form. `specs/` has a file for
+//! `ScriptLine::read` answers what a line says, or nothing where it is malformed. `specs/` has a file for
 //! each verb: which words the line has, what they spell, and the command that it sends. A text says at
 //! most one line.
 //!
 //! `Player::step` plays a line. What a host does is a `Talk` (`specs/Talk.antt`): it sends bytes and goes
-//! on by the reply, or it ends with what it prints. The definitions of the verbs make one of each line,
-//! and know no link. `CardLink` is what commands are sent over: a card at its other end is led from state
+//! on by the reply, or it ends with what it prints. The definitions of the verbs make one of each line, and
+//! know no link. `CardLink` is what commands are sent over: a card at its other end is led from state
 //! to state by the steps of `policy_rules`, where the link tells its states.
 //!
 //! `Mill` gives the lines of a workload: rounds of ten lines each, that ChaCha20 chooses from a seed. Each is

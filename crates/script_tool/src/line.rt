@@ -44,7 +44,7 @@ impl ScriptLine {
         matches!(self, ScriptLine::Quiet(_))
     }
 
-    /// What a text says, or nothing where it has no form.
+    /// What a text says, or nothing where it is malformed.
     pub fn read(text: &[u8]) -> Option<ScriptLine>
         ensures said { IfSome result (λ line. SaysLine text.now line) }
         ensures none { IfNone result (HasNoForm text.now) }

@@ -27,7 +27,7 @@ pub enum HashFunction {
     Sha256,
 }
 
-/// So many bytes of one value.
+/// A number of bytes of one value.
 #[derive(Clone, Copy)]
 pub struct Fill {
     pub count: u16,
@@ -161,7 +161,7 @@ impl LoadFile {
         self.header().len() + self.content.len()
     }
 
-    /// The block behind the bytes that were sent, of so many bytes or of those that are left.
+    /// The block after the bytes that were sent, of so many bytes or of those that are left.
     pub fn block(&self, sent: usize, size: usize) -> Piece
         requires { size ≤ 247 }
         ensures { result.items ≡ take size (drop sent (block_element (content_bytes self.now.content))) }

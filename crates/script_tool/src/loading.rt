@@ -30,7 +30,7 @@ fn is_done(printout: &Printout) -> bool
     printout.status() == Some(DONE)
 }
 
-// Goes on behind what INSTALL for load printed: sends the blocks, of so many bytes, up to the first reply that is not 9000.
+// Goes on after what INSTALL for load printed: sends the blocks, of so many bytes, up to the first reply that is not 9000.
 fn send_blocks<L: CardLink>(
     host: &mut HostState,
     wire: &mut Wire,

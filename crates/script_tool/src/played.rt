@@ -21,7 +21,7 @@ pub enum Played {
 /// Why a line was not played to its end.
 #[derive(Clone, Copy, Debug, PartialEq, Eq)]
 pub enum StepStop {
-    /// The line of this number has no form. Nothing was sent.
+    /// The line of this number is malformed. Nothing was sent.
     Form(u32),
 
     /// The card could not answer.

@@ -59,7 +59,7 @@ impl Player {
 
     /// Plays a line over a link to a card. `text` becomes what the line prints, without a newline.
     ///
-    /// `Form` has the number of a line that has no form: nothing was sent. After `LinkFailed` the link is not up any more, and
+    /// `Form` has the number of a line that is malformed: nothing was sent. After `LinkFailed` the link is not up any more, and
     /// nothing is known of the host.
     pub fn step<L: CardLink>(
         &mut self,
@@ -69,7 +69,7 @@ impl Player {
     ) -> Result<Played, StepStop>
         requires up { L.up link.old ≡ true }
 
-        // A line of no form: nothing is sent, and all stays as it is.
+        // A malformed line: nothing is sent, and all stays as it is.
         ensures form { (n : ℕ) → (result ≡ Err (StepStop.Form n)) ↔ (n ≡ line.now.number) × HasNoForm line.now.text.now }
         ensures said { HasNoForm line.now.text.now ⊎ ((said : ScriptLine) × SaysLine line.now.text.now said) }
         ensures refused { HasNoForm line.now.text.now → (self.new ≡ self.old) × (link.new ≡ link.old) × (text.new ≡ text.old) }

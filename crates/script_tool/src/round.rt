@@ -13,8 +13,8 @@ use itoa::Buffer;
 /// A line of the workload.
 pub type MillLine = ArrayVec<u8, 64>;
 
-/// What a round of the workload chooses: the code of a security level, a host challenge, the number in its AIDs,
-/// and how many bytes of which value its file holds.
+/// What a round of the workload chooses: the code of a security level, a host challenge, the number in its AIDs, and
+/// how many bytes of which value its file holds.
 #[derive(Clone, Copy)]
 pub struct Round {
     pub level: u8,

@@ -16,8 +16,8 @@ use scp03_card::StaticKeys;
 use scp03_host::{BeginRefusal, HostSession, begin};
 
 impl AesSession {
-    /// Begins a session, as `scp03_host::begin` does. `reply` is the data field that the card answered to INITIALIZE UPDATE,
-    /// and `out` becomes the EXTERNAL AUTHENTICATE to send on the channel.
+    /// Begins a session, as `scp03_host::begin` does. `reply` is the data field that the card answered to INITIALIZE
+    /// UPDATE, and `out` becomes the EXTERNAL AUTHENTICATE to send on the channel.
     pub fn begin(
         keys: &Keys,
         opening: &Opening,
@@ -42,7 +42,7 @@ impl AesSession {
     }
 }
 
-// The same for keys of one length.
+// Begins a session with keys of one length.
 fn begun<K: BlockKey, const N: usize>(
     keys: &Trio<N>,
     opening: &Opening,

@@ -18,7 +18,7 @@ fn decode(word: &[u8], room: &mut [u8]) -> Option<()>
     }
 }
 
-/// So many bytes.
+/// `N` bytes.
 #[tactic(auto, unfolding(crate::specs::Values::SpellsSome))]
 pub fn array<const N: usize>(word: &[u8]) -> Option<[u8; N]>
     ensures { Reads (SpellsSome N word.now) result }

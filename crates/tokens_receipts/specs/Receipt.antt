@@ -5,11 +5,11 @@ use Rattle.std.specs.Int.{to_be_bytes, w16}
 use Rattle.std.specs.List.{flat_map}
 use Rattle.cmac_kdf.specs.Cmac.{cmac}
 
--- a field behind its length in one byte
+-- a field after its length in one byte
 abbrev pub with_length : List ℕ → List ℕ
 with_length field = length field ∷ field
 
--- the number of a receipt, of two bytes, behind its length
+-- the number of a receipt, of two bytes, after its length
 abbrev pub number_field : ℕ → List ℕ
 number_field number = with_length (to_be_bytes w16 number)
 

@@ -11,10 +11,10 @@ use arrayvec::ArrayVec;
 use card_types::Aid;
 use cmac_kdf::cmac;
 
-/// The most bytes that a receipt signs: those of a number, the card's unique data, and three AIDs, each behind its length.
+/// The most bytes that a receipt signs: those of a number, the card's unique data, and three AIDs, each after its length.
 const SIGNED: usize = 75;
 
-/// The most bytes of a receipt, its number and the card's unique data, each behind its length.
+/// The most bytes of a receipt, its number and the card's unique data, each after its length.
 const CONFIRMATION: usize = 41;
 
 // What a receipt signs.

@@ -1,4 +1,4 @@
-//! Fields behind their length, and what data fields of commands are built of.
+//! Fields after their length, and what data fields of commands are built of.
 
 ghost use Rattle.std.specs.Prelude.{◌≡◌, ◌+◌, ◌++◌, ◌≤◌, [], ◌∷◌, length};
 ghost use Rattle.std.specs.List.{flat_map};
@@ -12,7 +12,7 @@ use card_types::Aid;
 /// The data field of a command.
 pub type DataField = ArrayVec<u8, 255>;
 
-/// Adds a field behind its length in one byte.
+/// Adds a field after its length in one byte.
 pub fn push_field<const N: usize>(field: &[u8], bytes: &mut ArrayVec<u8, N>)
     requires short { length field.now ≤ 255 }
     requires room { length bytes.old.items + 1 + length field.now ≤ N }
@@ -23,7 +23,7 @@ pub fn push_field<const N: usize>(field: &[u8], bytes: &mut ArrayVec<u8, N>)
     bytes.try_extend_from_slice(field).unwrap();
 }
 
-/// Adds an AID behind its length, where there is one.
+/// Adds an AID after its length, where there is one.
 pub fn push_aid<const N: usize>(aid: Option<&Aid>, bytes: &mut ArrayVec<u8, N>)
     requires room { length bytes.old.items + 17 ≤ N }
     ensures added { bytes.new.items ≡ bytes.old.items ++ flat_map with_length (some_aid (option_copied aid.entry)) }
@@ -35,7 +35,7 @@ pub fn push_aid<const N: usize>(aid: Option<&Aid>, bytes: &mut ArrayVec<u8, N>)
     }
 }
 
-/// Four fields, each behind its length: those that an INSTALL for load has before its token.
+/// Four fields, each after its length: those that an INSTALL for load has before its token.
 pub fn four_fields(first: &[u8], second: &[u8], third: &[u8], fourth: &[u8]) -> DataField
     requires room { length first.now + length second.now + length third.now + length fourth.now ≤ 251 }
     ensures items { result.items ≡ flat_map with_length (first.now ∷ second.now ∷ third.now ∷ fourth.now ∷ []) }
@@ -49,7 +49,7 @@ pub fn four_fields(first: &[u8], second: &[u8], third: &[u8], fourth: &[u8]) -> 
     field
 }
 
-/// Five fields, each behind its length: those that an INSTALL for install, make selectable or extradition has before its token.
+/// Five fields, each after its length: those that an INSTALL for install, make selectable or extradition has before its token.
 pub fn five_fields(
     first: &[u8],
     second: &[u8],
@@ -66,7 +66,7 @@ pub fn five_fields(
     field
 }
 
-/// The AID that a DELETE of an object names, behind its tag: what stands before its token.
+/// The AID that a DELETE of an object names, after its tag: what stands before its token.
 pub fn object_field(aid: &Aid) -> DataField
     ensures items { result.items ≡ object_named_by aid.now }
     ensures short { length result.items ≤ 18 }

@@ -8,7 +8,7 @@
 //!     it is those sixteen bytes (`token_fits`).
 //!  2. A receipt covers its number, the card's unique data and the AIDs that the command was about, and is written with the number
 //!     and the unique data (`receipt`).
-//!  3. What a token signs of the data field is written behind lengths (`four_fields`, `five_fields`, `object_field`).
+//!  3. What a token signs of the data field is written after lengths (`four_fields`, `five_fields`, `object_field`).
 //!
 //! Nothing here takes memory. Who verifies and who receipts is for the callers, as is that no number comes twice.
 #![tactic(auto)]

@@ -198,7 +198,7 @@ const SENT: [(&[u8], Result<usize, OpenRefusal>); 14] = [
     (b"84e290000721b24e18cf9704", Err(OpenRefusal::Mac)),
     (b"84e290000121", Err(OpenRefusal::Mac)),
     (b"84e29000", Err(OpenRefusal::Mac)),
-    // No byte 80; zeros alone; another byte behind 80.
+    // No byte 80; zeros alone; another byte after 80.
     (
         b"84e290001871c60dbcb03acff42004b9993d548fdbd3b0b3183a271d47",
         Err(OpenRefusal::Padding),

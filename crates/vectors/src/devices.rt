@@ -127,7 +127,7 @@ fn write_synced<F: Flash>(flash: &mut F) -> Result<u8, FlashFailed> {
     Ok(before)
 }
 
-/// What a file holds of four calls: nothing before the first write, zeros behind its end.
+/// What a file holds of four calls: nothing before the first write, zeros after its end.
 fn keeps_pages<R: Files<File = File>>(rt: &R, path: &str) -> Result<[u8; 3], FlashFailed> {
     let before = write_synced(&mut FileFlash::new(rt, path))?;
     let mut again = FileFlash::new(rt, path);

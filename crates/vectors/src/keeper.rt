@@ -41,7 +41,7 @@ fn set<R: RecordKeeper>(
     Ok(put_set(keeper, owner, replaced, version, &enc, &mac, &dek))
 }
 
-/// Puts a key that stands alone, so too.
+/// Puts a key that stands alone, whose bytes are all the same.
 fn one<R: RecordKeeper>(
     keeper: &mut R,
     owner: u8,

@@ -1,4 +1,4 @@
-//! Entries and Executable Load Files that come and go on a card. Behind each change it is committed, and mounted again.
+//! Entries and Executable Load Files that come and go on a card. After each change it is committed, and mounted again.
 
 ghost use Rattle.std.specs.Prelude.{◌≡◌, ◌==◌, [], true, IfOk, IsSome, IsTrue};
 ghost use Rattle.card_types.specs.InOrder.{IsInOrder};

@@ -10,7 +10,7 @@ use std::io;
 use std::io::{Read, Write};
 use std::test::Fail;
 
-/// The lines of a source, each with a bar behind it, and the stop that follows them.
+/// The lines of a source, each with a bar after it, and the stop that follows them.
 fn cut<S: Source>(
     alloc: Global,
     source: &mut S,

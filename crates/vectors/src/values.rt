@@ -10,7 +10,7 @@ use card_types::{
 };
 use std::test::Fail;
 
-/// The AID of the Issuer Security Domain on most GlobalPlatform cards, with zeros behind it.
+/// The AID of the Issuer Security Domain on most GlobalPlatform cards, with zeros after it.
 const ISSUER_DOMAIN: [u8; 20] = *b"\xa0\0\0\x01\x51\0\0\0\0\0\0\0\0\0\0\0\0\0\0\0";
 
 #[test]
@@ -95,7 +95,7 @@ fn has_the_codes(rt: HostRuntime) {
     }
 }
 
-/// Whether the Issuer Security Domain is found by its AID, and the first of each kind and none behind it.
+/// Whether the Issuer Security Domain is found by its AID, and the first of each kind and none after it.
 fn are_found(tables: &Tables, issuer: &Aid) -> bool
     requires entries { vec_len tables.now.entries ≡ ENTRIES }
     requires files { vec_len tables.now.files ≡ FILES }

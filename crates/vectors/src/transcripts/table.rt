@@ -20,7 +20,7 @@ pub struct Plain {
     pub status: u16,
 }
 
-/// The same as it is sent: the command up to its C-MAC, and the data field of the reply up to its R-MAC.
+/// A command and its reply as they are sent: the command up to its C-MAC, the data field of the reply up to its R-MAC.
 #[derive(Clone, Copy)]
 pub struct Sent {
     pub command: &'static [u8],

@@ -87,7 +87,7 @@ returns-then-related-clause-cards g c =
     (issuer_stays order.page before order.said order.says order.well order.layout.issuer true (Thing.File slot) lasting)
     (λ page said says well. c.remove_loaded.ensures.said page said says well (file_aid before.files.items slot) named)
 
--- or alone
+-- an Executable Load File alone
 pub returns-else-related-clause-said : goal.returns-else-related-clause-said
 returns-else-related-clause-said g c page said says well aid named =
     let before = c.args.records.now.tables in

@@ -27,7 +27,7 @@ free zero slot = refl
 free (suc count) zero = refl
 free (suc count) (suc slot) = free count slot
 
--- things in the first slots, and free slots behind them
+-- things in the first slots, and free slots after them
 behind : {T : Type 0} (things : List (Option T)) (count slot : ℕ) → held (things ++ replicate count None) slot ≡ held things slot
 behind [] count slot = free count slot
 behind (thing ∷ things) count zero = refl

@@ -14,7 +14,7 @@ returns c =
     let n3 : length end ≡ length c.put_u24.new.slot = c.put_u16.auto.slot in
     let n2 : length c.put_u24.new.slot ≡ length c.put_bytes-2.new.slot = c.put_u24.auto.slot ∙ length-set _ _ _ in
     let n1 : length c.put_bytes-2.new.slot ≡ length c.put_bytes.new.slot = c.put_bytes-2.auto.slot ∙ length-set _ _ _ ∙ length-set _ _ _ in
-    -- what each write leaves is kept by those behind it
+    -- what each write leaves is kept by those after it
     let from_privileges : (i : ℕ) → i < 41 → get_or end i 0 ≡ get_or c.put_u24.new.slot i 0 = receipts.below in
     let from_module : (i : ℕ) → i < 37 → get_or end i 0 ≡ get_or c.put_bytes-2.new.slot i 0 = λ i lt. from_privileges i (omega (arith, lt)) ∙ privileges.below i (omega (arith, lt)) ∙ grind (arith, common_steps) in
     let from_aid : (i : ℕ) → i < 18 → get_or end i 0 ≡ get_or c.put_bytes.new.slot i 0 = λ i lt. from_module i (omega (arith, lt)) ∙ module_.below i (omega (arith, lt)) ∙ grind (arith, common_steps) in

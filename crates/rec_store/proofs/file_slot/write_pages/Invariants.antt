@@ -8,7 +8,7 @@ invariant-loop-i l = record {
   below : (k : ℕ) → k < 64 → slice_index l.slot k ≡ slice_index l.fn.slot k;
 }
 
--- and the ninth bits in the first so many bytes of the map
+-- the ninth bits in the first `byte` bytes of the map
 abbrev pub invariant-loop-byte : goal.invariant-loop-byte
 invariant-loop-byte l = record {
   high : (k : ℕ) → k < l.count → k / 8 < l.byte → slice_index l.slot (192 + k / 8) / 2 ^ (7 - k % 8) % 2 ≡ (slice_index l.pages k - 96) / 256;

@@ -18,7 +18,7 @@ returns c =
     let size = c.put_u16.ensures in
     let n2 : length end ≡ length c.put_u16.new.slot = c.write_pages.auto.slot in
     let n1 : length c.put_u16.new.slot ≡ length c.put_bytes.new.slot = c.put_u16.auto.slot ∙ length-set _ _ _ in
-    -- what each write leaves is kept by those behind it
+    -- what each write leaves is kept by those after it
     let from_size : (i : ℕ) → i < 64 → get_or end i 0 ≡ get_or c.put_u16.new.slot i 0 = c.write_pages.ensures.below in
     let from_aid : (i : ℕ) → i < 18 → get_or end i 0 ≡ get_or c.put_bytes.new.slot i 0 = λ i lt. from_size i (omega (arith, lt)) ∙ size.below i (omega (arith, lt)) ∙ grind (arith, common_steps) in
     let written = size.put in

@@ -7,7 +7,7 @@ use Rattle.script_tool.specs.Talk.{Talk}
 use Rattle.script_tool.proofs.Blocks.{AtBlock}
 use Rattle.script_tool.proofs.loading.send_blocks.Given as goal
 
--- the talk is at the next block, behind those that were sent
+-- the talk is at the next block, after those that were sent
 abbrev pub invariant-loop-number : goal.invariant-loop-number
 invariant-loop-number g l = record {
   up : g.L.CardLink.up l.link ≡ true;

@@ -2,7 +2,7 @@ use Rattle.std.proofs.Common.{◌≡◌, ◌+◌, ◌<◌, ℕ, true, false, Som
 use Rattle.frame_pool.specs.declared.pool.Frame.{Frame}
 use Rattle.frame_pool.proofs.pool.FramePool.new.Given as goal
 
--- the frames so far are there, each linked to the one behind it
+-- the frames so far are there, each linked to the next one
 abbrev pub invariant-loop-at : goal.invariant-loop-at
 invariant-loop-at l = record {
   count : l.frames.len ≡ 30;
