@@ -195,7 +195,7 @@ impl<'a> Bench<'a> {
         Ok(())
     }
 
-    /// Takes these bytes for the pages, and zeros behind them.
+    /// Takes these bytes for the pages, and zeros after them.
     pub fn lay_image(&mut self, pages: &[u8]) -> Result<(), CaseError> {
         let mut image = Image::zeros(self.alloc)?;
         image.put(0, pages)?;

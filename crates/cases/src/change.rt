@@ -10,6 +10,7 @@ use flash_core::Flash;
 use rec_store::Records;
 
 /// Makes a change: `card` and a life cycle state, or a slot and the thing that it gets.
+#[tactic(auto, using(crate::proofs::Staged::one_more))]
 pub fn change<F: Flash>(records: &mut Records<F>, line: &[u8]) -> Result<(), CaseError>
     requires live { records.old.live ≡ true }
     requires frame { length records.old.staged < 30 }
@@ -19,94 +20,32 @@ pub fn change<F: Flash>(records: &mut Records<F>, line: &[u8]) -> Result<(), Cas
     let mut words = Words::new(line);
     let first = words.take().ok_or(CaseError::NoForm)?;
     if first == b"card".as_slice() {
-        return change_card(records, &mut words);
+        records.set_card_life(made_life(&mut words)?);
+        return Ok(());
     }
     match words.take() {
-        Some(b"domain" | b"app") => change_entry(records, first, &mut words),
-        Some(b"file") => change_file(records, first, &mut words),
-        Some(b"key") => change_key(records, first, &mut words),
-        Some(b"object") => change_object(records, first, &mut words),
-        _ => Err(CaseError::NoForm),
+        Some(b"domain" | b"app") => {
+            let slot = made_slot(first, ENTRIES)?;
+            let entry = made_entry(records.tables(), &mut words)?;
+            records.set_entry(slot, Some(entry));
+        }
+        Some(b"file") => {
+            let slot = made_slot(first, FILES)?;
+            let file = made_file(records.tables(), &mut words)?;
+            records.set_file(slot, Some(file));
+        }
+        Some(b"key") => {
+            let slot = made_slot(first, KEYS)?;
+            let key = made_key(records.tables(), &mut words)?;
+            records.set_key(slot, Some(key));
+        }
+        Some(b"object") => {
+            let slot = made_slot(first, OBJECTS)?;
+            let object = made_object(records.tables(), &mut words)?;
+            records.set_object(slot, Some(object));
+        }
+        _ => return Err(CaseError::NoForm),
     }
-}
-
-#[tactic(auto, using(crate::proofs::Staged::one_more))]
-fn change_card<F: Flash>(records: &mut Records<F>, words: &mut Words<'_>) -> Result<(), CaseError>
-    requires live { records.old.live ≡ true }
-    requires frame { length records.old.staged < 30 }
-    ensures live { records.new.live ≡ true }
-    ensures staged { length records.new.staged ≤ length records.old.staged + 1 }
-{
-    let life = made_life(words)?;
-    records.set_card_life(life);
-    Ok(())
-}
-
-#[tactic(auto, using(crate::proofs::Staged::one_more))]
-fn change_entry<F: Flash>(
-    records: &mut Records<F>,
-    slot: &[u8],
-    words: &mut Words<'_>,
-) -> Result<(), CaseError>
-    requires live { records.old.live ≡ true }
-    requires frame { length records.old.staged < 30 }
-    ensures live { records.new.live ≡ true }
-    ensures staged { length records.new.staged ≤ length records.old.staged + 1 }
-{
-    let slot = made_slot(slot, ENTRIES)?;
-    let entry = made_entry(records.tables(), words)?;
-    records.set_entry(slot, Some(entry));
-    Ok(())
-}
-
-#[tactic(auto, using(crate::proofs::Staged::one_more))]
-fn change_file<F: Flash>(
-    records: &mut Records<F>,
-    slot: &[u8],
-    words: &mut Words<'_>,
-) -> Result<(), CaseError>
-    requires live { records.old.live ≡ true }
-    requires frame { length records.old.staged < 30 }
-    ensures live { records.new.live ≡ true }
-    ensures staged { length records.new.staged ≤ length records.old.staged + 1 }
-{
-    let slot = made_slot(slot, FILES)?;
-    let file = made_file(records.tables(), words)?;
-    records.set_file(slot, Some(file));
-    Ok(())
-}
-
-#[tactic(auto, using(crate::proofs::Staged::one_more))]
-fn change_key<F: Flash>(
-    records: &mut Records<F>,
-    slot: &[u8],
-    words: &mut Words<'_>,
-) -> Result<(), CaseError>
-    requires live { records.old.live ≡ true }
-    requires frame { length records.old.staged < 30 }
-    ensures live { records.new.live ≡ true }
-    ensures staged { length records.new.staged ≤ length records.old.staged + 1 }
-{
-    let slot = made_slot(slot, KEYS)?;
-    let key = made_key(records.tables(), words)?;
-    records.set_key(slot, Some(key));
-    Ok(())
-}
-
-#[tactic(auto, using(crate::proofs::Staged::one_more))]
-fn change_object<F: Flash>(
-    records: &mut Records<F>,
-    slot: &[u8],
-    words: &mut Words<'_>,
-) -> Result<(), CaseError>
-    requires live { records.old.live ≡ true }
-    requires frame { length records.old.staged < 30 }
-    ensures live { records.new.live ≡ true }
-    ensures staged { length records.new.staged ≤ length records.old.staged + 1 }
-{
-    let slot = made_slot(slot, OBJECTS)?;
-    let object = made_object(records.tables(), words)?;
-    records.set_object(slot, Some(object));
     Ok(())
 }
 

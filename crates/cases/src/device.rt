@@ -6,7 +6,7 @@ use std::cell::Cell;
 
 pub type Device<'a> = CountedFlash<'a, OnceFlash<FuseFlash<MemFlash>>>;
 
-/// Which calls fail, of those that a device takes from then on: the one with the number `once`, and all behind
+/// Which calls fail, of those that a device takes from then on: the one with the number `once`, and all after
 /// the first `fuse`.
 #[derive(Clone, Copy)]
 pub struct Faults {
@@ -28,7 +28,7 @@ pub fn failing<'a>(flash: MemFlash, faults: Faults, calls: &'a Cell<Calls>) -> D
     CountedFlash::new(OnceFlash::new(fused, faults.once), calls)
 }
 
-/// The memory behind a device.
+/// The memory of a device.
 pub fn memory(device: Device<'_>) -> MemFlash {
     device.into_inner().into_inner().into_inner()
 }

@@ -45,7 +45,7 @@ impl Image {
         Ok(())
     }
 
-    /// So many bytes from a place on.
+    /// `count` bytes from a place on.
     pub fn bytes(&self, alloc: Global, place: usize, count: usize) -> Result<Vec<u8>, CaseError> {
         let mut bytes = Vec::new(alloc);
         for index in 0..count {

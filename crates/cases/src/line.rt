@@ -24,13 +24,13 @@ pub enum Sweep {
     /// Power is lost at each call, with each seed.
     Cut,
 
-    /// So, and again while the card is powered on next.
+    /// Power is lost at each call, and again while the card is powered on next.
     CutTwice,
 
-    /// So, but at writes and syncs alone, the first time and the second.
+    /// Power is lost at each write and sync, the first time and the second.
     CutWrites,
 
-    /// So, and again and again, at a later call each time that the card is powered on.
+    /// Power is lost at each call, and again and again, at a later call each time that the card is powered on.
     CutOn,
 
     /// One call fails, and the next ones do not.
@@ -45,7 +45,7 @@ pub enum Line<'a> {
     /// A new case, with a device of zeros.
     Case(&'a [u8]),
 
-    /// Bytes in digits, so many times, at a place in a page and on into those behind it.
+    /// Bytes in digits, so many times, at a place in a page and on into those after it.
     Page {
         number: u32,
         place: u32,
@@ -106,7 +106,7 @@ pub enum Line<'a> {
         rounds: u32,
     },
 
-    /// So many bytes from a place in a page on.
+    /// `count` bytes from a place in a page on.
     Look {
         number: u32,
         place: u32,

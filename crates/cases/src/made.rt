@@ -32,7 +32,7 @@ pub fn made_entry(tables: &Tables, words: &mut Words<'_>) -> Result<Entry, CaseE
     })
 }
 
-/// A file in the load pages that are named behind it, with the bytes that stand there.
+/// A file in the load pages that the words after it name, with the bytes that stand there.
 pub fn made_file(tables: &Tables, words: &mut Words<'_>) -> Result<LoadFile, CaseError>
     ensures { IfOk result IsInLoadPages }
 {

@@ -1,6 +1,6 @@
 //! Cases of the card and of `gp`: each line of standard input is done, and what it answers is written.
 //!
-//! docs/TESTS.md has the language. A line that has no form in it ends the program with status 1, and standard
+//! docs/TESTS.md has the language. A malformed line in it ends the program with status 1, and standard
 //! error says which line and why.
 #![tactic(auto)]
 

@@ -66,7 +66,7 @@ pub fn slot_of(names: &[Name], name: &Name) -> Result<u8, CaseError> {
     u8::try_from(slot).map_err(|_| CaseError::NoRegistry)
 }
 
-/// Pushes bytes behind those that are there.
+/// Pushes bytes after those that are there.
 pub fn push(slot: &mut Slot, bytes: &[u8]) -> Result<(), CaseError>
     ensures ok { OnOk result (slot.new.items ≡ slot.old.items ++ bytes.now) }
     ensures err { OnErr result ((slot.new ≡ slot.old) × (256 < length slot.old.items + length bytes.now)) }

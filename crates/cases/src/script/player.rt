@@ -44,7 +44,7 @@ impl<F: Flash> Player<F> {
         self.card.rule_name()
     }
 
-    /// Does a line, and answers what it prints, or nothing where it has no form. `why` prints what `raw` does, and behind a
+    /// Does a line, and answers what it prints, or nothing where it is malformed. `why` prints what `raw` does, and after a
     /// status the rule that refused the command, or `-`.
     pub fn step(&mut self, line: &[u8]) -> Option<Text> {
         let mut text = ArrayVec::new();
