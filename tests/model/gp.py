@@ -1,0 +1,107 @@
+"""The program: README, "gp" and "The file"; STATUS.md, "How gp ends"."""
+from __future__ import annotations
+
+import fcntl
+import os
+from collections.abc import Iterable, Iterator
+from contextlib import contextmanager
+from pathlib import Path
+from typing import BinaryIO, Callable
+
+from . import access, cap, desk, image, listing, mill, play, replay, why
+from .card import Card
+from .lines import Stop, Write
+
+USAGE = "usage: gp format | run | why | replay | play | mill SEED COUNT | show | access | desk | cap"
+LONGEST_FILE = 155_648
+
+RUNS = {"run": why.run, "why": why.why, "replay": replay.replay, "play": play.play}
+SHOWS = {"show": listing.show, "access": access.access}
+WITHOUT_CARD = {"desk": desk.desk, "cap": cap.cap}
+
+
+@contextmanager
+def device(path: Path, flags: int = 0) -> Iterator[int]:
+    """The file of the card, open and locked. Where it fails, the run ends with 3."""
+    try:
+        file = os.open(path, os.O_RDWR | os.O_CLOEXEC | flags, 0o600)
+        try:
+            fcntl.flock(file, fcntl.LOCK_EX | fcntl.LOCK_NB)
+            yield file
+        finally:
+            os.close(file)
+    except OSError:
+        raise Stop(3) from None
+
+
+def with_card(path: Path, act: Callable[[Card], int]) -> int:
+    """Powers the card on and acts; what has changed stays, however that ends."""
+    if not path.exists():
+        return 4
+    with device(path) as file:
+        before = os.pread(file, LONGEST_FILE, 0)
+        try:
+            card = Card(image.read_image(before))
+        except image.BadImage:
+            return 4
+        try:
+            return act(card)
+        finally:
+            after = image.write_image(card.registry)
+            if after != before:
+                os.pwrite(file, after, 0)
+
+
+def make(path: Path) -> int:
+    """`card.img` as it leaves the factory."""
+    with device(path, os.O_CREAT) as file:
+        os.pwrite(file, image.write_image(image.factory_registry()), 0)
+    return 0
+
+
+def write_all(lines: Iterable[str], write: Write) -> int:
+    for line in lines:
+        write(line)
+    return 0
+
+
+def is_utf8(word: str) -> bool:
+    """Python puts lone surrogates in the place of bytes that are none."""
+    return not any(0xD800 <= ord(letter) < 0xE000 for letter in word)
+
+
+def do(words: list[str], path: Path, source: BinaryIO, write: Write) -> int:
+    if not all(map(is_utf8, words)):
+        raise Stop(1)
+    match words:
+        case ["format"]:
+            return make(path)
+        case [verb] if verb in RUNS:
+            return with_card(path, lambda card: RUNS[verb](card, source, write))
+        case [verb] if verb in SHOWS:
+            return with_card(path, lambda card: write_all(SHOWS[verb](card.registry), write))
+        case [verb] if verb in WITHOUT_CARD:
+            return WITHOUT_CARD[verb](source, write)
+        case ["mill", seed, count] if mill.has_numbers(seed, count):
+            make(path)
+            return with_card(path, lambda card: write_all(mill.mill(card, int(seed), int(count)), write))
+    raise Stop(1, USAGE)
+
+
+def gp(words: list[str], path: Path, source: BinaryIO, sink: BinaryIO) -> int:
+    """What `gp` does with these words on the card in this file; gives the exit status."""
+    def write(line: str) -> None:
+        try:
+            sink.write(line.encode() + b"\n")
+            sink.flush()
+        except OSError:
+            raise Stop(6) from None
+    try:
+        try:
+            return do(words, path, source, write)
+        except Stop as stop:
+            if stop.text is not None:
+                write(stop.text)
+            return stop.status
+    except Stop as stop:
+        return stop.status
