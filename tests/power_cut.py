@@ -11,10 +11,11 @@ The program has the standard streams and the folder of the caller. It is followe
 stopped at is not carried out. It is SIGKILL that comes, so what was written before stands: what a disk loses without power is
 left to the cases, which have a device for that.
 
-The first form ends with 0 where the program was killed, and with 1 where it ended before. The second one compares what `PROGRAM
-show` writes after each kill: it has to be the registry after the lines of the script that were answered, or after one more. Each
-line of the script that sends prints one line, and no other does. RECOVERY has to end with 0, and to leave one registry, wherever
-the program was killed, but for its sequence counters. It says what differs, and at last 'N passed, M failed' and how many writes
+The first form ends with 0 where the program was killed, and with 1 where it ended before. The second one judges what each kill
+leaves by the model of tests/model: the file has to hold the registry that the model has after the lines of the script that were
+answered, or after one more, and `PROGRAM show` has to write this registry. Each line of the script that sends prints one line, and
+no other does. RECOVERY has to end with 0, and to leave one registry, wherever the program was killed, but for its sequence
+counters. It says what differs, and at last 'N passed, M failed' and how many writes
 the whole script makes.
 
 Where ptrace is refused, as in some containers, or is not that of Linux on x86-64, it says so and ends with 77.
@@ -28,6 +29,10 @@ import subprocess
 import sys
 import tempfile
 from pathlib import Path
+
+from model import image, listing, script
+from model.card import Card
+from model.play import Player
 
 CARD = "card.img"
 SKIPPED = 77
@@ -146,14 +151,20 @@ def sends(line):
         "reset", "channel", "keys", "tokenkey", "badtoken", "want")
 
 
-def registries(program, lines):
-    """What the registry is after each line that sends, and before the first."""
-    shown = []
-    for count in [0, *(at for at, line in enumerate(lines, 1) if sends(line))]:
-        with tempfile.TemporaryDirectory() as folder:
-            call(program, "format", folder)
-            call(program, "play", folder, "".join(lines[:count]))
-            shown.append(call(program, "show", folder))
+def show(registry):
+    return "".join(line + "\n" for line in listing.show(registry))
+
+
+def registries(lines):
+    """What the registry of the model is after each line that sends, and before the first."""
+    card = Card(image.factory_registry())
+    player = Player(card)
+    shown = [show(card.registry)]
+    for line in lines:
+        if line.strip() and not line.startswith("#"):
+            player.play(script.parse(line.rstrip("\n")))
+        if sends(line):
+            shown.append(show(card.registry))
     return shown
 
 
@@ -161,11 +172,11 @@ def without_counters(registry):
     return [line for line in registry.splitlines() if not line.startswith("counter ")]
 
 
-def cut(kill_at, program, script, recovery):
+def cut(kill_at, program, path, recovery):
     """Plays a script, and kills it before that write: the writes that were done, the status, the lines that were printed, the
-    registry afterwards, and what is left of it behind the recovery."""
+    registry afterwards as the model reads it in the file and as the program shows it, and what the recovery leaves of it."""
     here = os.getcwd()
-    with tempfile.TemporaryDirectory() as folder, tempfile.TemporaryFile() as printed, open(script, "rb") as lines:
+    with tempfile.TemporaryDirectory() as folder, tempfile.TemporaryFile() as printed, open(path, "rb") as lines:
         call(program, "format", folder)
         os.chdir(folder)
         try:
@@ -173,27 +184,28 @@ def cut(kill_at, program, script, recovery):
         finally:
             os.chdir(here)
         printed.seek(0)
+        held = show(image.read_image(Path(folder, CARD).read_bytes()))
         registry = call(program, "show", folder)
         call(program, "play", folder, recovery)
         recovered = without_counters(call(program, "show", folder))
-        return done, status, printed.read().count(b"\n"), registry, recovered
+        return done, status, printed.read().count(b"\n"), held, registry, recovered
 
 
-def each(program, script, recovery):
-    shown = registries(program, Path(script).read_text().splitlines(keepends=True))
+def each(program, path, recovery):
+    shown = registries(Path(path).read_text().splitlines(keepends=True))
     going_on = Path(recovery).read_text()
     passed = failed = 0
     kill_at = 0
     status = last = None
     while status is None:
         kill_at += 1
-        done, status, answered, registry, recovered = cut(kill_at, program, script, going_on)
+        done, status, answered, held, registry, recovered = cut(kill_at, program, path, going_on)
         if status is not None:
             good = status == 0 and answered == len(shown) - 1 and registry == shown[-1]
         else:
             good = registry in shown[answered : answered + 2]
         last = last or recovered
-        good = good and recovered == last
+        good = good and held == registry and recovered == last
         passed += good
         failed += not good
         if not good:
