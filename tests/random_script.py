@@ -1,6 +1,8 @@
-"""Random scripts for `gp play` that reach deep: written line by line by an author who plays each line on the model of a card
-(tests/model), and so knows what the card keeps by then. Most lines are such as the card accepts; the others fail a rule. Some
-scripts begin on a card that was used before, whose receipt numbers and sequence counters are near their limits."""
+"""Writes random scripts for `gp play` that reach deep.
+
+An author writes a script line by line and plays each line on the model of a card (tests/model), and so knows what the card keeps by
+then. Most lines are such as the card accepts; the others fail a rule. Some scripts begin on a card that was used before, whose
+receipt numbers and sequence counters are near their limits."""
 from __future__ import annotations
 
 import copy
