@@ -102,7 +102,7 @@ pub fn cap_verb<S: Source, K: Sink>(alloc: Global, source: &mut S, sink: &mut K)
     ensures ends { result ≢ 7 → CapEnds S.tells K.tells result (outside (S.state source.old) (K.state sink.old)) (outside (S.state source.new) (K.state sink.new)) }
     ensures complete { S.tells → IsGoodInput JoinsLine (limited []) (S.state source.old).left
         → WhereNothingFailed (outside (S.state source.old) (K.state sink.old)) (outside (S.state source.new) (K.state sink.new))
-            ((result ≡ 0) ⊎ (result ≡ 11) ⊎ (result ≡ 7)) }
+        ((result ≡ 0) ⊎ (result ≡ 11) ⊎ (result ≡ 7)) }
 {
     match Joined::new(alloc) {
         Ok(mut joined) => {

@@ -27,7 +27,7 @@ pub fn desk_verb<S: Source, K: Sink>(source: &mut S, sink: &mut K) -> u8
     ensures ends { DeskEnds S.tells K.tells result (outside (S.state source.old) (K.state sink.old)) (outside (S.state source.new) (K.state sink.new)) }
     ensures complete { S.tells → IsGoodInput TakesDesk new_audit (S.state source.old).left
         → WhereNothingFailed (outside (S.state source.old) (K.state sink.old)) (outside (S.state source.new) (K.state sink.new))
-            ((result ≡ 0) ⊎ (result ≡ 10)) }
+        ((result ≡ 0) ⊎ (result ≡ 10)) }
 {
     let mut audit = Audit::new();
     let end = take_lines(&mut audit, source, sink);

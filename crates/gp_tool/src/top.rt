@@ -121,7 +121,7 @@ pub fn gp<S: Source, K: Sink, F: Flash>(
         × DeskEnds S.tells K.tells result.status (outside (S.state source.old) (K.state sink.old)) (outside (S.state source.new) (K.state sink.new)) }
     ensures desk_complete { AreOf Desk words.now → S.tells → IsGoodInput TakesDesk new_audit (S.state source.old).left
         → WhereNothingFailed (outside (S.state source.old) (K.state sink.old)) (outside (S.state source.new) (K.state sink.new))
-            ((result.status ≡ 0) ⊎ (result.status ≡ 10)) }
+        ((result.status ≡ 0) ⊎ (result.status ≡ 10)) }
 
     // `cap`: no call is made on the device. The lines of the source were joined and packed, and the status is that of an ending, which says
     // what was read, written and handed on.
@@ -129,7 +129,7 @@ pub fn gp<S: Source, K: Sink, F: Flash>(
         × CapEnds S.tells K.tells result.status (outside (S.state source.old) (K.state sink.old)) (outside (S.state source.new) (K.state sink.new)) }
     ensures cap_complete { AreOf Cap words.now → S.tells → IsGoodInput JoinsLine (limited []) (S.state source.old).left
         → WhereNothingFailed (outside (S.state source.old) (K.state sink.old)) (outside (S.state source.new) (K.state sink.new))
-            ((result.status ≡ 0) ⊎ (result.status ≡ 11) ⊎ (result.status ≡ 7)) }
+        ((result.status ≡ 0) ⊎ (result.status ≡ 11) ⊎ (result.status ≡ 7)) }
     ensures later { F.faults flash ≤ F.faults result.flash }
 {
     match read_task(words) {
