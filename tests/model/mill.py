@@ -17,7 +17,9 @@ WORDS_A_ROUND = 5
 
 
 def has_numbers(seed: str, count: str) -> bool:
-    return all(re.fullmatch("[0-9]+", word) for word in (seed, count)) and int(seed) < 1 << 64 and 1 <= int(count) <= 10_000
+    if not (re.fullmatch("[0-9]{1,20}", seed) and re.fullmatch("[0-9]{1,5}", count)):
+        return False
+    return int(seed) < 1 << 64 and 1 <= int(count) <= 10_000
 
 
 def chosen(seed: int, rounds: int) -> Iterator[tuple[int, ...]]:

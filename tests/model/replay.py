@@ -7,10 +7,11 @@ from .lines import Write, digits, malformed, read_lines
 
 
 def replay(card, source: BinaryIO, write: Write) -> int:
-    """A line `= 9000` has to follow a command, with nothing but blank lines and comments between, and has a status word at least."""
+    """A line `= 9000`, with spaces or none, has to follow a command, with nothing but blank lines and comments between, and has a status
+    word at least."""
     last, differed = None, False
     for number, text in read_lines(source):
-        command, wanted = digits(text), digits(text[2:]) if text.startswith("= ") else None
+        command, wanted = digits(text), digits(text[1:].lstrip(" ")) if text.startswith("=") else None
         if command is not None:
             last = card.process(command)[0]
         elif text == "reset":

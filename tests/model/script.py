@@ -88,7 +88,7 @@ WORDS: dict[str, Callable[[str], Any]] = {
 FORMS = {
     "open": ["BYTE LL CHALLENGE"], "keys": ["KEY KEY KEY"], "channel": ["CHANNEL"], "reset": [""],
     "select": ["", "AID"], "raw": ["RAW"], "send": ["APDU"], "bad": ["APDU"],
-    "putkey": ["BYTE BYTE KEY", "BYTE BYTE KEY KEY KEY"], "store": ["HEX"], "life": ["BYTE BYTE", "BYTE BYTE AID"],
+    "putkey": ["BYTE BYTE KEY", "BYTE BYTE KEY KEY KEY"], "store": ["RAW"], "life": ["BYTE BYTE", "BYTE BYTE AID"],
     "list": ["BYTE", "BYTE PARTIAL"], "more": ["BYTE", "BYTE PARTIAL"],
     "load": ["AID DOMAIN HASH HEX", "AID DOMAIN HASH FILL N BYTE"], "install": ["04|0C AID AID AID PRIV PARAMS"],
     "selectable": ["AID"], "extradite": ["AID AID"], "delete": ["AID BYTE"],
