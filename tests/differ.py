@@ -146,7 +146,9 @@ def shorten(program: str, start: bytes, lines: list[str], rights: bool) -> list[
 
 
 def kind_of(command: bytes) -> str:
-    name = INSTRUCTIONS.get(command[1], "other") if len(command) > 1 else "other"
+    if len(command) < 4:
+        return "other"
+    name = INSTRUCTIONS.get(command[1], "other")
     if name == "INSTALL":
         return f"INSTALL [{INSTALLS.get(command[2], 'other')}]"
     return name
@@ -208,8 +210,10 @@ def main() -> int:
     jobs = [(os.path.abspath(words.gp), words.lines, seed) for seed in seeds(words.seed)]
     total, counts, differing = 0, Counter(), 0
     with multiprocessing.Pool(words.jobs) as pool:
-        for number, found, report in pool.imap_unordered(try_seed, jobs):
+        for done, (number, found, report) in enumerate(pool.imap_unordered(try_seed, jobs), 1):
             total += number
+            if done % 100 == 0:
+                print(f"differ: {done} of {len(jobs)} scripts, {total} commands", file=sys.stderr, flush=True)
             counts.update(found)
             if report:
                 differing += 1
