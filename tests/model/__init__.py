@@ -1,5 +1,5 @@
 """A second card, in Python, written from the documentation alone (README.md and docs/).
 
-Where the pages did not suffice it was corrected by what the program answers, and the pages were mended. So it is two things: an independent implementation that the proved program is compared
-with, and the evidence that docs/POLICY.md and docs/STATUS.md suffice to build a card from.
+Where the pages did not suffice it was corrected by what the program answers, and the pages were mended. So it is two things: a
+second implementation that the proved program is compared with, and the evidence of what the pages decide.
 """
