@@ -3,6 +3,9 @@
 
     tests/believed.py             for each top call its definitions: how many, and their lines, by crate
     tests/believed.py WORD...     the definitions themselves, with file and line, of the calls whose name has a WORD
+    tests/believed.py --heads     the files of specs/ whose head is wrong; it ends with 1 where there is one
+
+The head of a file that no top call and no law leads to begins with "For the code inside", and no other head does.
 
 It goes by names: from the words of a call's clauses to the definitions in specs/ that the file imports, and from each of
 these on. Words of the toolchain's library and types of the code are not followed. Run it anywhere in the repository.
@@ -18,6 +21,7 @@ CRATES = pathlib.Path(__file__).resolve().parent.parent / "crates"
 CALLS = [
     ("gp_tool", "top.rt", "pub fn gp<"),
     ("gp_tool", "serving.rt", "pub fn serve<"),
+    ("host_tool", "top.rt", "pub fn gp_host<"),
     ("script_tool", "player.rt", "pub fn step<"),
     ("card_core", "card.rt", "pub fn power_on("),
     ("card_core", "card.rt", "pub fn process("),
@@ -26,16 +30,13 @@ CALLS = [
     ("flash_core", "flash.rt", "pub trait Flash"),
     ("io_edge", "source.rt", "pub trait Source"),
     ("io_edge", "sink.rt", "pub trait Sink"),
-    ("policy_rules", "laws.rt", "pub fn "),
-    ("scp03_host", "laws.rt", "pub fn "),
-    ("access_matrix", "laws.rt", "pub fn "),
-    ("receipt_desk", "laws.rt", "pub fn "),
-    ("cap_pack", "laws.rt", "pub fn "),
 ]
+CALLS += [(path.parts[-3], "laws.rt", "pub fn ") for path in sorted(CRATES.glob("*/src/laws.rt"))]
 
 WORD = re.compile(r"[^\W\d][\w'-]*(?:\.[A-Za-z_][\w']*)*")
 USE = re.compile(r"(?:ghost )?use Rattle\.(\w+)\.specs\.([\w.]+?)(?:\.\{([^}]*)\})?(?: as (\w+))?;?$")
-DEFINITION = re.compile(r"(?:abbrev |unfoldable )?pub (?:record |data )?([^\s:({]+)")
+# At the beginning of a line, or within a module: there a bare `pub` is a field of a record.
+DEFINITION = re.compile(r"(?:(?:abbrev |unfoldable )?pub (?:record |data )?|  (?:abbrev |unfoldable )pub |  pub (?:record|data) )([^\s:({]+)")
 
 
 def imports(lines):
@@ -121,8 +122,22 @@ def reached(specs, words, uses):
     return seen
 
 
+def wrong_heads(specs):
+    """The files whose head says the wrong thing of who reads them."""
+    top = {at[:2] for crate, file, begin in CALLS for at in reached(specs, *clauses(crate, file, begin))}
+    return [
+        file.path.relative_to(CRATES.parent)
+        for at, file in specs.items()
+        if file.first and (at in top) == file.path.read_text().startswith("-- For the code inside")
+    ]
+
+
 def main(wanted):
     specs = all_specs()
+    if wanted == ["--heads"]:
+        wrong = wrong_heads(specs)
+        print(*wrong, sep="\n", end="\n" if wrong else "")
+        return 1 if wrong else 0
     for crate, file, begin in CALLS:
         call = f"{crate} {begin.removeprefix('pub ').rstrip('(<')}".replace(" fn ", " ").rstrip()
         if begin == "pub fn ":
@@ -140,4 +155,4 @@ def main(wanted):
 
 
 if __name__ == "__main__":
-    main(sys.argv[1:])
+    sys.exit(main(sys.argv[1:]))

@@ -1,4 +1,4 @@
--- The kinds of deeds by their numbers.
+-- For the code inside. The kinds of deeds by their numbers.
 use Rattle.std.specs.Prelude.{ℕ}
 use Rattle.access_matrix.specs.declared.kind.Kind.{Kind}
 use Rattle.access_matrix.specs.declared.kind.Kind.TheVariants.{Delete, Related, Lock, Move, Install, Load}

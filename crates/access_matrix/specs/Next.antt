@@ -1,4 +1,4 @@
--- The next right by slots: of the candidates past the last right, the first that may be done.
+-- For the code inside. The next right by slots: of the candidates past the last right, the first that may be done.
 use Rattle.std.specs.Prelude.{◌≡◌, ◌≢◌, ℕ, ◌≤◌, List, [], ◌∷◌, Option, None, Some}
 use Rattle.std.specs.Cmp.Lexicographic.{slice_cmp}
 use Rattle.std.specs.Ordering.{nat_cmp}

@@ -1,4 +1,4 @@
--- What the functions of this crate say of a deed, by what the tables of a card say.
+-- For the code inside. What the functions of this crate say of a deed, by what the tables of a card say.
 use Rattle.std.specs.Prelude.{ℕ, Bool, true, false, IsSome, List, None}
 use Rattle.apdu_core.specs.Apdu.{Apdu}
 use Rattle.card_types.specs.Registry.{Registry}

@@ -1,4 +1,4 @@
--- How far a walk through the rights of a card still goes.
+-- For the code inside. How far a walk through the rights of a card still goes.
 use Rattle.std.specs.Prelude.{ℕ, suc, List, [], ◌∷◌, ◌++◌, length, Option, None, Some, filter, map}
 use Rattle.std.specs.List.{flat_map}
 use Rattle.std.specs.Ordering.{is_lt}

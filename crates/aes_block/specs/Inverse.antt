@@ -1,5 +1,5 @@
--- The steps of the equivalent inverse cipher (FIPS 197, 5.3), which the code of `unseal` takes.
--- What `unseal` gives is not said by these: it is the block that the cipher turns into the old one.
+-- For the code inside. The steps of the equivalent inverse cipher (FIPS 197, 5.3), which the code of `unseal` takes. What
+-- `unseal` gives is not said by these: it is the block that the cipher turns into the old one.
 use Rattle.std.specs.Prelude.{◌≡◌, ℕ, zero, suc, ◌+◌, ◌-◌, ◌*◌, ◌/◌, ◌%◌, ◌<◌, List, [], ◌∷◌, ◌++◌, map, slice_index}
 use Rattle.std.specs.Int.{byte_at}
 use Rattle.std.specs.List.{range_with_len}

@@ -1,4 +1,5 @@
--- What the code keeps: the state as four words, one a column, and the key schedule in an array for the longest.
+-- For the code inside. What the code keeps: the state as four words, one a column, and the key schedule in an array for the
+-- longest.
 use Rattle.std.specs.Prelude.{◌≡◌, ℕ, ◌+◌, ◌*◌, ◌/◌, List, ◌++◌, take}
 use Rattle.aes_block.specs.Cipher.{IsKey}
 use Rattle.aes_block.specs.Words.{first_bytes, key_words, word_bytes}

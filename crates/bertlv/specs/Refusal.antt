@@ -1,4 +1,4 @@
--- Why bytes are refused. Each cause says what is whole before it, and so is the first in reading order.
+-- For the code inside. Why bytes are refused. Each cause says what is whole before it, and so is the first in reading order.
 use Rattle.std.specs.Prelude.{◌≡◌, ℕ, ◌+◌, ◌*◌, ◌<◌, ◌≤◌, ◌⊎◌, List, [], ◌∷◌, ◌++◌, length}
 use Rattle.bertlv.specs.declared.element.TlvError.{TlvError}
 use Rattle.bertlv.specs.declared.element.TlvError.TheVariants.{Short, Tag, Length}

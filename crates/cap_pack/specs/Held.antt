@@ -1,4 +1,4 @@
--- What the code keeps of a CAP file.
+-- For the code inside. What the code keeps of a CAP file.
 use Rattle.std.specs.Prelude.{◌≡◌, ℕ, List, length}
 use Rattle.apdu_core.specs.Apdu.{Apdu}
 use Rattle.cap_pack.specs.Cap.{CapOf, Lists}

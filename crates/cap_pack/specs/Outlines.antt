@@ -1,4 +1,4 @@
--- What a walk through components meets.
+-- For the code inside. What a walk through components meets.
 use Rattle.std.specs.Prelude.{◌≡◌, ℕ, ◌≤◌, ◌==◌, List, Bool, false, MatchOption, is_some, if◌then◌else◌, IsTrue, ◌↔◌}
 use Rattle.cap_pack.specs.Cap.{NoneRepeats}
 use Rattle.cap_pack.specs.Components.{Component, Stands, count_of}

@@ -1,4 +1,4 @@
--- What the slots of a card hold, by the numbers of the slots.
+-- For the code inside. What the slots of a card hold, by the numbers of the slots.
 use Rattle.std.specs.Prelude.{◌≡◌, ◌≢◌, ℕ, ◌<◌, ◌≤◌, ◌==◌, ◌&&◌, ◌||◌, Bool, true, false, List, Option, None, Some, MatchOption, IsSome, length}
 use Rattle.std.specs.List.{count_by}
 use Rattle.card_types.specs.Aid.{IsAid}

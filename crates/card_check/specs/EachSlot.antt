@@ -1,4 +1,4 @@
--- What is so of the thing in each used slot.
+-- For the code inside. What is so of the thing in each used slot.
 use Rattle.std.specs.Prelude.{◌≡◌, ℕ, List, Option, Some}
 use Rattle.card_types.specs.Slots.{held}
 

@@ -1,4 +1,4 @@
--- What is kept under keys of one of the three lengths.
+-- For the code inside. What is kept under keys of one of the three lengths.
 use Rattle.card_core.specs.declared.aes_kind.AesKind.{AesKind}
 use Rattle.card_core.specs.declared.aes_kind.AesKind.TheVariants.{Aes128, Aes192, Aes256}
 

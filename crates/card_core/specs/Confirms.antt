@@ -1,4 +1,5 @@
--- How a command of card content management is answered: by a receipt of the domain that confirms it, or by 00.
+-- For the code inside. How a command of card content management is answered: by a receipt of the domain that confirms it, or by
+-- 00.
 use Rattle.std.specs.Prelude.{◌≡◌, ◌⊎◌, ◌↔◌, ℕ, ◌++◌, List, [], Option, None, Some, IfSome}
 use Rattle.card_types.specs.KeySets.{HoldsKeyOf}
 use Rattle.card_types.specs.Layout.{HasIssuer}

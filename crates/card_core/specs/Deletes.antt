@@ -1,4 +1,4 @@
--- What is left where a thing is removed, by slots.
+-- For the code inside. What is left where a thing is removed, by slots.
 use Rattle.std.specs.Prelude.{◌≡◌, ℕ, List, Bool, Option, None, Some, map, slice_set}
 use Rattle.card_types.specs.Slots.{held}
 use Rattle.card_types.specs.declared.found.Found.{Found}

@@ -1,4 +1,4 @@
--- Security domains in their slots.
+-- For the code inside. Security domains in their slots.
 use Rattle.std.specs.Prelude.{◌≡◌, ℕ, List, Bool, false, Option, None, Some}
 use Rattle.card_types.specs.Privileges.{has, security_domain}
 use Rattle.card_types.specs.Registry.{Registry}

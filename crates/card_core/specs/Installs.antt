@@ -1,4 +1,4 @@
--- The entry that INSTALL [for install] makes, by slots.
+-- For the code inside. The entry that INSTALL [for install] makes, by slots.
 use Rattle.std.specs.Prelude.{ℕ, false, if◌then◌else◌}
 use Rattle.card_types.specs.declared.life.Life.TheVariants.{Installed, Selectable}
 use Rattle.card_types.specs.declared.tables.Entry.{Entry}

@@ -1,4 +1,5 @@
--- What comes of GET STATUS: the registry stays, and the channel gets a place in the listing where things are left.
+-- For the code inside. What comes of GET STATUS: the registry stays, and the channel gets a place in the listing where things are
+-- left.
 use Rattle.std.specs.Prelude.{◌≡◌, ◌⊎◌, ℕ, List, [], Result, Ok, Err, None, Some}
 use Rattle.apdu_core.specs.declared.reply.Status.{Status}
 use Rattle.card_types.specs.declared.tables.Tables.{Tables}

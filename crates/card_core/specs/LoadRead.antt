@@ -1,4 +1,4 @@
--- What reads of load pages do to records: nothing changes, and power lost at any moment leaves the registry.
+-- For the code inside. What reads of load pages do to records: nothing changes, and power lost at any moment leaves the registry.
 use Rattle.std.specs.Prelude.{◌≡◌, ◌≤◌}
 use Rattle.card_types.specs.Registry.{Registry}
 use Rattle.flash_core.specs.declared.flash.Flash.{Ghosts as Flash}

@@ -1,4 +1,4 @@
--- What comes of an Executable Load File that is added.
+-- For the code inside. What comes of an Executable Load File that is added.
 use Rattle.std.specs.Prelude.{ℕ, List, [], ◌∷◌, Option, IfSome}
 use Rattle.card_types.specs.Registry.{Registry}
 use Rattle.card_types.specs.RegistryChange.{IsFileAdded}

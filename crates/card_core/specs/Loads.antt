@@ -1,4 +1,4 @@
--- What comes of a command that begins a load session, or goes on with one.
+-- For the code inside. What comes of a command that begins a load session, or goes on with one.
 use Rattle.std.specs.Prelude.{◌≡◌, ℕ, List, [], Option, Result, Ok, Err, None, Some}
 use Rattle.apdu_core.specs.declared.reply.Status.{Status}
 use Rattle.card_check.specs.IsCard.{HasPages}

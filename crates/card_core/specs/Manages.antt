@@ -1,4 +1,5 @@
--- What comes of a command of card content management: the registry changes, and nothing of what the channels hold.
+-- For the code inside. What comes of a command of card content management: the registry changes, and nothing of what the channels
+-- hold.
 use Rattle.std.specs.Prelude.{◌≡◌, ℕ, ◌<◌, List, [], Option, Result, Ok, Err, None, Some, IfSome}
 use Rattle.apdu_core.specs.declared.reply.Status.{Status}
 use Rattle.card_types.specs.Represents.{Represents}

@@ -1,4 +1,4 @@
--- Data objects that are put in slots.
+-- For the code inside. Data objects that are put in slots.
 use Rattle.std.specs.Prelude.{◌≡◌, ◌⊎◌, ℕ, ◌<◌, List, Option, None, Some, true, false}
 use Rattle.card_types.specs.SlotChange.{SetsObject}
 use Rattle.card_types.specs.Slots.{held}

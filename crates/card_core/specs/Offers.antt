@@ -1,4 +1,4 @@
--- What comes of INITIALIZE UPDATE and EXTERNAL AUTHENTICATE on the channel that they come on.
+-- For the code inside. What comes of INITIALIZE UPDATE and EXTERNAL AUTHENTICATE on the channel that they come on.
 use Rattle.std.specs.Prelude.{◌≡◌, ℕ, List, [], Result, Ok, Err, Some, None}
 use Rattle.apdu_core.specs.declared.reply.Status.{Status}
 use Rattle.card_types.specs.Counters.{raised}

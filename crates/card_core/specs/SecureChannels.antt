@@ -1,4 +1,4 @@
--- What the code holds on a channel, and what it stands for.
+-- What the code holds on a channel, and what it stands for (GlobalPlatform Amendment D, chapter 5).
 use Rattle.std.specs.Prelude.{ℕ, ◌<◌, List, Bool, true, false, slice_index_or}
 use Rattle.scp03_card.specs.Kept.{RepresentsSession, RepresentsOffer}
 use Rattle.policy_rules.specs.Volatile.{Nothing, Offered, Secured, SecureChannel, Volatile, channel_at, secure_channel_of}

@@ -1,4 +1,4 @@
--- What comes of a protected command before its own rules are judged.
+-- For the code inside. What comes of a protected command before its own rules are judged.
 use Rattle.std.specs.Prelude.{◌≡◌, ℕ, List, Result, Ok, Err, None, MatchOption, take}
 use Rattle.apdu_core.specs.Apdu.{Apdu}
 use Rattle.scp03_card.specs.Opens.{Gives, IsAuthentic, Opens, accepting, field_of}

@@ -1,4 +1,4 @@
--- What comes of a command.
+-- For the code inside. What comes of a command.
 use Rattle.std.specs.Prelude.{◌≡◌, ℕ, List, [], false, Result, Ok, Err, Some, None, Option, slice_set, if◌then◌else◌, ◌==◌}
 use Rattle.apdu_core.specs.Apdu.{Apdu}
 use Rattle.apdu_core.specs.declared.reply.Status.{Status}

@@ -1,4 +1,4 @@
--- The part of a listing that was shown.
+-- For the code inside. The part of a listing that was shown.
 use Rattle.std.specs.Prelude.{◌≡◌, ℕ, List, [], ◌∷◌, ◌++◌, Option, None, Some}
 use Rattle.policy_rules.specs.Admission.{Admitted}
 use Rattle.policy_rules.specs.GetStatus.{AreTemplates, IsFullFor, IsListing, Thing, last_aid}

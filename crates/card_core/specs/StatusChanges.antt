@@ -1,4 +1,4 @@
--- What a SET STATUS of an entry changes, by slots.
+-- For the code inside. What a SET STATUS of an entry changes, by slots.
 use Rattle.std.specs.Prelude.{ℕ, List, Bool, Option, Contains}
 use Rattle.card_types.specs.Registry.{Registry}
 use Rattle.card_types.specs.RegistryChange.{with_life, with_locks}

@@ -1,4 +1,4 @@
-//! What every command passes before the rules of its own are judged.
+//! What every command passes before the rules of its own are judged (GlobalPlatform Card Specification 2.3.1, 11.1.4).
 
 ghost use Rattle.std.specs.Prelude.{◌≡◌, ◌≢◌, ◌↔◌, IsTrue, false, true, IfOk, IfErr, ℕ, List, None, Some, slice_index_or};
 ghost use Rattle.apdu_core.specs.Apdu.{Short, apdu_of};

@@ -1,4 +1,4 @@
-//! The three lengths of keys.
+//! The three lengths of keys (GlobalPlatform Amendment D, chapter 6).
 
 /// A value under AES-128, AES-192 or AES-256: under keys of 16, 24 or 32 bytes.
 #[derive(Drop)]

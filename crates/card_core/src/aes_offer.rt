@@ -1,4 +1,4 @@
-//! An offer under keys of any length.
+//! An offer under keys of any length (GlobalPlatform Amendment D, 7.1.1).
 
 ghost use Rattle.std.specs.Prelude.{◌≡◌, ◌≤◌, IfOk, IsOk, OnOk, length};
 ghost use Rattle.card_types.specs.NamedKeys.{HaveKeyLength};

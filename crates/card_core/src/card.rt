@@ -1,4 +1,4 @@
-//! A card.
+//! A card (GlobalPlatform Card Specification 2.3.1, chapter 6).
 
 ghost use Rattle.std.specs.Prelude.{◌≡◌, ◌≤◌, ◌↔◌, ℕ, List, [], ◌∷◌, false, true, None, IfOk, IfErr, IsSome, IsTrue, OnErr, OnOk};
 ghost use Rattle.apdu_core.specs.Reply.{status_bytes};

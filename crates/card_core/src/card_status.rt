@@ -1,4 +1,4 @@
-//! SET STATUS of the card: the card goes to another life cycle state.
+//! SET STATUS of the card: the card goes to another life cycle state (GlobalPlatform Card Specification 2.3.1, 5.1 and 11.10).
 
 ghost use Rattle.policy_rules.specs.declared.request.Request.TheVariants.{CardStatus};
 

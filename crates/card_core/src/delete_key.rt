@@ -1,4 +1,4 @@
-//! DELETE of a key: the keys of a domain with one key version number go.
+//! DELETE of a key: the keys of a domain with one key version number go (GlobalPlatform Card Specification 2.3.1, 11.2).
 
 ghost use Rattle.policy_rules.specs.declared.request.Request.TheVariants.{DeleteKey};
 

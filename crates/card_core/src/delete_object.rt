@@ -1,4 +1,5 @@
-//! DELETE of an application, a security domain or an Executable Load File: a thing goes.
+//! DELETE of an application, a security domain or an Executable Load File: a thing goes (GlobalPlatform Card Specification 2.3.1,
+//! 9.5 and 11.2).
 
 ghost use Rattle.std.specs.Prelude.{◌≡◌, ◌≢◌, ℕ, List, [], true, IsSome, Some};
 ghost use Rattle.card_core.specs.Deletes.{LeavesOthers, RemovesLoaded};

@@ -1,5 +1,5 @@
-//! SET STATUS of an application or a security domain: it is locked, unlocked or personalized, a domain also locked or unlocked with all
-//! that is below it.
+//! SET STATUS of an application or a security domain: it is locked, unlocked or personalized, a domain also locked or unlocked
+//! with all that is below it (GlobalPlatform Card Specification 2.3.1, 5.3 and 11.10).
 
 ghost use Rattle.std.specs.Prelude.{◌≡◌, ℕ, List, [], true, IsSome};
 ghost use Rattle.card_core.specs.StatusChanges.{MakesChange, SaysChange, StagesOthers};

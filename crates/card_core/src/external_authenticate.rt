@@ -1,4 +1,4 @@
-//! EXTERNAL AUTHENTICATE: an offer becomes a session.
+//! EXTERNAL AUTHENTICATE: an offer becomes a session (GlobalPlatform Amendment D, 7.1.2).
 
 ghost use Rattle.std.specs.Prelude.{◌≡◌, IfErr, OnOk};
 ghost use Rattle.card_core.specs.SecureChannels.{IsOffered};

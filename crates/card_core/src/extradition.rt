@@ -1,4 +1,4 @@
-//! INSTALL [for extradition]: a thing goes to another security domain.
+//! INSTALL [for extradition]: a thing goes to another security domain (GlobalPlatform Card Specification 2.3.1, 9.4.1 and 11.5).
 
 ghost use Rattle.policy_rules.specs.declared.request.Request.TheVariants.{Extradite};
 

@@ -1,4 +1,4 @@
-//! INSTALL [for install]: an application or a security domain is made.
+//! INSTALL [for install]: an application or a security domain is made (GlobalPlatform Card Specification 2.3.1, 9.3.2 and 11.5).
 
 ghost use Rattle.std.specs.Prelude.{◌≡◌};
 ghost use Rattle.card_core.specs.Installs.{slot_made};

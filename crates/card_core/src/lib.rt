@@ -1,4 +1,4 @@
-//! A card: what it keeps, and what it does with each command.
+//! A card: what it keeps, and what it does with each command (GlobalPlatform Card Specification 2.3.1, chapters 6 and 11).
 //!
 //! A card answers any bytes by a reply, which ends in a status word. It takes no memory for that.
 #![tactic(auto)]

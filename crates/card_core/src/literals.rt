@@ -1,4 +1,4 @@
-//! The number that clauses read from the code, against its literal.
+//! The number that clauses read from the code, against its literal (this profile's own).
 
 ghost use Rattle.std.specs.Prelude.{◌≡◌};
 ghost use Rattle.card_core.specs.declared.reply.TheConstants.{REPLY_LIMIT};

@@ -1,4 +1,4 @@
-//! The load session that a card keeps.
+//! The load session that a card keeps (GlobalPlatform Card Specification 2.3.1, 9.3.5 and 11.6).
 
 ghost use Rattle.std.specs.Prelude.{◌≡◌, [], None};
 

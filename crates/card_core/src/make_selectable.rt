@@ -1,4 +1,5 @@
-//! INSTALL [for make selectable]: an application that is installed can be selected from then on.
+//! INSTALL [for make selectable]: an application that is installed can be selected from then on (GlobalPlatform Card
+//! Specification 2.3.1, 9.3.3 and 11.5).
 
 ghost use Rattle.policy_rules.specs.declared.request.Request.TheVariants.{MakeSelectable};
 

@@ -1,4 +1,4 @@
-//! A key that was sent under a Key-DEK.
+//! A key that was sent under a Key-DEK (GlobalPlatform Card Specification 2.3.1, 11.8; Amendment D, 7.2).
 
 ghost use Rattle.std.specs.Prelude.{◌≡◌, ◌≤◌, ◌↔◌, IsTrue, length, take};
 ghost use Rattle.cmac_kdf.specs.Blocks.{IsBytes};

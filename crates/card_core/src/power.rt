@@ -1,4 +1,4 @@
-//! Why a card is not powered on.
+//! Why a card is not powered on (this profile's own).
 
 ghost use Rattle.std.specs.Prelude.{◌≡◌};
 ghost use Rattle.card_core.specs.PowerOn.{power_cause};

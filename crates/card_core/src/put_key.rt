@@ -1,4 +1,4 @@
-//! PUT KEY: keys of a domain are put.
+//! PUT KEY: keys of a domain are put (GlobalPlatform Card Specification 2.3.1, 11.8; Amendment D, 7.2).
 
 ghost use Rattle.std.specs.Prelude.{◌≡◌, ◌≤◌, ◌+◌, ◌++◌, ◌&&◌, length};
 ghost use Rattle.policy_rules.specs.declared.request.Request.TheVariants.{PutKey};

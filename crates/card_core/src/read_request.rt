@@ -1,4 +1,4 @@
-//! What a command asks for, by the rules on its form.
+//! What a command asks for, by the rules on its form (GlobalPlatform Card Specification 2.3.1, chapter 11).
 
 ghost use Rattle.std.specs.Prelude.{◌≡◌, IfErr, IfOk, OnOk, Some};
 ghost use Rattle.apdu_core.specs.Apdu.{apdu_of};

@@ -1,4 +1,4 @@
-//! The end of a reply.
+//! The end of a reply (ISO/IEC 7816-4:2013, 5.6).
 
 ghost use Rattle.std.specs.Prelude.{◌≡◌, ◌≤◌, ◌+◌, ◌++◌};
 ghost use Rattle.arrayvec.specs.ArrayVec.{array_vec_len};

@@ -1,4 +1,4 @@
-//! STORE DATA: data objects of a domain are put.
+//! STORE DATA: data objects of a domain are put (GlobalPlatform Card Specification 2.3.1, 11.11).
 
 ghost use Rattle.std.specs.Prelude.{◌≡◌, ◌<◌, ◌≤◌, length, true, false, Some};
 ghost use Rattle.card_core.specs.ObjectsPut.{IsSlotFor, PutsObject, object_with};

@@ -1,4 +1,4 @@
--- The bytes of an identifier give its fields back.
+-- For the code inside. The bytes of an identifier give its fields back.
 use Rattle.std.proofs.Common.{◌≡◌, ◌-◌, ◌++◌, length, take, ap, sym, ◌∙◌, arith, length-take-le}
 use Rattle.std.specs.Prelude.{replicate}
 use Rattle.card_types.specs.declared.aid.Aid.TheInside.{Inside}

@@ -1,4 +1,4 @@
--- The fields of an `Aid`.
+-- For the code inside. The fields of an `Aid`.
 use Rattle.std.specs.Prelude.{◌≡◌, ◌-◌, ◌≤◌, ◌++◌, length, take, replicate}
 use Rattle.card_types.specs.declared.aid.Aid.TheInside.{Inside}
 

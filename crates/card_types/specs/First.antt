@@ -1,4 +1,4 @@
--- The first slot with a thing that fits, and the first free one.
+-- For the code inside. The first slot with a thing that fits, and the first free one.
 use Rattle.std.specs.Prelude.{◌≡◌, ◌≢◌, ℕ, ◌<◌, List, length, Bool, true, Option, None, Some}
 use Rattle.card_types.specs.Slots.{held}
 use Rattle.card_types.specs.declared.search.InSlot.{InSlot}

@@ -1,4 +1,4 @@
--- A search for the next AID.
+-- For the code inside. A search for the next AID.
 use Rattle.std.specs.Prelude.{ℕ, List, Bool, true, Option, None, Some}
 use Rattle.std.specs.Ordering.{is_lt}
 use Rattle.card_types.specs.AidOrder.{aid_order}

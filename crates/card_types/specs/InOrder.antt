@@ -1,4 +1,4 @@
--- The tables of a card: they lay out a registry that a card may have.
+-- For the code inside. The tables of a card: they lay out a registry that a card may have.
 use Rattle.std.specs.Prelude.{ℕ, List}
 use Rattle.card_types.specs.Layout.{HasLayout}
 use Rattle.card_types.specs.Registry.{Registry}

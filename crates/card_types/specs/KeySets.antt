@@ -1,5 +1,5 @@
--- Key sets: the three keys of one key version number. Key version number 00 asks for any set (GlobalPlatform Card
--- Specification 2.3.1, 11.8; Amendment D, 7.1.1).
+-- For the code inside. Key sets: the three keys of one key version number. Key version number 00 asks for any set (GlobalPlatform
+-- Card Specification 2.3.1, 11.8; Amendment D, 7.1.1).
 use Rattle.std.specs.Prelude.{◌≡◌, ℕ, ◌≤◌, ◌==◌, ◌⊎◌, List, [], ◌∷◌, Bool, ◌&&◌, Option, Some, MatchOption}
 use Rattle.card_types.specs.Slots.{held}
 use Rattle.card_types.specs.declared.tables.KeyRec.{KeyRec}

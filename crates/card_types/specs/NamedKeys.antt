@@ -1,4 +1,4 @@
--- The keys of a key set, by names.
+-- For the code inside. The keys of a key set, by names.
 use Rattle.std.specs.Prelude.{◌≡◌, ℕ, List, Option, Some, length}
 use Rattle.card_types.specs.Registry.{Registry, counter_named, key_named}
 use Rattle.card_types.specs.Represents.{counter_of, key_of}

@@ -1,4 +1,4 @@
--- A search for the least thing, slot by slot.
+-- For the code inside. A search for the least thing, slot by slot.
 use Rattle.std.specs.Prelude.{Bool, ◌&&◌, List, Option, None, Some}
 use Rattle.std.specs.Ordering.{is_lt}
 use Rattle.std.specs.declared.cmp.Ordering.{Ordering}

@@ -1,4 +1,4 @@
--- Tables before and after a change of one slot.
+-- For the code inside. Tables before and after a change of one slot.
 use Rattle.std.specs.Prelude.{◌≡◌, ℕ, Option, slice_set}
 use Rattle.card_types.specs.declared.tables.Entry.{Entry}
 use Rattle.card_types.specs.declared.tables.LoadFile.{LoadFile}

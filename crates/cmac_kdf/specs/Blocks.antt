@@ -1,4 +1,4 @@
--- Lists of bytes, their blocks of sixteen, and the padding of the last one.
+-- Lists of bytes, their blocks of sixteen, and the padding of the last one (NIST SP 800-38B, 6.2).
 use Rattle.std.specs.Prelude.{ℕ, ◌+◌, ◌-◌, ◌*◌, ◌/◌, ◌%◌, ◌^◌, ◌<◌, List, ◌∷◌, ◌++◌, length, replicate, slice_index}
 use Rattle.std.specs.Simd.{first_chunks}
 

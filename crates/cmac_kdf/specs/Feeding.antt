@@ -1,4 +1,4 @@
--- A CMAC that is fed its message in pieces.
+-- For the code inside. A CMAC that is fed its message in pieces.
 use Rattle.std.specs.Prelude.{ℕ, List}
 use Rattle.cmac_kdf.specs.Blocks.{zero_block, first_blocks}
 use Rattle.cmac_kdf.specs.Cmac.{chained, blocks_before_last, last_bytes}

@@ -1,4 +1,4 @@
--- Which domains are above which after a change of a registry, by names.
+-- Which domains are above which after a change of a registry, by names (GlobalPlatform Card Specification 2.3.1, 7.2).
 use Rattle.std.specs.Prelude.{◌≡◌, ◌≢◌, ◌⊎◌, ◌↔◌, List, ℕ, Bool, true, IsSome}
 use Rattle.card_types.specs.ChangeLaws.{IsOfCard, MayAddEntry, MayMove, MayRemoveEntry}
 use Rattle.card_types.specs.Registry.{Entry, Registry, domain_of, entry_named}

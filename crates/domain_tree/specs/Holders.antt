@@ -1,4 +1,4 @@
--- Domains that hold privileges, by slots.
+-- For the code inside. Domains that hold privileges, by slots.
 use Rattle.std.specs.Prelude.{ℕ, ◌==◌, ◌&&◌, List, Bool, false, Option, None, Some}
 use Rattle.std.specs.Int.{bit_at}
 use Rattle.card_types.specs.Privileges.{bits_of, has}

@@ -1,4 +1,4 @@
--- Which domains are above one thing, by names, and where they stay the same.
+-- Which domains are above one thing, by names, and where they stay the same (GlobalPlatform Card Specification 2.3.1, 7.2).
 use Rattle.std.specs.Prelude.{◌≡◌, ◌≢◌, ◌⊎◌, ◌↔◌, List, ℕ, Bool, MatchOption}
 use Rattle.card_types.specs.ChangeLaws.{IsOfCard}
 use Rattle.card_types.specs.Hierarchy.{IsLine}

@@ -1,4 +1,4 @@
--- Lines of domains by slots.
+-- For the code inside. Lines of domains by slots.
 use Rattle.std.specs.Prelude.{◌≡◌, ℕ, List, Option, Some}
 use Rattle.card_types.specs.Hierarchy.{IsLine}
 use Rattle.card_types.specs.Represents.{domain_slot}

@@ -1,4 +1,4 @@
--- What a device in memory stands for: the pages that it began with, and its list of writes and syncs since.
+-- For the code inside. What a device in memory stands for: the pages that it began with, and its list of writes and syncs since.
 use Rattle.std.specs.Prelude.{◌≡◌, ℕ, ◌+◌, ◌%◌, ◌^◌, ◌≤◌, Bool, true, false, if◌then◌else◌, ◌==◌, List, Some, length, take, replicate, slice_get}
 use Rattle.flash_core.specs.declared.page.Page.{Page}
 use Rattle.flash_core.specs.declared.memory.Call.{Call}

@@ -1,4 +1,4 @@
--- A device in memory meets the laws of a device.
+-- For the code inside. A device in memory meets the laws of a device.
 use Rattle.std.specs.Prelude.{◌≡◌, ℕ, ◌≤◌, List, length, refl}
 use Rattle.std.proofs.Common.{sym, ap, subst, arith}
 use Rattle.std.proofs.lemmas.List.{take_all}

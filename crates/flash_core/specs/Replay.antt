@@ -1,4 +1,4 @@
--- A device in memory as the calls that it took: its pages as read, and which of them power lost may tear.
+-- For the code inside. A device in memory as the calls that it took: its pages as read, and which of them power lost may tear.
 use Rattle.std.specs.Prelude.{◌≡◌, ◌≢◌, ◌<◌, Bool, true, false, ℕ, List, [], ◌∷◌, Some, length, replicate, slice_get, slice_set}
 use Rattle.flash_core.specs.declared.page.TheConstants.{PAGES}
 use Rattle.flash_core.specs.declared.page.Page.{Page}

@@ -1,4 +1,4 @@
--- What stands for a device with something around it.
+-- For the code inside. What stands for a device with something around it.
 use Rattle.std.specs.Prelude.{◌≡◌, ℕ, ◌+◌, Option, Some, None, Result, IsErr}
 use Rattle.faults.specs.Faults.{next_count}
 

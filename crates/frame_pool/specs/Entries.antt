@@ -1,4 +1,4 @@
--- What frames hold.
+-- For the code inside. What frames hold.
 use Rattle.std.specs.Prelude.{◌≡◌, ℕ, ◌+◌, List, Some, map, slice_get}
 use Rattle.flash_core.specs.declared.page.Page.{Page}
 use Rattle.frame_pool.specs.declared.pool.Frame.{Frame}

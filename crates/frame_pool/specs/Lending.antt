@@ -1,4 +1,4 @@
--- How a pool ends that lent one of its pages.
+-- For the code inside. How a pool ends that lent one of its pages.
 use Rattle.std.specs.Prelude.{ℕ, List}
 use Rattle.std.specs.Borrow.{Lends, MutBor, Fml}
 use Rattle.flash_core.specs.declared.page.Page.{Page}

@@ -1,4 +1,4 @@
--- A list of staged pages: the number of each, and its bytes.
+-- For the code inside. A list of staged pages: the number of each, and its bytes.
 use Rattle.std.specs.Prelude.{◌≡◌, ℕ, zero, suc, if◌then◌else◌, ◌==◌, List, [], ◌∷◌, Option, None, Some, slice_get}
 use Rattle.flash_core.specs.declared.page.Page.{Page}
 

@@ -1,4 +1,5 @@
--- What a card at the end of a link was given, and what has come of it. `device` is what contracts see of its device.
+-- For the code inside. What a card at the end of a link was given, and what has come of it. `device` is what contracts see of its
+-- device.
 use Rattle.std.specs.Prelude.{◌≡◌, ℕ, Bool, true, false, List, [], ◌∷◌, ◌++◌, length}
 use Rattle.card_core.specs.Card.{CardOver, CardRepresents}
 use Rattle.flash_core.specs.declared.flash.Flash.{Ghosts as Flash}

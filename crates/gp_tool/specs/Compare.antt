@@ -1,4 +1,4 @@
--- What comes of one line in `replay`.
+-- For the code inside. What comes of one line in `replay`.
 use Rattle.std.specs.Prelude.{◌≡◌, ℕ, Bool, ◌||◌, List, [], ◌∷◌, ◌++◌, None, take}
 use Rattle.std.specs.List.{concat}
 use Rattle.card_core.specs.Card.{CardOver}

@@ -1,4 +1,4 @@
--- How commands are counted.
+-- For the code inside. How commands are counted.
 use Rattle.std.specs.Prelude.{◌≡◌, ℕ, ◌+◌, ◌-◌, ◌^◌, min}
 
 -- A count ends at the greatest number that it can hold. No run comes so far.

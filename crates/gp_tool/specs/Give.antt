@@ -1,4 +1,4 @@
--- What comes of a line that is given to a card.
+-- For the code inside. What comes of a line that is given to a card.
 use Rattle.std.specs.Prelude.{◌≡◌, ℕ, List, [], ◌∷◌}
 use Rattle.card_core.specs.Card.{CardOver, CardRepresents}
 use Rattle.flash_core.specs.declared.flash.Flash.{Ghosts as Flash}

@@ -1,4 +1,4 @@
--- A run that goes on, between two lines.
+-- For the code inside. A run that goes on, between two lines.
 use Rattle.std.specs.Prelude.{◌≡◌, ℕ, ◌+◌, ◌*◌, ◌≤◌, List, ◌++◌, length}
 use Rattle.std.specs.List.{AllByRecursion, concat}
 use Rattle.flash_core.specs.declared.flash.Flash.{Ghosts as Flash}

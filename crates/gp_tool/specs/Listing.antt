@@ -1,4 +1,4 @@
--- Things in slots, of which a line each is written in ascending order.
+-- For the code inside. Things in slots, of which a line each is written in ascending order.
 use Rattle.std.specs.Prelude.{◌≡◌, ℕ, List, ◌++◌, Bool, true, ◌&&◌, Option, None, Some, Result, MatchResult, filter, map, take}
 use Rattle.std.specs.List.{flat_map}
 use Rattle.std.specs.List.Sorted.{IsPermutation, IsStrictlySortedBy}

@@ -1,4 +1,4 @@
--- A workload that is being played, between two lines.
+-- For the code inside. A workload that is being played, between two lines.
 use Rattle.std.specs.Prelude.{◌≡◌, ℕ, Bool, false, List, ◌++◌, length}
 use Rattle.card_core.specs.Card.{CardRepresents}
 use Rattle.flash_core.specs.declared.flash.Flash.{Ghosts as Flash}

@@ -1,4 +1,4 @@
--- What the code's form of a line stands for.
+-- For the code inside. What the code's form of a line stands for.
 use Rattle.std.specs.Prelude.{ℕ, ◌≤◌, List, [], ◌∷◌, take}
 use Rattle.policy_rules.specs.Run.{Input, Command, Reset}
 use Rattle.gp_tool.specs.declared.form.Form.{Form}

@@ -1,4 +1,4 @@
--- Whose faults a run ends with.
+-- For the code inside. Whose faults a run ends with.
 use Rattle.flash_core.specs.declared.flash.Flash.{Ghosts as Flash}
 use Rattle.io_edge.specs.declared.sink.Sink.{Ghosts as Sink}
 use Rattle.io_edge.specs.declared.source.Source.{Ghosts as Source}

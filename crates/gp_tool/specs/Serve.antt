@@ -1,4 +1,4 @@
--- What comes of one line.
+-- For the code inside. What comes of one line.
 use Rattle.std.specs.Prelude.{◌≡◌, ℕ, Bool, ◌||◌, List, [], ◌∷◌, ◌++◌, length, take}
 use Rattle.std.specs.List.{concat}
 use Rattle.card_core.specs.Card.{CardOver, CardRepresents}

@@ -1,4 +1,4 @@
--- Where the code stands between two lines.
+-- For the code inside. Where the code stands between two lines.
 use Rattle.std.specs.Prelude.{ℕ, Bool, true, false, List, None, Some}
 use Rattle.flash_core.specs.declared.flash.Flash.{Ghosts as Flash}
 use Rattle.script_tool.specs.Kept.{RepresentsHost}

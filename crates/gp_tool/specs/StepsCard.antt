@@ -1,4 +1,4 @@
--- What comes of a line that a host plays over a card.
+-- For the code inside. What comes of a line that a host plays over a card.
 use Rattle.std.specs.Prelude.{◌≡◌, ℕ, List, [], ◌∷◌, ◌++◌, length, Result, Ok, Err}
 use Rattle.card_core.specs.Card.{CardRepresents}
 use Rattle.flash_core.specs.declared.flash.Flash.{Ghosts as Flash}

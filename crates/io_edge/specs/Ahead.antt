@@ -1,4 +1,4 @@
--- What is found ahead, in the bytes that are held.
+-- For the code inside. What is found ahead, in the bytes that are held.
 use Rattle.std.specs.Prelude.{◌≡◌, ℕ, ◌<◌, List, length, take, slice_index}
 use Rattle.std.specs.Str.Lines.{strip_carriage_return}
 use Rattle.io_edge.specs.Lines.{NoNewline}

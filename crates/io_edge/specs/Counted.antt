@@ -1,3 +1,4 @@
+-- For the code inside. A reader, with a count of the calls that failed.
 use Rattle.std.specs.Prelude.{ℕ}
 
 -- a reader of std, and how many of the calls on it have failed

@@ -1,4 +1,4 @@
--- What a source and a sink in memory stand for.
+-- For the code inside. What a source and a sink in memory stand for.
 use Rattle.std.specs.Prelude.{ℕ, List}
 
 -- a source: the bytes left, the most that one call gives, the numbers of the calls that fail, and the counts of calls and faults

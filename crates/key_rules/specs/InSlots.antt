@@ -1,4 +1,4 @@
--- Whether a slot holds a key that goes or stays where those of a domain with a key version number go.
+-- For the code inside. Whether a slot holds a key that goes or stays where those of a domain with a key version number go.
 use Rattle.std.specs.Prelude.{ℕ, ◌==◌, ◌&&◌, Bool, false, Option, None, Some, not}
 use Rattle.card_types.specs.declared.tables.KeyRec.{KeyRec}
 use Rattle.key_rules.specs.Staying.{is_of}

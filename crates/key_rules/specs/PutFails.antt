@@ -1,4 +1,4 @@
--- Why keys are not put.
+-- For the code inside. Why keys are not put.
 use Rattle.std.specs.Prelude.{◌≡◌, ◌≢◌, ◌⊎◌, ℕ, ◌+◌, ◌<◌, ◌==◌, List, Bool, true, false, Option, filter, length}
 use Rattle.std.specs.List.{list_any}
 use Rattle.card_types.specs.Represents.{used}

@@ -1,4 +1,4 @@
--- The keys that stay on a card where others are put in the place of some.
+-- For the code inside. The keys that stay on a card where others are put in the place of some.
 use Rattle.std.specs.Prelude.{ℕ, ◌==◌, ◌&&◌, List, Bool, Option, filter, not}
 use Rattle.card_types.specs.Represents.{used}
 use Rattle.card_types.specs.declared.tables.KeyRec.{KeyRec}

@@ -1,4 +1,4 @@
--- A sequence counter of a key set that is drawn (GlobalPlatform Amendment D, chapter 6).
+-- For the code inside. A sequence counter of a key set that is drawn (GlobalPlatform Amendment D, chapter 6).
 use Rattle.std.specs.Prelude.{◌≡◌, ℕ, ◌<◌, List, Option, Some, slice_set}
 use Rattle.card_types.specs.Counters.{raised_key}
 use Rattle.card_types.specs.KeySets.{IsKeyOf}

@@ -1,5 +1,5 @@
--- Keys that are put and deleted: the keys that the slots of a card have afterwards, whatever slots they are in (GlobalPlatform
--- Card Specification 2.3.1, 11.2 and 11.8).
+-- For the code inside. Keys that are put and deleted: the keys that the slots of a card have afterwards, whatever slots they are
+-- in (GlobalPlatform Card Specification 2.3.1, 11.2 and 11.8).
 use Rattle.std.specs.Prelude.{◌≡◌, ℕ, ◌++◌, List, [], ◌∷◌, Option, length}
 use Rattle.std.specs.List.Sorted.{IsPermutation}
 use Rattle.card_types.specs.Represents.{used}

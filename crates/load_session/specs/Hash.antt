@@ -1,4 +1,4 @@
--- The hash of an Executable Load File, taken as its bytes come.
+-- The hash of an Executable Load File, taken as its bytes come (GlobalPlatform Card Specification 2.3.1, 11.5.2.3.1 and C.2).
 use Rattle.std.specs.Prelude.{◌≡◌, ℕ, List, [], length}
 use Rattle.load_session.specs.declared.hash.RunningHash.{RunningHash}
 use Rattle.load_session.specs.declared.hash.RunningHash.TheVariants.{Unhashed, OfSha1, OfSha256}

@@ -1,4 +1,4 @@
--- Why a block is not taken.
+-- For the code inside. Why a block is not taken.
 use Rattle.std.specs.Prelude.{ℕ, List}
 use Rattle.card_check.specs.IsCard.{HasPages}
 use Rattle.card_types.specs.Registry.{Registry}

@@ -1,4 +1,5 @@
--- What a card keeps of an Executable Load File that comes, and the load session that it stands for.
+-- What a card keeps of an Executable Load File that comes, and the load session that it stands for (GlobalPlatform Card
+-- Specification 2.3.1, 9.3.5 and 11.6).
 use Rattle.std.specs.Prelude.{◌≡◌, ℕ, ◌+◌, ◌≤◌, List, Bool, false, true, length, map, take, drop, unwrap_or}
 use Rattle.std.specs.List.{concat}
 use Rattle.card_types.specs.Represents.{domain_aid}

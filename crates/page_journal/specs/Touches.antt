@@ -1,4 +1,4 @@
--- What a run of device calls may change.
+-- For the code inside. What a run of device calls may change.
 use Rattle.std.specs.Prelude.{◌≡◌, ℕ, List, slice_get}
 use Rattle.flash_core.specs.declared.flash.Flash.{Ghosts as Flash}
 use Rattle.flash_core.specs.declared.page.Page.{Page}

@@ -1,4 +1,4 @@
--- Data objects that are put, each in the place of the one with its tag.
+-- Data objects that are put, each in the place of the one with its tag (GlobalPlatform Card Specification 2.3.1, 11.11).
 use Rattle.std.specs.Prelude.{ℕ, List, ◌∷◌, Bool, filter, not, ◌&&◌, ◌==◌}
 use Rattle.std.specs.List.{fold}
 use Rattle.bertlv.specs.Spelling.{Element}

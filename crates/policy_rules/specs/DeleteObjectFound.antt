@@ -1,4 +1,4 @@
--- What a DELETE of an object is to remove, and whether it may go, by slots.
+-- For the code inside. What a DELETE of an object is to remove, and whether it may go, by slots.
 use Rattle.std.specs.Prelude.{◌≡◌, ◌≢◌, ◌⊎◌, ℕ, ◌<◌, ◌==◌, ◌&&◌, List, Bool, true, false, not, Option, None, Some, MatchOption}
 use Rattle.card_types.specs.AidOrder.{same_aid}
 use Rattle.card_types.specs.Found.{aid_of}

@@ -1,4 +1,4 @@
--- What the code reads of a DELETE of an object.
+-- For the code inside. What the code reads of a DELETE of an object.
 use Rattle.std.specs.Prelude.{◌≡◌, ℕ, ◌≤◌, ◌==◌, List, length}
 use Rattle.apdu_core.specs.Apdu.{Apdu}
 use Rattle.policy_rules.specs.DeleteKey.{DeleteParameters}

@@ -1,4 +1,4 @@
--- What the code reads of an INSTALL [for extradition], and its own rules.
+-- For the code inside. What the code reads of an INSTALL [for extradition], and its own rules.
 use Rattle.std.specs.Prelude.{◌≡◌, ℕ, ◌≤◌, List, length}
 use Rattle.apdu_core.specs.Apdu.{Apdu}
 use Rattle.policy_rules.specs.Extradition.{AsksToExtradite}

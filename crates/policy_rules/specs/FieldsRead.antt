@@ -1,4 +1,4 @@
--- The fields of INSTALL as the code reads them.
+-- For the code inside. The fields of INSTALL as the code reads them.
 use Rattle.std.specs.Prelude.{◌≡◌, ℕ, ◌≤◌, List, ◌++◌, length}
 use Rattle.tokens_receipts.specs.Receipt.{with_length}
 use Rattle.policy_rules.specs.InstallFields.{InstallData}

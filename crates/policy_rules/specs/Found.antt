@@ -1,4 +1,4 @@
--- What GET DATA finds in the slots of a card.
+-- For the code inside. What GET DATA finds in the slots of a card.
 use Rattle.std.specs.Prelude.{◌≡◌, ◌≢◌, ℕ, ◌<◌, None}
 use Rattle.bertlv.specs.Tag.{IsTag}
 use Rattle.card_types.specs.Least.{IsLeast}

@@ -1,4 +1,4 @@
--- What the code reads of a GET STATUS, and what it finds.
+-- For the code inside. What the code reads of a GET STATUS, and what it finds.
 use Rattle.std.specs.Prelude.{◌≡◌, ◌≢◌, ◌⊎◌, ℕ, List, Option, None, Some, if◌then◌else◌, ◌==◌, ◌||◌}
 use Rattle.std.specs.Option.{option_map}
 use Rattle.std.specs.Ordering.{is_lt}

@@ -1,4 +1,4 @@
--- Domains above that hold a privilege and a key, by slots, and what the code found of them.
+-- For the code inside. Domains above that hold a privilege and a key, by slots, and what the code found of them.
 use Rattle.std.specs.Prelude.{◌≡◌, ◌≢◌, ◌⊎◌, ℕ, Bool, false, Option, None, Some, MatchOption, ◌&&◌}
 use Rattle.std.specs.List.{list_any}
 use Rattle.card_types.specs.KeySets.{HasKey, is_key}

@@ -1,4 +1,4 @@
--- What the code reads of an INSTALL [for load], and its own rules.
+-- For the code inside. What the code reads of an INSTALL [for load], and its own rules.
 use Rattle.std.specs.Prelude.{◌≡◌, ℕ, ◌≤◌, List, [], Option, None, Some, length}
 use Rattle.apdu_core.specs.Apdu.{Apdu}
 use Rattle.card_types.specs.Aid.{IsAid}

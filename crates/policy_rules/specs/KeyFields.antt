@@ -1,4 +1,4 @@
--- Key fields of PUT KEY, one after the other.
+-- For the code inside. Key fields of PUT KEY, one after the other.
 use Rattle.std.specs.Prelude.{◌≡◌, ℕ, List, ◌++◌, All, length, map}
 use Rattle.std.specs.List.{concat}
 use Rattle.policy_rules.specs.PutKey.{AreOfOneLength, HasFieldLengths, SentKey, key_field}

@@ -1,4 +1,4 @@
--- The keys of a domain in their slots, in ascending order of key version number and key identifier.
+-- For the code inside. The keys of a domain in their slots, in ascending order of key version number and key identifier.
 use Rattle.std.specs.Prelude.{ℕ, Bool, true, false, ◌&&◌, ◌==◌, List, Option, None, Some, not, nat_lt}
 use Rattle.std.specs.List.{list_any}
 use Rattle.std.specs.Ordering.{is_lt, nat_cmp, ordering_then}

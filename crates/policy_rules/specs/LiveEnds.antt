@@ -1,5 +1,5 @@
--- What the code keeps of the channels and of the load session: how it begins, where some of it ends, a place in a
--- listing, and a block that is counted.
+-- For the code inside. What the code keeps of the channels and of the load session: how it begins, where some of it ends, a place
+-- in a listing, and a block that is counted.
 use Rattle.std.specs.Prelude.{ℕ, ◌+◌, [], ◌∷◌, Option, None, Some, slice_set, if◌then◌else◌, ◌==◌}
 use Rattle.card_types.specs.declared.tables.TheConstants.{ISSUER_SLOT}
 use Rattle.policy_rules.specs.declared.live.Live.{Live}

@@ -1,4 +1,4 @@
--- The load session that a LOAD is for, as the code names it.
+-- For the code inside. The load session that a LOAD is for, as the code names it.
 use Rattle.std.specs.Prelude.{◌≡◌, ℕ, ◌==◌, List, [], ◌∷◌, Option, None, Some, if◌then◌else◌}
 use Rattle.card_types.specs.declared.tables.Tables.{Tables}
 use Rattle.policy_rules.specs.Admission.{Admitted}

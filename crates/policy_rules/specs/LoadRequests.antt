@@ -1,4 +1,4 @@
--- What the code reads of a LOAD.
+-- For the code inside. What the code reads of a LOAD.
 use Rattle.std.specs.Prelude.{◌≡◌, ℕ, ◌==◌, List}
 use Rattle.apdu_core.specs.Apdu.{Apdu}
 use Rattle.policy_rules.specs.Load.{LoadParameters}

@@ -1,4 +1,4 @@
--- What the code reads of an INSTALL [for make selectable], and what it finds.
+-- For the code inside. What the code reads of an INSTALL [for make selectable], and what it finds.
 use Rattle.std.specs.Prelude.{◌≡◌, ℕ, ◌≤◌, List, [], Option, None, Some, MatchOption, length}
 use Rattle.apdu_core.specs.Apdu.{Apdu}
 use Rattle.card_types.specs.Privileges.{ArePrivilegeBytes}

@@ -1,4 +1,5 @@
--- Card content management: what a form of these commands asks for, by which rules it is judged, and what it makes of the registry.
+-- Card content management: what a form of these commands asks for, by which rules it is judged, and what it makes of the registry
+-- (GlobalPlatform Card Specification 2.3.1, chapter 9).
 use Rattle.std.specs.Prelude.{◌≡◌, ℕ, List, [], ◌++◌, Option, map}
 use Rattle.card_types.specs.Privileges.{delegated_management}
 use Rattle.card_types.specs.Registry.{Registry}

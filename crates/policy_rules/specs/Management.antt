@@ -1,4 +1,5 @@
--- The rules that the commands of card content management and INITIALIZE UPDATE have in common.
+-- The rules that the commands of card content management and INITIALIZE UPDATE have in common (GlobalPlatform Card Specification
+-- 2.3.1, chapter 9).
 use Rattle.std.specs.Prelude.{◌≡◌, ◌≢◌, ◌⊎◌, ℕ, List, true, MatchOption, codes}
 use Rattle.card_types.specs.Registry.{entry_named}
 use Rattle.card_types.specs.declared.factory.TheConstants.{ISSUER}

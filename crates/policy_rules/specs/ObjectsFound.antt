@@ -1,4 +1,4 @@
--- Data objects by the slot of their domain and their tag, and how many more a list of elements makes.
+-- For the code inside. Data objects by the slot of their domain and their tag, and how many more a list of elements makes.
 use Rattle.std.specs.Prelude.{ℕ, ◌+◌, ◌&&◌, ◌==◌, List, [], ◌∷◌, Bool, false, Option, None, Some, All, cond, length, not}
 use Rattle.std.specs.List.{list_any}
 use Rattle.bertlv.specs.Spelling.{AreElements, Element}

@@ -1,4 +1,4 @@
--- The rules of PUT KEY in two parts: those that need none of its keys, and those after them.
+-- For the code inside. The rules of PUT KEY in two parts: those that need none of its keys, and those after them.
 use Rattle.std.specs.Prelude.{List, [], ◌∷◌}
 use Rattle.policy_rules.specs.declared.management.RuleM.TheVariants.{M1, M2}
 use Rattle.policy_rules.specs.declared.put_key.RulePK.TheVariants.{PK1, PK2, PK3, PK4}

@@ -1,4 +1,4 @@
--- Which commands are confirmed, and by which receipt.
+-- Which commands are confirmed, and by which receipt (GlobalPlatform Card Specification 2.3.1, 9.1.3.4, 11.1.6 and C.5).
 use Rattle.std.specs.Prelude.{◌≡◌, ℕ, ◌+◌, List, ◌∷◌, None, Option, Some}
 use Rattle.std.specs.Option.{option_map}
 use Rattle.card_types.specs.Registry.{Key, Registry, entry_named}

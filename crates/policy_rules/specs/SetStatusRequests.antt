@@ -1,4 +1,4 @@
--- What the code reads of a SET STATUS, and what it finds.
+-- For the code inside. What the code reads of a SET STATUS, and what it finds.
 use Rattle.std.specs.Prelude.{◌≡◌, ◌≢◌, ◌↔◌, ◌⊎◌, ℕ, ◌==◌, Bool, IsTrue, List, false, true, MatchOption, Option}
 use Rattle.apdu_core.specs.Apdu.{Apdu}
 use Rattle.card_types.specs.Aid.{IsAid}

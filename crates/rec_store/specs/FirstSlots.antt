@@ -1,4 +1,4 @@
--- Things in the first slots of tables.
+-- For the code inside. Things in the first slots of tables.
 use Rattle.std.specs.Prelude.{◌≡◌, ℕ, ◌≤◌, List, Option, length}
 use Rattle.card_types.specs.Layout.{HasSlots}
 use Rattle.card_types.specs.Slots.{held}

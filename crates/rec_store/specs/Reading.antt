@@ -1,4 +1,4 @@
--- A run of reads of a store: nothing is written, and what is staged stays.
+-- For the code inside. A run of reads of a store: nothing is written, and what is staged stays.
 use Rattle.std.specs.Prelude.{◌≡◌, ◌≤◌}
 use Rattle.flash_core.specs.declared.flash.Flash.{Ghosts as Flash}
 use Rattle.flash_core.specs.Device.{NoneNew}

@@ -1,4 +1,4 @@
--- Things that join the registry, and those that do not.
+-- For the code inside. Things that join the registry, and those that do not.
 use Rattle.std.specs.Prelude.{◌≡◌, ◌≢◌, ◌⊎◌, ℕ, List, Option, Some, IsSome}
 use Rattle.card_types.specs.First.{IsFirstFree, NoneFree}
 use Rattle.card_types.specs.Found.{aid_of}

@@ -1,4 +1,4 @@
--- Slots whose thing is changed in its place.
+-- For the code inside. Slots whose thing is changed in its place.
 use Rattle.std.specs.Prelude.{ℕ}
 use Rattle.std.specs.Option.{option_map}
 use Rattle.card_types.specs.SlotChange.{SetsEntry, SetsFile}

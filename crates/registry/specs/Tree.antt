@@ -1,4 +1,5 @@
--- A security domain with all that is below it, and the lock marks there (GlobalPlatform Card Specification 2.3.1, 11.10).
+-- For the code inside. A security domain with all that is below it, and the lock marks there (GlobalPlatform Card Specification
+-- 2.3.1, 11.10).
 use Rattle.std.specs.Prelude.{◌≡◌, ◌⊎◌, ℕ, List, Bool, Option, length}
 use Rattle.std.specs.Option.{option_map}
 use Rattle.card_types.specs.Represents.{domain_slot}

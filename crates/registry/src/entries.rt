@@ -1,4 +1,4 @@
-//! Entries: they are added, and changed in their slots.
+//! Entries: they are added, and changed in their slots (GlobalPlatform Card Specification 2.3.1, 6.5).
 
 ghost use Rattle.std.specs.Prelude.{◌≡◌, ◌↔◌, ℕ, List, true, length, Err, IfOk, OnErr, OnOk, IsSome};
 ghost use Rattle.card_types.specs.First.{NoneFree};

@@ -1,4 +1,4 @@
-//! Executable Load Files: they are added and removed.
+//! Executable Load Files: they are added and removed (GlobalPlatform Card Specification 2.3.1, 9.3 and 9.5).
 
 ghost use Rattle.std.specs.Prelude.{◌≡◌, ◌↔◌, ℕ, List, [], ◌∷◌, true, None, length, Err, IfOk, OnErr, OnOk, IsSome};
 ghost use Rattle.card_check.specs.IsCard.{IsInLoadPages};

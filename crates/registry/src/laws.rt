@@ -1,4 +1,4 @@
-//! The laws of room, as functions that do nothing when they run.
+//! The laws of room, as functions that do nothing when they run (this profile's own).
 
 ghost use Rattle.registry.specs.Pages.{RoomForCommand, RoomForParts};
 

@@ -1,4 +1,4 @@
-//! A security domain is locked or unlocked with all that is below it.
+//! A security domain is locked or unlocked with all that is below it (GlobalPlatform Card Specification 2.3.1, 11.10).
 
 ghost use Rattle.std.specs.Prelude.{◌≡◌, ◌≢◌, ◌↔◌, ◌⊎◌, ◌<◌, ℕ, List, Bool, true, Some, IfNone, IfSome, IsSome, IsTrue, length};
 ghost use Rattle.std.specs.Option.{option_map};

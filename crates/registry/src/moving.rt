@@ -1,4 +1,4 @@
-//! Extradition: a thing goes to another security domain.
+//! Extradition: a thing goes to another security domain (GlobalPlatform Card Specification 2.3.1, 9.4.1).
 
 ghost use Rattle.std.specs.Prelude.{◌≡◌, ℕ, List, true, Some, IsSome};
 ghost use Rattle.card_types.specs.Found.{aid_of};

@@ -1,4 +1,4 @@
-//! Where a thing is added.
+//! Where a thing is added (this profile's own).
 
 ghost use Rattle.std.specs.Prelude.{◌≤◌, IfOk, IfErr, OnOk, length};
 ghost use Rattle.card_types.specs.First.{IsFirstFree};

@@ -1,4 +1,4 @@
-//! Why a thing is not added.
+//! Why a thing is not added (this profile's own).
 
 /// Why a thing is not added. Where both hold, the first is answered.
 #[derive(Clone, Copy, Debug, PartialEq, Eq)]

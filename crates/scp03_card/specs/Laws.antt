@@ -1,4 +1,4 @@
--- The laws of protected commands.
+-- The laws of protected commands (GlobalPlatform Amendment D, 6.2).
 use Rattle.std.specs.Prelude.{◌≡◌, ℕ, ◌+◌, ◌<◌, ◌≤◌, List, length, Option}
 use Rattle.apdu_core.specs.Apdu.{Apdu}
 use Rattle.card_types.specs.Level.{code_of}

@@ -1,4 +1,4 @@
--- Two ends that stand for one session go on doing so, over every list of commands and replies.
+-- Two ends that stand for one session go on doing so, over every list of commands and replies (GlobalPlatform Amendment D, 6.2).
 use Rattle.std.specs.Prelude.{◌≡◌, ℕ, ◌≤◌, ◌<◌, ◌^◌, List, [], ◌∷◌, All, length, if◌then◌else◌}
 use Rattle.apdu_core.specs.Apdu.{Apdu}
 use Rattle.card_types.specs.declared.level.Level.{Level}

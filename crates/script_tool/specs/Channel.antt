@@ -1,4 +1,4 @@
--- `channel N` chooses a logical channel.
+-- `channel N` chooses a logical channel (GlobalPlatform Card Specification 2.3.1, 11.1.4).
 use Rattle.std.specs.Prelude.{◌≡◌, ◌+◌, ℕ, List, [], ◌∷◌, codes}
 use Rattle.script_tool.specs.declared.channel.Channel.{Channel}
 use Rattle.script_tool.specs.declared.channel.Channel.TheVariants.{Basic, First, Second, Third}

@@ -1,4 +1,4 @@
--- `delete AID P2` is DELETE of an object.
+-- `delete AID P2` is DELETE of an object (GlobalPlatform Card Specification 2.3.1, 11.2).
 use Rattle.std.specs.Prelude.{◌≡◌, ℕ, List, [], ◌∷◌, codes, ◌++◌}
 use Rattle.script_tool.specs.Values.{SpellsAid, SpellsByte}
 use Rattle.script_tool.specs.declared.deletion.Deletion.{Deletion}

@@ -1,4 +1,4 @@
--- `extradite AID DOMAIN` is INSTALL for extradition.
+-- `extradite AID DOMAIN` is INSTALL for extradition (GlobalPlatform Card Specification 2.3.1, 11.5.2.3.4).
 use Rattle.std.specs.Prelude.{◌≡◌, ℕ, List, [], ◌∷◌, codes}
 use Rattle.script_tool.specs.Values.{SpellsAid}
 use Rattle.script_tool.specs.declared.extradition.Extradition.{Extradition}

@@ -1,4 +1,4 @@
--- A command that is sent as it is, and its reply.
+-- A command that is sent as it is, and its reply (ISO/IEC 7816-4:2013, chapter 5).
 use Rattle.std.specs.Prelude.{ℕ, ◌-◌, List, length, take, Bool, nat_lt, ◌==◌, ◌||◌, None, Option, if◌then◌else◌}
 use Rattle.scp03_host.specs.Unwrapped.{status_in}
 use Rattle.script_tool.specs.Channel.{number_of}

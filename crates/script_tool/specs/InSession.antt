@@ -1,4 +1,4 @@
--- A protected command and its reply.
+-- A protected command and its reply (GlobalPlatform Amendment D, 6.2).
 use Rattle.std.specs.Prelude.{ℕ, ◌-◌, List, length, Option, None, Some, Bool, nat_lt, if◌then◌else◌}
 use Rattle.apdu_core.specs.Apdu.{Apdu}
 use Rattle.scp03_card.specs.Session.{Session}

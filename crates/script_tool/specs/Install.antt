@@ -1,4 +1,4 @@
--- `install P1 FILE MODULE AID PRIV PARAMS` is INSTALL for install.
+-- `install P1 FILE MODULE AID PRIV PARAMS` is INSTALL for install (GlobalPlatform Card Specification 2.3.1, 11.5.2.3.2).
 use Rattle.std.specs.Prelude.{◌≡◌, ◌⊎◌, ℕ, List, [], ◌∷◌, length, codes, Bool, true, false}
 use Rattle.script_tool.specs.Values.{SpellsAid, SpellsByte, SpellsUpTo}
 use Rattle.script_tool.specs.declared.install.Installation.{Installation}

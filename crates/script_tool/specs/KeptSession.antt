@@ -1,4 +1,4 @@
--- What the code keeps of a session under keys of any length.
+-- For the code inside. What the code keeps of a session under keys of any length.
 use Rattle.scp03_card.specs.Kept.{KeptSession}
 use Rattle.script_tool.specs.declared.keys.OfSize.{OfSize}
 use Rattle.script_tool.specs.declared.keys.OfSize.TheVariants.{Aes128, Aes192, Aes256}

@@ -1,4 +1,4 @@
--- `life P1 P2 [AID]` is SET STATUS.
+-- `life P1 P2 [AID]` is SET STATUS (GlobalPlatform Card Specification 2.3.1, 11.10).
 use Rattle.std.specs.Prelude.{◌≡◌, ℕ, List, [], ◌∷◌, codes, Option, Some, None}
 use Rattle.script_tool.specs.Values.{SpellsAid, SpellsByte}
 use Rattle.script_tool.specs.declared.life.LifeChange.{LifeChange}

@@ -1,4 +1,5 @@
--- `list P1 [AID]` and `more P1 [AID]` are GET STATUS, for the first and for the next objects.
+-- `list P1 [AID]` and `more P1 [AID]` are GET STATUS, for the first and for the next objects (GlobalPlatform Card Specification
+-- 2.3.1, 11.4).
 use Rattle.std.specs.Prelude.{◌≡◌, ℕ, List, [], ◌∷◌}
 use Rattle.script_tool.specs.Values.{SpellsByte, SpellsUpTo}
 use Rattle.script_tool.specs.declared.listing.Listing.{Listing}

@@ -1,4 +1,4 @@
--- `open VV LL CHALLENGE` begins a session.
+-- `open VV LL CHALLENGE` begins a session (GlobalPlatform Amendment D, 7.1.1, 7.1.2).
 use Rattle.std.specs.Prelude.{◌≡◌, ℕ, List, [], ◌∷◌, codes}
 use Rattle.script_tool.specs.Values.{SpellsByte, SpellsLevel, SpellsSome}
 use Rattle.script_tool.specs.declared.opening.Opening.{Opening}

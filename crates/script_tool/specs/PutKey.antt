@@ -1,4 +1,4 @@
--- `putkey OLD NEW KEY [KEY KEY]` is PUT KEY.
+-- `putkey OLD NEW KEY [KEY KEY]` is PUT KEY (GlobalPlatform Card Specification 2.3.1, 11.8; Amendment D, 7.2).
 use Rattle.std.specs.Prelude.{◌≡◌, ℕ, List, [], ◌∷◌, codes, length, ◌++◌, ◌-◌, replicate}
 use Rattle.script_tool.specs.Keys.{SpellTrio}
 use Rattle.script_tool.specs.Values.{SpellsByte, SpellsSome}

@@ -1,4 +1,4 @@
--- What a reading answers.
+-- For the code inside. What a reading answers.
 use Rattle.std.specs.Prelude.{Option, MatchOption}
 
 -- a value that is said, or none where no value is

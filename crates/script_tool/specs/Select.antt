@@ -1,4 +1,4 @@
--- `select [AID]` is SELECT.
+-- `select [AID]` is SELECT (GlobalPlatform Card Specification 2.3.1, 11.9).
 use Rattle.std.specs.Prelude.{◌≡◌, ℕ, List, [], ◌∷◌, codes, Option, Some, None}
 use Rattle.script_tool.specs.Values.{SpellsAid}
 use Rattle.apdu_core.specs.Apdu.{Apdu}

@@ -1,4 +1,4 @@
--- `selectable AID` is INSTALL for make selectable.
+-- `selectable AID` is INSTALL for make selectable (GlobalPlatform Card Specification 2.3.1, 11.5.2.3.3).
 use Rattle.std.specs.Prelude.{◌≡◌, ℕ, List, [], ◌∷◌, codes}
 use Rattle.script_tool.specs.Values.{SpellsAid}
 use Rattle.apdu_core.specs.Apdu.{Apdu}

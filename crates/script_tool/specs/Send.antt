@@ -1,4 +1,4 @@
--- `send HEX` and `bad HEX` send a command in the session.
+-- `send HEX` and `bad HEX` send a command in the session (GlobalPlatform Amendment D, 6.2).
 use Rattle.std.specs.Prelude.{◌≡◌, ℕ, List, [], ◌∷◌, Option, Ok}
 use Rattle.hex.specs.Hex.{decode_of}
 use Rattle.apdu_core.specs.Apdu.{Apdu, Short}

@@ -1,4 +1,4 @@
--- `store HEX` is STORE DATA, of one block.
+-- `store HEX` is STORE DATA, of one block (GlobalPlatform Card Specification 2.3.1, 11.11).
 use Rattle.std.specs.Prelude.{◌≡◌, ℕ, List, [], ◌∷◌, codes}
 use Rattle.arrayvec.specs.ArrayVec.{ArrayVec}
 use Rattle.script_tool.specs.Values.{SpellsUpTo}

@@ -1,4 +1,5 @@
--- `tokenkey KEY`, `badtoken KEY` and `tokenkey none` say which tokens later commands carry.
+-- `tokenkey KEY`, `badtoken KEY` and `tokenkey none` say which tokens later commands carry (GlobalPlatform Card Specification
+-- 2.3.1, 9.2 and C.4).
 use Rattle.std.specs.Prelude.{◌≡◌, ℕ, List, [], ◌∷◌, codes}
 use Rattle.script_tool.specs.Keys.{SpellsKey}
 use Rattle.script_tool.specs.declared.tokens.Tokens.{Tokens}

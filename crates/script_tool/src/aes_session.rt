@@ -1,4 +1,4 @@
-//! A session of the host, under keys of any length.
+//! A session of the host, under keys of any length (GlobalPlatform Amendment D, 6.2).
 
 ghost use Rattle.std.specs.Prelude.{◌≡◌, ◌↔◌, ◌<◌, ◌≤◌, ℕ, List, length, IfOk, IsErr, OnOk, OnErr};
 ghost use Rattle.apdu_core.specs.Apdu.{Short, apdu_of};

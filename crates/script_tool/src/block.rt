@@ -1,4 +1,4 @@
-//! The blocks of an Executable Load File.
+//! The blocks of an Executable Load File (GlobalPlatform Card Specification 2.3.1, 11.6).
 
 ghost use Rattle.std.specs.Prelude.{◌≡◌, ◌∷◌};
 ghost use Rattle.apdu_core.specs.Apdu.{apdu_of};

@@ -1,4 +1,4 @@
-//! Logical channels.
+//! Logical channels (GlobalPlatform Card Specification 2.3.1, 11.1.4).
 
 ghost use Rattle.std.specs.Prelude.{◌≡◌, ◌+◌, ◌∷◌, [], ◌<◌};
 ghost use Rattle.script_tool.specs.Channel.{SaysChannel, number_of};

@@ -1,4 +1,4 @@
-//! The sessions of a host.
+//! The sessions of a host (GlobalPlatform Amendment D, chapter 5).
 
 ghost use Rattle.std.specs.Prelude.{◌≡◌};
 ghost use Rattle.script_tool.specs.Kept.{kept_on, no_kept, with_kept};

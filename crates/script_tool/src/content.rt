@@ -1,4 +1,4 @@
-//! The bytes of a Load File, piece by piece.
+//! The bytes of a Load File, piece by piece (GlobalPlatform Card Specification 2.3.1, 11.6 and C.2).
 
 ghost use Rattle.std.specs.Prelude.{◌≡◌, ◌≤◌, drop, length, take};
 ghost use Rattle.script_tool.specs.Load.{content_bytes};

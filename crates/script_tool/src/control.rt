@@ -1,4 +1,4 @@
-//! The lines that send nothing to the card.
+//! The lines that send nothing to the card (this profile's own).
 
 ghost use Rattle.script_tool.specs.Control.{SaysControl, SaysReset, SaysWant};
 ghost use Rattle.script_tool.specs.Reads.{Reads};

@@ -1,4 +1,4 @@
-//! Objects to delete.
+//! Objects to delete (GlobalPlatform Card Specification 2.3.1, 11.2).
 
 ghost use Rattle.std.specs.Prelude.{◌≡◌};
 ghost use Rattle.script_tool.specs.Delete.{SaysDelete, deleting};

@@ -1,4 +1,4 @@
-//! The lines that send commands to the card.
+//! The lines that send commands to the card (this profile's own).
 
 ghost use Rattle.script_tool.specs.Exchange.{SaysExchange};
 ghost use Rattle.script_tool.specs.Reads.{Reads};

@@ -1,4 +1,4 @@
-//! Applications to extradite.
+//! Applications to extradite (GlobalPlatform Card Specification 2.3.1, 11.5).
 
 ghost use Rattle.std.specs.Prelude.{◌≡◌};
 ghost use Rattle.script_tool.specs.Extradite.{SaysExtradite, extraditing};

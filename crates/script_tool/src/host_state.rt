@@ -1,4 +1,4 @@
-//! What a host has, between two lines.
+//! What a host has, between two lines (this profile's own).
 
 ghost use Rattle.std.specs.Prelude.{◌≡◌};
 ghost use Rattle.script_tool.specs.Host.{Host, after_reset, first_host};

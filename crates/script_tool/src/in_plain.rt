@@ -1,4 +1,4 @@
-//! Commands that are sent as they are.
+//! Commands that are sent as they are (ISO/IEC 7816-4:2013, chapter 5).
 
 ghost use Rattle.std.specs.Prelude.{◌≡◌, ◌≤◌, ℕ, List, true, length, OnOk, None, MatchOption, if◌then◌else◌};
 ghost use Rattle.faults.specs.Faults.{HasCause};

@@ -1,4 +1,4 @@
-//! Commands in a session.
+//! Commands in a session (GlobalPlatform Amendment D, 6.2).
 
 ghost use Rattle.std.specs.Prelude.{◌≡◌, ◌≤◌, None, Some, true, length, OnOk};
 ghost use Rattle.apdu_core.specs.Apdu.{apdu_of};

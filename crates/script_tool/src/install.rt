@@ -1,4 +1,4 @@
-//! Applications to install.
+//! Applications to install (GlobalPlatform Card Specification 2.3.1, 11.5).
 
 ghost use Rattle.std.specs.Prelude.{◌≡◌, ◌≤◌, ℕ, List, length, flat_map};
 ghost use Rattle.script_tool.specs.Install.{SaysInstall, SpellsParameters, SpellsPrivileges, install_p1, installing};

@@ -1,4 +1,4 @@
-//! Keys of AES.
+//! Keys of AES (this profile's own).
 
 ghost use Rattle.script_tool.specs.Keys.{SaysKeys, SpellKeys, SpellTrio, SpellsKey};
 ghost use Rattle.script_tool.specs.Reads.{Reads};

@@ -1,4 +1,4 @@
-//! Changes of a life cycle state.
+//! Changes of a life cycle state (GlobalPlatform Card Specification 2.3.1, 11.10).
 
 ghost use Rattle.std.specs.Prelude.{◌≡◌};
 ghost use Rattle.script_tool.specs.Life.{MayName, SaysLife, changing_life};

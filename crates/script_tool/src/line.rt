@@ -1,4 +1,4 @@
-//! What a line says.
+//! What a line says (this profile's own).
 
 ghost use Rattle.std.specs.Prelude.{◌≡◌, IfNone, IfSome};
 ghost use Rattle.script_tool.specs.Line.{HasNoForm, SaysLine, SaysQuietly};

@@ -1,4 +1,4 @@
-//! Lists of objects.
+//! Lists of objects (GlobalPlatform Card Specification 2.3.1, 11.4).
 
 ghost use Rattle.std.specs.Prelude.{◌≡◌};
 ghost use Rattle.script_tool.specs.Listing.{MayBegin, SaysListing, listing_command};

@@ -1,4 +1,4 @@
-//! Executable Load Files to load.
+//! Executable Load Files to load (GlobalPlatform Card Specification 2.3.1, 11.6).
 
 ghost use Rattle.std.specs.Prelude.{◌≡◌, ◌≤◌, [], ◌∷◌, drop, length, take};
 ghost use Rattle.script_tool.specs.Life.{aid_or_none};

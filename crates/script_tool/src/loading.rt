@@ -1,4 +1,4 @@
-//! Executable Load Files, loaded block by block.
+//! Executable Load Files, loaded block by block (GlobalPlatform Card Specification 2.3.1, 11.5.2.3.1, 11.6).
 
 ghost use Rattle.std.specs.Prelude.{◌≡◌, ◌↔◌, ◌≤◌, Some, true, length, IsTrue, OnOk};
 ghost use Rattle.apdu_core.specs.Apdu.{apdu_of};

@@ -1,4 +1,4 @@
-//! The workload: rounds of lines that ChaCha20 chooses.
+//! The workload: rounds of lines that ChaCha20 chooses (this profile's own).
 
 ghost use Rattle.std.specs.Prelude.{◌≡◌, ◌∷◌, ◌↔◌, [], IsTrue, MatchOption, false};
 ghost use Rattle.script_tool.specs.Mill.{after, after_round, generator, round_of, to_come, word, workload};

@@ -1,4 +1,4 @@
-//! Lines that say nothing.
+//! Lines that say nothing (this profile's own).
 
 ghost use Rattle.std.specs.Prelude.{◌⊎◌, ◌↔◌, IsTrue};
 ghost use Rattle.script_tool.specs.Line.{IsBlank, IsComment};

@@ -1,4 +1,4 @@
-//! Decimal numbers.
+//! Decimal numbers (this profile's own).
 
 ghost use Rattle.std.specs.Prelude.{◌≡◌, ◌<◌, ◌≤◌, ◌^◌, ◌↔◌, ℕ, IsTrue, decimal, Some};
 ghost use Rattle.script_tool.specs.Load.{SpellsCount};

@@ -1,4 +1,4 @@
-//! Bytes to send, and the data of STORE DATA.
+//! Bytes to send, and the data of STORE DATA (GlobalPlatform Card Specification 2.3.1, 11.11).
 
 ghost use Rattle.script_tool.specs.Raw.{SaysRaw};
 ghost use Rattle.script_tool.specs.Reads.{Reads};

@@ -1,4 +1,4 @@
-//! Sessions to open.
+//! Sessions to open (GlobalPlatform Amendment D, 7.1.1, 7.1.2).
 
 ghost use Rattle.script_tool.specs.Open.{SaysOpen};
 ghost use Rattle.script_tool.specs.Reads.{Reads};

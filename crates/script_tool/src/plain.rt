@@ -1,4 +1,4 @@
-//! Commands to send in a session.
+//! Commands to send in a session (GlobalPlatform Amendment D, 6.2).
 
 ghost use Rattle.std.specs.Prelude.{◌≡◌, ◌↔◌, IsTrue};
 ghost use Rattle.apdu_core.specs.Apdu.{apdu_of};

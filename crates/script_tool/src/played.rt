@@ -1,4 +1,4 @@
-//! What comes of a line.
+//! What comes of a line (this profile's own).
 
 use apdu_core::Status;
 

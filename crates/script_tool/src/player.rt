@@ -1,4 +1,4 @@
-//! A host that plays the lines of a script.
+//! A host that plays the lines of a script (this profile's own).
 
 ghost use Rattle.std.specs.Prelude.{◌≡◌, ◌≤◌, ◌↔◌, ◌⊎◌, ℕ, length, true, OnOk};
 ghost use Rattle.faults.specs.Faults.{HasCause, Rose};

@@ -1,4 +1,4 @@
-//! What is done with a line that has a form.
+//! What is done with a line that has a form (this profile's own).
 
 ghost use Rattle.std.specs.Prelude.{◌≡◌, ℕ, List, true, false, OnOk};
 ghost use Rattle.apdu_core.specs.Apdu.{Apdu};

@@ -1,4 +1,4 @@
-//! What a line prints.
+//! What a line prints (this profile's own).
 
 ghost use Rattle.std.specs.Prelude.{◌≡◌, ◌+◌, ◌*◌, ◌++◌, ◌≤◌, codes, length};
 ghost use Rattle.std.specs.Option.{option_map};

@@ -1,4 +1,4 @@
-//! Keys to put.
+//! Keys to put (GlobalPlatform Card Specification 2.3.1, 11.8; Amendment D, 7.2).
 
 ghost use Rattle.std.specs.Prelude.{◌≡◌, ◌∷◌};
 ghost use Rattle.std.specs.List.{flat_map};

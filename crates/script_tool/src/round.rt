@@ -1,4 +1,4 @@
-//! The lines of a round of the workload.
+//! The lines of a round of the workload (this profile's own).
 
 ghost use Rattle.std.specs.Prelude.{◌≡◌, ◌+◌, ◌*◌, ◌<◌, ◌≤◌, ◌++◌, [], ◌∷◌, length, decimal, codes, slice_get};
 ghost use Rattle.std.specs.Int.{w32, w64, to_be_bytes};

@@ -1,4 +1,4 @@
-//! The AID to select.
+//! The AID to select (GlobalPlatform Card Specification 2.3.1, 11.9).
 
 ghost use Rattle.script_tool.specs.Reads.{Reads};
 ghost use Rattle.script_tool.specs.Select.{SaysSelect};

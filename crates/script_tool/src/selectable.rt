@@ -1,4 +1,4 @@
-//! Applications to make selectable.
+//! Applications to make selectable (GlobalPlatform Card Specification 2.3.1, 11.5).
 
 ghost use Rattle.std.specs.Prelude.{◌≡◌};
 ghost use Rattle.script_tool.specs.Reads.{Reads};

@@ -1,4 +1,4 @@
-//! Sessions that are opened.
+//! Sessions that are opened (GlobalPlatform Amendment D, 7.1.1, 7.1.2).
 
 ghost use Rattle.std.specs.Prelude.{◌≡◌, true, length, OnOk};
 ghost use Rattle.apdu_core.specs.Apdu.{Short};

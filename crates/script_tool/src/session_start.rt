@@ -1,4 +1,4 @@
-//! How a session begins, under keys of any length.
+//! How a session begins, under keys of any length (GlobalPlatform Amendment D, 7.1.1, 7.1.2).
 
 ghost use Rattle.std.specs.Prelude.{◌≡◌, ◌≢◌, ◌↔◌, ◌<◌, length, IfOk, OnOk, OnErr};
 ghost use Rattle.apdu_core.specs.Apdu.{Short};

@@ -1,4 +1,4 @@
-//! The tokens of later commands.
+//! The tokens of later commands (GlobalPlatform Card Specification 2.3.1, 9.2 and C.4).
 
 ghost use Rattle.std.specs.Prelude.{◌≡◌, ◌≤◌, length};
 ghost use Rattle.script_tool.specs.Reads.{Reads};

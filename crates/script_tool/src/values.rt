@@ -1,4 +1,4 @@
-//! The values of words in hexadecimal digits.
+//! The values of words in hexadecimal digits (this profile's own).
 
 ghost use Rattle.std.specs.Prelude.{◌≡◌, ℕ, List, length, MatchOption};
 ghost use Rattle.script_tool.specs.Reads.{Reads};

@@ -1,4 +1,4 @@
-//! The bytes that go to a card and come back.
+//! The bytes that go to a card and come back (this profile's own).
 
 ghost use Rattle.std.specs.Prelude.{◌≡◌, ◌≤◌, [], ◌∷◌, true, length, OnOk, OnErr};
 ghost use Rattle.faults.specs.Faults.{HasCause};

@@ -1,4 +1,4 @@
-//! What is said where there is no reply to print.
+//! What is said where there is no reply to print (this profile's own).
 
 ghost use Rattle.std.specs.Prelude.{◌≡◌};
 ghost use Rattle.script_tool.specs.InSession.{refusal_word};

@@ -1,4 +1,4 @@
-//! The words of a line, one after another.
+//! The words of a line, one after another (this profile's own).
 
 ghost use Rattle.std.specs.Prelude.{◌≡◌, ◌↔◌, ◌∷◌, ◌<◌, [], List, ℕ, length, take, slice_index, IsSome, MatchOption};
 ghost use Rattle.script_tool.specs.Words.{words_of, left, HasNoSpace};
