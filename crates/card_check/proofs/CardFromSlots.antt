@@ -11,7 +11,8 @@ use Rattle.card_types.specs.declared.tables.Entry.{Entry}
 use Rattle.card_types.specs.declared.tables.LoadFile.{LoadFile}
 use Rattle.card_types.specs.declared.tables.Tables.{Tables}
 use Rattle.card_check.specs.CardSlots.{HasCardSlots}
-use Rattle.card_check.specs.IsCard.{HasPages, IsCard, IsInLoadPages, IsLoadPage, pages_named}
+use Rattle.card_check.specs.IsCard.{HasPages, IsCard, IsInLoadPages, pages_named}
+use Rattle.page_journal.specs.Pages.{IsLoadPage}
 use Rattle.card_check.specs.LoadPages.{HasPageNumbers, all_pages}
 use Rattle.card_types.proofs.Members.{contains_cases}
 use Rattle.card_check.proofs.CardNames.{factory_load_file, issuer_entry, used_from}

@@ -36,7 +36,8 @@ use Rattle.card_types.proofs.SetMembers.{counter_there}
 use Rattle.card_types.proofs.SetNames.{set_of_counter}
 use Rattle.card_types.proofs.Shows.{shows_used}
 use Rattle.card_check.specs.CardSlots.{HasCardSlots, IsAlone, IsCardEntry, IsCardFile, IsCardKey, IsCardObject, IsDomainSlot, IsFactoryLoadFile, IsIssuerEntry, is_key_of}
-use Rattle.card_check.specs.IsCard.{IsCard, IsInLoadPages, IsLoadPage, pages_named}
+use Rattle.card_check.specs.IsCard.{IsCard, IsInLoadPages, pages_named}
+use Rattle.page_journal.specs.Pages.{IsLoadPage}
 use Rattle.card_check.specs.LoadPages.{HaveLoadPages}
 use Rattle.card_check.proofs.CardNames.{file_aid_is, in_used, is_factory_slot, some_from, used_from}
 use Rattle.card_check.proofs.Counting.{count_of_slots}

@@ -11,7 +11,8 @@ use Rattle.card_types.specs.Represents.{used}
 use Rattle.card_types.specs.Slots.{held}
 use Rattle.card_types.specs.declared.limits.TheConstants.{LOAD_PAGES}
 use Rattle.card_types.proofs.Members.{contains_first, contains_later, mapped}
-use Rattle.card_check.specs.IsCard.{HasPages, IsLoadPage}
+use Rattle.card_check.specs.IsCard.{HasPages}
+use Rattle.page_journal.specs.Pages.{IsLoadPage}
 use Rattle.card_check.specs.LoadPages.{AreLoadPages}
 
 module _ {T : Type 0} where

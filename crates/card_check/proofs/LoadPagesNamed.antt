@@ -9,7 +9,7 @@ use Rattle.std.proofs.lemmas.List.Elements.{All-contains, All-contains_itself, A
 use Rattle.card_types.proofs.Members.{contains_cases, contains_first, contains_later}
 use Rattle.card_types.specs.declared.limits.TheConstants.{LOAD_PAGES}
 use Rattle.card_check.specs.LoadPages.{AreLoadPages, HasMarks, IsNewPage}
-use Rattle.card_check.specs.IsCard.{IsLoadPage}
+use Rattle.page_journal.specs.Pages.{IsLoadPage}
 
 module _ {X : Type 0} where
   -- what is so of the members is so of all

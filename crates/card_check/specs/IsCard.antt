@@ -10,13 +10,11 @@ use Rattle.card_types.specs.declared.factory.TheConstants.{FACTORY_FILE}
 use Rattle.card_types.specs.declared.limits.TheConstants.{FILE_LIMIT}
 use Rattle.card_types.specs.declared.tables.LoadFile.{LoadFile}
 use Rattle.card_types.specs.declared.tables.Tables.{Tables}
+use Rattle.page_journal.specs.Pages.{IsLoadPage}
 
--- the numbers of the pages that hold an Executable Load File, and those of load pages
+-- the numbers of the pages that hold an Executable Load File
 abbrev pub pages_named : LoadFile → List ℕ
 pages_named file = take (pages_of file.len) file.pages
-
-abbrev pub IsLoadPage : ℕ → Type 0
-IsLoadPage page = (96 ≤ page) × (page < 608)
 
 -- the file is no longer than one may be, and its pages are load pages
 pub record IsInLoadPages (file : LoadFile) : Type 0 where

@@ -1,10 +1,12 @@
--- Load pages that are named.
+-- For the code inside. Load pages that are named.
 use Rattle.std.specs.Prelude.{◌≡◌, ℕ, ◌+◌, ◌<◌, ◌≤◌, ◌↔◌, Bool, true, false, List, Option, All, Contains, length, map, nat_eq, slice_index_or}
 use Rattle.std.specs.List.{IsDistinct, concat}
 use Rattle.card_types.specs.Represents.{used}
 use Rattle.card_types.specs.declared.limits.TheConstants.{FILE_LIMIT, LOAD_PAGES}
 use Rattle.card_types.specs.declared.tables.LoadFile.{LoadFile}
-use Rattle.card_check.specs.IsCard.{IsLoadPage, pages_named}
+use Rattle.card_check.specs.IsCard.{pages_named}
+use Rattle.page_journal.specs.Pages.{IsLoadPage}
+use Rattle.page_journal.specs.declared.pages.TheConstants.{FIRST_LOAD_PAGE}
 
 -- load pages, none of them twice
 pub record AreLoadPages (pages : List ℕ) : Type 0 where
@@ -14,7 +16,7 @@ pub record AreLoadPages (pages : List ℕ) : Type 0 where
 -- there is a mark for each load page, and the marks stand at those in the list
 pub record HasMarks (marks : List Bool) (pages : List ℕ) : Type 0 where
   pub whole : length marks ≡ LOAD_PAGES
-  pub at : (place : ℕ) → place < LOAD_PAGES → (slice_index_or marks place false ≡ true) ↔ Contains pages (96 + place)
+  pub at : (place : ℕ) → place < LOAD_PAGES → (slice_index_or marks place false ≡ true) ↔ Contains pages (FIRST_LOAD_PAGE + place)
 
 -- the page is a load page, and not among those before
 pub record IsNewPage (before : List ℕ) (page : ℕ) : Type 0 where

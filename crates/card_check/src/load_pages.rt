@@ -7,9 +7,7 @@ ghost use Rattle.card_check.specs.LoadPages.{AreLoadPages, HasMarks, HasPageNumb
 ghost use Rattle.card_types.specs.declared.limits.TheConstants.{FILE_LIMIT, LOAD_PAGES};
 
 use card_types::{LOAD_PAGES, LoadFile};
-
-/// The number of the first load page.
-const FIRST: u16 = 96;
+use page_journal::FIRST_LOAD_PAGE;
 
 /// Whether no file is longer than one may be, and the files name load pages, none of them twice.
 pub fn have_load_pages(files: &[Option<LoadFile>]) -> bool
@@ -72,10 +70,10 @@ fn mark_page(marks: &mut [bool], page: u16) -> bool
     ensures new { (before : List ℕ) → HasMarks marks.old before → (IsTrue result ↔ IsNewPage before page) }
     ensures yes { (before : List ℕ) → HasMarks marks.old before → IsTrue result → HasMarks marks.new (before ++ page ∷ []) }
 {
-    if page < FIRST {
+    if page < FIRST_LOAD_PAGE {
         return false;
     }
-    let place = usize::from(page - FIRST);
+    let place = usize::from(page - FIRST_LOAD_PAGE);
     if place >= LOAD_PAGES || marks[place] {
         return false;
     }

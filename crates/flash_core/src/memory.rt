@@ -4,6 +4,7 @@ ghost use Rattle.std.specs.Prelude.{◌≡◌, ◌↔◌, ◌<◌, ◌≤◌, �
 ghost use Rattle.faults.specs.Faults.{HasCause, next_count};
 ghost use Rattle.flash_core.specs.Device.{SameBut, NoneNew, AnyBytesIn, Only, Elapses};
 ghost use Rattle.flash_core.specs.Memory.{cut_page as cut_page_of, CutBy, filled};
+ghost use Rattle.flash_core.specs.declared.page.TheConstants.{PAGES};
 
 use crate::flash::{Flash, FlashFailed};
 use crate::page::{PAGES, Page};
@@ -33,16 +34,17 @@ impl Model for MemFlash {
     ghost use Rattle.std.specs.Prelude.{◌≡◌, ◌≤◌, length, vec_len, vec_capacity};
     ghost use Rattle.flash_core.specs.Memory.{MemoryFlash};
     ghost use Rattle.flash_core.specs.Replay.{settled, after_calls};
+    ghost use Rattle.flash_core.specs.declared.page.TheConstants.{PAGES};
 
     ghost Value = { MemoryFlash };
 
     ghost view = { λ m. record { first = m.first.items; calls = m.calls.items; room = m.room; faults = m.faults } };
 
     ghost invariant = { λ m.
-        (length m.first.items ≡ 608)
-        × (vec_len m.seen ≡ 608)
-        × (vec_len m.kept ≡ 608)
-        × (vec_len m.written ≡ 608)
+        (length m.first.items ≡ PAGES)
+        × (vec_len m.seen ≡ PAGES)
+        × (vec_len m.kept ≡ PAGES)
+        × (vec_len m.written ≡ PAGES)
         × (after_calls (settled m.first.items) m.calls.items ≡ record { seen = m.seen.items; kept = m.kept.items; written = m.written.items })
         × (vec_len m.calls ≤ m.room)
         × (m.room ≤ vec_capacity m.calls) };
@@ -52,16 +54,16 @@ impl MemFlash {
     ghost use Rattle.flash_core.specs.Memory.{MemoryFlash, medium};
     ghost use Rattle.flash_core.specs.Replay.{MayLeave, IsInRange};
 
-    /// 608 pages of zeros with nothing pending, and room for so many writes and syncs. `AllocError` is want of
+    /// Pages of zeros with nothing pending, and room for so many writes and syncs. `AllocError` is want of
     /// memory for the pages and that room.
     pub fn new(alloc: Global, room: u32) -> Result<MemFlash, AllocError>
-        ensures { IfOk result (λ m. m ≡ record { first = replicate 608 (filled 0); calls = []; room = room; faults = 0 }) }
+        ensures { IfOk result (λ m. m ≡ record { first = replicate PAGES (filled 0); calls = []; room = room; faults = 0 }) }
     {
         Ok(MemFlash {
             first: zero_pages(alloc)?,
             seen: zero_pages(alloc)?,
             kept: zero_pages(alloc)?,
-            written: Vec::from_elem(alloc, false, 608)?,
+            written: Vec::from_elem(alloc, false, PAGES as usize)?,
             calls: Vec::with_capacity(alloc, room as usize)?,
             room: room as usize,
             faults: 0,
@@ -79,7 +81,7 @@ impl MemFlash {
     // Takes a write or a sync, where the list has room for it.
     fn take(&mut self, call: Call) -> Result<(), FlashFailed>
         requires { IsInRange call }
-        ensures pages { length (medium self.old).seen ≡ 608 }
+        ensures pages { length (medium self.old).seen ≡ PAGES }
         ensures refused { IsErr result ↔ (self.old.room ≤ length self.old.calls) }
         ensures ok { OnOk result (self.new ≡ record self.old { calls = self.old.calls ++ call ∷ [] }) }
         ensures err { OnErr result (self.new ≡ record self.old { faults = next_count self.old.faults }) }
@@ -120,9 +122,9 @@ impl MemFlash {
 }
 
 fn zero_pages(alloc: Global) -> Result<Vec<Page>, AllocError>
-    ensures { IfOk result (λ pages. pages.items ≡ replicate 608 (filled 0)) }
+    ensures { IfOk result (λ pages. pages.items ≡ replicate PAGES (filled 0)) }
 {
-    Vec::from_elem(alloc, Page { bytes: [0; 256] }, 608)
+    Vec::from_elem(alloc, Page { bytes: [0; 256] }, PAGES as usize)
 }
 
 // What a power cut leaves of a page.

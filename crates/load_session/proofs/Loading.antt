@@ -6,7 +6,8 @@ use Rattle.std.proofs.lemmas.Bool.Decides.{nat_tests}
 use Rattle.std.proofs.lemmas.List.{append-nil, map-append}
 use Rattle.std.proofs.lemmas.List.Elements.{All-contains, All-head, All-nil, All-push, All-tail, Contains-append_left, Contains-append_right}
 use Rattle.card_check.proofs.LoadPagesNamed.{are_none}
-use Rattle.card_check.specs.IsCard.{IsLoadPage, pages_named}
+use Rattle.card_check.specs.IsCard.{pages_named}
+use Rattle.page_journal.specs.Pages.{IsLoadPage}
 use Rattle.card_types.proofs.Members.{contains_first, contains_later}
 use Rattle.card_types.specs.Represents.{used}
 use Rattle.card_types.specs.declared.tables.Tables.{Tables}

@@ -7,7 +7,8 @@ use Rattle.std.proofs.lemmas.List.{append-nil, map-append, take_more}
 use Rattle.std.proofs.lemmas.List.Elements.{Contains-append_cases, Contains-append_left, Contains-append_right, Contains-push_cases}
 use Rattle.std.proofs.lemmas.List.Folds.{concat-append}
 use Rattle.card_check.proofs.LoadPagesNamed.{all_of_members}
-use Rattle.card_check.specs.IsCard.{IsLoadPage, pages_named}
+use Rattle.card_check.specs.IsCard.{pages_named}
+use Rattle.page_journal.specs.Pages.{IsLoadPage}
 use Rattle.card_check.specs.LoadPages.{HasMarks, all_pages}
 use Rattle.card_types.proofs.Members.{contains_first, contains_later}
 use Rattle.card_types.specs.Represents.{used}

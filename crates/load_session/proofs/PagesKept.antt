@@ -12,7 +12,8 @@ use Rattle.std.proofs.lemmas.Map.Keys.{IsDistinct-push}
 use Rattle.std.proofs.lemmas.Map.Views.{Contains-from_any}
 use Rattle.card_check.proofs.Counting.{length_of_pages}
 use Rattle.card_check.proofs.LoadPagesNamed.{are_none}
-use Rattle.card_check.specs.IsCard.{HasPages, IsLoadPage}
+use Rattle.card_check.specs.IsCard.{HasPages}
+use Rattle.page_journal.specs.Pages.{IsLoadPage}
 use Rattle.card_types.proofs.Members.{contains_first, contains_later}
 use Rattle.card_types.specs.declared.tables.Tables.{Tables}
 use Rattle.load_session.specs.Paged.{bytes_in, padded, size_of}

@@ -1,7 +1,8 @@
 -- Load pages that an Executable Load File takes while it comes.
 use Rattle.std.specs.Prelude.{ℕ, ◌⊎◌, List, All, Contains, nat_eq}
 use Rattle.std.specs.List.{IsDistinct, sum_by}
-use Rattle.card_check.specs.IsCard.{IsLoadPage, pages_named}
+use Rattle.card_check.specs.IsCard.{pages_named}
+use Rattle.page_journal.specs.Pages.{IsLoadPage}
 use Rattle.card_types.specs.Represents.{used}
 use Rattle.card_types.specs.Well.{pages_of}
 use Rattle.card_types.specs.declared.tables.LoadFile.{LoadFile}

@@ -7,32 +7,31 @@ ghost use Rattle.card_types.specs.Represents.{used};
 ghost use Rattle.card_types.specs.Well.{pages_of};
 ghost use Rattle.card_types.specs.declared.limits.TheConstants.{FILE_LIMIT, LOAD_PAGES};
 ghost use Rattle.load_session.specs.Pages.{IsPageInUse, pages_in};
+ghost use Rattle.page_journal.specs.Pages.{IsLoadPage};
+ghost use Rattle.page_journal.specs.declared.pages.TheConstants.{FIRST_LOAD_PAGE};
 ghost use Rattle.rec_store.specs.Reopens.{IsFree};
 ghost use Rattle.rec_store.specs.StoredTables.{AreRoomy};
 
 use card_types::{LOAD_PAGES, LoadFile, Tables};
-
-/// The number of the first load page.
-const FIRST: u16 = 96;
+use page_journal::FIRST_LOAD_PAGE;
 
 /// The lowest load page that no Executable Load File of the tables names and that is not taken.
 pub(crate) fn free_page(tables: &Tables, taken: &[u16]) -> u16
     requires roomy { AreRoomy tables.now }
     requires room { pages_in tables.now + length taken.now < LOAD_PAGES }
-    ensures range { (96 ≤ result) × (result < 608) }
+    ensures range { IsLoadPage result }
     ensures free { IsFree tables.now result }
     ensures apart { Contains taken.now result → ⊥ }
-    ensures lowest { (page : ℕ) → 96 ≤ page → page < result → IsPageInUse tables.now taken.now page }
+    ensures lowest { (page : ℕ) → FIRST_LOAD_PAGE ≤ page → page < result → IsPageInUse tables.now taken.now page }
 {
     let mut marks = [false; LOAD_PAGES];
     mark_files(&mut marks, tables);
     mark(&mut marks, taken);
-    for page in FIRST..FIRST + LOAD_PAGES as u16 {
-        if !marks[usize::from(page - FIRST)] {
-            return page;
-        }
+    let mut page = FIRST_LOAD_PAGE;
+    while marks[usize::from(page - FIRST_LOAD_PAGE)] {
+        page += 1;
     }
-    unreachable!()
+    page
 }
 
 // Marks the pages that the Executable Load Files of the tables name.
@@ -61,10 +60,10 @@ fn mark(marks: &mut [bool; LOAD_PAGES], pages: &[u16])
 fn mark_page(marks: &mut [bool; LOAD_PAGES], page: u16)
     ensures { (before : List ℕ) → HasMarks marks.old before → HasMarks marks.new (before ++ page ∷ []) }
 {
-    if page < FIRST {
+    if page < FIRST_LOAD_PAGE {
         return;
     }
-    let place = usize::from(page - FIRST);
+    let place = usize::from(page - FIRST_LOAD_PAGE);
     if place < LOAD_PAGES {
         marks[place] = true;
     }

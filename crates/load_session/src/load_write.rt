@@ -1,7 +1,7 @@
 //! Load pages that are to be written.
 
 ghost use Rattle.std.specs.Prelude.{◌≡◌, [], true, All, IsOk, OnOk};
-ghost use Rattle.card_check.specs.IsCard.{IsLoadPage};
+ghost use Rattle.page_journal.specs.Pages.{IsLoadPage};
 ghost use Rattle.card_types.specs.Registry.{Registry};
 ghost use Rattle.faults.specs.Faults.{HasCause};
 ghost use Rattle.load_session.specs.Loaded.{loaded, numbers};

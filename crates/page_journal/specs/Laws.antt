@@ -2,6 +2,7 @@
 use Rattle.std.specs.Prelude.{◌≡◌, ℕ, ◌+◌, ◌<◌, List, true, false, slice_index}
 use Rattle.flash_core.specs.declared.page.Page.{Page}
 use Rattle.page_journal.specs.Journal.{HasValidJournal, descriptor, is_open, place}
+use Rattle.page_journal.specs.declared.pages.TheConstants.{COPIES}
 
 -- the descriptor names this copy for the page
 abbrev pub IsCopyOf : List Page → ℕ → ℕ → Type 0
@@ -10,7 +11,7 @@ IsCopyOf pages copy page = (copy < slice_index (descriptor pages) 0) × (slice_i
 -- with a closed gate a page stands at home, with an open one in the copy that is named for it, and at home where none is
 pub record StandsAt (pages : List Page) (page at : ℕ) : Type 0 where
   pub closed : is_open pages ≡ false → at ≡ page
-  pub copied : is_open pages ≡ true → (copy : ℕ) → IsCopyOf pages copy page → at ≡ 47 + copy
+  pub copied : is_open pages ≡ true → (copy : ℕ) → IsCopyOf pages copy page → at ≡ COPIES + copy
   pub home : is_open pages ≡ true → ((copy : ℕ) → IsCopyOf pages copy page → ⊥) → at ≡ page
 
 abbrev pub PagesStand : Type 0

@@ -4,13 +4,15 @@ use Rattle.flash_core.specs.declared.flash.Flash.{Ghosts as Flash}
 use Rattle.flash_core.specs.declared.page.Page.{Page}
 use Rattle.frame_pool.specs.Staged.{staged}
 use Rattle.page_journal.specs.Journal.{stored, HasValidJournal}
+use Rattle.page_journal.specs.Pages.{IsStorePage}
+use Rattle.page_journal.specs.declared.pages.TheConstants.{FIRST_LOAD_PAGE}
 
 -- A power loss leaves the committed pages of a list: all store pages, and all load pages but the loose ones. It
 -- leaves any bytes in a loose page.
 pub record Leaves (pages : ℕ → Option Page) (loose : List ℕ) (outcome : List Page) : Type 0 where
   pub sound : HasValidJournal outcome
-  pub store : (page : ℕ) → page < 45 → stored outcome page ≡ pages page
-  pub load : (page : ℕ) → 96 ≤ page → (Contains loose page → ⊥) → stored outcome page ≡ pages page
+  pub store : (page : ℕ) → IsStorePage page → stored outcome page ≡ pages page
+  pub load : (page : ℕ) → FIRST_LOAD_PAGE ≤ page → (Contains loose page → ⊥) → stored outcome page ≡ pages page
 
 -- whatever a power loss now leaves has P
 abbrev pub Always : (List Page → Type 0) → (List Page → Type 0) → Type 0

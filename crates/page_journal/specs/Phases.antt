@@ -1,15 +1,17 @@
--- The pages that each part of a commit touches, and what it leaves there.
+-- For the code inside. The pages that each part of a commit touches, and what it leaves there.
 use Rattle.std.specs.Prelude.{◌≡◌, ℕ, ◌+◌, ◌<◌, ◌≤◌, List, length, Some, IsSome, slice_get, slice_index}
 use Rattle.flash_core.specs.declared.page.Page.{Page}
 use Rattle.frame_pool.specs.Staged.{staged}
+use Rattle.frame_pool.specs.declared.pool.TheConstants.{FRAMES}
+use Rattle.page_journal.specs.declared.pages.TheConstants.{COPIES, DESCRIPTOR}
 
 -- the copies
 abbrev pub IsCopy : ℕ → Type 0
-IsCopy page = (47 ≤ page) × (page < 77)
+IsCopy page = (COPIES ≤ page) × (page < COPIES + FRAMES)
 
 -- the copies and the descriptor
 abbrev pub IsRecord : ℕ → Type 0
-IsRecord page = (46 ≤ page) × (page < 77)
+IsRecord page = (DESCRIPTOR ≤ page) × (page < COPIES + FRAMES)
 
 -- a page that is staged
 abbrev pub IsStaged : List (ℕ × Page) → ℕ → Type 0
@@ -17,7 +19,7 @@ IsStaged pages page = IsSome (staged pages page)
 
 -- the first so many staged pages have their copies
 abbrev pub CopiesOf : ℕ → List (ℕ × Page) → List Page → Type 0
-CopiesOf count pages device = (i : ℕ) (entry : ℕ × Page) → i < count → slice_get pages i ≡ Some entry → slice_get device (47 + i) ≡ Some entry.1
+CopiesOf count pages device = (i : ℕ) (entry : ℕ × Page) → i < count → slice_get pages i ≡ Some entry → slice_get device (COPIES + i) ≡ Some entry.1
 
 -- the descriptor names the staged pages in their order
 pub record Names (pages : List (ℕ × Page)) (bytes : List ℕ) : Type 0 where
@@ -34,4 +36,4 @@ IsInDescriptor bytes page = (i : ℕ) × (i < slice_index bytes 0) × (slice_ind
 
 -- the first so many copies stand at home
 abbrev pub CopiesHome : ℕ → List ℕ → List Page → List Page → Type 0
-CopiesHome count bytes old new = (i : ℕ) → i < count → slice_get new (slice_index bytes (i + 1)) ≡ slice_get old (47 + i)
+CopiesHome count bytes old new = (i : ℕ) → i < count → slice_get new (slice_index bytes (i + 1)) ≡ slice_get old (COPIES + i)

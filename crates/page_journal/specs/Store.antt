@@ -1,4 +1,4 @@
--- What contracts see of a store, and what it keeps.
+-- For the code inside. What contracts see of a store, and what it keeps.
 use Rattle.std.specs.Prelude.{◌≡◌, ◌⊎◌, ℕ, ◌<◌, ◌≤◌, Bool, true, List, Option, Some, is_some, IfSome, slice_get}
 use Rattle.faults.specs.Faults.{Rose}
 use Rattle.flash_core.specs.declared.flash.Flash.{Ghosts as Flash}
@@ -7,6 +7,8 @@ use Rattle.page_journal.specs.declared.cause.MountCause.{MountCause}
 use Rattle.page_journal.specs.declared.cause.MountCause.TheVariants.{Memory, FlashFailed, BadJournal}
 use Rattle.page_journal.specs.Journal.{is_open, descriptor, IsValid, stored}
 use Rattle.page_journal.specs.Moments.{Always}
+use Rattle.page_journal.specs.Pages.{IsStorePage}
+use Rattle.page_journal.specs.declared.pages.TheConstants.{DESCRIPTOR, FIRST_LOAD_PAGE}
 
 -- the device, the staged pages, whether the gate that was open at `mount` is closed, and whether no call has failed
 pub record Store (F : Type 0) : Type 0 where
@@ -15,14 +17,14 @@ pub record Store (F : Type 0) : Type 0 where
   pub settled : Bool
   pub live : Bool
 
--- the pages below 96 are the same
+-- the pages below the load pages are the same
 abbrev pub SameBelow : List Page → List Page → Type 0
-SameBelow old new = (page : ℕ) → page < 96 → slice_get new page ≡ slice_get old page
+SameBelow old new = (page : ℕ) → page < FIRST_LOAD_PAGE → slice_get new page ≡ slice_get old page
 
 -- what was read of the journal is what stands there
 pub record HasJournal (pages : List Page) (journal : Option Page) : Type 0 where
   pub gate : is_open pages ≡ is_some journal
-  pub named : IfSome journal (λ page. slice_get pages 46 ≡ Some page)
+  pub named : IfSome journal (λ page. slice_get pages DESCRIPTOR ≡ Some page)
 
 -- Between two calls nothing below the load pages is pending, and the journal is as it was read.
 pub record IsCalm (pages : List Page) (may_leave : List Page → Type 0) (journal : Option Page) : Type 0 where
@@ -31,11 +33,11 @@ pub record IsCalm (pages : List Page) (may_leave : List Page → Type 0) (journa
 
 -- only store pages are staged
 abbrev pub AreStorePages : List (ℕ × Page) → Type 0
-AreStorePages pages = (i : ℕ) (entry : ℕ × Page) → slice_get pages i ≡ Some entry → entry.0 < 45
+AreStorePages pages = (i : ℕ) (entry : ℕ × Page) → slice_get pages i ≡ Some entry → IsStorePage entry.0
 
 -- the pages of a device stand for this list
 abbrev pub IsListed : (ℕ → Option Page) → List Page → Type 0
-IsListed list pages = (page : ℕ) → (page < 45) ⊎ (96 ≤ page) → stored pages page ≡ list page
+IsListed list pages = (page : ℕ) → IsStorePage page ⊎ (FIRST_LOAD_PAGE ≤ page) → stored pages page ≡ list page
 
 -- Why a device is not mounted: it failed, or the gate is open before a descriptor that has no valid form.
 abbrev pub CauseHolds : Type 0 → ℕ → ℕ → List Page → MountCause → Type 0

@@ -5,9 +5,11 @@ ghost use Rattle.faults.specs.Faults.{HasCause};
 ghost use Rattle.flash_core.specs.declared.page.Page.{Page as PageOf};
 ghost use Rattle.flash_core.specs.Device.{Only};
 ghost use Rattle.frame_pool.specs.Staged.{AreDistinct};
+ghost use Rattle.frame_pool.specs.declared.pool.TheConstants.{FRAMES};
 ghost use Rattle.page_journal.specs.Journal.{is_open, stored, IsValid};
 ghost use Rattle.page_journal.specs.Moments.{Always, LeavesEither, LeavesOnly, Leaves, current};
 ghost use Rattle.page_journal.specs.Store.{AreStorePages, SameBelow, IsListed};
+ghost use Rattle.page_journal.specs.declared.pages.TheConstants.{DESCRIPTOR};
 
 use crate::steps::{OPEN, copy_in_place, put_in_place, record, set_gate};
 use flash_core::{Flash, FlashFailed, Page};
@@ -16,7 +18,7 @@ use frame_pool::FramePool;
 /// Commits the staged pages.
 pub fn commit_pages<F: Flash>(flash: &mut F, pool: &FramePool) -> Result<(), FlashFailed>
     requires some { 0 < length pool.now }
-    requires room { length pool.now ≤ 30 }
+    requires room { length pool.now ≤ FRAMES }
     requires homes { AreStorePages pool.now }
     requires distinct { AreDistinct pool.now }
     requires closed { F.tells → is_open (F.pages flash.old) ≡ false }
@@ -41,7 +43,7 @@ pub fn commit_pages<F: Flash>(flash: &mut F, pool: &FramePool) -> Result<(), Fla
 pub fn settle_pages<F: Flash>(flash: &mut F, descriptor: &Page) -> Result<(), FlashFailed>
     requires valid { IsValid descriptor.now.bytes }
     requires gate { F.tells → is_open (F.pages flash.old) ≡ true }
-    requires named { F.tells → slice_get (F.pages flash.old) 46 ≡ Some descriptor.now }
+    requires named { F.tells → slice_get (F.pages flash.old) DESCRIPTOR ≡ Some descriptor.now }
     requires calm { F.tells → Always (F.may_leave flash.old) (SameBelow (F.pages flash.old)) }
     ensures moments { F.tells → (loose : List ℕ) → Always (F.may_leave flash.old) (Leaves (stored (F.pages flash.old)) loose)
         → LeavesOnly F.Flash flash.old flash.new (Leaves (stored (F.pages flash.old)) loose) }

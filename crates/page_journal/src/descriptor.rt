@@ -2,19 +2,19 @@
 
 ghost use Rattle.std.specs.Prelude.{◌≡◌, ◌≢◌, ◌↔◌, ℕ, ◌+◌, ◌<◌, ◌≤◌, List, length, Some, slice_get, slice_index, IfSome, IsTrue};
 ghost use Rattle.flash_core.specs.declared.page.Page.{Page as PageOf};
+ghost use Rattle.flash_core.specs.declared.page.TheConstants.{PAGES};
+ghost use Rattle.frame_pool.specs.declared.pool.TheConstants.{FRAMES};
 ghost use Rattle.page_journal.specs.Journal.{IsValid, copied_place, place_of_page};
 ghost use Rattle.page_journal.specs.Phases.{Names};
 ghost use Rattle.page_journal.specs.Store.{AreStorePages};
 
+use crate::pages::{COPIES, STORE_PAGES};
 use flash_core::Page;
-use frame_pool::FramePool;
-
-/// The first of the copies.
-pub const COPIES: u16 = 47;
+use frame_pool::{FRAMES, FramePool};
 
 /// A descriptor that names the staged pages in their order.
 pub fn describe(pool: &FramePool) -> Page
-    requires room { length pool.now ≤ 30 }
+    requires room { length pool.now ≤ FRAMES }
     requires homes { AreStorePages pool.now }
     ensures { Names pool.now result.bytes }
 {
@@ -32,11 +32,11 @@ pub fn is_valid(bytes: &[u8; 256]) -> bool
     ensures { IsTrue result ↔ IsValid bytes.now }
 {
     let count = bytes[0] as usize;
-    if count == 0 || count > 30 {
+    if count == 0 || count > FRAMES {
         return false;
     }
     for index in 0..count {
-        if bytes[index + 1] >= 45 || is_named_before(bytes, index) {
+        if bytes[index + 1] >= STORE_PAGES as u8 || is_named_before(bytes, index) {
             return false;
         }
     }
@@ -45,7 +45,7 @@ pub fn is_valid(bytes: &[u8; 256]) -> bool
 
 // Whether the home at an index is also named before it.
 fn is_named_before(bytes: &[u8; 256], index: usize) -> bool
-    requires { index < 30 }
+    requires { index < FRAMES }
     ensures { IsTrue result ↔ ((i : ℕ) × (i < index) × (slice_index bytes.now (i + 1) ≡ slice_index bytes.now (index + 1))) }
 {
     for earlier in 0..index {
@@ -60,7 +60,7 @@ fn is_named_before(bytes: &[u8; 256], index: usize) -> bool
 pub fn place_behind(journal: &Option<Page>, page: u16) -> u16
     requires { IfSome journal.now (λ d. slice_index d.bytes 0 ≤ 30) }
     ensures place { result ≡ place_of_page journal.now page }
-    ensures bound { page < 608 → result < 608 }
+    ensures bound { page < PAGES → result < PAGES }
 {
     match journal {
         Some(descriptor) => place_of(descriptor, page),
@@ -70,9 +70,9 @@ pub fn place_behind(journal: &Option<Page>, page: u16) -> u16
 
 // Where a page stands while the gate is open.
 fn place_of(descriptor: &Page, page: u16) -> u16
-    requires room { slice_index descriptor.now.bytes 0 ≤ 30 }
+    requires room { slice_index descriptor.now.bytes 0 ≤ FRAMES }
     ensures place { result ≡ copied_place descriptor.now.bytes page }
-    ensures bound { page < 608 → result < 608 }
+    ensures bound { page < PAGES → result < PAGES }
 {
     for index in 0..descriptor.bytes[0] as u16 {
         if u16::from(descriptor.bytes[index as usize + 1]) == page {

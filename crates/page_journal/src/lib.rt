@@ -40,10 +40,11 @@ mod cause;
 mod commit;
 mod descriptor;
 mod laws;
+mod pages;
 mod steps;
 mod store;
 
 pub use cause::{MountCause, MountError};
 pub use laws::pages_stand;
-pub use steps::GATE;
+pub use pages::{FIRST_LOAD_PAGE, GATE, STORE_PAGES};
 pub use store::PageStore;

@@ -3,28 +3,26 @@
 ghost use Rattle.std.specs.Prelude.{◌≡◌, ℕ, ◌+◌, ◌<◌, ◌≤◌, List, length, Some, slice_get, slice_index, OnOk};
 ghost use Rattle.faults.specs.Faults.{HasCause};
 ghost use Rattle.flash_core.specs.declared.page.Page.{Page as PageOf};
+ghost use Rattle.flash_core.specs.declared.page.TheConstants.{PAGES};
 ghost use Rattle.flash_core.specs.Device.{Only};
+ghost use Rattle.frame_pool.specs.declared.pool.TheConstants.{FRAMES};
 ghost use Rattle.page_journal.specs.Journal.{IsValid};
 ghost use Rattle.page_journal.specs.Phases.{IsCopy, IsRecord, IsStaged, IsInDescriptor, CopiesOf, Names, HomesOf, CopiesHome};
 ghost use Rattle.page_journal.specs.Store.{AreStorePages};
 ghost use Rattle.page_journal.specs.Touches.{Touches};
+ghost use Rattle.page_journal.specs.declared.pages.TheConstants.{DESCRIPTOR, GATE};
 
-use crate::descriptor::{COPIES, describe};
+use crate::descriptor::describe;
+use crate::pages::{COPIES, DESCRIPTOR, GATE};
 use flash_core::{Flash, FlashFailed, Page};
 use frame_pool::FramePool;
-
-/// The gate: open where its first byte is `OPEN`.
-pub const GATE: u16 = 45;
-
-/// The descriptor.
-pub const DESCRIPTOR: u16 = 46;
 
 /// The first byte of an open gate.
 pub const OPEN: u8 = 0xA5;
 
 /// Writes one page, and syncs.
 pub fn write_synced<F: Flash>(flash: &mut F, page: u16, from: &Page) -> Result<(), FlashFailed>
-    requires { page < 608 }
+    requires { page < PAGES }
     ensures touches { F.tells → Touches F.Flash (λ p. p ≡ page) flash.old flash.new }
     ensures written { F.tells → OnOk result (slice_get (F.pages flash.new) page ≡ Some from.now) }
     ensures only { F.tells → OnOk result (Only (F.pages flash.new) (F.may_leave flash.new)) }
@@ -36,7 +34,7 @@ pub fn write_synced<F: Flash>(flash: &mut F, page: u16, from: &Page) -> Result<(
 
 // Writes the copies of the staged pages.
 fn write_copies<F: Flash>(flash: &mut F, pool: &FramePool) -> Result<(), FlashFailed>
-    requires { length pool.now ≤ 30 }
+    requires { length pool.now ≤ FRAMES }
     ensures touches { F.tells → Touches F.Flash IsCopy flash.old flash.new }
     ensures copies { F.tells → OnOk result (CopiesOf (length pool.now) pool.now (F.pages flash.new)) }
     ensures cause { HasCause (F.faults flash.old) (F.faults flash.new) result }
@@ -50,11 +48,11 @@ fn write_copies<F: Flash>(flash: &mut F, pool: &FramePool) -> Result<(), FlashFa
 
 /// Writes the copies of the staged pages and the descriptor that names them, and syncs.
 pub fn record<F: Flash>(flash: &mut F, pool: &FramePool) -> Result<(), FlashFailed>
-    requires room { length pool.now ≤ 30 }
+    requires room { length pool.now ≤ FRAMES }
     requires homes { AreStorePages pool.now }
     ensures touches { F.tells → Touches F.Flash IsRecord flash.old flash.new }
     ensures copies { F.tells → OnOk result (CopiesOf (length pool.now) pool.now (F.pages flash.new)) }
-    ensures names { F.tells → OnOk result ((page : PageOf) × (slice_get (F.pages flash.new) 46 ≡ Some page) × Names pool.now page.bytes) }
+    ensures names { F.tells → OnOk result ((page : PageOf) × (slice_get (F.pages flash.new) DESCRIPTOR ≡ Some page) × Names pool.now page.bytes) }
     ensures only { F.tells → OnOk result (Only (F.pages flash.new) (F.may_leave flash.new)) }
     ensures cause { HasCause (F.faults flash.old) (F.faults flash.new) result }
 {
@@ -64,8 +62,8 @@ pub fn record<F: Flash>(flash: &mut F, pool: &FramePool) -> Result<(), FlashFail
 
 /// Writes the gate, and syncs.
 pub fn set_gate<F: Flash>(flash: &mut F, byte: u8) -> Result<(), FlashFailed>
-    ensures touches { F.tells → Touches F.Flash (λ p. p ≡ 45) flash.old flash.new }
-    ensures written { F.tells → OnOk result ((page : PageOf) × (slice_get (F.pages flash.new) 45 ≡ Some page) × (slice_index page.bytes 0 ≡ byte)) }
+    ensures touches { F.tells → Touches F.Flash (λ p. p ≡ GATE) flash.old flash.new }
+    ensures written { F.tells → OnOk result ((page : PageOf) × (slice_get (F.pages flash.new) GATE ≡ Some page) × (slice_index page.bytes 0 ≡ byte)) }
     ensures only { F.tells → OnOk result (Only (F.pages flash.new) (F.may_leave flash.new)) }
     ensures cause { HasCause (F.faults flash.old) (F.faults flash.new) result }
 {

@@ -5,14 +5,17 @@ ghost use Rattle.faults.specs.Faults.{HasCause, Rose};
 ghost use Rattle.flash_core.specs.declared.page.Page.{Page as PageOf};
 ghost use Rattle.flash_core.specs.Device.{NoneNew, SameBut, Only};
 ghost use Rattle.frame_pool.specs.Staged.{staged, with_page};
+ghost use Rattle.frame_pool.specs.declared.pool.TheConstants.{FRAMES};
 ghost use Rattle.page_journal.specs.Journal.{HasValidJournal, IsValid, is_open, stored};
 ghost use Rattle.page_journal.specs.Moments.{Always, LeavesEither, LeavesOnly, Leaves, current};
+ghost use Rattle.page_journal.specs.Pages.{IsLoadPage, IsStorePage};
 ghost use Rattle.page_journal.specs.Store.{IsListed, HasJournal, CauseHolds, MountFails};
 
 use crate::cause::{MountCause, MountError};
 use crate::commit::{commit_pages, settle_pages};
 use crate::descriptor::{is_valid, place_behind};
-use crate::steps::{DESCRIPTOR, GATE, OPEN};
+use crate::pages::{DESCRIPTOR, GATE};
+use crate::steps::OPEN;
 use flash_core::{Flash, FlashFailed, Page};
 use frame_pool::FramePool;
 use std::alloc::Global;
@@ -127,7 +130,7 @@ impl<F: Flash> PageStore<F> {
 
     /// Reads a page: the staged one, and otherwise that of the list, loose or not.
     pub fn read(&mut self, page: u16, into: &mut Page) -> Result<(), FlashFailed>
-        requires { (page < 45) ⊎ ((96 ≤ page) × (page < 608)) }
+        requires { IsStorePage page ⊎ IsLoadPage page }
         ensures staged { IfSome (staged self.old.staged page) (λ x. IsOk result × (into.new ≡ x) × (self.new ≡ self.old)) }
         ensures list { F.tells → self.old.live ≡ true → OnOk result (current self.old.staged (F.pages self.old.flash) page ≡ Some into.new) }
         // After a commit that failed the pages that were not staged are read where they are.
@@ -150,8 +153,8 @@ impl<F: Flash> PageStore<F> {
     pub fn stage(&mut self, page: u16, from: &Page)
         requires live { self.old.live ≡ true }
         requires settled { self.old.settled ≡ true }
-        requires range { page < 45 }
-        requires room { IsSome (staged self.old.staged page) ⊎ (length self.old.staged < 30) }
+        requires range { IsStorePage page }
+        requires room { IsSome (staged self.old.staged page) ⊎ (length self.old.staged < FRAMES) }
         ensures { self.new ≡ record self.old { staged = with_page self.old.staged page from.now } }
     {
         *self.pool.stage(page) = *from;
@@ -162,7 +165,7 @@ impl<F: Flash> PageStore<F> {
     pub fn write_free(&mut self, page: u16, from: &Page) -> Result<(), FlashFailed>
         requires live { self.old.live ≡ true }
         requires settled { self.old.settled ≡ true }
-        requires range { (96 ≤ page) × (page < 608) }
+        requires range { IsLoadPage page }
         ensures written { F.tells → OnOk result (stored (F.pages self.new.flash) page ≡ Some from.now) }
         ensures others { F.tells → (other : ℕ) → other ≢ page → stored (F.pages self.new.flash) other ≡ stored (F.pages self.old.flash) other }
         ensures moments { F.tells → (loose : List ℕ) → Always (F.may_leave self.old.flash) (Leaves (stored (F.pages self.old.flash)) loose)

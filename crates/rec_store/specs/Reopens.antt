@@ -9,6 +9,7 @@ use Rattle.flash_core.specs.declared.page.Page.{Page}
 use Rattle.frame_pool.specs.Staged.{staged}
 use Rattle.page_journal.specs.Journal.{HasValidJournal, bytes_of, is_open, stored}
 use Rattle.page_journal.specs.Moments.{Always, Leaves, current}
+use Rattle.page_journal.specs.declared.pages.TheConstants.{FIRST_LOAD_PAGE, STORE_PAGES}
 use Rattle.rec_store.specs.StoreLayout.{layout_code}
 use Rattle.rec_store.specs.StoredTables.{HoldsTables}
 use Rattle.rec_store.specs.declared.store_layout.Layout.{Layout}
@@ -29,7 +30,7 @@ store_in list number = bytes_of (list number)
 -- The 256 bytes of a load page in a list of pages. There are zeros where no load page is: under a number below the
 -- first, and in a list that lacks one, as that of no device does.
 abbrev pub load_in : (ℕ → Option Page) → ℕ → List ℕ
-load_in list number = take 256 ((if nat_lt number 96 then [] else bytes_of (list number)) ++ replicate 256 0)
+load_in list number = take 256 ((if nat_lt number FIRST_LOAD_PAGE then [] else bytes_of (list number)) ++ replicate 256 0)
 
 -- the bytes of a store page of a device, an open journal applied
 abbrev pub store_page : List Page → ℕ → List ℕ
@@ -53,7 +54,7 @@ current_page staged pages = store_in (current staged pages)
 
 -- no load page is staged
 abbrev pub NoLoadPage : List (ℕ × Page) → Type 0
-NoLoadPage pool = (number : ℕ) → 45 ≤ number → staged pool number ≡ None
+NoLoadPage pool = (number : ℕ) → STORE_PAGES ≤ number → staged pool number ≡ None
 
 -- after a power loss that left these pages the card has this registry
 pub record Reopens (pages : List Page) (registry : Registry) : Type 0 where

@@ -1,10 +1,11 @@
 -- The frames for store pages that are to be committed.
 use Rattle.std.specs.Prelude.{ℕ, ◌+◌, ◌<◌, ◌≤◌, ◌⊎◌, ◌==◌, List, [], ◌∷◌, Contains, count_by, length, not, if◌then◌else◌}
 use Rattle.std.specs.List.{list_any}
+use Rattle.frame_pool.specs.declared.pool.TheConstants.{FRAMES}
 
 -- the page is staged, or there is a frame for it
 abbrev pub HasFrame : List ℕ → ℕ → Type 0
-HasFrame staged page = Contains staged page ⊎ (length staged < 30)
+HasFrame staged page = Contains staged page ⊎ (length staged < FRAMES)
 
 -- the staged pages with this one
 abbrev pub with_staged : List ℕ → ℕ → List ℕ
@@ -17,4 +18,4 @@ unstaged pages staged = count_by (λ page. not (list_any (λ other. other == pag
 
 -- there is a frame for each of them that is not staged yet
 abbrev pub HasRoomFor : List ℕ → List ℕ → Type 0
-HasRoomFor pages staged = length staged + unstaged pages staged ≤ 30
+HasRoomFor pages staged = length staged + unstaged pages staged ≤ FRAMES

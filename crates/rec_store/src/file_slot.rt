@@ -3,6 +3,9 @@
 ghost use Rattle.std.specs.Prelude.{◌≡◌, ◌<◌, ◌≤◌, ◌+◌, ◌-◌, ◌/◌, ◌%◌, ◌^◌, ℕ, List, Option, All, length, slice_index, take, IfOk, OnErr, IfSome};
 ghost use Rattle.card_check.specs.IsCard.{IsInLoadPages};
 ghost use Rattle.card_types.specs.declared.tables.LoadFile.{LoadFile as FileOf};
+ghost use Rattle.flash_core.specs.declared.page.TheConstants.{PAGES};
+ghost use Rattle.page_journal.specs.Pages.{IsLoadPage};
+ghost use Rattle.page_journal.specs.declared.pages.TheConstants.{FIRST_LOAD_PAGE};
 ghost use Rattle.rec_store.specs.FileSlot.{HoldsFile, IsFileIn, page_in};
 ghost use Rattle.std.proofs.Common.{lit<, lit≤, refl};
 
@@ -10,9 +13,7 @@ use crate::bytes::{aid_at, put_bytes, put_u16};
 use crate::slot::{BadSlot, FREE, Slot, USED};
 use byteorder::{BigEndian, ByteOrder};
 use card_types::{FILE_LIMIT, LoadFile};
-
-/// The first load page.
-const LOAD: u16 = 96;
+use page_journal::FIRST_LOAD_PAGE;
 
 impl Slot for LoadFile {
     ghost FIRST = { 9 };
@@ -76,7 +77,7 @@ fn read_pages(slot: &[u8], count: usize) -> [u16; 128]
     let mut pages = [0; 128];
     for i in 0..count {
         let ninth = (slot[192 + i / 8] >> (7 - i % 8)) % 2;
-        pages[i] = LOAD + 256 * u16::from(ninth) + u16::from(slot[64 + i]);
+        pages[i] = FIRST_LOAD_PAGE + 256 * u16::from(ninth) + u16::from(slot[64 + i]);
     }
     pages
 }
@@ -97,12 +98,12 @@ fn write_used(file: &LoadFile, slot: &mut [u8])
 fn write_pages(pages: &[u16; 128], count: usize, slot: &mut [u8])
     requires size { length slot.old ≡ 256 }
     requires few { count ≤ 128 }
-    requires range { All (λ page. (96 ≤ page) × (page < 608)) (take count pages.now) }
+    requires range { All IsLoadPage (take count pages.now) }
     ensures pages { (i : ℕ) → i < count → slice_index pages.now i ≡ page_in slot.new i }
     ensures below { (i : ℕ) → i < 64 → slice_index slot.new i ≡ slice_index slot.old i }
 {
     for i in 0..count {
-        slot[64 + i] = ((pages[i] - LOAD) % 256) as u8;
+        slot[64 + i] = ((pages[i] - FIRST_LOAD_PAGE) % 256) as u8;
     }
     for byte in 0..16 {
         slot[192 + byte] = ninth_bits(&pages[..count], byte);
@@ -113,7 +114,7 @@ fn write_pages(pages: &[u16; 128], count: usize, slot: &mut [u8])
 fn ninth_bits(pages: &[u16], byte: usize) -> u8
     requires few { length pages.now ≤ 128 }
     requires byte { byte < 16 }
-    ensures { (i : ℕ) → i < length pages.now → i / 8 ≡ byte → slice_index pages.now i < 608 → result / 2 ^ (7 - i % 8) % 2 ≡ (slice_index pages.now i - 96) / 256 }
+    ensures { (i : ℕ) → i < length pages.now → i / 8 ≡ byte → slice_index pages.now i < PAGES → result / 2 ^ (7 - i % 8) % 2 ≡ (slice_index pages.now i - FIRST_LOAD_PAGE) / 256 }
 {
     let first = 8 * byte;
     128 * ninth(pages, first)
@@ -128,10 +129,10 @@ fn ninth_bits(pages: &[u16], byte: usize) -> u8
 
 fn ninth(pages: &[u16], index: usize) -> u8
     ensures bit { result ≤ 1 }
-    ensures of { index < length pages.now → slice_index pages.now index < 608 → result ≡ (slice_index pages.now index - 96) / 256 }
+    ensures of { index < length pages.now → slice_index pages.now index < PAGES → result ≡ (slice_index pages.now index - FIRST_LOAD_PAGE) / 256 }
 {
     match pages.get(index) {
-        Some(page) => u8::from(*page >= LOAD + 256),
+        Some(page) => u8::from(*page >= FIRST_LOAD_PAGE + 256),
         None => 0,
     }
 }

@@ -1,11 +1,12 @@
 //! A card laid out on a device.
 
-ghost use Rattle.std.specs.Prelude.{◌≡◌, ◌≤◌, ℕ, All, OnOk, slice_get};
+ghost use Rattle.std.specs.Prelude.{◌≡◌, ◌<◌, ◌≤◌, ℕ, All, OnOk, slice_get};
 ghost use Rattle.card_check.specs.IsCard.{IsCard, IsInLoadPages};
 ghost use Rattle.card_types.specs.Registry.{Registry};
 ghost use Rattle.card_types.specs.Represents.{Represents, used};
 ghost use Rattle.card_types.specs.declared.tables.Tables.{Tables};
 ghost use Rattle.faults.specs.Faults.{HasCause};
+ghost use Rattle.page_journal.specs.declared.pages.TheConstants.{GATE, STORE_PAGES};
 ghost use Rattle.rec_store.specs.FirstSlots.{HasFirst, HaveRoom};
 ghost use Rattle.rec_store.specs.KeySlot.{IsRoomyKey};
 ghost use Rattle.rec_store.specs.Reopens.{Keeps, load_page, store_in};
@@ -36,7 +37,7 @@ pub fn lay_out<F: Flash>(
     ensures keeps { F.tells → (tables : Tables) (registry : Registry) → HasFirst tables life entries.now files.now keys.now objects.now
         → IsCard (load_page (F.pages flash.new)) tables → Represents (load_page (F.pages flash.new)) tables registry
         → OnOk result (Keeps F.Flash flash.new registry) }
-    ensures others { F.tells → (page : ℕ) → 46 ≤ page → slice_get (F.pages flash.new) page ≡ slice_get (F.pages flash.old) page }
+    ensures others { F.tells → (page : ℕ) → GATE < page → slice_get (F.pages flash.new) page ≡ slice_get (F.pages flash.old) page }
     ensures cause { HasCause (F.faults flash.old) (F.faults flash.new) result }
 {
     let blank = Page { bytes: [0; 256] };
@@ -59,7 +60,7 @@ fn write_tables<F: Flash>(
     requires roomy_keys { All IsRoomyKey (used keys.now) }
     ensures held { F.tells → (tables : Tables) → HasFirst tables life entries.now files.now keys.now objects.now
         → OnOk result (HoldsTables Third (store_in (slice_get (F.pages flash.new))) tables) }
-    ensures others { F.tells → (page : ℕ) → 45 ≤ page → slice_get (F.pages flash.new) page ≡ slice_get (F.pages flash.old) page }
+    ensures others { F.tells → (page : ℕ) → STORE_PAGES ≤ page → slice_get (F.pages flash.new) page ≡ slice_get (F.pages flash.old) page }
     ensures cause { HasCause (F.faults flash.old) (F.faults flash.new) result }
 {
     write_slots(flash, entries, ENTRIES)?;

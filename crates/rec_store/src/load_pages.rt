@@ -5,6 +5,7 @@ ghost use Rattle.card_types.specs.Registry.{Registry};
 ghost use Rattle.card_types.specs.Represents.{Represents};
 ghost use Rattle.faults.specs.Faults.{HasCause};
 ghost use Rattle.page_journal.specs.Moments.{LeavesOnly};
+ghost use Rattle.page_journal.specs.Pages.{IsLoadPage};
 ghost use Rattle.rec_store.specs.Reopens.{IsFree, IsSpare, Keeps, Reopens, load_page};
 
 use crate::records::Records;
@@ -14,7 +15,7 @@ impl<F: Flash> Records<F> {
     /// Reads a load page.
     pub fn read_load(&mut self, page: u16, into: &mut Page) -> Result<(), FlashFailed>
         requires live { self.old.live ≡ true }
-        requires range { (96 ≤ page) × (page < 608) }
+        requires range { IsLoadPage page }
         ensures bytes { F.tells → OnOk result (into.new.bytes ≡ load_page (F.pages self.old.flash) page) }
         ensures same { (self.new.tables ≡ self.old.tables) × (self.new.staged ≡ self.old.staged) × (self.new.live ≡ true) }
         ensures pages { F.tells → F.pages self.new.flash ≡ F.pages self.old.flash }
@@ -33,7 +34,7 @@ impl<F: Flash> Records<F> {
     /// Writes a load page. Until a commit of changes a power loss may leave any bytes in it.
     pub fn write_load(&mut self, page: u16, from: &Page) -> Result<(), FlashFailed>
         requires live { self.old.live ≡ true }
-        requires range { (96 ≤ page) × (page < 608) }
+        requires range { IsLoadPage page }
         ensures bytes { F.tells → OnOk result (load_page (F.pages self.new.flash) page ≡ from.now.bytes) }
         ensures others { F.tells → (other : ℕ) → other ≢ page → load_page (F.pages self.new.flash) other ≡ load_page (F.pages self.old.flash) other }
         // Where no file of the tables has the page, their files have their bytes.

@@ -6,6 +6,9 @@ ghost use Rattle.card_types.specs.Slots.{held};
 ghost use Rattle.faults.specs.Faults.{HasCause, Rose};
 ghost use Rattle.flash_core.specs.declared.page.Page.{Page as PageOf};
 ghost use Rattle.frame_pool.specs.Staged.{staged, with_page};
+ghost use Rattle.frame_pool.specs.declared.pool.TheConstants.{FRAMES};
+ghost use Rattle.page_journal.specs.Pages.{IsStorePage};
+ghost use Rattle.page_journal.specs.declared.pages.TheConstants.{STORE_PAGES};
 ghost use Rattle.rec_store.specs.Contents.{SlotsFail};
 ghost use Rattle.rec_store.specs.Reopens.{store_in, store_page};
 ghost use Rattle.rec_store.specs.Places.{slot_at, slot_from};
@@ -75,7 +78,7 @@ fn read_page<T: Slot>(
 pub fn read_store<F: Flash>(store: &mut PageStore<F>, page: u16) -> Result<Page, FlashFailed>
     requires live { store.old.live ≡ true }
     requires none { store.old.staged ≡ [] }
-    requires range { page < 45 }
+    requires range { IsStorePage page }
     ensures page { F.tells → IfOk result (λ read. store_page (F.pages store.old.flash) page ≡ read.bytes) }
     ensures read { IsRead F.Flash store.old store.new }
     ensures cause { OnErr result (Rose (F.faults store.old.flash) (F.faults store.new.flash)) }
@@ -93,7 +96,7 @@ pub fn read_slots<F: Flash, T: Slot>(
     requires live { store.old.live ≡ true }
     requires none { store.old.staged ≡ [] }
     requires whole { length slots.old % (256 / T.SIZE) ≡ 0 }
-    requires range { T.FIRST * (256 / T.SIZE) + length slots.old ≤ 45 * (256 / T.SIZE) }
+    requires range { T.FIRST * (256 / T.SIZE) + length slots.old ≤ STORE_PAGES * (256 / T.SIZE) }
     ensures ok { F.tells → OnOk result (AreHeld T.holds (slot_from (store_page (F.pages store.old.flash)) T.FIRST T.SIZE) (length slots.new) slots.new) }
     ensures read_each { OnOk result (All T.is_read (used slots.new)) }
     ensures read { IsRead F.Flash store.old store.new }
@@ -113,9 +116,9 @@ pub fn stage_slots<F: Flash, T: Slot>(store: &mut PageStore<F>, slots: &[Option<
     requires settled { store.old.settled ≡ true }
     requires slot { slot < length slots.now }
     requires whole { length slots.now % (256 / T.SIZE) ≡ 0 }
-    requires range { T.FIRST * (256 / T.SIZE) + length slots.now ≤ 45 * (256 / T.SIZE) }
+    requires range { T.FIRST * (256 / T.SIZE) + length slots.now ≤ STORE_PAGES * (256 / T.SIZE) }
     requires roomy { All T.is_roomy (used slots.now) }
-    requires frame { IsSome (staged store.old.staged (T.FIRST + slot / (256 / T.SIZE))) ⊎ (length store.old.staged < 30) }
+    requires frame { IsSome (staged store.old.staged (T.FIRST + slot / (256 / T.SIZE))) ⊎ (length store.old.staged < FRAMES) }
     ensures { (page : PageOf) × (store.new ≡ record store.old { staged = with_page store.old.staged (T.FIRST + slot / (256 / T.SIZE)) page })
         × HoldsPage T.holds T.SIZE page.bytes (slot / (256 / T.SIZE)) slots.now }
 {
@@ -128,7 +131,7 @@ pub fn stage_slots<F: Flash, T: Slot>(store: &mut PageStore<F>, slots: &[Option<
 
 // The page of slots with this number.
 fn page_of<T: Slot>(slots: &[Option<T>], number: usize) -> [u8; 256]
-    requires range { number < 45 }
+    requires range { IsStorePage number }
     requires roomy { All T.is_roomy (used slots.now) }
     ensures { HoldsPage T.holds T.SIZE result number slots.now }
 {
@@ -147,10 +150,10 @@ pub fn write_slots<F: Flash, T: Slot>(
     count: usize,
 ) -> Result<(), FlashFailed>
     requires whole { count % (256 / T.SIZE) ≡ 0 }
-    requires range { T.FIRST * (256 / T.SIZE) + count ≤ 45 * (256 / T.SIZE) }
+    requires range { T.FIRST * (256 / T.SIZE) + count ≤ STORE_PAGES * (256 / T.SIZE) }
     requires roomy { All T.is_roomy (used slots.now) }
     ensures held { F.tells → OnOk result (AreHeld T.holds (slot_from (store_in (slice_get (F.pages flash.new))) T.FIRST T.SIZE) count slots.now) }
-    ensures others { F.tells → (page : ℕ) → (page < T.FIRST) ⊎ (45 ≤ page) → slice_get (F.pages flash.new) page ≡ slice_get (F.pages flash.old) page }
+    ensures others { F.tells → (page : ℕ) → (page < T.FIRST) ⊎ (STORE_PAGES ≤ page) → slice_get (F.pages flash.new) page ≡ slice_get (F.pages flash.old) page }
     ensures cause { HasCause (F.faults flash.old) (F.faults flash.new) result }
 {
     for number in 0..count / (256 / T::SIZE) {

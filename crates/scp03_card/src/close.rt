@@ -7,6 +7,7 @@ ghost use Rattle.cmac_kdf.specs.Cbc.{sealed};
 ghost use Rattle.scp03_card.specs.Kept.{RepresentsSession};
 ghost use Rattle.scp03_card.specs.Protected.{protected, reply_field};
 ghost use Rattle.scp03_card.specs.Session as model;
+ghost use Rattle.scp03_card.specs.declared.close.TheConstants.{DATA_LIMIT};
 
 use crate::levels::{has_r_encryption, has_r_mac};
 use crate::session::Session;
@@ -17,11 +18,14 @@ use apdu_core::Status;
 use arrayvec::ArrayVec;
 use cmac_kdf::padded_len;
 
+/// How many bytes of data a reply has, at most. Padded, with its R-MAC and its status word, it then fits 258 bytes.
+pub const DATA_LIMIT: usize = 239;
+
 impl<K: BlockKey> Session<K> {
     /// Makes the whole reply to the command that was opened last. At entry `reply` is its plain data
     /// field.
     pub fn close_reply(&mut self, reply: &mut ArrayVec<u8, 258>, status: Status)
-        requires { array_vec_len reply.old ≤ 239 }
+        requires { array_vec_len reply.old ≤ DATA_LIMIT }
         ensures protected { (session : model.Session) → RepresentsSession self.old session → reply.new.items ≡ protected session reply.old.items status.0 }
         ensures unchanged { self.new ≡ self.old }
     {
@@ -43,7 +47,7 @@ impl<K: BlockKey> Session<K> {
 
     // At the level that asks for it, enciphers a data field that is not empty.
     fn encipher(&self, reply: &mut ArrayVec<u8, 258>)
-        requires { array_vec_len reply.old ≤ 239 }
+        requires { array_vec_len reply.old ≤ DATA_LIMIT }
         ensures field { (session : model.Session) → RepresentsSession self.now session → reply.new.items ≡ reply_field session reply.old.items }
         ensures room { array_vec_len reply.new ≤ 240 }
     {
@@ -58,7 +62,7 @@ impl<K: BlockKey> Session<K> {
 
 // Pads the whole of `reply`, and enciphers it.
 fn seal_whole<K: BlockKey>(keys: &SessionKeys<K>, counter: &[u8; 16], reply: &mut ArrayVec<u8, 258>)
-    requires { array_vec_len reply.old ≤ 239 }
+    requires { array_vec_len reply.old ≤ DATA_LIMIT }
     ensures sealed { reply.new.items ≡ sealed keys.now.enc (cipher keys.now.enc counter.now) reply.old.items }
     ensures room { array_vec_len reply.new ≤ 240 }
 {

@@ -33,7 +33,7 @@
 //!     status: Status,
 //! ) -> Result<usize, OpenRefusal>
 //!     requires body { length command.now.body.now ≤ 255 }
-//!     requires field { array_vec_len reply.old ≤ 239 }
+//!     requires field { array_vec_len reply.old ≤ DATA_LIMIT }
 //!     ensures { (s : model.Session) → StandsFor session.old s
 //!         → OnOk result (reply.new.items ≡ protected (accepting s (apdu_of command.now)) reply.old.items status.0) }
 //! {
@@ -66,6 +66,7 @@ mod static_keys;
 mod status;
 
 pub use card_offer::Offer;
+pub use close::DATA_LIMIT;
 pub use initialize_update::offer;
 pub use laws::{first_message, one_plain};
 pub use levels::{has_c_decryption, has_r_encryption, has_r_mac};

@@ -1,5 +1,6 @@
-use Rattle.std.proofs.Common.{◌≡◌, ℕ, ◌+◌, ◌<◌, subst, arith}
+use Rattle.std.proofs.Common.{◌≡◌, ℕ, ◌+◌, ◌<◌, ◌≤◌, ◌⊎◌, inl, inr, subst, arith}
 use Rattle.std.specs.Prelude.{Contains}
+use Rattle.std.proofs.lemmas.Bool.{cases_lt}
 use Rattle.card_check.proofs.LoadPagesNamed.{no_marks}
 use Rattle.card_check.specs.LoadPages.{all_pages}
 use Rattle.card_types.specs.declared.limits.TheConstants.{LOAD_PAGES}
@@ -12,32 +13,45 @@ use Rattle.load_session.proofs.free_page.free_page.Goals as goal
 pub mark_files-requires-clause-none : goal.mark_files-requires-clause-none
 mark_files-requires-clause-none c = no_marks
 
-pub returns-then-not-marks-from-clause-free : goal.returns-then-not-marks-from-clause-free
-returns-then-not-marks-from-clause-free c =
+-- a page that has a mark is in use, and is not the last one: not all of them are in use
+pub loop-marks-preserved : goal.loop-marks-preserved
+loop-marks-preserved c =
     let tables = c.args.tables.now in
+    let taken = c.args.taken.now in
+    let page = c.loop-marks.page in
+    let load = c.loop-marks.invariant.is in
     let has = c.mark.ensures (all_pages tables.files.items) c.mark_files.ensures in
-    let within : c.from.result < LOAD_PAGES = omega (arith, c.from.ensures, c.loop-page.auto.page, c.loop-page-test.true) in
-    let at : 96 + c.from.result ≡ c.loop-page.page = omega (arith, c.from.ensures, c.loop-page.auto.page) in
-    subst (IsFree tables) at (unmarked_free tables c.args.taken.now c.mark.new.marks has c.from.result within c.if-not-marks-from.true)
+    let within : c.from.result < LOAD_PAGES = omega (arith, c.from.ensures, load.0, load.1) in
+    let at : 96 + c.from.result ≡ page = omega (arith, c.from.ensures, load.0) in
+    let used : (p : ℕ) → 96 ≤ p → p < page + 1 → IsPageInUse tables taken p = in_use_next tables taken page c.loop-marks.invariant.used
+    (subst (IsPageInUse tables taken) at (marked_in_use tables taken c.mark.new.marks has c.from.result within c.loop-marks-test.true)) in
+    let last : (607 ≤ page) → page + 1 < 608 = λ high. absurd
+    (let many = all_in_use tables taken (λ p from below. used p from (omega (arith, below, high))) in omega (arith, many, c.requires.room)) in
+    record {
+      is = (
+        omega (arith, load.0),
+        elim (cases_lt page 607) [
+          | inl low ↦ omega (arith, low)
+          | inr high ↦ last high
+        ],
+      );
+      used = used;
+    }
 
-pub returns-then-not-marks-from-clause-apart : goal.returns-then-not-marks-from-clause-apart
-returns-then-not-marks-from-clause-apart c =
+pub returns-clause-free : goal.returns-clause-free
+returns-clause-free c =
     let tables = c.args.tables.now in
+    let load = c.loop-marks.invariant.is in
     let has = c.mark.ensures (all_pages tables.files.items) c.mark_files.ensures in
-    let within : c.from.result < LOAD_PAGES = omega (arith, c.from.ensures, c.loop-page.auto.page, c.loop-page-test.true) in
-    let at : 96 + c.from.result ≡ c.loop-page.page = omega (arith, c.from.ensures, c.loop-page.auto.page) in
-    subst (λ (page : ℕ). Contains c.args.taken.now page → ⊥) at (unmarked_apart tables c.args.taken.now c.mark.new.marks has c.from.result within c.if-not-marks-from.true)
+    let within : c.from.result < LOAD_PAGES = omega (arith, c.from.ensures, load.0, load.1) in
+    let at : 96 + c.from.result ≡ c.loop-marks.page = omega (arith, c.from.ensures, load.0) in
+    subst (IsFree tables) at (unmarked_free tables c.args.taken.now c.mark.new.marks has c.from.result within c.loop-marks-test.false)
 
-pub loop-page-preserved : goal.loop-page-preserved
-loop-page-preserved c =
+pub returns-clause-apart : goal.returns-clause-apart
+returns-clause-apart c =
     let tables = c.args.tables.now in
+    let load = c.loop-marks.invariant.is in
     let has = c.mark.ensures (all_pages tables.files.items) c.mark_files.ensures in
-    let within : c.from.result < LOAD_PAGES = omega (arith, c.from.ensures, c.loop-page.auto.page, c.loop-page-test.true) in
-    let at : 96 + c.from.result ≡ c.loop-page.page = omega (arith, c.from.ensures, c.loop-page.auto.page) in
-    in_use_next tables c.args.taken.now c.loop-page.page c.loop-page.invariant
-    (subst (IsPageInUse tables c.args.taken.now) at (marked_in_use tables c.args.taken.now c.mark.new.marks has c.from.result within c.if-not-marks-from.false))
-
-pub unreachable-requires : goal.unreachable-requires
-unreachable-requires c =
-    let many = all_in_use c.args.tables.now c.args.taken.now (λ page from below. c.loop-page.invariant page from (omega (arith, below, c.loop-page-test.false))) in
-    omega (arith, many, c.requires.room)
+    let within : c.from.result < LOAD_PAGES = omega (arith, c.from.ensures, load.0, load.1) in
+    let at : 96 + c.from.result ≡ c.loop-marks.page = omega (arith, c.from.ensures, load.0) in
+    subst (λ (page : ℕ). Contains c.args.taken.now page → ⊥) at (unmarked_apart tables c.args.taken.now c.mark.new.marks has c.from.result within c.loop-marks-test.false)

@@ -1,6 +1,13 @@
-use Rattle.std.proofs.Common.{ℕ, ◌<◌, ◌≤◌}
+use Rattle.std.proofs.Common.{ℕ, ◌-◌, ◌<◌, ◌≤◌}
 use Rattle.load_session.specs.Pages.{IsPageInUse}
+use Rattle.page_journal.specs.Pages.{IsLoadPage}
 use Rattle.load_session.proofs.free_page.free_page.Given as goal
 
-abbrev pub invariant-loop-page : goal.invariant-loop-page
-invariant-loop-page l = (page : ℕ) → 96 ≤ page → page < l.page → IsPageInUse l.tables l.taken page
+abbrev pub invariant-loop-marks : goal.invariant-loop-marks
+invariant-loop-marks l = record {
+  is : IsLoadPage l.page;
+  used : (page : ℕ) → 96 ≤ page → page < l.page → IsPageInUse l.tables l.taken page;
+}
+
+abbrev pub decreases-loop-marks : goal.decreases-loop-marks
+decreases-loop-marks l = 608 - l.page

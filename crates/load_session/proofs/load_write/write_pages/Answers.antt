@@ -1,7 +1,7 @@
 use Rattle.std.proofs.Common.{◌<◌, length, get_or, [], arith}
 use Rattle.std.proofs.lemmas.List.{take_more}
 use Rattle.std.proofs.lemmas.List.Elements.{Contains-get_or}
-use Rattle.card_check.specs.IsCard.{IsLoadPage}
+use Rattle.page_journal.specs.Pages.{IsLoadPage}
 use Rattle.load_session.proofs.Writes.{IsTried, its_page, next_keeps, next_moments, one_more}
 use Rattle.load_session.specs.declared.load_write.LoadWrite.{LoadWrite}
 use Rattle.load_session.proofs.load_write.write_pages.Given as given
