@@ -1,11 +1,11 @@
 -- What tables say after a thing was added, and why none is.
-use Rattle.std.proofs.Common.{◌≡◌, ◌↔◌, inl, inr, ℕ, List, Option, Some, refl, ap, sym, subst}
+use Rattle.std.proofs.Common.{◌≡◌, ◌↔◌, inl, inr, ℕ, List, Option, Some, refl, ap, sym, subst, ◌∙◌}
 use Rattle.std.specs.Prelude.{IsErrAnd, IsSome, Result, Ok, Err}
 use Rattle.std.specs.Option.{option_map}
 use Rattle.std.proofs.lemmas.Cmp.{nat_list_cmp_total, on_total}
 use Rattle.card_types.specs.AidOrder.{aid_order, same_aid}
 use Rattle.card_types.specs.Changed.{IsChanged}
-use Rattle.card_types.specs.First.{NoneFree}
+use Rattle.card_types.specs.First.{IsFirstFree, NoneFree}
 use Rattle.card_types.specs.Found.{aid_of}
 use Rattle.card_types.specs.Registry as registry
 use Rattle.card_types.specs.Registry.{entry_named, file_named}
@@ -28,6 +28,11 @@ use Rattle.registry.specs.Adding.{AddsEntry, AddsFile, IsTaken, NoneHas, PlaceFa
 use Rattle.registry.specs.declared.refusal.AddRefusal.{AddRefusal}
 use Rattle.registry.specs.declared.refusal.AddRefusal.TheVariants.{Taken, Full}
 
+-- the first free slot of those that were lent is that of the tables
+pub first_free_of : {T : Type 0} (slots_of : Tables → List (Option T)) (before tables : Tables) (slots : List (Option T)) → tables ≡ before → slots ≡ slots_of tables
+    → (slot : ℕ) → IsFirstFree slots slot → IsFirstFree (slots_of before) slot
+first_free_of {T = T} slots_of before tables slots is lent slot = subst (λ (s : List (Option T)). IsFirstFree s slot) (lent ∙ ap slots_of is)
+
 module _ (page : ℕ → List ℕ) (before : Tables) (said : registry.Registry) (says : Represents page before said) where
   -- what is in a slot is there by its name
   pub taken_by : (thing : Found) (aid : List ℕ) → aid_of before thing ≡ Some aid → IsTaken said aid
@@ -39,22 +44,33 @@ module _ (page : ℕ → List ℕ) (before : Tables) (said : registry.Registry) 
   not_taken aid none (inl there) = (let gone = (none_found_none_named page before said says aid none).0 in let some = subst IsSome gone there in cc)
   not_taken aid none (inr there) = (let gone = (none_found_none_named page before said says aid none).1 in let some = subst IsSome gone there in cc)
 
-  module _ {T : Type 0} (slots : List (Option T)) (aid : List ℕ) (full : Type 0) where
+  module _ (aid : List ℕ) (full : Type 0) where
+    -- the answer says that the AID is taken, or that it is not and all is full, exactly where that is so
+    abbrev Judged : Result ℕ AddRefusal → Type 0
+    Judged result = (result ≡ Err Taken ↔ IsTaken said aid) × (result ≡ Err Full ↔ ((IsTaken said aid → ⊥) × full))
+
     -- what is refused is refused for the reason that is answered
-    pub refused_so : (NoneFree slots → full) → (result : Result ℕ AddRefusal) (found : AddRefusal) → IsErrAnd result (λ refusal. refusal ≡ found) → PlaceFails before aid slots found
-        → (result ≡ Err Taken ↔ IsTaken said aid) × (result ≡ Err Full ↔ ((IsTaken said aid → ⊥) × full))
-    refused_so is_full (Ok slot) found given fails = absurd given
-    refused_so is_full (Err refusal) Taken given fails =
+    judged : {T : Type 0} (slots : List (Option T)) → (NoneFree slots → full) → (result : Result ℕ AddRefusal) (found : AddRefusal) → IsErrAnd result (λ refusal. refusal ≡ found)
+        → PlaceFails before aid slots found → Judged result
+    judged slots is_full (Ok slot) found given fails = absurd given
+    judged slots is_full (Err refusal) Taken given fails =
         let there = taken_by fails.0 aid fails.1 in
         ((λ is. there, λ taken. ap Err given), (λ is. absurd (cc (is, given)), λ both. absurd (both.0 there)))
-    refused_so is_full (Err refusal) Full given fails =
+    judged slots is_full (Err refusal) Full given fails =
         let none = not_taken aid fails.0 in
         ((λ is. absurd (cc (is, given)), λ taken. absurd (none taken)), (λ is. (none, is_full fails.1), λ both. ap Err given))
 
     -- where a slot is answered, there is no reason to refuse
-    pub placed_so : NoneHas before aid → (full → ⊥) → (slot : ℕ)
-        → (◌≡◌ {A = Result ℕ AddRefusal} (Ok slot) (Err Taken) ↔ IsTaken said aid) × (◌≡◌ {A = Result ℕ AddRefusal} (Ok slot) (Err Full) ↔ ((IsTaken said aid → ⊥) × full))
+    pub placed_so : NoneHas before aid → (full → ⊥) → (slot : ℕ) → Judged (Ok slot)
     placed_so none has_room slot = ((λ is. cc, λ taken. absurd (not_taken aid none taken)), (λ is. cc, λ both. absurd (has_room both.1)))
+
+    -- the same of the tables and slots that a place was looked for in
+    module _ {T : Type 0} (slots_of : Tables → List (Option T)) (tables : Tables) (slots : List (Option T)) (is : tables ≡ before) (lent : slots ≡ slots_of tables) where
+      pub refused_so : (NoneFree (slots_of before) → full) → (result : Result ℕ AddRefusal) (found : AddRefusal) → IsErrAnd result (λ refusal. refusal ≡ found)
+          → PlaceFails tables aid slots found → Judged result
+      refused_so is_full result found given fails =
+          judged (slots_of before) is_full result found given
+          (subst (λ (t : Tables). PlaceFails t aid (slots_of t) found) is (subst (λ (s : List (Option T)). PlaceFails tables aid s found) lent fails))
 
   module _ (well : Well said) (after : Tables) (slot : ℕ) where
     -- an entry is added

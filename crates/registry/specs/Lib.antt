@@ -2,4 +2,5 @@ pub mod Adding
 pub mod Pages
 pub mod Removing
 pub mod Setting
+pub mod TableLists
 pub mod Tree

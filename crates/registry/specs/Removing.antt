@@ -1,4 +1,4 @@
--- Things that leave the registry.
+-- For the code inside. Things that leave the registry.
 use Rattle.std.specs.Prelude.{◌≡◌, ◌≢◌, ◌⊎◌, ℕ, ◌==◌, Bool, Contains, false, Option, None, Some, map, slice_set, if◌then◌else◌}
 use Rattle.card_types.specs.Slots.{held}
 use Rattle.card_types.specs.declared.tables.Entry.{Entry}
@@ -61,12 +61,3 @@ StagesOwned old new =
     ⊎ IsChangedOn entry_page old.tables.entries.items new.tables.entries.items page
     ⊎ IsChangedOn key_page old.tables.keys.items new.tables.keys.items page
     ⊎ IsChangedOn object_page old.tables.objects.items new.tables.objects.items page
-
--- nothing but the data objects, and the pages that are staged, is another
-pub record SameButObjects {F : Type 0} (old new : Contents F) : Type 0 where
-  pub flash : new.flash ≡ old.flash
-  pub live : new.live ≡ old.live
-  pub life : new.tables.life ≡ old.tables.life
-  pub entries : new.tables.entries.items ≡ old.tables.entries.items
-  pub files : new.tables.files.items ≡ old.tables.files.items
-  pub keys : new.tables.keys.items ≡ old.tables.keys.items

@@ -1,28 +1,54 @@
-//! The applications that come from an Executable Load File are removed.
+//! The applications that come from an Executable Load File are removed (GlobalPlatform Card Specification 2.3.1, 9.5).
 
-ghost use Rattle.std.specs.Prelude.{◌≡◌, ◌≢◌, ℕ, List, true, IsSome};
+ghost use Rattle.std.proofs.Common.{lit<};
+ghost use Rattle.std.specs.Prelude.{◌≡◌, ◌≢◌, ℕ, List, [], true, IsSome};
 ghost use Rattle.card_types.specs.Registry.{Registry};
 ghost use Rattle.card_types.specs.RegistryChange.{without_applications};
 ghost use Rattle.card_types.specs.Represents.{Represents, file_aid};
 ghost use Rattle.card_types.specs.Slots.{held};
 ghost use Rattle.card_types.specs.Well.{Well};
 ghost use Rattle.card_types.specs.declared.factory.TheConstants.{FACTORY_FILE};
+ghost use Rattle.card_types.specs.declared.limits.TheConstants.{ENTRIES};
 ghost use Rattle.rec_store.specs.Places.{entry_page};
 ghost use Rattle.rec_store.specs.Room.{HasRoomFor};
+ghost use Rattle.registry.specs.TableLists.{lists_of};
 ghost use Rattle.registry.specs.Pages.{KeepsRoom, StagesChanged, entry_pages};
-ghost use Rattle.registry.specs.Removing.{IsUnloaded, RemovesApplications, entry_file, is_owned};
+ghost use Rattle.registry.specs.Removing.{IsUnloaded, RemovesApplications, entry_file};
 
-use card_types::{ENTRIES, Entry, in_slot};
+use crate::owned::{Owned, free_owned};
+use card_types::{ENTRIES, Entry};
 use flash_core::Flash;
 use rec_store::Records;
 
-fn comes_from(entries: &[Option<Entry>], slot: u8, file: u8) -> bool
-    ensures { result ≡ is_owned entry_file file (held entries.now slot) }
-{
-    match in_slot(entries, slot) {
-        Some(entry) => entry.file == file,
-        None => false,
+// An Executable Load File owns the applications that come from it.
+impl Owned for Entry {
+    ghost COUNT = { ENTRIES };
+
+    const COUNT: u8 = ENTRIES as u8;
+
+    ghost slots = { λ tables. tables.entries.items };
+
+    ghost rest = { λ tables. record (lists_of tables) { entries = [] } };
+
+    ghost owner = { entry_file };
+
+    ghost page = { entry_page };
+
+    ghost pages = { entry_pages };
+
+    fn slots<F: Flash>(records: &Records<F>) -> &[Option<Entry>] {
+        &records.tables().entries
     }
+
+    fn owner(&self) -> u8 {
+        self.file
+    }
+
+    fn free<F: Flash>(records: &mut Records<F>, slot: u8) {
+        records.set_entry(slot, None);
+    }
+
+    ghost some = { lit< tt };
 }
 
 /// Removes the entries that come from the Executable Load File in a slot, which is not the factory's. They are applications and
@@ -40,9 +66,5 @@ pub fn remove_applications<F: Flash>(records: &mut Records<F>, file: u8)
     ensures staged { StagesChanged entry_page records.old.tables.entries.items records.new.tables.entries.items records.old.staged records.new.staged }
     ensures room { KeepsRoom entry_pages records.old.staged records.new.staged }
 {
-    for slot in 0..ENTRIES as u8 {
-        if comes_from(&records.tables().entries, slot, file) {
-            records.set_entry(slot, None);
-        }
-    }
+    free_owned::<F, Entry>(records, file);
 }

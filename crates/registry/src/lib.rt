@@ -1,4 +1,4 @@
-//! The entries and Executable Load Files of a card's records, changed by name.
+//! The entries and Executable Load Files of a card's records, changed by name (GlobalPlatform Card Specification 2.3.1, 6.5).
 //!
 //! Terms. An *entry* is an application or a security domain, and a *thing* is an entry or an Executable Load File. What tables
 //! *say* is a registry, which has each thing by its AID. The changes of a registry are those of `RegistryChange` in `card_types`.
@@ -19,9 +19,12 @@
 mod applications;
 mod entries;
 mod files;
+mod keys;
 mod laws;
 mod locking;
 mod moving;
+mod objects;
+mod owned;
 mod place;
 mod refusal;
 mod removal;
