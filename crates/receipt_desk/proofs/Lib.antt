@@ -6,3 +6,4 @@ pub mod OfCards
 pub mod OneLine
 pub mod Signed
 pub mod Verdicts
+mod Obeyed

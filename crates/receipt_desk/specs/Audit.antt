@@ -1,5 +1,6 @@
 -- What a desk does with its lines, one after the other.
 use Rattle.std.specs.Prelude.{◌≡◌, ℕ, List, [], ◌∷◌, ◌||◌, Bool, true, false, Some}
+use Rattle.line_runs.specs.Taker.{Taker, faultless}
 use Rattle.script_tool.specs.Tokens.{key_of}
 use Rattle.tokens_receipts.specs.Token.{token}
 use Rattle.receipt_desk.specs.Judgement.{DeskState, Judged, last_after, new_desk}
@@ -52,3 +53,7 @@ Does at (Receipt r) next said =
 -- A text that says such a line leads from the state to the other, and this is written.
 abbrev pub TakesDesk : AuditState → List ℕ → AuditState → List ℕ → Type 0
 TakesDesk at text next said = (line : DeskLine) × SaysDesk text line × Does at line next said
+
+-- what takes the lines of a desk: it never fails
+abbrev pub desk_taker : Taker AuditState
+desk_taker = faultless TakesDesk

@@ -7,3 +7,4 @@ pub mod Lines
 pub mod OfCards
 pub mod Signing
 pub mod Text
+pub mod Obeys

@@ -1,8 +1,9 @@
 //! A desk that takes lines.
 
-ghost use Rattle.std.specs.Prelude.{◌≡◌, [], ℕ, List, IfSome, IsTrue, IsSome};
-ghost use Rattle.receipt_desk.specs.Audit.{AuditState, Does, TakesDesk, aids_in, new_audit};
+ghost use Rattle.std.specs.Prelude.{◌≡◌, [], IfSome, IsSome};
+ghost use Rattle.receipt_desk.specs.Audit.{Does, aids_in, desk_taker, new_audit};
 ghost use Rattle.receipt_desk.specs.Judgement.{Judged, last_after};
+ghost use Rattle.receipt_desk.specs.Obeys.{Obeys};
 ghost use Rattle.receipt_desk.specs.declared.line.DeskLine.{DeskLine};
 
 use crate::aids::Aids;
@@ -12,7 +13,7 @@ use crate::receipted::Receipted;
 use crate::signing::Signing;
 use crate::text::{push_token_line, push_verdict_line};
 use crate::verdict::Verdict;
-use line_runs::{LineTaker, Text};
+use line_runs::{LineTaker, Taking, Text};
 use std::marker::Model;
 
 /// A desk that takes lines, and whether a receipt has had another verdict than that it fits.
@@ -86,52 +87,51 @@ impl Audit {
         push_verdict_line(&verdict, text);
     }
 
-    // Does what a line says, and answers whether it can be said now.
-    fn obey(&mut self, line: &DeskLine, text: &mut Text) -> bool
+    // Does what a line says. It has no form where it can't be said now.
+    fn obey(&mut self, line: &DeskLine, text: &mut Text) -> Taking
         requires empty { text.old.items ≡ [] }
-        ensures done { IsTrue result → Does self.old line.now self.new text.new.items }
-        ensures refused { (IsTrue result → ⊥) → (next : AuditState) (said : List ℕ) → Does self.old line.now next said → ⊥ }
+        ensures obeyed { Obeys self.old line.now self.new text.new.items result }
     {
         match line {
-            DeskLine::Nothing => true,
+            DeskLine::Nothing => Taking::Taken,
             DeskLine::Key(key) => {
                 self.desk.put_key(*key);
-                true
+                Taking::Taken
             }
             DeskLine::Unique(bytes) => {
                 self.desk.set_unique(bytes);
-                true
+                Taking::Taken
             }
             DeskLine::From(number) => {
                 self.desk.start_from(*number);
-                true
+                Taking::Taken
             }
             DeskLine::Sign(signing) => {
                 if !self.desk.has_key() {
-                    return false;
+                    return Taking::NoForm;
                 }
                 self.sign(signing, text);
-                true
+                Taking::Taken
             }
             DeskLine::Receipt(receipted) => {
                 if !self.desk.has_key() {
-                    return false;
+                    return Taking::NoForm;
                 }
                 self.judge(receipted, text);
-                true
+                Taking::Taken
             }
         }
     }
 }
 
 impl LineTaker for Audit {
-    ghost takes = { TakesDesk };
+    ghost does = { desk_taker };
 
-    fn take_line(&mut self, line: &[u8], text: &mut Text) -> bool {
+    fn take_line(&mut self, line: &[u8], text: &mut Text) -> Taking {
         text.clear();
         match DeskLine::read(line) {
             Some(line) => self.obey(&line, text),
-            None => false,
+            None => Taking::NoForm,
         }
     }
 }

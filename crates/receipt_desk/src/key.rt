@@ -8,13 +8,15 @@ ghost use Rattle.tokens_receipts.specs.Receipt as confirmed;
 ghost use Rattle.tokens_receipts.specs.Receipt.{aids_of};
 ghost use Rattle.tokens_receipts.specs.Token as approved;
 
-use crate::made::Made;
-use aes_block::{SealingAes128, SealingAes192, SealingAes256};
+use aes_block::{BlockKey, SealingAes128, SealingAes192, SealingAes256};
+use arrayvec::ArrayVec;
 use card_types::Aid;
+use cmac_kdf::CmacKey;
 use script_tool::{Key, OfSize};
+use tokens_receipts::receipt_under;
 
-/// A key with its key schedule made.
-pub type MadeKey = OfSize<Made<SealingAes128>, Made<SealingAes192>, Made<SealingAes256>>;
+/// A key with its key schedule and the subkeys of CMAC made.
+pub type MadeKey = OfSize<CmacKey<SealingAes128>, CmacKey<SealingAes192>, CmacKey<SealingAes256>>;
 
 /// The key with these bytes.
 pub fn key_from(bytes: &[u8]) -> Option<Key>
@@ -28,14 +30,14 @@ pub fn key_from(bytes: &[u8]) -> Option<Key>
     }
 }
 
-/// The key with its key schedule made.
+/// Makes the key schedule and the subkeys.
 pub fn made(key: &Key) -> MadeKey
     ensures { key_of result ≡ key_of key.now }
 {
     match key {
-        OfSize::Aes128(key) => OfSize::Aes128(Made::from_bytes(key)),
-        OfSize::Aes192(key) => OfSize::Aes192(Made::from_bytes(key)),
-        OfSize::Aes256(key) => OfSize::Aes256(Made::from_bytes(key)),
+        OfSize::Aes128(key) => OfSize::Aes128(CmacKey::new(SealingAes128::from_key(key))),
+        OfSize::Aes192(key) => OfSize::Aes192(CmacKey::new(SealingAes192::from_key(key))),
+        OfSize::Aes256(key) => OfSize::Aes256(CmacKey::new(SealingAes256::from_key(key))),
     }
 }
 
@@ -45,9 +47,9 @@ pub fn token_under(key: &MadeKey, p1: u8, p2: u8, before: &[u8]) -> [u8; 16]
     ensures { result ≡ approved.token (key_of key.now) p1 p2 before.now }
 {
     match key {
-        OfSize::Aes128(key) => key.token(p1, p2, before),
-        OfSize::Aes192(key) => key.token(p1, p2, before),
-        OfSize::Aes256(key) => key.token(p1, p2, before),
+        OfSize::Aes128(key) => tokens_receipts::token_under(key, p1, p2, before),
+        OfSize::Aes192(key) => tokens_receipts::token_under(key, p1, p2, before),
+        OfSize::Aes256(key) => tokens_receipts::token_under(key, p1, p2, before),
     }
 }
 
@@ -65,9 +67,17 @@ pub fn receipt_fits(
     ensures { IsTrue result ↔ (given.now ≡ confirmed.receipt (key_of key.now) number unique.now
         (aids_of first.now (option_copied second.entry) (option_copied third.entry))) }
 {
+    let mut wanted = ArrayVec::new();
     match key {
-        OfSize::Aes128(key) => key.fits(number, unique, first, second, third, given),
-        OfSize::Aes192(key) => key.fits(number, unique, first, second, third, given),
-        OfSize::Aes256(key) => key.fits(number, unique, first, second, third, given),
+        OfSize::Aes128(key) => {
+            receipt_under(key, number, unique, first, second, third, &mut wanted)
+        }
+        OfSize::Aes192(key) => {
+            receipt_under(key, number, unique, first, second, third, &mut wanted)
+        }
+        OfSize::Aes256(key) => {
+            receipt_under(key, number, unique, first, second, third, &mut wanted)
+        }
     }
+    given == wanted.as_slice()
 }

@@ -27,7 +27,6 @@ mod desk;
 mod key;
 mod laws;
 mod line;
-mod made;
 mod receipted;
 mod signing;
 mod text;

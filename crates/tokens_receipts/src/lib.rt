@@ -8,7 +8,8 @@
 //!     it is those sixteen bytes (`token_fits`).
 //!  2. A receipt covers its number, the card's unique data and the AIDs that the command was about, and is written with the number
 //!     and the unique data (`receipt`).
-//!  3. What a token signs of the data field is written after lengths (`four_fields`, `five_fields`, `object_field`).
+//!  3. Whoever makes more than one under a key keeps its subkeys (`token_under`, `receipt_under`).
+//!  4. What a token signs of the data field is written after lengths (`four_fields`, `five_fields`, `object_field`).
 //!
 //! Nothing here takes memory. Who verifies and who receipts is for the callers, as is that no number comes twice.
 #![tactic(auto)]
@@ -17,6 +18,6 @@ mod approval;
 mod confirmation;
 mod fields;
 
-pub use approval::{token, token_fits};
-pub use confirmation::receipt;
+pub use approval::{token, token_fits, token_under};
+pub use confirmation::{receipt, receipt_under};
 pub use fields::{DataField, five_fields, four_fields, object_field, push_field};
