@@ -1,6 +1,8 @@
--- What a card keeps of the load session, and the load session that it stands for.
+-- What a card keeps of the load session, and the load session that it stands for (GlobalPlatform Card Specification 2.3.1, 9.3.5
+-- and 11.6).
 use Rattle.std.specs.Prelude.{◌≡◌, ℕ, List, [], All, true, Option, None, Some}
-use Rattle.card_check.specs.IsCard.{HasPages, IsLoadPage}
+use Rattle.card_check.specs.IsCard.{HasPages}
+use Rattle.page_journal.specs.Pages.{IsLoadPage}
 use Rattle.card_types.specs.declared.tables.Tables.{Tables}
 use Rattle.flash_core.specs.declared.flash.Flash.{Ghosts as Flash}
 use Rattle.load_session.specs.Loaded.{IsWhole, loaded, numbers}

@@ -1,4 +1,4 @@
-//! A session under keys of any length.
+//! A session under keys of any length (GlobalPlatform Amendment D, 6.2).
 
 ghost use Rattle.std.specs.Prelude.{◌≡◌, ℕ, ◌+◌, ◌≤◌, ◌↔◌, IsTrue, List, length, take, IfOk, OnOk, OnErr};
 ghost use Rattle.apdu_core.specs.Apdu.{apdu_of};
@@ -10,6 +10,7 @@ ghost use Rattle.scp03_card.specs.Kept.{RepresentsSession};
 ghost use Rattle.scp03_card.specs.Opens.{Gives, IsAuthentic, Opens, accepting, field_of};
 ghost use Rattle.scp03_card.specs.Protected.{protected};
 ghost use Rattle.scp03_card.specs.Session as model;
+ghost use Rattle.scp03_card.specs.declared.close.TheConstants.{DATA_LIMIT};
 
 use crate::aes_kind::AesKind;
 use crate::opened_key::{OpenedKey, open_key};
@@ -67,7 +68,7 @@ impl AesSession {
 
     /// Makes the whole reply to the command that was opened last, as `Session::close_reply` does.
     pub fn close_reply(&mut self, reply: &mut ArrayVec<u8, REPLY_LIMIT>, status: Status)
-        requires { array_vec_len reply.old ≤ 239 }
+        requires { array_vec_len reply.old ≤ DATA_LIMIT }
         ensures protected { (session : model.Session) → RepresentsSession self.old session → reply.new.items ≡ protected session reply.old.items status.0 }
         ensures unchanged { self.new ≡ self.old }
     {

@@ -1,10 +1,11 @@
-//! INSTALL [for load]: a load session begins.
+//! INSTALL [for load]: a load session begins (GlobalPlatform Card Specification 2.3.1, 9.3.1 and 11.5).
 
 ghost use Rattle.std.specs.Prelude.{◌≡◌, ◌≤◌, [], OnErr, length};
 ghost use Rattle.card_core.specs.Loads.{LoadsAs};
 ghost use Rattle.card_types.specs.InOrder.{IsInOrder};
 ghost use Rattle.policy_rules.specs.Requests.{ForActingLive, IsRequestOf, IsWellFormed};
 ghost use Rattle.policy_rules.specs.declared.request.Request.TheVariants.{InstallLoad};
+ghost use Rattle.scp03_card.specs.declared.close.TheConstants.{DATA_LIMIT};
 
 use crate::loading::Loading;
 use crate::reply::REPLY_LIMIT;
@@ -32,7 +33,7 @@ pub fn begin_load(
         → LoadsAs admitted page tables.now live.new loading.new.session reply.new.items result) }
     ensures writes { loading.new.writes ≡ loading.old.writes }
     ensures refused { OnErr result ((live.new ≡ live.old) × (loading.new ≡ loading.old)) }
-    ensures room { length reply.new.items ≤ 239 }
+    ensures room { length reply.new.items ≤ DATA_LIMIT }
 {
     let into = judge_load_install(tables, live, domain, request)?;
     let mut hash = ArrayVec::new();

@@ -1,4 +1,4 @@
-//! What an open channel holds besides its selection.
+//! What an open channel holds besides its selection (GlobalPlatform Amendment D, chapter 5).
 
 ghost use Rattle.std.specs.Prelude.{◌≡◌, ◌↔◌, IsTrue};
 ghost use Rattle.card_core.specs.SecureChannels.{IsOffered, without_offer_held};
@@ -22,7 +22,8 @@ impl ChannelSession {
         matches!(self, ChannelSession::Offered(_))
     }
 
-    /// Ends what is held. Where nothing is, nothing is written.
+    /// Ends what is held. Where nothing is, nothing is written. It is out of line, so that its callers have a small stack frame.
+    #[inline(never)]
     pub fn end(&mut self)
         ensures { self.new ≡ holding.Nothing }
     {

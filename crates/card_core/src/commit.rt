@@ -1,10 +1,10 @@
-//! What a command changed is committed.
+//! What a command changed is committed (this profile's own).
 
 ghost use Rattle.std.specs.Prelude.{◌≡◌, [], All, OnOk, true};
 ghost use Rattle.card_core.specs.Kept.{AreCards};
 ghost use Rattle.card_types.specs.Registry.{Registry};
 ghost use Rattle.card_types.specs.Represents.{Represents};
-ghost use Rattle.card_check.specs.IsCard.{IsLoadPage};
+ghost use Rattle.page_journal.specs.Pages.{IsLoadPage};
 ghost use Rattle.faults.specs.Faults.{HasCause};
 ghost use Rattle.load_session.specs.Loaded.{loaded, numbers};
 ghost use Rattle.page_journal.specs.Moments.{LeavesOnly};

@@ -1,4 +1,5 @@
-//! How a command of card content management is answered: by a receipt of the domain that confirms it, or by 00.
+//! How a command of card content management is answered: by a receipt of the domain that confirms it, or by 00 (GlobalPlatform
+//! Card Specification 2.3.1, 9.1.3.4, 11.1.6 and C.5).
 
 ghost use Rattle.std.specs.Prelude.{◌≡◌, ◌⊎◌, ◌≤◌, ◌+◌, ◌++◌, ℕ, List, [], IfSome, length, true};
 ghost use Rattle.std.specs.Option.{option_copied};
@@ -11,6 +12,7 @@ ghost use Rattle.card_types.specs.Well.{IsKeyLength};
 ghost use Rattle.policy_rules.specs.HoldersFound.{MayReceipt};
 ghost use Rattle.rec_store.specs.Room.{HasRoomFor};
 ghost use Rattle.registry.specs.Pages.{entry_pages};
+ghost use Rattle.scp03_card.specs.declared.close.TheConstants.{DATA_LIMIT};
 ghost use Rattle.tokens_receipts.specs.Receipt.{aids_of, receipt as receipt_of};
 
 use crate::reply::REPLY_LIMIT;
@@ -47,7 +49,7 @@ pub fn confirm<F: Flash>(
     ensures files { records.new.tables.files.items ≡ records.old.tables.files.items }
     ensures cards { AreCards records.new.tables }
     ensures same { (records.new.flash ≡ records.old.flash) × (records.new.live ≡ true) }
-    ensures room { length reply.new.items ≤ 239 }
+    ensures room { length reply.new.items ≤ DATA_LIMIT }
 {
     let Some(slot) = receipter else {
         reply.push(0x00);

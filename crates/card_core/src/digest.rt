@@ -1,4 +1,4 @@
-//! The digest of an Executable Load File.
+//! The digest of an Executable Load File (GlobalPlatform Card Specification 2.3.1, 11.6 and C.2).
 
 ghost use Rattle.std.specs.Prelude.{◌≡◌, ◌<◌, ◌≤◌, ◌++◌, ◌+◌, ◌/◌, ℕ, List, false, true, map, take, IfOk, IfSome, IsSome, OnErr, OnOk};
 ghost use Rattle.std.specs.List.{concat};
@@ -9,6 +9,7 @@ ghost use Rattle.card_types.specs.Represents.{file_of};
 ghost use Rattle.card_types.specs.Slots.{held};
 ghost use Rattle.faults.specs.Faults.{HasCause};
 ghost use Rattle.page_journal.specs.Moments.{LeavesOnly};
+ghost use Rattle.page_journal.specs.Pages.{IsLoadPage};
 ghost use Rattle.policy_rules.specs.State.{State};
 ghost use Rattle.rec_store.specs.Reopens.{Reopens, load_page};
 ghost use Rattle.sha2.specs.Hashers.{Holds256};
@@ -28,7 +29,7 @@ fn feed_page<F: Flash>(
     hasher: &mut Sha256,
 ) -> Result<(), FlashFailed>
     requires live { records.old.live ≡ true }
-    requires range { (96 ≤ page) × (page < 608) }
+    requires range { IsLoadPage page }
     requires count { count ≤ 256 }
     ensures fed { F.tells → (message : List ℕ) → Holds256 hasher.old message
         → OnOk result (Holds256 hasher.new (message ++ take count (load_page (F.pages records.old.flash) page))) }

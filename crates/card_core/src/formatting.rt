@@ -1,8 +1,9 @@
-//! The factory card on a device.
+//! The factory card on a device (this profile's own).
 
-ghost use Rattle.std.specs.Prelude.{◌≡◌, ◌≤◌, ℕ, OnOk, slice_get};
+ghost use Rattle.std.specs.Prelude.{◌≡◌, ◌<◌, ℕ, OnOk, slice_get};
 ghost use Rattle.card_types.specs.Factory.{factory_registry};
 ghost use Rattle.faults.specs.Faults.{HasCause};
+ghost use Rattle.page_journal.specs.declared.pages.TheConstants.{GATE};
 ghost use Rattle.rec_store.specs.Reopens.{Keeps};
 
 use card_types::{CardLife, factory_file, factory_key, issuer_domain};
@@ -14,7 +15,7 @@ use rec_store::lay_out;
 /// writes, there is no card.
 pub fn format<F: Flash>(flash: &mut F) -> Result<(), FlashFailed>
     ensures keeps { F.tells → OnOk result (Keeps F.Flash flash.new factory_registry) }
-    ensures others { F.tells → (page : ℕ) → 46 ≤ page → slice_get (F.pages flash.new) page ≡ slice_get (F.pages flash.old) page }
+    ensures others { F.tells → (page : ℕ) → GATE < page → slice_get (F.pages flash.new) page ≡ slice_get (F.pages flash.old) page }
     ensures cause { HasCause (F.faults flash.old) (F.faults flash.new) result }
 {
     lay_out(

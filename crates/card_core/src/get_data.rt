@@ -1,4 +1,4 @@
-//! GET DATA: data of the selected domain are answered.
+//! GET DATA: data of the selected domain are answered (GlobalPlatform Card Specification 2.3.1, 11.3).
 
 ghost use Rattle.std.specs.Prelude.{◌≡◌, ◌≤◌, ◌<◌, ◌+◌, ◌++◌, ℕ, List, [], ◌∷◌, length, None, Some, slice_index_or};
 ghost use Rattle.arrayvec.specs.ArrayVec.{array_vec_len};
@@ -14,6 +14,7 @@ ghost use Rattle.policy_rules.specs.GetData.{HasData, IsKeyInformation};
 ghost use Rattle.policy_rules.specs.KeyOrder.{follows, name_order};
 ghost use Rattle.policy_rules.specs.Requests.{IsRequestOf};
 ghost use Rattle.policy_rules.specs.declared.request.Request.TheVariants.{Get};
+ghost use Rattle.scp03_card.specs.declared.close.TheConstants.{DATA_LIMIT};
 
 use crate::reply::REPLY_LIMIT;
 use apdu_core::Status;
@@ -78,7 +79,7 @@ fn write_datum(tables: &Tables, tag: u16, datum: Datum<'_>, reply: &mut ArrayVec
     requires empty { reply.old.items ≡ [] }
     ensures written { (domain : ℕ) → ForEntry tables.now domain (λ said aid. IsFor tables.now said domain tag datum.entry
         → (value : List ℕ) × HasData said aid tag value × Spelling tag value reply.new.items) }
-    ensures room { length reply.new.items ≤ 239 }
+    ensures room { length reply.new.items ≤ DATA_LIMIT }
 {
     match datum {
         Datum::Keys { first } => {
@@ -123,7 +124,7 @@ pub fn get_data(
     requires empty { reply.old.items ≡ [] }
     ensures done { ForShown tables.now live.now (λ page all admitted. channel ≡ admitted.channel → IsRequestOf (Get tag) admitted.command
         → CarriesOutBut page admitted (kept_of tables.now live.now all) reply.new.items result) }
-    ensures room { length reply.new.items ≤ 239 }
+    ensures room { length reply.new.items ≤ DATA_LIMIT }
 {
     match judge_get_data(tables, domain, tag) {
         Ok(datum) => {

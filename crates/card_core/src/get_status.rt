@@ -1,4 +1,4 @@
-//! GET STATUS: the registry is listed, in as many parts as it takes.
+//! GET STATUS: the registry is listed, in as many parts as it takes (GlobalPlatform Card Specification 2.3.1, 11.4).
 
 ghost use Rattle.std.specs.Prelude.{◌≡◌, ◌+◌, ◌<◌, ◌≤◌, ◌++◌, ℕ, List, [], IfNone, IfSome, IsSome, OnErr, length, option_copied};
 ghost use Rattle.card_core.specs.Lists.{Lists};
@@ -12,6 +12,7 @@ ghost use Rattle.policy_rules.specs.GetStatus.{IsTemplate, Thing};
 ghost use Rattle.policy_rules.specs.Requests.{ActsIn, ForActing, IsWellFormed, RepresentsState};
 ghost use Rattle.policy_rules.specs.GetStatusRequests.{IsFirstShown, IsListOf, IsThingAt};
 ghost use Rattle.policy_rules.specs.declared.request.Request.TheVariants.{List as ListStatus};
+ghost use Rattle.scp03_card.specs.declared.close.TheConstants.{DATA_LIMIT};
 
 use crate::reply::REPLY_LIMIT;
 use crate::status_template::{TEMPLATE_ROOM, write_template};
@@ -19,9 +20,10 @@ use apdu_core::Status;
 use arrayvec::ArrayVec;
 use card_types::{Aid, Found, Tables};
 use policy_rules::{CHANNELS, ListRequest, Live, Place, Rule, judge_status, next_shown};
+use scp03_card::DATA_LIMIT;
 
 /// How many bytes a part of a listing has, at most.
-const PART_LIMIT: usize = 239;
+const PART_LIMIT: usize = DATA_LIMIT;
 
 // Appends the template of a thing, where the part has room for it; the thing's AID.
 fn show(
@@ -97,7 +99,7 @@ pub fn get_status(
         → IsAsked channel (ListStatus request.now) (option_copied place.entry) told
         → Lists told page tables.now live.old live.new reply.new.items result) }
     ensures refused { OnErr result (live.new ≡ live.old) }
-    ensures room { length reply.new.items ≤ 239 }
+    ensures room { length reply.new.items ≤ DATA_LIMIT }
 {
     let first = match judge_status(tables, place, domain, request) {
         Ok(first) => first,

@@ -1,4 +1,4 @@
-//! INITIALIZE UPDATE: a session is offered.
+//! INITIALIZE UPDATE: a session is offered (GlobalPlatform Amendment D, 7.1.1).
 
 ghost use Rattle.std.specs.Prelude.{◌≡◌, ◌≤◌, ℕ, true, List, [], length, None, Some, IfSome, IfNone, OnErr};
 ghost use Rattle.card_core.specs.Domains.{ForEntry};
@@ -15,6 +15,7 @@ ghost use Rattle.policy_rules.specs.Requests.{ActsIn, IsRequestOf};
 ghost use Rattle.policy_rules.specs.declared.request.Request.TheVariants.{Initialize};
 ghost use Rattle.scp03_card.specs.Kept.{RepresentsOffer};
 ghost use Rattle.scp03_card.specs.Offer as model;
+ghost use Rattle.scp03_card.specs.declared.close.TheConstants.{DATA_LIMIT};
 
 use crate::aes_offer::AesOffer;
 use crate::channel_session::ChannelSession;
@@ -106,7 +107,7 @@ pub fn initialize_update<F: Flash>(
     ensures cards { AreCards records.new.tables }
     ensures same { (records.new.flash ≡ records.old.flash) × (records.new.live ≡ true) }
     ensures refused { OnErr result (records.new ≡ records.old) }
-    ensures room { length reply.new.items ≤ 239 }
+    ensures room { length reply.new.items ≤ DATA_LIMIT }
 {
     let tables = records.tables();
     let found = judge_initialize_update(tables, domain, version)?;

@@ -1,4 +1,5 @@
-//! LOAD: a block of the Executable Load File that comes, and with the last one the file is there.
+//! LOAD: a block of the Executable Load File that comes, and with the last one the file is there (GlobalPlatform Card
+//! Specification 2.3.1, 9.3.5 and 11.6).
 
 ghost use Rattle.std.specs.Prelude.{◌≡◌, ◌≤◌, ℕ, List, [], IfOk, IfErr, IfSome, OnErr, OnOk, Some, None, length, true};
 ghost use Rattle.card_core.specs.Kept.{AreCards};
@@ -15,6 +16,7 @@ ghost use Rattle.policy_rules.specs.Load.{LoadFails, load_rules};
 ghost use Rattle.policy_rules.specs.Requests.{ActsIn, IsRequestOf, IsWellFormed};
 ghost use Rattle.policy_rules.specs.declared.request.Request.TheVariants.{Load};
 ghost use Rattle.rec_store.specs.StoredTables.{AreRoomy};
+ghost use Rattle.scp03_card.specs.declared.close.TheConstants.{DATA_LIMIT};
 
 use crate::loaded_file::add_loaded;
 use crate::loading::Loading;
@@ -104,7 +106,7 @@ pub fn load<F: Flash>(
     ensures cards { AreCards records.new.tables }
     ensures same { (records.new.flash ≡ records.old.flash) × (records.new.live ≡ true) }
     ensures refused { OnErr result ((records.new ≡ records.old) × (live.new ≡ live.old) × (loading.new ≡ loading.old)) }
-    ensures room { length reply.new.items ≤ 239 }
+    ensures room { length reply.new.items ≤ DATA_LIMIT }
 {
     let name = judge_load(records.tables(), live, channel, domain, request)?;
     let session = loading.session.as_ref().unwrap();

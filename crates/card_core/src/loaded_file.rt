@@ -1,4 +1,4 @@
-//! An Executable Load File that has come is added.
+//! An Executable Load File that has come is added (GlobalPlatform Card Specification 2.3.1, 9.3.5 and 11.6).
 
 ghost use Rattle.std.specs.Prelude.{◌≡◌, ◌+◌, ◌≤◌, ℕ, List, [], ◌∷◌, IfSome, length, true};
 ghost use Rattle.card_check.specs.IsCard.{IsInLoadPages, pages_named};
@@ -12,6 +12,7 @@ ghost use Rattle.card_types.specs.declared.limits.TheConstants.{LOAD_PAGES};
 ghost use Rattle.load_session.specs.Pages.{AreOwn, pages_in};
 ghost use Rattle.policy_rules.specs.HoldersFound.{MayReceipt};
 ghost use Rattle.registry.specs.Adding.{NoneHas};
+ghost use Rattle.scp03_card.specs.declared.close.TheConstants.{DATA_LIMIT};
 
 use crate::confirm::confirm;
 use crate::reply::REPLY_LIMIT;
@@ -45,7 +46,7 @@ pub fn add_loaded<F: Flash>(
     ensures aids { KeepsAids records.old.tables.entries.items records.new.tables.entries.items }
     ensures cards { AreCards records.new.tables }
     ensures same { (records.new.flash ≡ records.old.flash) × (records.new.live ≡ true) }
-    ensures room { length reply.new.items ≤ 239 }
+    ensures room { length reply.new.items ≤ DATA_LIMIT }
 {
     let into = in_slot(&records.tables().entries, file.domain).unwrap().aid;
     place_file(records, file);

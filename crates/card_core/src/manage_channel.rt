@@ -1,4 +1,4 @@
-//! MANAGE CHANNEL: a channel is opened or closed.
+//! MANAGE CHANNEL: a channel is opened or closed (GlobalPlatform Card Specification 2.3.1, 11.7).
 
 ghost use Rattle.std.specs.Prelude.{◌≡◌, ◌≤◌, ◌<◌, ℕ, List, [], length};
 ghost use Rattle.card_core.specs.Kept.{ForShown, RepresentsSoundly, kept_of};
@@ -8,6 +8,7 @@ ghost use Rattle.card_types.specs.declared.tables.Tables.{Tables};
 ghost use Rattle.policy_rules.specs.Admission.{Admitted};
 ghost use Rattle.policy_rules.specs.Requests.{IsRequestOf};
 ghost use Rattle.policy_rules.specs.declared.request.Request.TheVariants.{MoreChannel, LessChannel};
+ghost use Rattle.scp03_card.specs.declared.close.TheConstants.{DATA_LIMIT};
 
 use crate::channel_session::ChannelSession;
 use crate::reply::REPLY_LIMIT;
@@ -22,7 +23,7 @@ pub fn open_channel(live: &mut Live, reply: &mut ArrayVec<u8, REPLY_LIMIT>) -> R
     ensures done { (tables : Tables) → HasLayout tables → ForShown tables live.old (λ page all admitted. admitted.channel < CHANNELS
         → IsRequestOf MoreChannel admitted.command
         → CarriesOutBut page admitted (kept_of tables live.new all) reply.new.items result) }
-    ensures room { length reply.new.items ≤ 239 }
+    ensures room { length reply.new.items ≤ DATA_LIMIT }
 {
     match judge_more_channel(live) {
         Ok(number) => {

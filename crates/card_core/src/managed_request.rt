@@ -1,4 +1,4 @@
-//! A request of card content management that changes the registry.
+//! A request of card content management that changes the registry (GlobalPlatform Card Specification 2.3.1, chapter 9).
 
 ghost use Rattle.std.specs.Prelude.{◌≡◌, ◌≤◌, [], OnErr, length, true};
 ghost use Rattle.card_core.specs.Domains.{is_domain_in};
@@ -8,6 +8,7 @@ ghost use Rattle.card_core.specs.Offers.{HoldsFor};
 ghost use Rattle.card_core.specs.SecureChannels.{IsInSession};
 ghost use Rattle.policy_rules.specs.Requests.{ForActingLive, IsRequestOf, IsWellFormed};
 ghost use Rattle.policy_rules.specs.declared.request.Request.{Request};
+ghost use Rattle.scp03_card.specs.declared.close.TheConstants.{DATA_LIMIT};
 
 use crate::channel_session::ChannelSession;
 use crate::reply::REPLY_LIMIT;
@@ -46,5 +47,5 @@ pub trait ManagedRequest {
         ensures cards { AreCards records.new.tables }
         ensures same { (records.new.flash ≡ records.old.flash) × (records.new.live ≡ true) }
         ensures refused { OnErr result (records.new ≡ records.old) }
-        ensures room { length reply.new.items ≤ 239 };
+        ensures room { length reply.new.items ≤ DATA_LIMIT };
 }

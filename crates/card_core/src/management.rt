@@ -1,4 +1,5 @@
-//! Card content management: what the commands do that change a registry in a session.
+//! Card content management: what the commands do that change a registry in a session (GlobalPlatform Card Specification 2.3.1,
+//! chapter 9).
 
 ghost use Rattle.std.specs.Prelude.{◌≡◌, ◌≢◌, ◌<◌, ◌≤◌, [], None, Some, Contains, Option, OnErr, length, slice_index_or, true};
 ghost use Rattle.card_core.specs.Domains.{is_domain_in};
@@ -10,6 +11,7 @@ ghost use Rattle.policy_rules.specs.Classes.{changing, managing};
 ghost use Rattle.policy_rules.specs.Requests.{IsWellFormed, form_in};
 ghost use Rattle.policy_rules.specs.declared.instruction.TheConstants.{MANAGE_CHANNEL, SELECT};
 ghost use Rattle.policy_rules.specs.declared.live.Place.{Place};
+ghost use Rattle.scp03_card.specs.declared.close.TheConstants.{DATA_LIMIT};
 
 use crate::admit::Received;
 use crate::channel_session::ChannelSession;
@@ -48,7 +50,7 @@ pub fn manage<M: ManagedRequest, F: Flash>(
     ensures cards { AreCards records.new.tables }
     ensures same { (records.new.flash ≡ records.old.flash) × (records.new.live ≡ true) }
     ensures refused { OnErr result (records.new ≡ records.old) }
-    ensures room { length reply.new.items ≤ 239 }
+    ensures room { length reply.new.items ≤ DATA_LIMIT }
 {
     let channel = usize::from(received.channel);
     request.manage(records, live, &held[channel], received.selected, reply)

@@ -1,4 +1,4 @@
-//! What a request asks for is done.
+//! What a request asks for is done (GlobalPlatform Card Specification 2.3.1, chapter 11).
 
 ghost use Rattle.std.specs.Prelude.{◌≡◌, ◌≢◌, ◌⊎◌, ◌<◌, ◌≤◌, List, [], length, true, None, Some, Contains, OnErr, Option, option_copied, slice_index_or};
 ghost use Rattle.card_core.specs.Domains.{is_domain_in};
@@ -9,6 +9,7 @@ ghost use Rattle.card_core.specs.Serves.{CarriesOn, ForAsked};
 ghost use Rattle.policy_rules.specs.Classes.{changing, managing};
 ghost use Rattle.policy_rules.specs.Requests.{IsWellFormed, form_in};
 ghost use Rattle.policy_rules.specs.declared.instruction.TheConstants.{EXTERNAL_AUTHENTICATE, SELECT, MANAGE_CHANNEL, GET_DATA, INITIALIZE_UPDATE};
+ghost use Rattle.scp03_card.specs.declared.close.TheConstants.{DATA_LIMIT};
 
 use crate::admit::Received;
 use crate::begin_load::begin_load;
@@ -66,7 +67,7 @@ pub fn perform<F: Flash>(
     ensures refused { OnErr result ((records.new ≡ records.old) × (loading.new.writes.items ≡ [])) }
     ensures idle { ((form_in request.now).instruction ≡ INITIALIZE_UPDATE → ⊥) → (Contains changing (form_in request.now).instruction → ⊥) → (records.new ≡ records.old) × (loading.new.writes.items ≡ []) }
     ensures kept { ((form_in request.now).instruction ≡ GET_DATA) ⊎ Contains managing (form_in request.now).instruction → held.new ≡ held.old }
-    ensures room { length reply.new.items ≤ 239 }
+    ensures room { length reply.new.items ≤ DATA_LIMIT }
 {
     let channel = received.channel;
     let at = usize::from(channel);

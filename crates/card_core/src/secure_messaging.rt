@@ -8,6 +8,7 @@ ghost use Rattle.card_core.specs.Secured.{OpensAs};
 ghost use Rattle.policy_rules.specs.Volatile.{Secured, SecureChannel};
 ghost use Rattle.scp03_card.specs.Protected.{protected};
 ghost use Rattle.scp03_card.specs.Session.{Session};
+ghost use Rattle.scp03_card.specs.declared.close.TheConstants.{DATA_LIMIT};
 
 use crate::channel_session::ChannelSession;
 use crate::reply::REPLY_LIMIT;
@@ -47,7 +48,7 @@ pub fn open_command(
 /// Closes the reply to a protected command, in the session of its channel.
 pub fn close_reply(held: &mut ChannelSession, status: Status, reply: &mut ArrayVec<u8, REPLY_LIMIT>)
     requires secured { IsInSession held.old }
-    requires room { array_vec_len reply.old ≤ 239 }
+    requires room { array_vec_len reply.old ≤ DATA_LIMIT }
     ensures closed { (session : Session) → RepresentsSecureChannel held.old (Secured session) → reply.new.items ≡ protected session reply.old.items status.0 }
     ensures same { held.new ≡ held.old }
 {

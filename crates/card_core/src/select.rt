@@ -1,4 +1,4 @@
-//! SELECT: an entry is selected on a channel.
+//! SELECT: an entry is selected on a channel (GlobalPlatform Card Specification 2.3.1, 11.9 and chapter 6).
 
 ghost use Rattle.std.specs.Prelude.{◌≡◌, ◌≤◌, ◌<◌, [], length, slice_set};
 ghost use Rattle.card_types.specs.InOrder.{IsInOrder};
@@ -8,6 +8,7 @@ ghost use Rattle.card_core.specs.Serves.{CarriesOutBut};
 ghost use Rattle.policy_rules.specs.Requests.{IsRequestOf};
 ghost use Rattle.policy_rules.specs.Select.{IsControlInformation, selected_status as status_by};
 ghost use Rattle.policy_rules.specs.declared.request.Request.TheVariants.{Select};
+ghost use Rattle.scp03_card.specs.declared.close.TheConstants.{DATA_LIMIT};
 
 use crate::channel_session::ChannelSession;
 use crate::reply::REPLY_LIMIT;
@@ -93,7 +94,7 @@ pub fn select(
     ensures done { ForShown tables.now live.old (λ page all admitted. channel ≡ admitted.channel → held_on all channel ≡ held.old
         → IsRequestOf (Select partial.entry) admitted.command
         → CarriesOutBut page admitted (kept_of tables.now live.new (slice_set all channel held.new)) reply.new.items result) }
-    ensures room { length reply.new.items ≤ 239 }
+    ensures room { length reply.new.items ≤ DATA_LIMIT }
 {
     match judge_select(tables, partial) {
         Ok(found) => {

@@ -1,4 +1,4 @@
-//! What is done with a command.
+//! What is done with a command (GlobalPlatform Card Specification 2.3.1, chapter 11).
 
 ghost use Rattle.std.specs.Prelude.{◌≡◌, ◌≢◌, ◌⊎◌, ◌<◌, ◌≤◌, ◌++◌, ◌==◌, ℕ, List, [], length, false, true, None, Some, IsSome, Contains, OnOk, OnErr, IfErr, option_copied, slice_index_or};
 ghost use Rattle.apdu_core.specs.Apdu.{apdu_of};
@@ -18,6 +18,7 @@ ghost use Rattle.policy_rules.specs.Volatile.{Secured};
 ghost use Rattle.policy_rules.specs.declared.instruction.TheConstants.{SELECT, MANAGE_CHANNEL, GET_DATA, GET_STATUS, INITIALIZE_UPDATE};
 ghost use Rattle.scp03_card.specs.Protected.{protected};
 ghost use Rattle.scp03_card.specs.Session.{Session};
+ghost use Rattle.scp03_card.specs.declared.close.TheConstants.{DATA_LIMIT};
 
 use crate::admit::{Received, admit, is_over};
 use crate::channel_session::ChannelSession;
@@ -119,7 +120,7 @@ fn act<F: Flash>(
     ensures refused { OnErr result ((records.new ≡ records.old) × (loading.new.writes.items ≡ [])) }
     ensures idle { (command.now.ins ≡ INITIALIZE_UPDATE → ⊥) → (Contains changing command.now.ins → ⊥) → (records.new ≡ records.old) × (loading.new.writes.items ≡ []) }
     ensures kept { IsInSession (held_on held.old received.now.channel) → (command.now.ins ≡ GET_DATA) ⊎ Contains managing command.now.ins → held.new ≡ held.old }
-    ensures room { length reply.new.items ≤ 239 }
+    ensures room { length reply.new.items ≤ DATA_LIMIT }
 {
     let at = usize::from(received.channel);
     let request = match read_request(&held[at], command) {
@@ -140,7 +141,7 @@ fn act<F: Flash>(
 
 // Closes a reply in plain, and answers the rule.
 fn close_plain(served: Result<Status, Rule>, reply: &mut ArrayVec<u8, REPLY_LIMIT>) -> Option<Rule>
-    requires { length reply.old.items ≤ 239 }
+    requires { length reply.old.items ≤ DATA_LIMIT }
     ensures closed { reply.new.items ≡ reply.old.items ++ status_bytes (status_word served) }
     ensures rule { result ≡ rule_of served }
 {
@@ -163,7 +164,7 @@ fn close_protected(
     reply: &mut ArrayVec<u8, REPLY_LIMIT>,
 ) -> Option<Rule>
     requires secured { IsInSession held.old }
-    requires room { length reply.old.items ≤ 239 }
+    requires room { length reply.old.items ≤ DATA_LIMIT }
     ensures closed { (session : Session) → RepresentsSecureChannel held.old (Secured session) → reply.new.items ≡ protected session reply.old.items (status_word served) }
     ensures rule { result ≡ rule_of served }
     ensures same { held.new ≡ held.old }

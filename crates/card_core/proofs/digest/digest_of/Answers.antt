@@ -4,7 +4,7 @@ use Rattle.std.proofs.lemmas.Grind.{common_steps}
 use Rattle.std.proofs.lemmas.List.{length-take-le}
 use Rattle.std.proofs.lemmas.List.Elements.{All-get_or}
 use Rattle.std.specs.Prelude.{slice_index}
-use Rattle.card_check.specs.IsCard.{IsLoadPage}
+use Rattle.page_journal.specs.Pages.{IsLoadPage}
 use Rattle.card_core.proofs.LoadReads.{fed, reads_on}
 use Rattle.card_types.specs.Well.{pages_of}
 use Rattle.page_journal.specs.Journal.{stored}

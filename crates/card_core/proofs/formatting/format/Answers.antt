@@ -4,7 +4,8 @@ use Rattle.std.specs.List.{IsDistinct}
 use Rattle.std.specs.Prelude.{replicate}
 use Rattle.std.proofs.lemmas.List.Elements.{All-cons, All-nil}
 use denote.RawPtr.{null_ptr}
-use Rattle.card_check.specs.IsCard.{IsCard, IsInLoadPages, IsLoadPage}
+use Rattle.card_check.specs.IsCard.{IsCard, IsInLoadPages}
+use Rattle.page_journal.specs.Pages.{IsLoadPage}
 use Rattle.card_types.proofs.FactoryRegistry.{factory_layout, factory_says}
 use Rattle.card_types.proofs.FactoryWell.{factory_well}
 use Rattle.card_types.specs.Factory.{IsFactory, IsFactoryKey, factory_entry, factory_file, factory_registry}
