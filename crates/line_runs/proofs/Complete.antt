@@ -5,9 +5,10 @@ use Rattle.io_edge.proofs.Cuts.{lines_ahead}
 use Rattle.io_edge.specs.Lines.{IsNextLine, IsCut}
 use Rattle.io_edge.specs.declared.line.TheConstants.{INPUT_LIMIT, LINE_LIMIT}
 use Rattle.line_runs.proofs.ComeFirst.{lines_come, shrinks}
-use Rattle.line_runs.specs.Ends.{AreTakable, Ends, HasForm, IsGoodInput, Takes, TakesLines}
+use Rattle.line_runs.specs.Ends.{AreTakable, Ends, IsGoodInput, TakesLines}
 use Rattle.line_runs.specs.Outside.{Outside}
 use Rattle.line_runs.specs.Taken.{ComeFirst, IsBadLine, room_ahead}
+use Rattle.line_runs.specs.Taker.{Taker}
 use Rattle.line_runs.specs.declared.ending.LinesEnd.{LinesEnd}
 use Rattle.line_runs.specs.declared.ending.LinesEnd.TheVariants.{BadLine, InputTooLong}
 
@@ -21,23 +22,23 @@ never_cut input given ahead cut reached short is_cut =
     omega arith
 
 -- a line that comes after others is good
-good_after : {T : Type 0} (takes : Takes T) (given : List (List ℕ)) (line : List ℕ) (more : List (List ℕ)) (at last : T) (texts : List (List ℕ))
-    → TakesLines takes at given last texts → AreTakable takes at (given ++ line ∷ more) → HasForm takes last line × (length line ≤ LINE_LIMIT)
-good_after {T} takes [] line more at last texts runs good =
-    subst (λ (t : T). HasForm takes t line × (length line ≤ LINE_LIMIT)) (sym runs.0) (good.0, good.1)
-good_after takes (first ∷ given) line more at last texts (next, text, later, one, runs, are) good =
-    good_after takes given line more next last later runs (good.2 next text one)
+good_after : {T : Type 0} (does : Taker T) (given : List (List ℕ)) (line : List ℕ) (more : List (List ℕ)) (at last : T) (texts : List (List ℕ))
+    → TakesLines does.takes at given last texts → AreTakable does at (given ++ line ∷ more) → does.has_form last line × (length line ≤ LINE_LIMIT)
+good_after {T} does [] line more at last texts runs good =
+    subst (λ (t : T). does.has_form t line × (length line ≤ LINE_LIMIT)) (sym runs.0) (good.0, good.1)
+good_after does (first ∷ given) line more at last texts (next, text, later, one, runs, are) good =
+    good_after does given line more next last later runs (good.2 next text one)
 
-module _ {T : Type 0} (takes : Takes T) (first : T) (input : List ℕ) (given texts : List (List ℕ)) (last : T) (ahead : List ℕ)
-    (runs : TakesLines takes first given last texts) (reached : ComeFirst INPUT_LIMIT input given ahead) (good : IsGoodInput takes first input) where
+module _ {T : Type 0} (does : Taker T) (first : T) (input : List ℕ) (given texts : List (List ℕ)) (last : T) (ahead : List ℕ)
+    (runs : TakesLines does.takes first given last texts) (reached : ComeFirst INPUT_LIMIT input given ahead) (good : IsGoodInput does first input) where
   -- a line that comes next is good
-  good_next : (room : ℕ) (line after : List ℕ) → IsNextLine room ahead line after → HasForm takes last line × (length line ≤ LINE_LIMIT)
+  good_next : (room : ℕ) (line after : List ℕ) → IsNextLine room ahead line after → does.has_form last line × (length line ≤ LINE_LIMIT)
   good_next room line after next =
       let all : lines input ≡ given ++ line ∷ lines after
       = lines_come INPUT_LIMIT input given ahead reached ∙ ap (λ rest. given ++ rest) (lines_ahead room ahead line after next) in
-      good_after takes given line (lines after) first last texts runs (subst (λ (ls : List (List ℕ)). AreTakable takes first ls) all good.0)
+      good_after does given line (lines after) first last texts runs (subst (λ (ls : List (List ℕ)). AreTakable does first ls) all good.0)
 
-  never_bad : IsBadLine (HasForm takes last) (room_ahead input ahead) ahead → ⊥
+  never_bad : IsBadLine (does.has_form last) (room_ahead input ahead) ahead → ⊥
   never_bad (line, inl none) = (let next = good_next (room_ahead input ahead) line none.0 none.1 in none.2 next.0)
   never_bad (line, inr long) =
       elim long.0 [
@@ -49,23 +50,23 @@ module _ {T : Type 0} (takes : Takes T) (first : T) (input : List ℕ) (given te
         | inr cut ↦ never_cut input given ahead line reached good.1 cut
       ]
 
-module _ {T : Type 0} (takes : Takes T) (reads writes : Type 0) (first last : T) (before now : Outside) where
-  never_refused : Ends takes reads writes first last BadLine before now → reads → IsGoodInput takes first before.source.left → ⊥
+module _ {T : Type 0} (does : Taker T) (reads writes : Type 0) (first last : T) (before now : Outside) where
+  never_refused : Ends does reads writes first last BadLine before now → reads → IsGoodInput does first before.source.left → ⊥
   never_refused ends told good =
       let course = ends.course in
       let at = ends.ends in
-      never_bad takes first before.source.left course.given course.texts course.last course.ahead course.played (course.reached told) good (at.0 told)
+      never_bad does first before.source.left course.given course.texts course.last course.ahead course.played (course.reached told) good (at.0 told)
 
-  never_limited : Ends takes reads writes first last InputTooLong before now → reads → IsGoodInput takes first before.source.left → ⊥
+  never_limited : Ends does reads writes first last InputTooLong before now → reads → IsGoodInput does first before.source.left → ⊥
   never_limited ends told good =
       let course = ends.course in
       let at = ends.ends in
       let cut = at.0 told in
       never_cut before.source.left course.given course.ahead cut.0 (course.reached told) good.1 cut.1
 
-  pub is_complete : (end : LinesEnd) → Ends takes reads writes first last end before now → reads → IsGoodInput takes first before.source.left
+  pub is_complete : (end : LinesEnd) → Ends does reads writes first last end before now → reads → IsGoodInput does first before.source.left
       → (end ≢ BadLine) × (end ≢ InputTooLong)
   is_complete end ends told good = (
-    λ is. never_refused (subst (λ (e : LinesEnd). Ends takes reads writes first last e before now) is ends) told good,
-    λ is. never_limited (subst (λ (e : LinesEnd). Ends takes reads writes first last e before now) is ends) told good,
+    λ is. never_refused (subst (λ (e : LinesEnd). Ends does reads writes first last e before now) is ends) told good,
+    λ is. never_limited (subst (λ (e : LinesEnd). Ends does reads writes first last e before now) is ends) told good,
   )

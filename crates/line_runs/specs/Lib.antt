@@ -1,5 +1,6 @@
 pub mod Outside
 pub mod Taken
+pub mod Taker
 pub mod Ends
 pub mod Going
 pub mod Turn

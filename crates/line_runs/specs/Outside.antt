@@ -12,8 +12,8 @@ abbrev pub outside : SourceState → SinkState → Outside
 outside source sink = record { source = source; sink = sink }
 
 -- a fact where neither the source nor the sink has failed on the way
-abbrev pub WhereNothingFailed : Outside → Outside → Type 0 → Type 0
-WhereNothingFailed old new fact = (Rose old.source.faults new.source.faults → ⊥) → (Rose old.sink.faults new.sink.faults → ⊥) → fact
+abbrev pub IfFaultless : Outside → Outside → Type 0 → Type 0
+IfFaultless old new fact = (Rose old.source.faults new.source.faults → ⊥) → (Rose old.sink.faults new.sink.faults → ⊥) → fact
 
 -- In what follows `writes` is a fact where the sink tells its bytes, and `⊥` where it doesn't.
 

@@ -1,14 +1,14 @@
--- For the code inside: what one more line does, and how the taking of lines ends with it.
+-- For the code inside. What one more line does, and how the taking of lines ends with it.
 use Rattle.std.specs.Prelude.{◌≡◌, ◌⊎◌, ℕ, ◌+◌, ◌<◌, ◌≤◌, List, [], ◌++◌, length, take, None}
 use Rattle.io_edge.specs.Lines.{Reading, IsNextLine, IsWithin, ahead, room}
 use Rattle.io_edge.specs.declared.line.TheConstants.{LINE_LIMIT}
-use Rattle.line_runs.specs.Ends.{HasForm, Takes}
 use Rattle.line_runs.specs.Outside.{Outside, bad_line}
 use Rattle.line_runs.specs.Taken.{HoldsNoLine, IsBadLine, IsShortCut, TakesNoMore}
+use Rattle.line_runs.specs.Taker.{Taker, Takes}
 use Rattle.line_runs.specs.declared.ending.LinesEnd.{LinesEnd}
-use Rattle.line_runs.specs.declared.ending.LinesEnd.TheVariants.{Finished, BadLine, ReadFault, WriteFault, InputTooLong}
+use Rattle.line_runs.specs.declared.ending.LinesEnd.TheVariants.{Finished, BadLine, Failed, ReadFault, WriteFault, InputTooLong}
 
--- The next line of what is ahead, within the room, was taken.
+-- The next line of what is ahead, within the room, was taken so.
 pub record TakesNext {T : Type 0} (takes : Takes T) (reads : Type 0) (at at' : T) (text : List ℕ) (room : ℕ) (ahead after : List ℕ) : Type 0 where
   pub line : List ℕ
   pub next : reads → IsNextLine room ahead line after
@@ -16,14 +16,14 @@ pub record TakesNext {T : Type 0} (takes : Takes T) (reads : Type 0) (at at' : T
   pub taken : takes at line at' text
 
 -- It goes on after a line, whose text was written.
-pub record GoesOn {T : Type 0} (takes : Takes T) (reads writes : Type 0) (at at' : T) (old new : Reading) (before now : Outside) : Type 0 where
+pub record GoesOn {T : Type 0} (does : Taker T) (reads writes : Type 0) (at at' : T) (old new : Reading) (before now : Outside) : Type 0 where
   pub stop : new.stop ≡ None
   pub number : new.number ≡ old.number + 1
   pub within : IsWithin new
   pub further : old.passed < new.passed
   pub passed : reads → new.passed + length (ahead new now.source.left) ≡ old.passed + length (ahead old before.source.left)
   pub text : List ℕ
-  pub line : TakesNext takes reads at at' text (room old) (ahead old before.source.left) (ahead new now.source.left)
+  pub line : TakesNext does.takes reads at at' text (room old) (ahead old before.source.left) (ahead new now.source.left)
   pub written : writes → now.sink.written ≡ before.sink.written ++ text
 
 -- how many bytes an input has of which so many were passed
@@ -44,19 +44,40 @@ Refuses writes number old new BadLine = writes → new ≡ old ++ bad_line numbe
 Refuses writes number old new WriteFault = writes → (n : ℕ) × (new ≡ old ++ take n (bad_line number))
 Refuses writes number old new end = ⊥
 
+-- what is written of a line in which the taker failed, whole or up to a fault
+abbrev pub WritesAtFault : Type 0 → List ℕ → List ℕ → List ℕ → LinesEnd → Type 0
+WritesAtFault writes text old new Failed = writes → new ≡ old ++ text
+WritesAtFault writes text old new WriteFault = writes → (n : ℕ) × (new ≡ old ++ take n text)
+WritesAtFault writes text old new end = ⊥
+
 -- the next line is bad, and was refused
-abbrev pub RefusesNext : {T : Type 0} → Takes T → Type 0 → Type 0 → T → Reading → Outside → Outside → LinesEnd → Type 0
-RefusesNext takes reads writes at old before now end =
-    (reads → IsBadLine (HasForm takes at) (room old) (ahead old before.source.left)) × Refuses writes (old.number + 1) before.sink.written now.sink.written end
+abbrev pub RefusesNext : {T : Type 0} → Taker T → Type 0 → Type 0 → T → Reading → Outside → Outside → LinesEnd → Type 0
+RefusesNext does reads writes at old before now end =
+    (reads → IsBadLine (does.has_form at) (room old) (ahead old before.source.left)) × Refuses writes (old.number + 1) before.sink.written now.sink.written end
     × TakesFew reads old before now
 
--- the text of the next line was refused
-pub record CutsNext {T : Type 0} (takes : Takes T) (reads writes : Type 0) (at at' : T) (old : Reading) (before now : Outside) : Type 0 where
+-- The text of the next line was refused.
+pub record CutsNext {T : Type 0} (does : Taker T) (reads writes : Type 0) (at at' : T) (old : Reading) (before now : Outside) : Type 0 where
   pub after : List ℕ
   pub text : List ℕ
-  pub line : TakesNext takes reads at at' text (room old) (ahead old before.source.left) after
+  pub line : TakesNext does.takes reads at at' text (room old) (ahead old before.source.left) after
   pub cut : writes → (n : ℕ) × (now.sink.written ≡ before.sink.written ++ take n text)
   pub few : reads → TakesNoMore (total old before) after now.source.left
+
+-- The taker failed in the next line, of whose text this holds.
+pub record FailsOn {T : Type 0} (does : Taker T) (reads : Type 0) (at at' : T) (old : Reading) (before now : Outside) (Writes : List ℕ → Type 0) : Type 0 where
+  pub after : List ℕ
+  pub text : List ℕ
+  pub line : TakesNext does.fails reads at at' text (room old) (ahead old before.source.left) after
+  pub written : Writes text
+  pub few : TakesFew reads old before now
+
+-- the text was written, or refused
+abbrev pub Whole : Type 0 → Outside → Outside → List ℕ → Type 0
+Whole writes before now text = writes → now.sink.written ≡ before.sink.written ++ text
+
+abbrev pub Cut : Type 0 → Outside → Outside → List ℕ → Type 0
+Cut writes before now text = writes → (n : ℕ) × (now.sink.written ≡ before.sink.written ++ take n text)
 
 -- the input is at its end
 abbrev pub IsAtEnd : Type 0 → Type 0 → Reading → Outside → Outside → Type 0
@@ -64,12 +85,15 @@ IsAtEnd reads writes old before now =
     (reads → ahead old before.source.left ≡ []) × (reads → 0 < room old) × (reads → now.source.left ≡ []) × Silent writes before now
 
 -- It ends with what is ahead.
-abbrev pub EndsWith : {T : Type 0} → Takes T → (reads writes : Type 0) → (at at' : T) → Reading → (before now : Outside) → LinesEnd → Type 0
-EndsWith takes reads writes at at' old before now Finished = (at' ≡ at) × IsAtEnd reads writes old before now
-EndsWith takes reads writes at at' old before now BadLine = RefusesNext takes reads writes at old before now BadLine
-EndsWith takes reads writes at at' old before now ReadFault =
-    (reads → HoldsNoLine (ahead old before.source.left) now.source.left) × Silent writes before now × TakesFew reads old before now
-EndsWith takes reads writes at at' old before now InputTooLong =
-    (reads → IsShortCut (room old) (ahead old before.source.left)) × Silent writes before now × TakesFew reads old before now
-EndsWith takes reads writes at at' old before now WriteFault =
-    CutsNext takes reads writes at at' old before now ⊎ RefusesNext takes reads writes at old before now WriteFault
+abbrev pub EndsWith : {T : Type 0} → Taker T → (reads writes : Type 0) → (at at' : T) → Reading → (before now : Outside) → LinesEnd → Type 0
+EndsWith does reads writes at at' old before now Finished = (at' ≡ at) × IsAtEnd reads writes old before now
+EndsWith does reads writes at at' old before now BadLine = (at' ≡ at) × RefusesNext does reads writes at old before now BadLine
+EndsWith does reads writes at at' old before now ReadFault =
+    (at' ≡ at) × (reads → HoldsNoLine (ahead old before.source.left) now.source.left) × Silent writes before now × TakesFew reads old before now
+EndsWith does reads writes at at' old before now InputTooLong =
+    (at' ≡ at) × (reads → IsShortCut (room old) (ahead old before.source.left)) × Silent writes before now × TakesFew reads old before now
+EndsWith does reads writes at at' old before now WriteFault =
+    CutsNext does reads writes at at' old before now
+    ⊎ ((at' ≡ at) × RefusesNext does reads writes at old before now WriteFault)
+    ⊎ FailsOn does reads at at' old before now (Cut writes before now)
+EndsWith does reads writes at at' old before now Failed = FailsOn does reads at at' old before now (Whole writes before now)

@@ -7,6 +7,8 @@ pub enum LinesEnd {
     Finished,
     /// To a line that is malformed or too long: its number was written.
     BadLine,
+    /// What takes the lines has failed in one, whose text was written.
+    Failed,
     /// The source refused a read.
     ReadFault,
     /// The sink refused a write.

@@ -1,22 +1,22 @@
 //! Lines that are taken one after the other.
 
 ghost use Rattle.std.specs.Prelude.{◌≡◌, ◌≢◌, ◌++◌, ℕ, take, None, IfNone, IfSome, OnOk, OnErr};
-ghost use Rattle.faults.specs.Faults.{HasCause};
+ghost use Rattle.faults.specs.Faults.{HasCause, Rose};
 ghost use Rattle.line_runs.specs.Ends.{EndCause, Ends, IsGoodInput, counted};
 ghost use Rattle.line_runs.specs.Outside.{outside};
-ghost use Rattle.line_runs.specs.Turn.{EndsWith, GoesOn, Refuses};
+ghost use Rattle.line_runs.specs.Turn.{EndsWith, GoesOn, Refuses, WritesAtFault};
 ghost use Rattle.line_runs.specs.declared.ending.LinesEnd.TheVariants.{BadLine, InputTooLong};
 
 use crate::bad_line::write_bad_line;
 use crate::ending::LinesEnd;
-use crate::taker::{LineTaker, Text};
+use crate::taker::{LineTaker, Taking, Text};
 use io_edge::{LineStop, Lines, Sink, Source, WriteFailed};
 
 // Writes the number of a line that is malformed or too long.
 fn refuse_line<K: Sink>(number: u32, sink: &mut K) -> LinesEnd
     ensures refused { Refuses K.tells number (K.state sink.old).written (K.state sink.new).written result }
     ensures flushes { (K.state sink.new).flushes ≡ (K.state sink.old).flushes }
-    ensures cause { (reads : ℕ) → EndCause result (counted reads (K.state sink.old).faults) (counted reads (K.state sink.new).faults) }
+    ensures cause { (reads taker : ℕ) → EndCause result (counted reads (K.state sink.old).faults taker) (counted reads (K.state sink.new).faults taker) }
 {
     match write_bad_line(number, sink) {
         Ok(()) => LinesEnd::BadLine,
@@ -39,6 +39,19 @@ fn write_text<K: Sink>(text: &Text, sink: &mut K) -> Result<(), WriteFailed>
     }
 }
 
+// Writes what a line writes in which the taker failed.
+fn write_last<K: Sink>(text: &Text, sink: &mut K) -> LinesEnd
+    ensures written { WritesAtFault K.tells text.now.items (K.state sink.old).written (K.state sink.new).written result }
+    ensures flushes { (K.state sink.new).flushes ≡ (K.state sink.old).flushes }
+    ensures cause { (reads taker taker' : ℕ) → Rose taker taker'
+        → EndCause result (counted reads (K.state sink.old).faults taker) (counted reads (K.state sink.new).faults taker') }
+{
+    match write_text(text, sink) {
+        Ok(()) => LinesEnd::Failed,
+        Err(_) => LinesEnd::WriteFault,
+    }
+}
+
 // Takes the next line. It answers how the taking ends, if it does.
 fn take_turn<T: LineTaker, S: Source, K: Sink>(
     taker: &mut T,
@@ -48,25 +61,25 @@ fn take_turn<T: LineTaker, S: Source, K: Sink>(
     sink: &mut K,
 ) -> Option<LinesEnd>
     requires stop { lines.old.stop ≡ None }
-    ensures goes_on { IfNone result (GoesOn T.takes S.tells K.tells taker.old taker.new lines.old lines.new
+    ensures goes_on { IfNone result (GoesOn T.does S.tells K.tells taker.old taker.new lines.old lines.new
         (outside (S.state source.old) (K.state sink.old)) (outside (S.state source.new) (K.state sink.new))) }
-    ensures ends { IfSome result (EndsWith T.takes S.tells K.tells taker.old taker.new lines.old
+    ensures ends { IfSome result (EndsWith T.does S.tells K.tells taker.old taker.new lines.old
         (outside (S.state source.old) (K.state sink.old)) (outside (S.state source.new) (K.state sink.new))) }
     ensures flushes { (K.state sink.new).flushes ≡ (K.state sink.old).flushes }
-    ensures quiet { IfNone result (((S.state source.new).faults ≡ (S.state source.old).faults) × ((K.state sink.new).faults ≡ (K.state sink.old).faults)) }
-    ensures cause { IfSome result (λ end. EndCause end (counted (S.state source.old).faults (K.state sink.old).faults)
-        (counted (S.state source.new).faults (K.state sink.new).faults)) }
+    ensures quiet { IfNone result (counted (S.state source.new).faults (K.state sink.new).faults (T.does.faults taker.new)
+        ≡ counted (S.state source.old).faults (K.state sink.old).faults (T.does.faults taker.old)) }
+    ensures cause { IfSome result (λ end. EndCause end (counted (S.state source.old).faults (K.state sink.old).faults (T.does.faults taker.old))
+        (counted (S.state source.new).faults (K.state sink.new).faults (T.does.faults taker.new))) }
 {
     match lines.next_line(source) {
-        Ok(line) => {
-            if !taker.take_line(line.text, text) {
-                return Some(refuse_line(line.number, sink));
-            }
-            match write_text(text, sink) {
+        Ok(line) => match taker.take_line(line.text, text) {
+            Taking::Taken => match write_text(text, sink) {
                 Ok(()) => None,
                 Err(_) => Some(LinesEnd::WriteFault),
-            }
-        }
+            },
+            Taking::NoForm => Some(refuse_line(line.number, sink)),
+            Taking::Failed => Some(write_last(text, sink)),
+        },
         Err(LineStop::End) => Some(LinesEnd::Finished),
         Err(LineStop::ReadFailed) => Some(LinesEnd::ReadFault),
         Err(LineStop::TooLong(number)) => Some(refuse_line(number, sink)),
@@ -75,20 +88,20 @@ fn take_turn<T: LineTaker, S: Source, K: Sink>(
 }
 
 /// Takes the lines of a source one after the other, and writes what each of them writes, by one write, before the next one is read.
-/// Nothing is flushed.
+/// Nothing is flushed. Where the taker fails in a line, what that one writes is the last text.
 pub fn take_lines<T: LineTaker, S: Source, K: Sink>(
     taker: &mut T,
     source: &mut S,
     sink: &mut K,
 ) -> LinesEnd
-    ensures ends { Ends T.takes S.tells K.tells taker.old taker.new result
+    ensures ends { Ends T.does S.tells K.tells taker.old taker.new result
         (outside (S.state source.old) (K.state sink.old)) (outside (S.state source.new) (K.state sink.new)) }
 
     // Where each line has a form and the input is short enough, only a fault keeps it from its end.
-    ensures complete { S.tells → IsGoodInput T.takes taker.old (S.state source.old).left → (result ≢ BadLine) × (result ≢ InputTooLong) }
+    ensures complete { S.tells → IsGoodInput T.does taker.old (S.state source.old).left → (result ≢ BadLine) × (result ≢ InputTooLong) }
     ensures flushes { (K.state sink.new).flushes ≡ (K.state sink.old).flushes }
-    ensures cause { EndCause result (counted (S.state source.old).faults (K.state sink.old).faults)
-        (counted (S.state source.new).faults (K.state sink.new).faults) }
+    ensures cause { EndCause result (counted (S.state source.old).faults (K.state sink.old).faults (T.does.faults taker.old))
+        (counted (S.state source.new).faults (K.state sink.new).faults (T.does.faults taker.new)) }
 {
     let mut lines = Lines::new();
     let mut text = Text::new();

@@ -1,25 +1,37 @@
 //! What takes lines.
 
-ghost use Rattle.std.specs.Prelude.{◌≤◌, ℕ, List, length, IsTrue};
+ghost use Rattle.std.specs.Prelude.{◌≤◌, ℕ, List, length};
 ghost use Rattle.io_edge.specs.declared.line.TheConstants.{LINE_LIMIT};
+ghost use Rattle.line_runs.specs.Taker.{TakerComes, Taker, TakingCause};
 
 use arrayvec::ArrayVec;
 use io_edge::LINE_LIMIT;
 
-/// How many bytes a line writes, at most.
-pub const TEXT_LIMIT: usize = 64;
+/// How many bytes a line writes, at most: as many as a line of a script prints, and a newline.
+pub const TEXT_LIMIT: usize = 601;
 
 /// What a line writes: a line of text with its newline, or nothing.
 pub type Text = ArrayVec<u8, TEXT_LIMIT>;
 
+/// What came of a line.
+#[derive(Clone, Copy, Debug, PartialEq, Eq)]
+pub enum Taking {
+    /// It has a form, and was taken.
+    Taken,
+    /// It has no form.
+    NoForm,
+    /// What takes the lines has failed in it, and takes no further line.
+    Failed,
+}
+
 /// What is done with the lines of an input, one after the other.
 pub trait LineTaker {
-    /// From one state, by a line, to the next one, with what is written.
-    ghost takes: { Self → List ℕ → Self → List ℕ → Type 0 };
+    /// Which lines have a form, where they lead, and how it fails.
+    ghost does: { Taker Self };
 
-    /// Takes a line, and answers whether it has a form. `text` becomes what the line writes.
-    fn take_line(&mut self, line: &[u8], text: &mut Text) -> bool
+    /// Takes a line. `text` becomes what the line writes, also where the taker fails in it.
+    fn take_line(&mut self, line: &[u8], text: &mut Text) -> Taking
         requires line { length line.now ≤ LINE_LIMIT }
-        ensures taken { IsTrue result → takes self.old line.now self.new text.new.items }
-        ensures refused { (IsTrue result → ⊥) → (next : Self) (said : List ℕ) → takes self.old line.now next said → ⊥ };
+        ensures comes { TakerComes does self.old line.now self.new text.new.items result }
+        ensures cause { TakingCause result (does.faults self.old) (does.faults self.new) };
 }

@@ -1,4 +1,5 @@
 pub mod Blocks
+pub mod Closed
 pub mod Digits
 pub mod FewBlocks
 pub mod FewCommands

@@ -22,6 +22,7 @@ pub conveys_nothing : {L : Type 0} (link : CardLink L) (now : L) → Conveys lin
 conveys_nothing link now = record {
   stands = λ state stands. (state, refl, stands);
   came = λ start first inputs came. subst (λ (i : List Input). link.came start now first i) (sym (append-nil inputs)) came;
+  told = λ start before told. subst (λ (e : List Event). link.conveyed start now e) (sym (append-nil before)) told;
 }
 
 pub conveys_on : {L : Type 0} (link : CardLink L) (a b c : L) (events more : List Event) → Conveys link a b events → Conveys link b c more → Conveys link a c (events ++ more)
@@ -32,6 +33,8 @@ conveys_on link a b c events more x y = record {
       (second.0, lead_on state events more first.0 second.0 first.1 second.1, second.2));
   came = λ start first inputs came.
       subst (λ (i : List Input). link.came start c first i) (given_more inputs events more) (y.came start first (inputs ++ map given_in events) (x.came start first inputs came));
+  told = λ start before told.
+      subst (λ (e : List Event). link.conveyed start c e) (append_assoc before events more) (y.told start (before ++ events) (x.told start before told));
 }
 
 pub breaks_on : {L : Type 0} (link : CardLink L) (a b c : L) (events more : List Event) (command : List ℕ)
@@ -45,4 +48,6 @@ breaks_on link a b c events more command x y = record {
   came = λ start first inputs came.
       subst (λ (i : List Input). link.came start c first i) (ap (λ (all : List Input). all ++ Given command ∷ []) (given_more inputs events more))
       (y.came start first (inputs ++ map given_in events) (x.came start first inputs came));
+  told = λ start before told.
+      subst (λ (e : List Event). link.refused start c e command) (append_assoc before events more) (y.told start (before ++ events) (x.told start before told));
 }

@@ -1,7 +1,7 @@
 -- A protected command that is sent, and its reply.
 use Rattle.std.proofs.Common.{◌≡◌, ◌↔◌, ◌≤◌, ◌<◌, ℕ, List, [], ◌∷◌, length, Option, None, Some, Bool, true, false, ltb, nat_lt, Result, Ok, Err, refl, sym, subst, ap, ◌∙◌, inr, arith}
 use Rattle.std.specs.Prelude.{IsErr}
-use Rattle.std.proofs.lemmas.Bool.{le-ltb, ltb-false, ltb-true}
+use Rattle.std.proofs.lemmas.Bool.{le-ltb, lt-ltb, ltb-false, ltb-true}
 use Rattle.std.proofs.lemmas.List.{length-append}
 use Rattle.apdu_core.specs.Apdu.{Apdu, Short, after_header, header}
 use Rattle.apdu_core.specs.declared.reply.Status.{Status}
@@ -29,6 +29,7 @@ use Rattle.script_tool.specs.declared.link.CardLink.{Ghosts as CardLink}
 use Rattle.script_tool.specs.declared.link.LinkFailed.{LinkFailed}
 use Rattle.script_tool.specs.declared.printout.Printout.{Printout}
 use Rattle.script_tool.specs.declared.word.Word.{Word}
+use Rattle.script_tool.specs.declared.word.Word.TheVariants.{TooLong}
 
 after_long : (body : List ℕ) (le : Option ℕ) → length body ≤ length (after_header body le)
 after_long [] le = omega arith
@@ -44,6 +45,10 @@ wrapped_long kept command channel =
 
 pub not_refused : {A E : Type 0} {ok : A} (result : Result A E) → result ≡ Ok ok → IsErr result → ⊥
 not_refused result is e = cc
+
+pub was_refused : {A E : Type 0} {e : E} (result : Result A E) → result ≡ Err e → IsErr result
+was_refused (Ok done) is = cc is
+was_refused (Err refused) is = refl
 
 fits_by : (refused : Type 0) (room size : ℕ) (b : Bool) → ltb room size ≡ b → refused ↔ (room < size) → (refused → ⊥) → size ≤ room
 fits_by refused room size true e iff h = absurd (h (iff.1 (ltb-true room size e)))
@@ -66,6 +71,13 @@ pub protecting_sends : (whole : Host) (kept : Session) (bad : Bool) (command : A
 protecting_sends whole kept bad command rest sent fits is =
     let e : nat_lt (room_for kept.level) (length command.body) ≡ false = le-ltb (room_for kept.level) (length command.body) fits in
     ap (λ (bytes : List ℕ). awaiting whole (having_sent kept command) bytes rest) is ∙ sym (rw (e) refl)
+
+-- one that does not fit is not
+pub protecting_ends : (whole : Host) (kept : Session) (bad : Bool) (command : Apdu) (rest : Host → List ℕ → ℕ → Talk) → room_for kept.level < length command.body
+    → protecting whole kept bad command rest ≡ Ends (Said TooLong) whole
+protecting_ends whole kept bad command rest long =
+    let e : nat_lt (room_for kept.level) (length command.body) ≡ true = lt-ltb (room_for kept.level) (length command.body) long in
+    rw e refl
 
 pub await_broken : {L : Type 0} (link : CardLink L) (old new : L) (whole : Host) (sent : Session) (bytes : List ℕ) (rest : Host → List ℕ → ℕ → Talk)
     (kept : HostState) (result : Result Printout LinkFailed) → IsErr result → Breaks link old new [] bytes

@@ -1,4 +1,5 @@
 pub mod Channel
+pub mod Closed
 pub mod Command
 pub mod Control
 pub mod Count
@@ -6,6 +7,7 @@ pub mod Delete
 pub mod Exchange
 pub mod Extradite
 pub mod Host
+pub mod HostLines
 pub mod InPlain
 pub mod InSession
 pub mod Install

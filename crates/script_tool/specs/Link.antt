@@ -18,11 +18,13 @@ abbrev pub given_in : Event → Input
 given_in Reset = PowerOff
 given_in (Answered command reply) = Given command
 
--- Over a link the events have come: the card stands after them, and they have joined what it was given since an earlier time.
+-- Over a link the events have come: the card stands after them, and they have joined what it was given since an earlier time,
+-- and the events that the link has conveyed since.
 pub record Conveys {L : Type 0} (link : CardLink L) (old new : L) (events : List Event) : Type 0 where
   pub stands : (state : State) → link.stands old state → (last : State) × LeadOn state events last × link.stands new last
   pub came : (start : L) (first : State) (inputs : List Input) → link.came start old first inputs
       → link.came start new first (inputs ++ map given_in events)
+  pub told : (start : L) (before : List Event) → link.conveyed start old before → link.conveyed start new (before ++ events)
 
 -- After the events a command was refused: the link is not up any more.
 pub record Breaks {L : Type 0} (link : CardLink L) (old new : L) (events : List Event) (command : List ℕ) : Type 0 where
@@ -30,3 +32,4 @@ pub record Breaks {L : Type 0} (link : CardLink L) (old new : L) (events : List 
   pub led : (state : State) → link.stands old state → (last : State) × LeadOn state events last
   pub came : (start : L) (first : State) (inputs : List Input) → link.came start old first inputs
       → link.came start new first (inputs ++ map given_in events ++ Given command ∷ [])
+  pub told : (start : L) (before : List Event) → link.conveyed start old before → link.refused start new (before ++ events) command

@@ -1,4 +1,5 @@
-//! The laws of lines, as functions that do nothing when they run.
+//! The laws of lines, as functions that do nothing when they run (this profile's own).
+ghost use Rattle.script_tool.specs.Closed.{ClosedIsSilent, RefusalsEnd};
 ghost use Rattle.script_tool.specs.Count.{FewCommands};
 ghost use Rattle.script_tool.specs.Line.{OneLine};
 ghost use Rattle.script_tool.specs.Once.{OneTalk};
@@ -22,4 +23,11 @@ pub fn workload_lines()
 /// However a card answers, a line makes at most 60 commands for each of its bytes.
 pub fn few_commands()
     ensures { FewCommands }
+{}
+
+/// Nothing is sent in a session after a reply that could not be opened: the session has ended with it, and a line that needs one
+/// says that there is none.
+pub fn closed_sessions()
+    ensures ended { RefusalsEnd }
+    ensures silent { ClosedIsSilent }
 {}

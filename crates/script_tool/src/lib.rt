@@ -1,5 +1,5 @@
-//! The lines of a script that drives a card: what each of them says, a host that plays them, and a
-//! workload of such lines. It takes no memory.
+//! The lines of a script that drives a card: what each of them says, a host that plays them, and a workload of such lines (this
+//! profile's own). It takes no memory.
 //!
 //! ```rust
 //! use script_tool::{Played, Player, Text};
@@ -87,7 +87,7 @@ pub use exchange::Exchange;
 pub use extradition::Extradition;
 pub use install::Installation;
 pub use keys::{Key, Keys, OfSize, Trio, key};
-pub use laws::{few_commands, one_line, one_talk, workload_lines};
+pub use laws::{closed_sessions, few_commands, one_line, one_talk, workload_lines};
 pub use life::LifeChange;
 pub use line::ScriptLine;
 pub use link::{CardLink, LinkFailed};

@@ -8,20 +8,19 @@ loop-end-init g c =
     rw c.new-lines.ensures (record {
       stop = refl;
       within = omega arith;
-      reads = refl;
-      writes = refl;
+      quiet = refl;
       flushes = refl;
-      going = going_first g.T.LineTaker.takes g.S.Source.tells g.K.Sink.tells c.args.taker.now _;
+      going = going_first g.T.LineTaker.does g.S.Source.tells g.K.Sink.tells c.args.taker.now _;
     })
 
 pub returns-in-Some-clause-ends : goal.returns-in-Some-clause-ends
 returns-in-Some-clause-ends g c =
-    going_ends g.T.LineTaker.takes g.S.Source.tells g.K.Sink.tells c.args.taker.now _ c.loop-end.taker c.take_turn.new.taker
+    going_ends g.T.LineTaker.does g.S.Source.tells g.K.Sink.tells c.args.taker.now _ c.loop-end.taker c.take_turn.new.taker
     _ _ c.loop-end.lines c.loop-end.invariant.going c.in-Some.end c.in-Some.ensures.ends (c.in-Some.ensures.flushes ∙ c.loop-end.invariant.flushes)
 
 pub returns-in-Some-clause-complete : goal.returns-in-Some-clause-complete
 returns-in-Some-clause-complete g c =
-    is_complete g.T.LineTaker.takes g.S.Source.tells g.K.Sink.tells c.args.taker.now c.take_turn.new.taker _ _ c.in-Some.end (returns-in-Some-clause-ends g c)
+    is_complete g.T.LineTaker.does g.S.Source.tells g.K.Sink.tells c.args.taker.now c.take_turn.new.taker _ _ c.in-Some.end (returns-in-Some-clause-ends g c)
 
 pub loop-end-preserved : goal.loop-end-preserved
 loop-end-preserved g c =
@@ -31,9 +30,8 @@ loop-end-preserved g c =
     record {
       stop = on.stop;
       within = on.within;
-      reads = quiet.0 ∙ kept.reads;
-      writes = quiet.1 ∙ kept.writes;
+      quiet = quiet ∙ kept.quiet;
       flushes = c.in_default.ensures.flushes ∙ kept.flushes;
-      going = going_further g.T.LineTaker.takes g.S.Source.tells g.K.Sink.tells c.args.taker.now _ c.loop-end.taker c.take_turn.new.taker
+      going = going_further g.T.LineTaker.does g.S.Source.tells g.K.Sink.tells c.args.taker.now _ c.loop-end.taker c.take_turn.new.taker
           _ _ c.loop-end.lines kept.going _ on;
     }

@@ -43,6 +43,7 @@ returns-in-Reset-clause-played g c whole represents =
         conveyed = record {
           stands = λ state stands. (powered_on state.registry, refl, c.reset.ensures.stands state stands);
           came = λ start first inputs came. c.reset.ensures.sent start first inputs came;
+          told = λ start before told. c.reset.ensures.conveyed start before told;
         };
       };
       stands = c.reset-in-Reset.ensures whole represents;
