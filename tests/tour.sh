@@ -1,5 +1,6 @@
 #!/usr/bin/env bash
-# Plays the tours of README.md and docs/DESK.md, and compares what each of their commands writes with the lines after it, to the byte.
+# Plays the tours of README.md, docs/DESK.md and docs/READERS.md, and compares what each of their commands writes with the lines after
+# it, to the byte.
 # It is no part of `rt ci`.
 #
 #   tests/tour.sh [PAGE...]      these pages, from the top of the repository
@@ -7,7 +8,8 @@
 # In a block ```console the lines that begin with `$ ` are commands, each for a shell of its own, and the others are what they
 # write, on standard output and standard error. All blocks of a page are played in their order, in one folder: the card of one is there
 # for the next. At first the folder has `gp`, `demo`, `examples` and `tools` of the repository, and nothing else. `./gp` and `./demo`
-# build what is missing. Where unzip or xxd is missing, a page ends before the first command that names it, which is said.
+# build what is missing; `gp_host` is the built one. Where it, unzip or xxd is missing, a page ends before the first command that names
+# it, which is said.
 #
 # It says what differs, then 'N passed, M failed', and ends with 0 where nothing failed.
 set -euo pipefail
@@ -17,6 +19,7 @@ cd "$(dirname "$(dirname "$(readlink -f "${BASH_SOURCE[0]}")")")"
 # The launcher builds before the tour begins, and says so here. With no words the program only says its usage, and ends with 1.
 ./gp >/dev/null || (($? == 1))
 exec python3 - "$@" <<'END'
+import os
 import re
 import shutil
 import subprocess
@@ -25,10 +28,11 @@ import tempfile
 from pathlib import Path
 
 TOP = Path.cwd()
-PAGES = sys.argv[1:] or ["README.md", "docs/DESK.md"]
+PAGES = sys.argv[1:] or ["README.md", "docs/DESK.md", "docs/READERS.md"]
+os.environ["PATH"] += f":{TOP / 'crates/gp_host/out'}"
 
-# Programs of other packages.
-NEEDED = ("unzip", "xxd")
+# Programs of other packages, and the one that ./gp doesn't build.
+NEEDED = ("unzip", "xxd", "gp_host")
 MISSING = [name for name in NEEDED if not shutil.which(name)]
 
 # When kill -9 ends the run in ./demo is the machine's: of the two numbers that tell it only the form is compared.

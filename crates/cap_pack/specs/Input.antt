@@ -1,6 +1,7 @@
 -- The lines of an input, and the bytes that they spell.
 use Rattle.std.specs.Prelude.{◌≡◌, ◌⊎◌, ℕ, ◌≤◌, List, [], ◌∷◌, ◌++◌, Ok, Option, None, Some, length, if◌then◌else◌, nat_le}
 use Rattle.hex.specs.Hex.{decode_of}
+use Rattle.line_runs.specs.Taker.{Taker, faultless}
 use Rattle.script_tool.specs.Line.{IsBlank, IsComment}
 use Rattle.cap_pack.specs.declared.limit.TheConstants.{CAP_LIMIT}
 
@@ -26,3 +27,7 @@ SpellLines (line ∷ lines) bytes =
 -- what a line does to the bytes that are kept: its own are joined to them, and nothing is written
 abbrev pub JoinsLine : Option (List ℕ) → List ℕ → Option (List ℕ) → List ℕ → Type 0
 JoinsLine before line after said = (bytes : List ℕ) × SpellsLine line bytes × (after ≡ joined before bytes) × (said ≡ [])
+
+-- what joins the lines: it never fails
+abbrev pub joining : Taker (Option (List ℕ))
+joining = faultless JoinsLine

@@ -3,7 +3,7 @@
 ghost use Rattle.std.specs.Prelude.{◌≡◌, ◌≤◌, ◌↔◌, ℕ, List, [], Err, IfOk, IsOkAnd, length};
 ghost use Rattle.cap_pack.specs.Cap.{CapOf};
 ghost use Rattle.cap_pack.specs.Held.{IsCap};
-ghost use Rattle.cap_pack.specs.Input.{JoinsLine, SpellsLine, joined, limited};
+ghost use Rattle.cap_pack.specs.Input.{SpellsLine, joined, joining, limited};
 ghost use Rattle.cap_pack.specs.Stops.{Stops};
 ghost use Rattle.io_edge.specs.declared.line.TheConstants.{LINE_LIMIT};
 ghost use Rattle.script_tool.specs.Reads.{Reads};
@@ -13,7 +13,7 @@ use crate::limit::CAP_LIMIT;
 use crate::stop::CapStop;
 use arrayvec::ArrayVec;
 use io_edge::LINE_LIMIT;
-use line_runs::{LineTaker, Text};
+use line_runs::{LineTaker, Taking, Text};
 use script_tool::says_nothing;
 use script_tool::values::bytes;
 use std::alloc::{AllocError, Global};
@@ -90,16 +90,16 @@ impl Joined {
 }
 
 impl LineTaker for Joined {
-    ghost takes = { JoinsLine };
+    ghost does = { joining };
 
-    fn take_line(&mut self, line: &[u8], text: &mut Text) -> bool {
+    fn take_line(&mut self, line: &[u8], text: &mut Text) -> Taking {
         text.clear();
         match spelled(line) {
             Some(bytes) => {
                 self.add(&bytes);
-                true
+                Taking::Taken
             }
-            None => false,
+            None => Taking::NoForm,
         }
     }
 }

@@ -68,12 +68,14 @@ stopped_ends writes old new course lines.BadLine other at = at
 stopped_ends writes old new course lines.ReadFault other at = at
 stopped_ends writes old new course lines.InputTooLong other at = at
 stopped_ends writes old new course lines.WriteFault other at = inl at
+stopped_ends writes old new course lines.Failed other at = (let fault = at.0 in absurd fault.fails)
 
 -- they did not end with a bad line, nor with an input that is too long
 pub stopped_well : (end : LinesEnd) → end ≢ lines.BadLine → end ≢ lines.InputTooLong → (ending_of_lines end false ≢ BadLine) × (ending_of_lines end false ≢ InputTooLong)
 stopped_well lines.Finished good short = (λ is. cc is, λ is. cc is)
 stopped_well lines.ReadFault good short = (λ is. cc is, λ is. cc is)
 stopped_well lines.WriteFault good short = (λ is. cc is, λ is. cc is)
+stopped_well lines.Failed good short = (λ is. cc is, λ is. cc is)
 stopped_well lines.BadLine good short = absurd (good refl)
 stopped_well lines.InputTooLong good short = absurd (short refl)
 

@@ -1,10 +1,11 @@
 -- How a desk ends, by how its lines were taken and how the flush was answered.
-use Rattle.std.proofs.Common.{◌≡◌, ◌⊎◌, ℕ, Bool, true, false, refl, ap, subst, ◌∙◌, inl, inr}
+use Rattle.std.proofs.Common.{◌≡◌, ◌⊎◌, ◌≤◌, ℕ, arith, Bool, true, false, refl, ap, subst, ◌∙◌, inl, inr}
 use Rattle.faults.specs.Faults.{Rose}
 use Rattle.io_edge.specs.Streams.{SinkState, SourceState}
-use Rattle.line_runs.specs.Ends.{Course, EndsAt, Faults, IsCutOff}
+use Rattle.line_runs.specs.Ends.{Course, EndsAt, Faults, IsCutOff, left_at}
 use Rattle.line_runs.specs.Ends as lines_ends
 use Rattle.line_runs.specs.Outside.{Outside, outside}
+use Rattle.line_runs.specs.Taker.{Taker}
 use Rattle.line_runs.specs.declared.ending.LinesEnd.{LinesEnd}
 use Rattle.line_runs.specs.declared.ending.LinesEnd.TheVariants as lines
 use Rattle.gp_tool.specs.Around.{around}
@@ -15,18 +16,30 @@ use Rattle.gp_tool.specs.LineEndings.{ending_of_lines}
 use Rattle.gp_tool.specs.declared.ending.Ending.{Ending}
 use Rattle.gp_tool.specs.declared.ending.Ending.TheVariants.{Finished, Differs, BadLine, FlashFault, ReadFault, WriteFault, InputTooLong}
 
+-- at the end of the input the taker is left after the last line
+pub left_finished : {T : Type 0} {does : Taker T} {reads : Type 0} {first : T} (writes : Type 0) (old new : Outside)
+    (course : Course does reads first old.source.left new.source.left) (end : LinesEnd) (at : EndsAt writes old new course end) → end ≡ lines.Finished
+    → left_at writes old new course end at ≡ course.last
+left_finished writes old new course lines.Finished at is = refl
+left_finished writes old new course lines.BadLine at is = refl
+left_finished writes old new course lines.InputTooLong at is = refl
+left_finished writes old new course lines.ReadFault at is = refl
+left_finished writes old new course lines.WriteFault at is = cc is
+left_finished writes old new course lines.Failed at is = cc is
+
 -- whose faults the lines ended with are those that the program ends with
-pub lines_cause : (end : LinesEnd) (differs : Bool) (source source' sink sink' : ℕ) → lines_ends.EndCause end (lines_ends.counted source sink) (lines_ends.counted source' sink')
+pub lines_cause : (end : LinesEnd) (differs : Bool) (source source' sink sink' : ℕ) → lines_ends.EndCause end (lines_ends.counted source sink 0) (lines_ends.counted source' sink' 0)
     → EndCause (ending_of_lines end differs) (around source sink 0) (around source' sink' 0)
 lines_cause lines.Finished false source source' sink sink' same = (ap (λ (f : Faults). f.source) same, ap (λ (f : Faults). f.sink) same)
 lines_cause lines.Finished true source source' sink sink' same = (ap (λ (f : Faults). f.source) same, ap (λ (f : Faults). f.sink) same)
 lines_cause lines.BadLine differs source source' sink sink' same = (ap (λ (f : Faults). f.source) same, ap (λ (f : Faults). f.sink) same)
 lines_cause lines.InputTooLong differs source source' sink sink' same = (ap (λ (f : Faults). f.source) same, ap (λ (f : Faults). f.sink) same)
 lines_cause lines.ReadFault differs source source' sink sink' cause = cause.0
-lines_cause lines.WriteFault differs source source' sink sink' cause = cause
+lines_cause lines.WriteFault differs source source' sink sink' cause = (cause.0, cause.1)
+lines_cause lines.Failed differs source source' sink sink' cause = (cause.0, inl cause.1, cause.2)
 
-module _ {T : Type 0} {takes : lines_ends.Takes T} {reads : Type 0} {first : T} (writes : Type 0) (old : Outside) (source : SourceState) (now later : SinkState)
-    (same : writes → later.written ≡ now.written) (course : Course takes reads first old.source.left source.left) where
+module _ {T : Type 0} {does : Taker T} {reads : Type 0} {first : T} (writes : Type 0) (old : Outside) (source : SourceState) (now later : SinkState)
+    (same : writes → later.written ≡ now.written) (course : Course does reads first old.source.left source.left) where
   -- what holds of what was written holds after a flush
   pub still_finished : EndsAt writes old (outside source now) course lines.Finished → EndsAt writes old (outside source later) course lines.Finished
   still_finished at = (at.0, λ told. same told ∙ at.1 told)
@@ -42,7 +55,8 @@ module _ {T : Type 0} {takes : lines_ends.Takes T} {reads : Type 0} {first : T} 
 
   pub still_cut : later.flushes ≡ old.sink.flushes → IsCutOff writes old (outside source now) course → IsCutOff writes old (outside source later) course
   still_cut none (inl (earlier, text, are, (flushes, written))) = inl (earlier, text, are, (none, λ told. (let part = written told in (part.0, same told ∙ part.1))))
-  still_cut none (inr (refused, (flushes, written))) = inr (refused, (none, λ told. (let part = written told in (part.0, same told ∙ part.1))))
+  still_cut none (inr (inl (refused, (flushes, written)))) = inr (inl (refused, (none, λ told. (let part = written told in (part.0, same told ∙ part.1)))))
+  still_cut none (inr (inr (fault, (flushes, written)))) = inr (inr (fault, (none, λ told. (let part = written told in (part.0, same told ∙ part.1)))))
 
 module _ {reads : Type 0} (writes : Type 0) (old : Outside) (source : SourceState) (now later : SinkState) (same : writes → later.written ≡ now.written)
     (none : now.flushes ≡ old.sink.flushes) (course : DeskCourse reads old (outside source now)) where
@@ -66,6 +80,7 @@ module _ {reads : Type 0} (writes : Type 0) (old : Outside) (source : SourceStat
       flushed_at Differs result (is refl, still_finished writes old source now later same course at) (λ it. it) flushed
   desk_ends lines.BadLine differs result at is flushed = flushed_at BadLine result (still_bad writes old source now later same course at) (λ it. it) flushed
   desk_ends lines.InputTooLong differs result at is flushed = flushed_at InputTooLong result (still_long writes old source now later same course at) (λ it. it) flushed
+  desk_ends lines.Failed differs result at is flushed = (let fault = at.0 in absurd fault.fails)
   desk_ends lines.ReadFault differs result at is flushed = rw flushed.0 (still_unread writes old source now later same course at)
   desk_ends lines.WriteFault differs result at is flushed = rw flushed.0 (inl (still_cut writes old source now later same course flushed.1 at))
 
@@ -78,6 +93,10 @@ desk_done lines.Finished false result source source' sink sink' cause unread unw
 desk_done lines.Finished true result source source' sink sink' cause unread unwritten good short (inl is) = inr (ap desk_status is)
 desk_done lines.BadLine differs result source source' sink sink' cause unread unwritten good short (inl is) = absurd (good refl)
 desk_done lines.InputTooLong differs result source source' sink sink' cause unread unwritten good short (inl is) = absurd (short refl)
+desk_done lines.Failed differs result source source' sink sink' cause unread unwritten good short (inl is) =
+    let rose = (subst (λ (e : Ending). EndCause e (around source sink 0) (around source' sink' 0)) is cause).2 in
+    let wrong : 1 ≤ 0 = rose in
+    absurd (omega (arith, wrong))
 desk_done lines.ReadFault differs result source source' sink sink' cause unread unwritten good short (inl is) =
     absurd (unread (subst (λ (e : Ending). EndCause e (around source sink 0) (around source' sink' 0)) is cause))
 desk_done lines.WriteFault differs result source source' sink sink' cause unread unwritten good short (inl is) =

@@ -36,6 +36,7 @@ pub mod RepresentsSoundly
 pub mod Scripts
 pub mod Statuses
 pub mod StepsOver
+pub mod Together
 pub mod Turns
 pub mod WorkloadWords
 pub mod Written

@@ -3,6 +3,7 @@ use Rattle.std.proofs.Common.{◌≡◌, ◌⊎◌, ℕ, Bool, true, false, ◌|
 use Rattle.std.specs.Prelude.{◌↔◌, Result, Err}
 use Rattle.flash_core.specs.declared.flash.Flash.{Ghosts as Flash}
 use Rattle.script_tool.specs.Host.{Host}
+use Rattle.script_tool.specs.HostLines.{is_difference}
 use Rattle.script_tool.specs.Kept.{RepresentsHost}
 use Rattle.script_tool.specs.Kind.{kind_of}
 use Rattle.script_tool.specs.Line.{HasNoForm, SaysLine}
@@ -13,11 +14,11 @@ use Rattle.script_tool.specs.declared.host_state.HostState.{HostState}
 use Rattle.script_tool.specs.declared.line.ScriptLine.{ScriptLine}
 use Rattle.script_tool.specs.declared.played.Played as the_played
 use Rattle.script_tool.specs.declared.played.StepStop.{StepStop}
-use Rattle.script_tool.specs.declared.played.StepStop.TheVariants.{Form}
+use Rattle.script_tool.specs.declared.played.StepStop.TheVariants.{Form, LinkFailed}
 use Rattle.gp_tool.specs.CardEnd.{Counting}
 use Rattle.gp_tool.specs.Effects.{Place}
 use Rattle.gp_tool.specs.Kinds.{is_difference_kind, prints_kind}
-use Rattle.gp_tool.specs.Script.{BreaksScript, PlaysScript, is_difference, texts_of}
+use Rattle.gp_tool.specs.Script.{BreaksScript, PlaysScript, texts_of}
 use Rattle.gp_tool.specs.Serve.{BreaksLine, RunsLine, Standing}
 use Rattle.gp_tool.specs.StepsCard.{StepsOver, StopsCard}
 
@@ -57,6 +58,15 @@ pub says_some : (result : Result the_played.Played StepStop) (number : ℕ) (lin
     → HasNoForm line ⊎ ((said : ScriptLine) × SaysLine line said) → (result ≡ Err (Form number) → ⊥) → (said : ScriptLine) × SaysLine line said
 says_some result number line form (inl none) other = (let refused = form number in absurd (other (refused.1 (refl, none))))
 says_some result number line form (inr some) other = some
+
+-- a line that says something is stopped by the link alone
+pub stopped_by_link : (result : Result the_played.Played StepStop) (number : ℕ) (line : List ℕ) (stop : StepStop) (said : ScriptLine) → RefusesForm result number line
+    → SaysLine line said → result ≡ Err stop → stop ≡ LinkFailed
+stopped_by_link result number line LinkFailed said form says is = refl
+stopped_by_link result number line (Form n) said form says is =
+    let refused = form n in
+    let none = refused.0 is in
+    absurd (none.1 said says)
 
 module _ {F : Type 0} (device : Flash F) (line : List ℕ) (old new : Standing F HostState) (from to : Counting F)
     (before : old.card ≡ from.card) (behind : new.card ≡ to.card) (count : old.done ≡ from.done) (count' : new.done ≡ to.done)

@@ -10,6 +10,7 @@ use Rattle.policy_rules.specs.Step.{Outcome}
 use Rattle.script_tool.proofs.OneLine.{one_line}
 use Rattle.script_tool.proofs.OneTalk.{one_talk}
 use Rattle.script_tool.specs.Host.{Host}
+use Rattle.script_tool.specs.HostLines.{is_difference}
 use Rattle.script_tool.specs.Link.{LeadOn, given_in}
 use Rattle.script_tool.specs.Play.{playing, remembering}
 use Rattle.script_tool.specs.Printed.{status_printed}
@@ -18,7 +19,7 @@ use Rattle.script_tool.specs.Talk.{Answered, Ends, Event, Goes, Reset}
 use Rattle.script_tool.specs.declared.line.ScriptLine.{ScriptLine}
 use Rattle.gp_tool.specs.Device.{registries}
 use Rattle.gp_tool.specs.Effects.{Effect, Place}
-use Rattle.gp_tool.specs.Script.{AnswersEvents, PlaysScript, is_difference, texts_of}
+use Rattle.gp_tool.specs.Script.{AnswersEvents, PlaysScript, texts_of}
 
 -- the answers lead the card on
 leads_on : (state : State) (events : List Event) (outcomes : List Outcome) (last : State) → AnswersEvents state events outcomes last → LeadOn state events last

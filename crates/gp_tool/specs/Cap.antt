@@ -4,7 +4,7 @@ use Rattle.std.specs.List.{flat_map}
 use Rattle.faults.specs.Faults.{next_count}
 use Rattle.apdu_core.specs.Apdu.{Apdu}
 use Rattle.cap_pack.specs.Cap.{CapOf}
-use Rattle.cap_pack.specs.Input.{JoinsLine, SpellLines, limited}
+use Rattle.cap_pack.specs.Input.{SpellLines, joining, limited}
 use Rattle.cap_pack.specs.Pack.{pack, send_line}
 use Rattle.cap_pack.specs.Said.{stop_text}
 use Rattle.cap_pack.specs.Stops.{Stops}
@@ -42,7 +42,7 @@ WritesJoined bytes writes old new ending = ⊥
 
 -- the course of the lines that were joined, up to the end
 abbrev pub CapCourse : Type 0 → (old new : Outside) → Type 0
-CapCourse reads old new = Course JoinsLine reads (limited []) old.source.left new.source.left
+CapCourse reads old new = Course joining reads (limited []) old.source.left new.source.left
 
 -- All lines were joined, and this text is what their bytes come to.
 pub record Packs {reads : Type 0} (old new : Outside) (course : CapCourse reads old new) (refused : Bool) (text : List ℕ) : Type 0 where

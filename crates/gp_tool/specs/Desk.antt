@@ -4,7 +4,7 @@ use Rattle.faults.specs.Faults.{next_count}
 use Rattle.line_runs.specs.Ends.{Course, EndsAt, IsCutOff}
 use Rattle.line_runs.specs.Outside.{Outside}
 use Rattle.line_runs.specs.declared.ending.LinesEnd.TheVariants as lines
-use Rattle.receipt_desk.specs.Audit.{TakesDesk, new_audit}
+use Rattle.receipt_desk.specs.Audit.{desk_taker, new_audit}
 use Rattle.gp_tool.specs.Around.{around}
 use Rattle.gp_tool.specs.Ends.{EndCause, Flushes, exit_status}
 use Rattle.gp_tool.specs.declared.ending.Ending.{Ending}
@@ -17,7 +17,7 @@ desk_status ending = exit_status ending
 
 -- the course of the lines that a desk took, up to the end
 abbrev pub DeskCourse : Type 0 → (old new : Outside) → Type 0
-DeskCourse reads old new = Course TakesDesk reads new_audit old.source.left new.source.left
+DeskCourse reads old new = Course desk_taker reads new_audit old.source.left new.source.left
 
 -- What holds after the course where nothing has failed: whether a receipt did not fit, why no further line was taken, and what was written.
 abbrev pub DeskFaultless : {reads : Type 0} → Type 0 → (old new : Outside) → DeskCourse reads old new → Ending → Type 0

@@ -1,9 +1,10 @@
 -- How the verb `format` ends, and what it leaves.
-use Rattle.std.specs.Prelude.{◌≡◌, ◌≤◌, ℕ, slice_get}
+use Rattle.std.specs.Prelude.{◌≡◌, ◌<◌, ℕ, slice_get}
 use Rattle.card_types.specs.Factory.{factory_registry}
 use Rattle.faults.specs.Faults.{next_count}
 use Rattle.flash_core.specs.declared.flash.Flash.{Ghosts as Flash}
 use Rattle.io_edge.specs.Streams.{SinkState}
+use Rattle.page_journal.specs.declared.pages.TheConstants.{GATE}
 use Rattle.rec_store.specs.Reopens.{Keeps}
 use Rattle.gp_tool.specs.declared.ending.Ending.{Ending}
 use Rattle.gp_tool.specs.declared.ending.Ending.TheVariants.{Finished, FlashFault, WriteFault}
@@ -12,9 +13,9 @@ use Rattle.gp_tool.specs.declared.ending.Ending.TheVariants.{Finished, FlashFaul
 abbrev pub IsFactoryCard : {F : Type 0} → Flash F → F → Type 0
 IsFactoryCard device flash = device.tells → Keeps device flash factory_registry
 
--- the pages past the gate, from 46 on, are what they were: those of the journal past its gate, and the load pages
+-- the pages past the gate are what they were: those of the journal past its gate, and the load pages
 abbrev pub KeepsPastGate : {F : Type 0} → Flash F → F → F → Type 0
-KeepsPastGate device old new = device.tells → (page : ℕ) → 46 ≤ page → slice_get (device.pages new) page ≡ slice_get (device.pages old) page
+KeepsPastGate device old new = device.tells → (page : ℕ) → GATE < page → slice_get (device.pages new) page ≡ slice_get (device.pages old) page
 
 -- nothing is written, and the device is the factory card unless it failed
 abbrev pub FormatEnds : {F : Type 0} → Flash F → Type 0 → Ending → F → SinkState → SinkState → Type 0

@@ -10,6 +10,7 @@ pub mod Form
 pub mod Formatted
 pub mod Give
 pub mod Going
+pub mod HostAndCard
 pub mod Kinds
 pub mod Laws
 pub mod LinesApart

@@ -1,11 +1,12 @@
 -- Lines of the verb `play`: what a host sends by a line, what the card answers, and what is printed.
-use Rattle.std.specs.Prelude.{◌≡◌, ℕ, Bool, true, false, List, [], ◌∷◌, ◌++◌}
+use Rattle.std.specs.Prelude.{◌≡◌, ℕ, Bool, List, [], ◌∷◌, ◌++◌}
 use Rattle.policy_rules.specs.State.{State, powered_on}
 use Rattle.policy_rules.specs.Step.{Outcome, Step}
 use Rattle.script_tool.specs.Host.{Host}
+use Rattle.script_tool.specs.HostLines.{is_difference}
 use Rattle.script_tool.specs.Line.{SaysLine}
 use Rattle.script_tool.specs.Play.{playing, remembering}
-use Rattle.script_tool.specs.Printed.{Differs, Nothing, Printed, printed_text, status_printed}
+use Rattle.script_tool.specs.Printed.{Nothing, Printed, printed_text, status_printed}
 use Rattle.script_tool.specs.Quiet.{is_quiet}
 use Rattle.script_tool.specs.Talk.{Answered, Ends, Event, Goes, Reset, Sends, Talk}
 use Rattle.script_tool.specs.declared.line.ScriptLine.{ScriptLine}
@@ -23,11 +24,6 @@ AnswersEvents state (Answered command reply ∷ events) (outcome ∷ outcomes) l
 abbrev pub texts_of : Bool → Printed → List (List ℕ)
 texts_of quiet Nothing = []
 texts_of quiet printed = (printed_text quiet printed ++ 10 ∷ []) ∷ []
-
--- the status printed last is not the one that the line wants
-abbrev pub is_difference : Printed → Bool
-is_difference (Differs want got) = true
-is_difference printed = false
 
 -- From one place of a host and a card the line leads to another: the host's talk comes to its end, by the outcomes of its commands.
 abbrev pub PlaysScript : List ℕ → Place Host → Effect → Place Host → Type 0

@@ -3,11 +3,11 @@
 ghost use Rattle.std.specs.Prelude.{◌≡◌, ◌≢◌, ◌⊎◌, ◌++◌, ◌∷◌, [], ℕ, List, take, OnOk, OnErr};
 ghost use Rattle.std.specs.List.{flat_map};
 ghost use Rattle.cap_pack.specs.Held.{IsCap, pack_of};
-ghost use Rattle.cap_pack.specs.Input.{JoinsLine, limited};
+ghost use Rattle.cap_pack.specs.Input.{joining, limited};
 ghost use Rattle.cap_pack.specs.Said.{stop_text};
 ghost use Rattle.faults.specs.Faults.{HasCause};
 ghost use Rattle.line_runs.specs.Ends.{IsGoodInput};
-ghost use Rattle.line_runs.specs.Outside.{WhereNothingFailed, outside};
+ghost use Rattle.line_runs.specs.Outside.{IfFaultless, outside};
 ghost use Rattle.gp_tool.specs.Around.{around};
 ghost use Rattle.gp_tool.specs.Cap.{CapCourse, CapEnds, CapEndsAt, WritesJoined, cap_status, pack_line};
 ghost use Rattle.gp_tool.specs.Ends.{EndCause};
@@ -19,7 +19,11 @@ use arrayvec::ArrayVec;
 use cap_pack::{Cap, CapStop, Joined};
 use io_edge::{Sink, Source, WriteFailed};
 use line_runs::{LinesEnd, take_lines};
+use line_text::push_word;
 use std::alloc::Global;
+
+/// How many bytes of lines wait for one write, at most.
+const WAITING_LIMIT: usize = 4_096;
 
 // The status where packing ends so.
 fn status_of(ending: Ending) -> u8
@@ -31,7 +35,7 @@ fn status_of(ending: Ending) -> u8
     }
 }
 
-// Writes the lines of the commands, each by one write.
+// Writes the lines of the commands, as many by one write as have room.
 fn write_commands<K: Sink>(cap: &Cap<'_>, sink: &mut K) -> Result<(), WriteFailed>
     requires cap { (aids : List (List ℕ)) × IsCap cap.now aids }
     ensures ok { K.tells → (aids : List (List ℕ)) → IsCap cap.now aids
@@ -41,13 +45,18 @@ fn write_commands<K: Sink>(cap: &Cap<'_>, sink: &mut K) -> Result<(), WriteFaile
     ensures flushes { (K.state sink.new).flushes ≡ (K.state sink.old).flushes }
     ensures cause { HasCause (K.state sink.old).faults (K.state sink.new).faults result }
 {
+    let mut waiting = ArrayVec::<u8, WAITING_LIMIT>::new();
     let mut line = ArrayVec::new();
     for index in 0..cap.lines() {
         cap.line(index, &mut line);
         line.push(b'\n');
-        sink.write_all(&line)?;
+        if waiting.len() + line.len() > WAITING_LIMIT {
+            sink.write_all(&waiting)?;
+            waiting.clear();
+        }
+        push_word(&line, &mut waiting);
     }
-    Ok(())
+    sink.write_all(&waiting)
 }
 
 // Writes the text of a stop.
@@ -86,7 +95,7 @@ fn pack<S: Source, K: Sink>(joined: &mut Joined, source: &mut S, sink: &mut K) -
     requires none { joined.old ≡ limited [] }
     ensures ends { (course : CapCourse S.tells (outside (S.state source.old) (K.state sink.old)) (outside (S.state source.new) (K.state sink.new)))
         × CapEndsAt K.tells (outside (S.state source.old) (K.state sink.old)) (outside (S.state source.new) (K.state sink.new)) course result }
-    ensures complete { S.tells → IsGoodInput JoinsLine (limited []) (S.state source.old).left → (result ≢ BadLine) × (result ≢ InputTooLong) }
+    ensures complete { S.tells → IsGoodInput joining (limited []) (S.state source.old).left → (result ≢ BadLine) × (result ≢ InputTooLong) }
     ensures flushes { (K.state sink.new).flushes ≡ (K.state sink.old).flushes }
     ensures cause { EndCause result (around (S.state source.old).faults (K.state sink.old).faults 0) (around (S.state source.new).faults (K.state sink.new).faults 0) }
 {
@@ -100,8 +109,8 @@ fn pack<S: Source, K: Sink>(joined: &mut Joined, source: &mut S, sink: &mut K) -
 pub fn cap_verb<S: Source, K: Sink>(alloc: Global, source: &mut S, sink: &mut K) -> u8
     ensures memory { result ≡ 7 → (source.new ≡ source.old) × (sink.new ≡ sink.old) }
     ensures ends { result ≢ 7 → CapEnds S.tells K.tells result (outside (S.state source.old) (K.state sink.old)) (outside (S.state source.new) (K.state sink.new)) }
-    ensures complete { S.tells → IsGoodInput JoinsLine (limited []) (S.state source.old).left
-        → WhereNothingFailed (outside (S.state source.old) (K.state sink.old)) (outside (S.state source.new) (K.state sink.new))
+    ensures complete { S.tells → IsGoodInput joining (limited []) (S.state source.old).left
+        → IfFaultless (outside (S.state source.old) (K.state sink.old)) (outside (S.state source.new) (K.state sink.new))
         ((result ≡ 0) ⊎ (result ≡ 11) ⊎ (result ≡ 7)) }
 {
     match Joined::new(alloc) {

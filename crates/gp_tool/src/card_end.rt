@@ -20,6 +20,10 @@ impl<F: Flash> CardLink for CardEnd<F> {
 
     ghost came = { λ start end first inputs. Comes F.Flash (record { card = start.card; done = start.done }) (record { card = end.card; done = end.done }) first inputs end.card.live };
 
+    ghost conveyed = { λ _ _ _. Unit {0} };
+
+    ghost refused = { λ _ _ _ _. Unit {0} };
+
     ghost up = { λ end. end.card.live };
 
     ghost faults = { λ end. F.faults end.card.flash };

@@ -2,8 +2,8 @@
 
 ghost use Rattle.std.specs.Prelude.{◌≡◌, ◌⊎◌};
 ghost use Rattle.line_runs.specs.Ends.{IsGoodInput};
-ghost use Rattle.line_runs.specs.Outside.{WhereNothingFailed, outside};
-ghost use Rattle.receipt_desk.specs.Audit.{TakesDesk, new_audit};
+ghost use Rattle.line_runs.specs.Outside.{IfFaultless, outside};
+ghost use Rattle.receipt_desk.specs.Audit.{desk_taker, new_audit};
 ghost use Rattle.gp_tool.specs.Desk.{DeskEnds, desk_status};
 
 use crate::ending::Ending;
@@ -25,8 +25,8 @@ fn status_of(ending: Ending) -> u8
 /// Takes the lines of the source for those of a desk, and answers the status.
 pub fn desk_verb<S: Source, K: Sink>(source: &mut S, sink: &mut K) -> u8
     ensures ends { DeskEnds S.tells K.tells result (outside (S.state source.old) (K.state sink.old)) (outside (S.state source.new) (K.state sink.new)) }
-    ensures complete { S.tells → IsGoodInput TakesDesk new_audit (S.state source.old).left
-        → WhereNothingFailed (outside (S.state source.old) (K.state sink.old)) (outside (S.state source.new) (K.state sink.new))
+    ensures complete { S.tells → IsGoodInput desk_taker new_audit (S.state source.old).left
+        → IfFaultless (outside (S.state source.old) (K.state sink.old)) (outside (S.state source.new) (K.state sink.new))
         ((result ≡ 0) ⊎ (result ≡ 10)) }
 {
     let mut audit = Audit::new();

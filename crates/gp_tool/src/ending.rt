@@ -46,6 +46,7 @@ impl Ending {
         match end {
             LinesEnd::Finished => Ending::at_end(differs),
             LinesEnd::BadLine => Ending::BadLine,
+            LinesEnd::Failed => Ending::FlashFault,
             LinesEnd::ReadFault => Ending::ReadFault,
             LinesEnd::WriteFault => Ending::WriteFault,
             LinesEnd::InputTooLong => Ending::InputTooLong,

@@ -1,5 +1,6 @@
 //! The laws of runs over lines, as functions that do nothing when they run.
 
+ghost use Rattle.gp_tool.specs.HostAndCard.{HostAndCard};
 ghost use Rattle.gp_tool.specs.Laws.{OneEnding, OneLast, OneMill, OneText, OneWritten};
 ghost use Rattle.gp_tool.specs.LinesApart.{LinesKeepTrees};
 
@@ -26,4 +27,10 @@ pub fn one_mill<K: Sink, F: Flash>()
 /// What lines make of a card is a run of the policy machine, and keeps the trees of the domains that each of its commands spares.
 pub fn lines_keep_trees()
     ensures { LinesKeepTrees }
+{}
+
+/// Lines that a host plays over any link, with this card at its other end, do what they do in the verb `play`, and the other way
+/// round.
+pub fn host_and_card()
+    ensures { HostAndCard }
 {}

@@ -60,7 +60,7 @@ mod workspace;
 
 pub use ended::Ended;
 pub use ending::Ending;
-pub use laws::{lines_keep_trees, one_ending, one_mill, one_text};
+pub use laws::{host_and_card, lines_keep_trees, one_ending, one_mill, one_text};
 pub use literals::constants;
 pub use program::process;
 pub use serving::{Served, serve};

@@ -21,7 +21,7 @@ use crate::workload::Workload;
 use arrayvec::ArrayVec;
 use flash_core::Flash;
 use io_edge::{LINE_LIMIT, Line};
-use script_tool::{LinkFailed, Mill, Player, StepStop, Text};
+use script_tool::{LinkFailed, Mill, Player, Text};
 
 // Plays a line of a workload, and counts its text.
 fn mill_line<F: Flash>(
@@ -54,8 +54,8 @@ fn mill_line<F: Flash>(
             }
             Ok(())
         }
-        Err(StepStop::LinkFailed) => Err(LinkFailed),
-        Err(StepStop::Form(_)) => unreachable!(),
+        // Each line of a workload has a form, so it is the link that failed.
+        Err(_) => Err(LinkFailed),
     }
 }
 

@@ -2,10 +2,10 @@
 
 ghost use Rattle.std.specs.Prelude.{◌≡◌, ◌≢◌, ◌⊎◌, ◌≤◌, ◌++◌, [], ℕ, take, OnOk, OnErr};
 ghost use Rattle.faults.specs.Faults.{HasCause, Rose};
-ghost use Rattle.cap_pack.specs.Input.{JoinsLine, limited};
+ghost use Rattle.cap_pack.specs.Input.{joining, limited};
 ghost use Rattle.line_runs.specs.Ends.{IsGoodInput};
-ghost use Rattle.line_runs.specs.Outside.{WhereNothingFailed, outside};
-ghost use Rattle.receipt_desk.specs.Audit.{TakesDesk, new_audit};
+ghost use Rattle.line_runs.specs.Outside.{IfFaultless, outside};
+ghost use Rattle.receipt_desk.specs.Audit.{desk_taker, new_audit};
 ghost use Rattle.gp_tool.specs.Around.{around};
 ghost use Rattle.gp_tool.specs.Cap.{CapEnds};
 ghost use Rattle.gp_tool.specs.Desk.{DeskEnds};
@@ -119,16 +119,16 @@ pub fn gp<S: Source, K: Sink, F: Flash>(
     // says what was read, written and handed on.
     ensures desk { AreOf Desk words.now → (result.flash ≡ flash) × (result.done ≡ 0)
         × DeskEnds S.tells K.tells result.status (outside (S.state source.old) (K.state sink.old)) (outside (S.state source.new) (K.state sink.new)) }
-    ensures desk_complete { AreOf Desk words.now → S.tells → IsGoodInput TakesDesk new_audit (S.state source.old).left
-        → WhereNothingFailed (outside (S.state source.old) (K.state sink.old)) (outside (S.state source.new) (K.state sink.new))
+    ensures desk_complete { AreOf Desk words.now → S.tells → IsGoodInput desk_taker new_audit (S.state source.old).left
+        → IfFaultless (outside (S.state source.old) (K.state sink.old)) (outside (S.state source.new) (K.state sink.new))
         ((result.status ≡ 0) ⊎ (result.status ≡ 10)) }
 
     // `cap`: no call is made on the device. The lines of the source were joined and packed, and the status is that of an ending, which says
     // what was read, written and handed on.
     ensures cap { AreOf Cap words.now → result.status ≢ 7 → (result.flash ≡ flash) × (result.done ≡ 0)
         × CapEnds S.tells K.tells result.status (outside (S.state source.old) (K.state sink.old)) (outside (S.state source.new) (K.state sink.new)) }
-    ensures cap_complete { AreOf Cap words.now → S.tells → IsGoodInput JoinsLine (limited []) (S.state source.old).left
-        → WhereNothingFailed (outside (S.state source.old) (K.state sink.old)) (outside (S.state source.new) (K.state sink.new))
+    ensures cap_complete { AreOf Cap words.now → S.tells → IsGoodInput joining (limited []) (S.state source.old).left
+        → IfFaultless (outside (S.state source.old) (K.state sink.old)) (outside (S.state source.new) (K.state sink.new))
         ((result.status ≡ 0) ⊎ (result.status ≡ 11) ⊎ (result.status ≡ 7)) }
     ensures later { F.faults flash ≤ F.faults result.flash }
 {

@@ -11,7 +11,7 @@ returns-in-Finished-clause-ends g c =
     let K = g.K.Sink in
     let taken = rw c.requires.none at c.in-Finished.ensures.ends in
     let lines = lines_joined taken.course.given [] taken.course.last taken.course.texts taken.course.played in
-    let kept = sym (taken.rests refl) ∙ lines.2 in (
+    let kept = taken.rests ∙ lines.2 in (
       taken.course,
       finished_ends K.tells (outside (S.state c.args.source.now) (K.state c.args.sink.now)) (S.state c.take_lines.new.source) (K.state c.take_lines.new.sink)
           (K.state c.write_joined.new.sink) taken.course taken.ends lines.0 lines.1 lines.3 (c.write_joined.ensures.flushes ∙ c.in-Finished.ensures.flushes)
@@ -22,7 +22,7 @@ pub returns-in-Finished-clause-complete : goal.returns-in-Finished-clause-comple
 returns-in-Finished-clause-complete g c told good =
     let taken = rw c.requires.none at c.in-Finished.ensures.ends in
     let lines = lines_joined taken.course.given [] taken.course.last taken.course.texts taken.course.played in
-    written_well lines.0 _ _ _ c.write_joined.result (c.write_joined.ensures.written lines.0 (sym (taken.rests refl) ∙ lines.2))
+    written_well lines.0 _ _ _ c.write_joined.result (c.write_joined.ensures.written lines.0 (taken.rests ∙ lines.2))
 
 pub returns-in_default : goal.returns-in_default
 returns-in_default g c =

@@ -1,7 +1,7 @@
 use Rattle.std.proofs.Common.{ap, sym, ◌∙◌}
 use Rattle.line_runs.specs.Outside.{outside}
 use Rattle.receipt_desk.specs.Audit.{AuditState}
-use Rattle.gp_tool.proofs.DeskEnding.{desk_done, desk_ends, flush_keeps, lines_cause}
+use Rattle.gp_tool.proofs.DeskEnding.{desk_done, desk_ends, flush_keeps, left_finished, lines_cause}
 use Rattle.gp_tool.proofs.Flush.{after_from, flushed}
 use Rattle.gp_tool.proofs.desk_verb.desk_verb.Goals as goal
 
@@ -26,7 +26,8 @@ returns-clause-ends g c =
       ends = desk_ends K.tells (outside (S.state c.args.source.now) (K.state c.args.sink.now)) (S.state c.take_lines-end.new.source)
           (K.state c.take_lines-end.new.sink) (K.state c.flush_at_end.new.sink) c.flush_at_end.ensures.same c.take_lines-end.ensures.flushes taken.course
           end differs c.flush_at_end.result taken.ends
-          (λ is. ap (λ (a : AuditState). a.differs) (taken.rests is) ∙ sym c.differs.ensures)
+          (λ is. ap (λ (a : AuditState). a.differs) (sym (taken.rests ∙ left_finished K.tells (outside (S.state c.args.source.now) (K.state c.args.sink.now))
+          (outside (S.state c.take_lines-end.new.source) (K.state c.take_lines-end.new.sink)) taken.course end taken.ends is)) ∙ sym c.differs.ensures)
           (rw ending at after);
     }
 

@@ -1,17 +1,10 @@
 use Rattle.std.proofs.Common.{Err, false, refl, sym, ap, ◌∙◌}
-use Rattle.gp_tool.proofs.PlayedLines.{line_breaks, runs_printing, runs_silently}
+use Rattle.gp_tool.proofs.PlayedLines.{line_breaks, runs_printing, runs_silently, stopped_by_link}
 use Rattle.gp_tool.specs.Kinds.{is_difference_kind}
 use Rattle.gp_tool.specs.Mill.{with_text, with_texts}
 use Rattle.gp_tool.specs.Standing.{standing}
 use Rattle.gp_tool.specs.StepsCard.{counting}
 use Rattle.gp_tool.proofs.mill.mill_line.Goals as goal
-
-pub unreachable-requires : goal.unreachable-requires
-unreachable-requires g c =
-    let refused = c.step_card.ensures.form c.in-Err-Form.field-0-0 in
-    let none = refused.0 (c.in-Err-Form.is ∙ ap (λ stop. Err stop) c.in-Err-Form.field-0-is) in
-    let form = c.requires.form in
-    none.1 form.0 form.1
 
 pub returns-then-has_printed-clause-played : goal.returns-then-has_printed-clause-played
 returns-then-has_printed-clause-played g c place stands host =
@@ -39,9 +32,16 @@ returns-else-has_printed-clause-played g c place stands host =
       tally_is = ap (λ texts. with_texts texts c.args.tally.now) (sym run.1);
     }
 
-pub returns-in-Err-LinkFailed-clause-broken : goal.returns-in-Err-LinkFailed-clause-broken
-returns-in-Err-LinkFailed-clause-broken g c place stands host =
+pub returns-in-Err-clause-broken : goal.returns-in-Err-clause-broken
+returns-in-Err-clause-broken g c place stands host =
     let form = c.requires.form in
+    let link = stopped_by_link c.step_card.result 1 c.args.line.now c.in-Err.field-0 form.0 c.step_card.ensures.form form.1 c.in-Err.is in
     line_breaks g.F.Flash c.args.line.now (standing c.args.end.now c.args.player.now false) (standing c.step_card.new.end c.step_card.new.player false)
     (counting c.args.end.now) (counting c.step_card.new.end) refl refl refl refl place form.0 form.1
-    (rw c.in-Err-LinkFailed.field-0-is at (c.in-Err-LinkFailed.ensures.played place.memory place.state form.0 host stands form.1))
+    (rw link at (c.in-Err.ensures.played place.memory place.state form.0 host stands form.1))
+
+pub returns-in-Err-clause-cause : goal.returns-in-Err-clause-cause
+returns-in-Err-clause-cause g c =
+    let form = c.requires.form in
+    let link = stopped_by_link c.step_card.result 1 c.args.line.now c.in-Err.field-0 form.0 c.step_card.ensures.form form.1 c.in-Err.is in
+    c.step_card.ensures.cause (c.in-Err.is ∙ ap (λ stop. Err stop) link)
