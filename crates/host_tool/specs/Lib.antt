@@ -1,0 +1,12 @@
+pub mod Exchange
+pub mod Fault
+pub mod Conveyed
+pub mod Asked
+pub mod Link
+pub mod Takes
+pub mod Kinds
+pub mod Played
+pub mod Status
+pub mod Flush
+pub mod Ends
+pub mod Words

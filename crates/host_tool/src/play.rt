@@ -1,0 +1,52 @@
+//! A script that is played.
+
+ghost use Rattle.std.specs.Prelude.{◌≡◌, ◌⊎◌, ℕ};
+ghost use Rattle.host_tool.specs.Ends.{IsOver, HostEnds, flows, told};
+ghost use Rattle.host_tool.specs.Flush.{HostFlushes};
+
+use crate::ended::Ended;
+use crate::ending::Ending;
+use crate::script_host::ScriptHost;
+use io_edge::{Sink, Source};
+use line_runs::take_lines;
+
+// Hands on what was written, unless a write was refused.
+fn flush_at_end<K: Sink>(ending: Ending, sink: &mut K) -> Ending
+    ensures { HostFlushes K.tells ending (K.state sink.old) (K.state sink.new) result }
+{
+    match ending {
+        Ending::WriteFault => ending,
+        _ => match sink.flush() {
+            Ok(()) => ending,
+            Err(_) => Ending::WriteFault,
+        },
+    }
+}
+
+/// Plays the lines of a script over a card that answers by `replies` to what `commands` gets, and writes what each line prints to the
+/// transcript, before the next one is read. Nothing is supposed of the replies.
+pub fn play_script<C: Source, S: Source, K: Sink, T: Sink>(
+    script: &mut C,
+    replies: S,
+    commands: K,
+    transcript: &mut T,
+) -> Ended<S, K>
+    ensures ends { HostEnds (told C.tells S.tells K.tells T.tells) result.status
+        (flows (C.state script.old) (S.state replies) (K.state commands) (T.state transcript.old))
+        (flows (C.state script.new) (S.state result.replies) (K.state result.commands) (T.state transcript.new)) }
+
+    ensures complete { IsOver (told C.tells S.tells K.tells T.tells) result.status
+        (flows (C.state script.old) (S.state replies) (K.state commands) (T.state transcript.old))
+        (flows (C.state script.new) (S.state result.replies) (K.state result.commands) (T.state transcript.new)) }
+{
+    let mut host = ScriptHost::new(replies, commands);
+    let end = take_lines(&mut host, script, transcript);
+    let ending = Ending::of_lines(end, host.differs(), host.why());
+    let status = flush_at_end(ending, transcript).status();
+    let (replies, commands) = host.into_streams();
+    Ended {
+        status,
+        replies,
+        commands,
+    }
+}
