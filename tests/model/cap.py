@@ -5,7 +5,7 @@ import hashlib
 from typing import BinaryIO, NamedTuple
 
 from .host import Command
-from .lines import Stop, Write, digits, malformed, read_lines
+from .lines import Stop, digits, malformed, read_lines
 from .script import AID_LENGTHS, install_of, load_blocks, with_length
 
 LARGEST = 32768
@@ -81,13 +81,12 @@ def pack(data: bytes) -> list[Command]:
     ]
 
 
-def cap(source: BinaryIO, write: Write) -> int:
+def cap(source: BinaryIO) -> list[str]:
+    """The lines of the script. Nothing is written before all lines of the input are read."""
     spelled = []
     for number, text in read_lines(source):
         data = digits(text)
         if data is None:
             raise malformed(number)
         spelled.append(data)
-    for command in pack(b"".join(spelled)):
-        write("send 80" + (bytes(command[:3]) + with_length(command.data)).hex())
-    return 0
+    return ["send 80" + (bytes(command[:3]) + with_length(command.data)).hex() for command in pack(b"".join(spelled))]

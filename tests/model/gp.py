@@ -14,10 +14,10 @@ from .lines import Stop, Write
 
 USAGE = "usage: gp format | run | why | replay | play | mill SEED COUNT | show | access | desk | cap"
 LONGEST_FILE = 155_648
+LONGEST_WRITE = 4096
 
 RUNS = {"run": why.run, "why": why.why, "replay": replay.replay, "play": play.play}
 SHOWS = {"show": listing.show, "access": access.access}
-WITHOUT_CARD = {"desk": desk.desk, "cap": cap.cap}
 
 
 @contextmanager
@@ -65,6 +65,16 @@ def write_all(lines: Iterable[str], write: Write) -> int:
     return 0
 
 
+def write_together(lines: Iterable[str], write: Write) -> int:
+    """As many lines by one write as have room in it."""
+    texts = [""]
+    for line in lines:
+        if len(texts[-1]) + len(line) + 1 > LONGEST_WRITE:
+            texts.append("")
+        texts[-1] += line + "\n"
+    return write_all((text.removesuffix("\n") for text in texts), write)
+
+
 def is_utf8(word: str) -> bool:
     """Python puts lone surrogates in the place of bytes that are none."""
     return not any(0xD800 <= ord(letter) < 0xE000 for letter in word)
@@ -80,8 +90,10 @@ def do(words: list[str], path: Path, source: BinaryIO, write: Write) -> int:
             return with_card(path, lambda card: RUNS[verb](card, source, write))
         case [verb] if verb in SHOWS:
             return with_card(path, lambda card: write_all(SHOWS[verb](card.registry), write))
-        case [verb] if verb in WITHOUT_CARD:
-            return WITHOUT_CARD[verb](source, write)
+        case ["desk"]:
+            return desk.desk(source, write)
+        case ["cap"]:
+            return write_together(cap.cap(source), write)
         case ["mill", seed, count] if mill.has_numbers(seed, count):
             make(path)
             return with_card(path, lambda card: write_all(mill.mill(card, int(seed), int(count)), write))

@@ -67,11 +67,11 @@ class Session:
         if len(reply) < 2:
             raise CantOpen("short")
         data, status = reply[:-2], reply[-2:]
-        if not crypto.is_warning_or_fine(status):
-            if data:
-                raise CantOpen("padding")
-            return status
         if self.level & crypto.R_MAC:
+            if not crypto.is_warning_or_fine(status):
+                if data:
+                    raise CantOpen("padding")
+                return status
             data = self.without_mac(data, status)
         if data and self.level & crypto.R_ENCRYPTION:
             data = self.deciphered(data)

@@ -33,20 +33,21 @@ def whole_lines(source: BinaryIO) -> Iterator[bytes]:
 
 def read_lines(source: BinaryIO) -> Iterator[tuple[int, str]]:
     """The lines that do something, each with its number. Blank lines and comments count as lines."""
-    taken = 0
+    room = INPUT_LIMIT
     for number, line in enumerate(whole_lines(source), 1):
-        taken += len(line)
-        if line.endswith(b"\r\n"):
-            line = line[:-2]
-        elif line.endswith(b"\n"):
-            line = line[:-1]
-        if len(line) > LONGEST_LINE:
+        is_whole = line.endswith(b"\n")
+        is_cut = len(line) > room or (len(line) == room and not is_whole)
+        text = line[:room]
+        if is_whole or is_cut:
+            text = text.removesuffix(b"\n").removesuffix(b"\r")
+        if len(text) > LONGEST_LINE:
             raise malformed(number)
-        if taken > INPUT_LIMIT:
+        if is_cut:
             raise Stop(9)
-        if line.strip(b" ") and not line.startswith(b"#"):
-            yield number, line.decode("latin-1")
-        if taken == INPUT_LIMIT:
+        room -= len(line)
+        if text.strip(b" ") and not text.startswith(b"#"):
+            yield number, text.decode("latin-1")
+        if not room:
             raise Stop(9)
 
 

@@ -1,7 +1,8 @@
 //! Things of a registry, made of the words that say them.
 
 ghost use Rattle.std.specs.Prelude.{◌<◌, ◌≤◌, All, IfOk, IfSome};
-ghost use Rattle.card_check.specs.IsCard.{IsInLoadPages, IsLoadPage};
+ghost use Rattle.card_check.specs.IsCard.{IsInLoadPages};
+ghost use Rattle.page_journal.specs.Pages.{IsLoadPage};
 ghost use Rattle.rec_store.specs.KeySlot.{IsRoomyKey};
 
 use crate::case_error::CaseError;

@@ -81,6 +81,10 @@ impl<F: Flash> CardLink for CardEnd<F> {
 
     ghost came = { λ _ _ _ _. ⊥ };
 
+    ghost conveyed = { λ _ _ _. ⊥ };
+
+    ghost refused = { λ _ _ _ _. ⊥ };
+
     ghost up = { λ _. true };
 
     ghost faults = { λ _. 0 };

@@ -1,6 +1,6 @@
 use Rattle.std.proofs.Common.{◌≡◌, length}
 use Rattle.std.specs.Prelude.{All}
-use Rattle.card_check.specs.IsCard.{IsLoadPage}
+use Rattle.page_journal.specs.Pages.{IsLoadPage}
 use Rattle.cases.proofs.made.load_pages.Given as goal
 
 abbrev pub invariant-loop-place : goal.invariant-loop-place
