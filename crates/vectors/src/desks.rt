@@ -1,7 +1,7 @@
 //! A desk and its lines, on receipts that another implementation of CMAC made.
 
 use card_types::Aid;
-use line_runs::{LineTaker, Text};
+use line_runs::{LineTaker, Taking, Text};
 use receipt_desk::{Audit, Desk, Verdict};
 use std::test::Fail;
 
@@ -58,9 +58,9 @@ fn an_audit_takes_lines(rt: HostRuntime) -> Result<(), Fail> {
     ];
     let mut audit = Audit::new();
     let mut text = Text::new();
-    assert!(rt; !audit.differs() && !audit.take_line(b"sign 02 00 -", &mut text));
+    assert!(rt; !audit.differs() && audit.take_line(b"sign 02 00 -", &mut text) == Taking::NoForm);
     for (line, wanted) in lines {
-        assert!(rt; audit.take_line(line, &mut text) && text.as_slice() == wanted);
+        assert!(rt; audit.take_line(line, &mut text) == Taking::Taken && text.as_slice() == wanted);
     }
     assert!(rt; audit.differs());
     Ok(())
