@@ -157,7 +157,7 @@ for name in ("GATE", "DESCRIPTOR"):
     pages[name.lower()] = (number_in(journal, name), number_in(journal, name))
 limits["COPIES"] = constant(CRATES / "frame_pool/src/pool.rt", "FRAMES")
 pages["copies"] = (number_in(journal, "COPIES"), number_in(journal, "COPIES") + limits["COPIES"] - 1)
-load = number_in(text_of(CRATES / "rec_store/src", "*_slot.rt"), "LOAD")
+load = number_in(journal, "FIRST_LOAD_PAGE")
 pages["unused"] = (pages["copies"][1] + 1, load - 1)
 pages["load"] = (load, load + limits["LOAD_PAGES"] - 1)
 limits["PAGES"] = constant(CRATES / "flash_core/src/page.rt", "PAGES")
