@@ -4,9 +4,9 @@
 usage: cases_on_model.py [--list] [NAME ...]
 
 Plays all cases, or those with these names, and compares what each writes with its part of crates/cases/stdout. docs/TESTS.md
-has the language. A case that asks for what the model doesn't have is left out whole: calls that fail, power that is lost, a
-registry that is committed in words. Lines that ask how many calls there were are passed over, with what they write, and all
-streams are ample. --list names the cases that are left out.
+has the language. A case that asks for what the model doesn't have is left out whole: calls on the device that fail, power that
+is lost, a registry that is committed in words. Lines that ask how many calls there were are passed over, with what they write.
+--list names the cases that are left out.
 
 For each case that differs it prints the first line that does. At last it prints how many passed, failed and were left out. It
 ends with 0 where none failed.
@@ -16,6 +16,7 @@ from __future__ import annotations
 import argparse
 import importlib
 import io
+import itertools
 import os
 import sys
 import tempfile
@@ -24,7 +25,7 @@ from pathlib import Path
 from types import ModuleType, SimpleNamespace
 
 CASES = Path(__file__).resolve().parent.parent / "crates" / "cases"
-LEFT_OUT = {"fuse", "once", "cut", "fail", "reads", "writes", "|", "set", "commit"}
+LEFT_OUT = {"fuse", "once", "cut", "fail", "|", "set", "commit"}
 PASSED_OVER = {"calls", "counts"}
 AMPLE = 65536
 MODULES = ("card", "gp", "image", "listing", "mill", "play", "script")
@@ -45,8 +46,7 @@ class Case:
 
     @property
     def is_left_out(self) -> bool:
-        return any(verb in LEFT_OUT or verb == "room" and int(rest) < AMPLE
-                   for verb, _, rest in (line.partition(" ") for line in self.lines))
+        return any(line.partition(" ")[0] in LEFT_OUT for line in self.lines)
 
 
 def parts(path: Path) -> dict[str, list[str]]:
@@ -133,12 +133,67 @@ class Layout:
         self.put("object", "", b"\x01" + self.slot_of("entry", owner) + bytes.fromhex(tag) + sized(bytes.fromhex(value), 0))
 
 
+# ---- Streams whose calls are counted, and some refused
+
+class Source(io.RawIOBase):
+    """Gives what it holds in pieces."""
+
+    def __init__(self, given: bytes, piece: int, refused: set[int]):
+        self.left = io.BytesIO(given)
+        self.piece = piece
+        self.refused = refused
+        self.calls = itertools.count()
+
+    def readable(self) -> bool:
+        return True
+
+    def readinto(self, buffer: memoryview) -> int:
+        if next(self.calls) in self.refused:
+            raise OSError
+        return self.left.readinto(buffer[:self.piece])
+
+
+class Sink:
+    """Takes what it has room for."""
+
+    def __init__(self, room: int, refused: set[int]):
+        self.text = b""
+        self.room = room
+        self.refused = refused
+        self.calls = itertools.count()
+
+    def write(self, text: bytes) -> int:
+        self.flush()
+        if len(self.text) + len(text) > self.room:
+            raise OSError
+        self.text += text
+        return len(text)
+
+    def flush(self) -> None:
+        if next(self.calls) in self.refused:
+            raise OSError
+
+
 # ---- A case, as far as its lines have made it
+
+@dataclass(slots=True)
+class Streams:
+    """How the streams of the next run behave."""
+    piece: int = AMPLE
+    room: int = AMPLE
+    reads: set[int] = field(default_factory=set)
+    writes: set[int] = field(default_factory=set)
+
+    def set(self, name: str, words: list[str]) -> None:
+        numbers = set(map(int, words))
+        setattr(self, name, numbers if name in ("reads", "writes") else numbers.pop())
+
 
 class Bench:
     def __init__(self, model: SimpleNamespace, path: Path):
         self.model = model
         self.path = path
+        self.streams = Streams()
         self.pages = bytearray(PAGES * PAGE)
         self.kept = b""
         self.layout: Layout | None = None
@@ -179,8 +234,8 @@ class Bench:
                 self.mill(*map(int, words))
             case ">":
                 self.step(rest)
-            case "piece" | "room":
-                pass
+            case "piece" | "room" | "reads" | "writes":
+                self.streams.set(verb, words)
             case _:
                 raise ValueError(f"no such line: {line}")
 
@@ -225,10 +280,11 @@ class Bench:
         """What `gp` writes, and its status."""
         self.off()
         self.path.write_bytes(self.pages)
-        sink = io.BytesIO()
-        status = self.model.gp.gp(words, self.path, io.BytesIO(given), sink)
+        asked, self.streams = self.streams, Streams()
+        source, sink = io.BufferedReader(Source(given, asked.piece, asked.reads)), Sink(asked.room, asked.writes)
+        status = self.model.gp.gp(words, self.path, source, sink)
         self.pages[:] = self.path.read_bytes().ljust(len(self.pages), b"\x00")
-        return sink.getvalue(), status
+        return sink.text, status
 
     def do_format(self) -> None:
         self.call(["format"], b"")
@@ -236,7 +292,7 @@ class Bench:
     def gp(self, words: list[str]) -> None:
         text, status = self.call(words, self.input)
         self.input = b""
-        self.written += (text.decode("utf-8", "replace") + f"status {status}").split("\n")
+        self.written += text.decode("utf-8", "replace").splitlines() + [f"status {status}"]
 
     def mill(self, seed: int, rounds: int) -> None:
         for words in self.model.mill.chosen(seed, rounds):

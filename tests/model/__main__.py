@@ -15,11 +15,15 @@ class Closed:
     def write(self, _: bytes):
         raise OSError
 
+    def flush(self) -> None:
+        pass
+
 
 def main(words: list[str]) -> int:
     own = 3 if words[:1] == ["mill"] else 1
     path = Path(words.pop() if len(words) == own + 1 else "card.img")
-    source, sink = (stream.buffer if stream else Closed() for stream in (sys.stdin, sys.stdout))
+    source = sys.stdin.buffer if sys.stdin else Closed()
+    sink = open(1, "wb", buffering=0, closefd=False) if sys.stdout else Closed()
     return gp(words, path, source, sink)
 
 

@@ -96,24 +96,35 @@ def do(words: list[str], path: Path, source: BinaryIO, write: Write) -> int:
             return write_together(cap.cap(source), write)
         case ["mill", seed, count] if mill.has_numbers(seed, count):
             make(path)
-            return with_card(path, lambda card: write_all(mill.mill(card, int(seed), int(count)), write))
+            return with_card(path, lambda card: write_together(mill.mill(card, int(seed), int(count)), write))
     raise Stop(1, USAGE)
 
 
 def gp(words: list[str], path: Path, source: BinaryIO, sink: BinaryIO) -> int:
     """What `gp` does with these words on the card in this file; gives the exit status."""
     def write(line: str) -> None:
+        text = line.encode() + b"\n"
         try:
-            sink.write(line.encode() + b"\n")
-            sink.flush()
+            while text:
+                text = text[sink.write(text):]
         except OSError:
             raise Stop(6) from None
     try:
         try:
-            return do(words, path, source, write)
+            status = do(words, path, source, write)
         except Stop as stop:
             if stop.text is not None:
                 write(stop.text)
-            return stop.status
+            status = stop.status
     except Stop as stop:
-        return stop.status
+        status = stop.status
+    return status if status in (4, 6) else flushed(sink, status)
+
+
+def flushed(sink: BinaryIO, status: int) -> int:
+    """The status after the flush that ends a run. The first fault counts."""
+    try:
+        sink.flush()
+    except OSError:
+        return status if status in (3, 5) else 6
+    return status
