@@ -292,7 +292,8 @@ class Bench:
     def gp(self, words: list[str]) -> None:
         text, status = self.call(words, self.input)
         self.input = b""
-        self.written += text.decode("utf-8", "replace").splitlines() + [f"status {status}"]
+        lines = text.decode("utf-8", "replace").removesuffix("\n").split("\n") if text else []
+        self.written += [*lines, f"status {status}"]
 
     def mill(self, seed: int, rounds: int) -> None:
         for words in self.model.mill.chosen(seed, rounds):
