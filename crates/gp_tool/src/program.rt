@@ -7,17 +7,11 @@ ghost use Rattle.gp_tool.specs.Words.{HaveForm};
 
 use crate::top::gp;
 use flash_core::FileFlash;
-use io_edge::{StdSink, StdSource};
-use std::alloc::{AllocError, Global};
+use io_edge::{NoWords, StdSink, StdSource, words_of};
 use std::env::Args;
 use std::fs::{File, Files};
 use std::io::{self, ErrorKind, Input, Print};
 use std::process::ExitCode;
-
-// The words after the program's name.
-fn words_of(alloc: Global, args: Args) -> Result<Vec<String>, AllocError> {
-    args.skip(1).collect(alloc)
-}
 
 // Does what the words say, over the standard streams and the file, and answers the status.
 fn carry_out<R: Files<File = File> + Input + Print + AllocGlobal>(rt: &R, words: &[String]) -> u8
@@ -38,13 +32,9 @@ pub fn process<R: Files<File = File> + Input + Print + AllocGlobal>(
     ensures memory { IfErr args (λ error. error_kind error ≡ ErrorKind.OutOfMemory → exit_status result ≡ 7) }
     ensures no_text { IfErr args (λ error. error_kind error ≢ ErrorKind.OutOfMemory → exit_status result ≡ 1) }
 {
-    let args = match args {
-        Ok(args) => args,
-        Err(error) if error.kind() == ErrorKind::OutOfMemory => return ExitCode::from(7),
-        Err(_) => return ExitCode::from(1),
-    };
     match words_of(rt.alloc(), args) {
         Ok(words) => ExitCode::from(carry_out(rt, &words)),
-        Err(_) => ExitCode::from(7),
+        Err(NoWords::NoMemory) => ExitCode::from(7),
+        Err(NoWords::NoText) => ExitCode::from(1),
     }
 }

@@ -21,6 +21,7 @@ mod memory_source;
 mod sink;
 mod source;
 mod standard;
+mod words;
 
 pub use line::{HELD_LIMIT, INPUT_LIMIT, LINE_LIMIT, Line, LineStop};
 pub use lines::Lines;
@@ -30,3 +31,4 @@ pub use memory_source::{MemSource, SliceSource};
 pub use sink::{Sink, WriteFailed};
 pub use source::{ReadFailed, Source};
 pub use standard::{StdSink, StdSource};
+pub use words::{NoWords, words_of};
