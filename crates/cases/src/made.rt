@@ -12,6 +12,8 @@ use card_types::{
     Aid, COUNTER_LIMIT, CardLife, Entry, FILE_LIMIT, KeyRec, LifeMark, LoadFile, Object,
     Privileges, Tables,
 };
+use flash_core::PAGES;
+use page_journal::FIRST_LOAD_PAGE;
 
 /// LIFE
 pub fn made_life(words: &mut Words<'_>) -> Result<CardLife, CaseError> {
@@ -56,10 +58,10 @@ fn load_pages(words: &mut Words<'_>, count: usize) -> Option<[u16; 128]>
     ensures { IfSome result (All IsLoadPage) }
 {
     words.fixed(b"pages")?;
-    let mut pages = [96; 128];
+    let mut pages = [FIRST_LOAD_PAGE; 128];
     for place in 0..count {
         let page = u16::try_from(words.number()?).ok()?;
-        if page < 96 || page >= 608 {
+        if page < FIRST_LOAD_PAGE || page >= PAGES {
             return None;
         }
         pages[place] = page;

@@ -6,6 +6,8 @@ use Rattle.script_tool.specs.Host.{Host}
 use Rattle.script_tool.specs.HostLines.{is_difference}
 use Rattle.script_tool.specs.Kept.{RepresentsHost}
 use Rattle.script_tool.specs.Kind.{kind_of}
+use Rattle.script_tool.specs.Kinds.{is_difference_kind, prints_kind}
+use Rattle.script_tool.proofs.AnswerKinds.{RefusesForm, differs_as}
 use Rattle.script_tool.specs.Line.{HasNoForm, SaysLine}
 use Rattle.script_tool.specs.Play.{playing, remembering}
 use Rattle.script_tool.specs.Printed.{Printed, Nothing, Reply, Opened, Cryptogram, Said, Differs, printed_text, status_printed}
@@ -17,19 +19,9 @@ use Rattle.script_tool.specs.declared.played.StepStop.{StepStop}
 use Rattle.script_tool.specs.declared.played.StepStop.TheVariants.{Form, LinkFailed}
 use Rattle.gp_tool.specs.CardEnd.{Counting}
 use Rattle.gp_tool.specs.Effects.{Place}
-use Rattle.gp_tool.specs.Kinds.{is_difference_kind, prints_kind}
 use Rattle.gp_tool.specs.Script.{BreaksScript, PlaysScript, texts_of}
 use Rattle.gp_tool.specs.Serve.{BreaksLine, RunsLine, Standing}
 use Rattle.gp_tool.specs.StepsCard.{StepsOver, StopsCard}
-
--- a difference is of the kind of one
-differs_as : (printed : Printed) → is_difference_kind (kind_of printed) ≡ is_difference printed
-differs_as Nothing = refl
-differs_as (Reply body status) = refl
-differs_as (Opened counter status) = refl
-differs_as (Cryptogram counter) = refl
-differs_as (Said word) = refl
-differs_as (Differs want got) = refl
 
 -- a line that prints nothing has no text
 silent_text : (quiet : Bool) (printed : Printed) → prints_kind (kind_of printed) ≡ false → texts_of quiet printed ≡ []
@@ -48,16 +40,6 @@ one_text quiet (Opened counter status) some = refl
 one_text quiet (Cryptogram counter) some = refl
 one_text quiet (Said word) some = refl
 one_text quiet (Differs want got) some = refl
-
--- when the form of a line is refused
-abbrev pub RefusesForm : Result the_played.Played StepStop → ℕ → List ℕ → Type 0
-RefusesForm result number line = (n : ℕ) → (result ≡ Err (Form n)) ↔ ((n ≡ number) × HasNoForm line)
-
--- a line that was not refused says something
-pub says_some : (result : Result the_played.Played StepStop) (number : ℕ) (line : List ℕ) → RefusesForm result number line
-    → HasNoForm line ⊎ ((said : ScriptLine) × SaysLine line said) → (result ≡ Err (Form number) → ⊥) → (said : ScriptLine) × SaysLine line said
-says_some result number line form (inl none) other = (let refused = form number in absurd (other (refused.1 (refl, none))))
-says_some result number line form (inr some) other = some
 
 -- a line that says something is stopped by the link alone
 pub stopped_by_link : (result : Result the_played.Played StepStop) (number : ℕ) (line : List ℕ) (stop : StepStop) (said : ScriptLine) → RefusesForm result number line

@@ -11,7 +11,6 @@ pub mod Formatted
 pub mod Give
 pub mod Going
 pub mod HostAndCard
-pub mod Kinds
 pub mod Laws
 pub mod LinesApart
 pub mod Listing

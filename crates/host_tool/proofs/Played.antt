@@ -9,6 +9,8 @@ use Rattle.line_runs.specs.declared.taker.Taking.TheVariants.{Taken, Failed}
 use Rattle.script_tool.specs.Host.{Host}
 use Rattle.script_tool.specs.HostLines.{HostAsks, HostPlays, is_difference, text_line}
 use Rattle.script_tool.specs.Kind.{kind_of}
+use Rattle.script_tool.specs.Kinds.{is_difference_kind}
+use Rattle.script_tool.proofs.AnswerKinds.{differs_as}
 use Rattle.script_tool.specs.Line.{HasNoForm, SaysLine}
 use Rattle.script_tool.specs.Play.{playing, remembering}
 use Rattle.script_tool.specs.Printed.{Printed, Nothing, Reply, Opened, Cryptogram, Said, Differs, printed_text, status_printed}
@@ -25,7 +27,6 @@ use Rattle.script_tool.specs.declared.played.StepStop.{StepStop}
 use Rattle.script_tool.specs.declared.played.StepStop.TheVariants.{Form}
 use Rattle.host_tool.proofs.Sent.{exchanged_none}
 use Rattle.host_tool.specs.Conveyed.{Conveyed, Unanswered}
-use Rattle.host_tool.specs.Kinds.{is_difference_played}
 use Rattle.host_tool.specs.Link.{Linked, sides_of}
 use Rattle.host_tool.specs.Fault.{fault_text}
 use Rattle.host_tool.specs.Takes.{FailsFrom, Hosting, Joins, JoinsRefused, HostStands, TakesFrom, host_taker}
@@ -40,21 +41,6 @@ text_by_kind quiet (Opened counter status) text written is some none = some (λ 
 text_by_kind quiet (Cryptogram counter) text written is some none = some (λ same. cc same) ∙ ap (λ (t : List ℕ). t ++ 10 ∷ []) is
 text_by_kind quiet (Said word) text written is some none = some (λ same. cc same) ∙ ap (λ (t : List ℕ). t ++ 10 ∷ []) is
 text_by_kind quiet (Differs want got) text written is some none = some (λ same. cc same) ∙ ap (λ (t : List ℕ). t ++ 10 ∷ []) is
-
--- a difference is of the kind of one
-pub differs_as : (printed : Printed) → is_difference_played (kind_of printed) ≡ is_difference printed
-differs_as Nothing = refl
-differs_as (Reply body status) = refl
-differs_as (Opened counter status) = refl
-differs_as (Cryptogram counter) = refl
-differs_as (Said word) = refl
-differs_as (Differs want got) = refl
-
--- a line whose form is not refused says something
-pub says_some : (result : Result the_played.Played StepStop) (line : List ℕ) → ((n : ℕ) → (result ≡ Err (Form n)) ↔ ((n ≡ 1) × HasNoForm line))
-    → HasNoForm line ⊎ ((said : ScriptLine) × SaysLine line said) → (result ≡ Err (Form 1) → ⊥) → (said : ScriptLine) × SaysLine line said
-says_some result line form (inl none) other = (let refused = form 1 in absurd (other (refused.1 (refl, none))))
-says_some result line form (inr some) other = some
 
 module _ {S K : Type 0} (source : Source S) (sink : Sink K) where
   -- a link that has not failed has conveyed no event since now
@@ -91,7 +77,7 @@ module _ {S K : Type 0} (source : Source S) (sink : Sink K) where
 
       -- the line was played, and its text is this
       pub line_taken : (text : List ℕ) → (played ≢ Quiet → text ≡ printed ++ 10 ∷ []) → (played ≡ Quiet → text ≡ [])
-          → next.differs ≡ (at.differs || is_difference_played played) → next.link.up ≡ true → next.link.why ≡ None → TakesFrom source sink host at next line text
+          → next.differs ≡ (at.differs || is_difference_kind played) → next.link.up ≡ true → next.link.why ≡ None → TakesFrom source sink host at next line text
       unfolding host_plays
       line_taken text some none differs up sound = record {
         events = over.leads.events;
@@ -100,7 +86,7 @@ module _ {S K : Type 0} (source : Source S) (sink : Sink K) where
         plays = host_plays text
             (text_by_kind (is_quiet said) over.printed printed text over.text_is (λ other. some (λ same. other (sym over.kind ∙ same))) (λ same. none (over.kind ∙ same)));
         stands = record { kept = over.stands; up = up; sound = sound };
-        differs_is = differs ∙ ap (λ (d : Bool). at.differs || d) (ap is_difference_played over.kind ∙ differs_as over.printed);
+        differs_is = differs ∙ ap (λ (d : Bool). at.differs || d) (ap is_difference_kind over.kind ∙ differs_as over.printed);
         joins = joins over.leads.events over.leads.conveyed;
       }
 

@@ -4,7 +4,6 @@ pub mod Conveyed
 pub mod Asked
 pub mod Link
 pub mod Takes
-pub mod Kinds
 pub mod Played
 pub mod Status
 pub mod Flush

@@ -3,7 +3,7 @@
 ghost use Rattle.std.specs.Prelude.{◌≡◌, ◌≢◌, ◌||◌, ◌++◌, ◌∷◌, [], true, false, None, IfSome};
 ghost use Rattle.faults.specs.Faults.{next_count};
 ghost use Rattle.host_tool.specs.Fault.{fault_text};
-ghost use Rattle.host_tool.specs.Kinds.{is_difference_played};
+ghost use Rattle.script_tool.specs.Kinds.{is_difference_kind};
 ghost use Rattle.host_tool.specs.Link.{unread};
 ghost use Rattle.host_tool.specs.Takes.{host_taker};
 ghost use Rattle.script_tool.specs.Host.{first_host};
@@ -109,7 +109,7 @@ impl<S: Source, K: Sink> ScriptHost<S, K> {
 
 // Whether a status has differed, after a line that printed this.
 fn differs_by(differs: bool, played: Played) -> bool
-    ensures { result ≡ (differs || is_difference_played played) }
+    ensures { result ≡ (differs || is_difference_kind played) }
 {
     differs || matches!(played, Played::WantDiffers)
 }

@@ -1,3 +1,4 @@
+pub mod AnswerKinds
 pub mod Blocks
 pub mod Closed
 pub mod Digits

@@ -15,6 +15,7 @@ pub mod Kept
 pub mod KeptSession
 pub mod Keys
 pub mod Kind
+pub mod Kinds
 pub mod Lead
 pub mod Life
 pub mod Line

@@ -1,6 +1,6 @@
 use Rattle.std.proofs.Common.{Err, false, refl, sym, ap, ◌∙◌}
 use Rattle.gp_tool.proofs.PlayedLines.{line_breaks, runs_printing, runs_silently, stopped_by_link}
-use Rattle.gp_tool.specs.Kinds.{is_difference_kind}
+use Rattle.script_tool.specs.Kinds.{is_difference_kind}
 use Rattle.gp_tool.specs.Mill.{with_text, with_texts}
 use Rattle.gp_tool.specs.Standing.{standing}
 use Rattle.gp_tool.specs.StepsCard.{counting}

@@ -1,6 +1,7 @@
 use Rattle.std.proofs.Common.{[], ◌∷◌, ◌++◌, Err, refl, sym, ap, ◌∙◌}
 use Rattle.gp_tool.proofs.Given.{then_line, then_nothing}
-use Rattle.gp_tool.proofs.PlayedLines.{line_breaks, runs_printing, runs_silently, says_some}
+use Rattle.script_tool.proofs.AnswerKinds.{says_some}
+use Rattle.gp_tool.proofs.PlayedLines.{line_breaks, runs_printing, runs_silently}
 use Rattle.gp_tool.specs.Standing.{standing}
 use Rattle.gp_tool.specs.StepsCard.{counting}
 use Rattle.gp_tool.proofs.play.play_line.Goals as goal

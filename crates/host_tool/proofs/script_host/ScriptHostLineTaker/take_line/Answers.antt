@@ -1,6 +1,7 @@
 use Rattle.std.proofs.Common.{◌≡◌, Err, refl, sym, ap, ◌∙◌}
 use Rattle.faults.specs.Faults.{next_count}
-use Rattle.host_tool.proofs.Played.{command_fails, fails_now, line_taken, reset_fails, says_some, taken_now}
+use Rattle.script_tool.proofs.AnswerKinds.{says_some}
+use Rattle.host_tool.proofs.Played.{command_fails, fails_now, line_taken, reset_fails, taken_now}
 use Rattle.host_tool.specs.Takes.{Hosting}
 use Rattle.host_tool.proofs.script_host.ScriptHostLineTaker.take_line.Goals as goal
 
@@ -9,7 +10,7 @@ returns-in-None-clause-comes g c =
     let at : Hosting g.row.S.Denot g.row.K.Denot = record { kept = c.self.inside.player; link = c.self.inside.link; differs = c.self.inside.differs; faults = c.self.inside.faults } in
     let next : Hosting g.row.S.Denot g.row.K.Denot
     = record { kept = c.step.new.self; link = c.step.new.link; differs = c.differs_by-self-inside.result; faults = c.self.inside.faults } in
-    let says = says_some c.step.result c.args.line.now c.step.ensures.form c.step.ensures.said (λ is. cc (c.in-Ok.is, is)) in
+    let says = says_some c.step.result 1 c.args.line.now c.step.ensures.form c.step.ensures.said (λ is. cc (c.in-Ok.is, is)) in
     taken_now g.S.Source g.K.Sink at c.args.self.now next c.args.line.now c.write_printed.new.text.items c.self.view_is
     (λ host stands.
     line_taken g.S.Source g.K.Sink _ host says.0 c.args.line.now says.1 at next stands (λ events conveys. conveys.told) _ c.in-Ok.played
@@ -21,7 +22,7 @@ returns-in-Some-clause-comes g c =
     let at : Hosting g.row.S.Denot g.row.K.Denot = record { kept = c.self.inside.player; link = c.self.inside.link; differs = c.self.inside.differs; faults = c.self.inside.faults } in
     let left : Hosting g.row.S.Denot g.row.K.Denot
     = record { kept = c.step.new.self; link = c.step.new.link; differs = c.self.inside.differs; faults = next_count c.self.inside.faults } in
-    let says = says_some c.step.result c.args.line.now c.step.ensures.form c.step.ensures.said (λ is. cc (c.in-Ok.is, is)) in
+    let says = says_some c.step.result 1 c.args.line.now c.step.ensures.form c.step.ensures.said (λ is. cc (c.in-Ok.is, is)) in
     fails_now g.S.Source g.K.Sink at c.args.self.now left c.fail-in-Some.new.self c.args.line.now c.fail-in-Some.new.text.items c.fail-in-Some.result
     c.self.view_is c.fail-in-Some.ensures.counted c.fail-in-Some.ensures.failed
     (λ host stands.
@@ -33,7 +34,7 @@ returns-in-Err-LinkFailed-clause-comes g c =
     let at : Hosting g.row.S.Denot g.row.K.Denot = record { kept = c.self.inside.player; link = c.self.inside.link; differs = c.self.inside.differs; faults = c.self.inside.faults } in
     let left : Hosting g.row.S.Denot g.row.K.Denot
     = record { kept = c.step.new.self; link = c.step.new.link; differs = c.self.inside.differs; faults = next_count c.self.inside.faults } in
-    let says = says_some c.step.result c.args.line.now c.step.ensures.form c.step.ensures.said (λ is. cc (c.in-Err-LinkFailed.is, c.in-Err-LinkFailed.field-0-is, is)) in
+    let says = says_some c.step.result 1 c.args.line.now c.step.ensures.form c.step.ensures.said (λ is. cc (c.in-Err-LinkFailed.is, c.in-Err-LinkFailed.field-0-is, is)) in
     fails_now g.S.Source g.K.Sink at c.args.self.now left c.fail-in-Err-LinkFailed.new.self c.args.line.now c.fail-in-Err-LinkFailed.new.text.items
     c.fail-in-Err-LinkFailed.result c.self.view_is c.fail-in-Err-LinkFailed.ensures.counted c.fail-in-Err-LinkFailed.ensures.failed
     (λ host stands.

@@ -1,4 +1,4 @@
--- For the code inside. What a line of a script was for the text and the status of `play`.
+-- For the code inside. What the answer of a line is for the text and the status of a run.
 use Rattle.std.specs.Prelude.{Bool, true, false}
 use Rattle.script_tool.specs.declared.played.Played as the_played
 use Rattle.script_tool.specs.declared.played.Played.TheVariants.{Quiet, WantDiffers}

@@ -1,0 +1,31 @@
+-- What a line has said, by the kind of its answer. Programs over a card cite these.
+use Rattle.std.proofs.Common.{◌≡◌, ◌⊎◌, ℕ, refl, inl, inr}
+use Rattle.std.specs.Prelude.{◌↔◌, List, Result, Err}
+use Rattle.script_tool.specs.HostLines.{is_difference}
+use Rattle.script_tool.specs.Kind.{kind_of}
+use Rattle.script_tool.specs.Kinds.{is_difference_kind}
+use Rattle.script_tool.specs.Line.{HasNoForm, SaysLine}
+use Rattle.script_tool.specs.Printed.{Printed, Nothing, Reply, Opened, Cryptogram, Said, Differs}
+use Rattle.script_tool.specs.declared.line.ScriptLine.{ScriptLine}
+use Rattle.script_tool.specs.declared.played.Played as the_played
+use Rattle.script_tool.specs.declared.played.StepStop.{StepStop}
+use Rattle.script_tool.specs.declared.played.StepStop.TheVariants.{Form}
+
+-- a difference is of the kind of one
+pub differs_as : (printed : Printed) → is_difference_kind (kind_of printed) ≡ is_difference printed
+differs_as Nothing = refl
+differs_as (Reply body status) = refl
+differs_as (Opened counter status) = refl
+differs_as (Cryptogram counter) = refl
+differs_as (Said word) = refl
+differs_as (Differs want got) = refl
+
+-- when the form of a line is refused
+abbrev pub RefusesForm : Result the_played.Played StepStop → ℕ → List ℕ → Type 0
+RefusesForm result number line = (n : ℕ) → (result ≡ Err (Form n)) ↔ ((n ≡ number) × HasNoForm line)
+
+-- a line that was not refused says something
+pub says_some : (result : Result the_played.Played StepStop) (number : ℕ) (line : List ℕ) → RefusesForm result number line
+    → HasNoForm line ⊎ ((said : ScriptLine) × SaysLine line said) → (result ≡ Err (Form number) → ⊥) → (said : ScriptLine) × SaysLine line said
+says_some result number line form (inl none) other = (let refused = form number in absurd (other (refused.1 (refl, none))))
+says_some result number line form (inr some) other = some
