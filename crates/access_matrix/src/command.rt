@@ -18,8 +18,7 @@ use bitflags::Flags;
 use card_types::{Aid, FACTORY_FILE, FACTORY_MODULE, LifeMark, Privileges, Tables, in_slot};
 use policy_rules::{
     DeletionRequest, EntryStatusRequest, ExtraditionRequest, InstallRequest, LoadInstallRequest,
-    Signed, judge_deletion, judge_entry_status, judge_extradition, judge_install,
-    judge_load_install,
+    Signed, judge_entry_status, judge_request,
 };
 use tokens_receipts::{five_fields, four_fields, object_field};
 
@@ -45,7 +44,7 @@ pub(crate) fn deletes(tables: &Tables, domain: u8, aid: Aid, related: bool) -> b
         related,
         signed,
     };
-    judge_deletion(tables, &live_with(domain), domain, &request).is_ok()
+    judge_request(tables, &live_with(domain), domain, &request).is_ok()
 }
 
 /// Whether SET STATUS of the entry in a slot, to its other lock mark, is accepted.
@@ -85,7 +84,7 @@ pub(crate) fn moves(tables: &Tables, domain: u8, aid: Aid, to: Aid) -> bool
         token: token_bytes(&token),
     };
     let request = ExtraditionRequest { to, aid, signed };
-    judge_extradition(tables, domain, &request).is_ok()
+    judge_request(tables, &live_with(domain), domain, &request).is_ok()
 }
 
 fn is_factory_file(aid: &Aid) -> bool
@@ -149,7 +148,7 @@ pub(crate) fn installs(tables: &Tables, domain: u8, file: Aid) -> bool
         privileges,
         signed,
     };
-    judge_install(tables, &live_with(domain), domain, &request).is_ok()
+    judge_request(tables, &live_with(domain), domain, &request).is_ok()
 }
 
 /// Whether INSTALL [for load] of another Executable Load File is accepted.
@@ -174,5 +173,5 @@ pub(crate) fn loads(tables: &Tables, domain: u8) -> bool
         hash: &[0; 32],
         signed,
     };
-    judge_load_install(tables, &live_with(domain), domain, &request).is_ok()
+    judge_request(tables, &live_with(domain), domain, &request).is_ok()
 }

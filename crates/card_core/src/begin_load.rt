@@ -13,7 +13,7 @@ use apdu_core::Status;
 use arrayvec::ArrayVec;
 use card_types::Tables;
 use load_session::LoadSession;
-use policy_rules::{Live, LoadInstallRequest, LoadName, Rule, judge_load_install};
+use policy_rules::{Live, LoadInstallRequest, LoadName, Rule, judge_request};
 
 /// Begins the load session that a request asks for, for the domain in a slot, on the command's channel. Nothing is written yet.
 #[inline(never)]
@@ -35,16 +35,16 @@ pub fn begin_load(
     ensures refused { OnErr result ((live.new ≡ live.old) × (loading.new ≡ loading.old)) }
     ensures room { length reply.new.items ≤ DATA_LIMIT }
 {
-    let into = judge_load_install(tables, live, domain, request)?;
+    let judged = judge_request(tables, live, domain, request)?;
     let mut hash = ArrayVec::new();
     hash.try_extend_from_slice(request.hash).unwrap();
     live.begin_load(LoadName {
         channel,
         aid: request.file,
-        domain: into,
+        domain: judged.found,
         next: 0,
     });
-    loading.session = Some(LoadSession::begin(request.file, into, hash));
+    loading.session = Some(LoadSession::begin(request.file, judged.found, hash));
     reply.push(0x00);
     Ok(Status(0x9000))
 }

@@ -26,7 +26,7 @@ use apdu_core::Status;
 use arrayvec::ArrayVec;
 use card_types::Found;
 use flash_core::Flash;
-use policy_rules::{DeletionRequest, Live, Rule, judge_deletion};
+use policy_rules::{DeletionRequest, Live, Rule, judge_request};
 use rec_store::Records;
 use registry::{remove_applications, remove_entry, remove_file};
 
@@ -87,9 +87,9 @@ impl ManagedRequest for DeletionRequest<'_> {
         domain: u8,
         reply: &mut ArrayVec<u8, REPLY_LIMIT>,
     ) -> Result<Status, Rule> {
-        let found = judge_deletion(records.tables(), live, domain, self)?;
-        remove(records, found.thing, self.related);
-        confirm(records, found.receipter, &self.aid, None, None, reply);
+        let judged = judge_request(records.tables(), live, domain, self)?;
+        remove(records, judged.found, self.related);
+        confirm(records, judged.receipter, &self.aid, None, None, reply);
         Ok(Status(0x9000))
     }
 }

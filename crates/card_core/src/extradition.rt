@@ -10,7 +10,7 @@ use apdu_core::Status;
 use arrayvec::ArrayVec;
 use card_types::in_slot;
 use flash_core::Flash;
-use policy_rules::{ExtraditionRequest, Live, Rule, judge_extradition};
+use policy_rules::{ExtraditionRequest, Live, Rule, judge_request};
 use rec_store::Records;
 use registry::move_to;
 
@@ -21,17 +21,18 @@ impl ManagedRequest for ExtraditionRequest<'_> {
     fn manage<F: Flash>(
         &self,
         records: &mut Records<F>,
-        _live: &Live,
+        live: &Live,
         _held: &ChannelSession,
         domain: u8,
         reply: &mut ArrayVec<u8, REPLY_LIMIT>,
     ) -> Result<Status, Rule> {
-        let found = judge_extradition(records.tables(), domain, self)?;
+        let judged = judge_request(records.tables(), live, domain, self)?;
+        let found = judged.found;
         let from = in_slot(&records.tables().entries, found.from).unwrap().aid;
         move_to(records, found.thing, found.to);
         confirm(
             records,
-            found.receipter,
+            judged.receipter,
             &from,
             Some(&self.aid),
             Some(&self.to),

@@ -12,7 +12,7 @@ use apdu_core::Status;
 use arrayvec::ArrayVec;
 use card_types::{Entry, Life, LifeMark};
 use flash_core::Flash;
-use policy_rules::{InstallRequest, Live, Rule, judge_install};
+use policy_rules::{InstallRequest, Live, Rule, judge_request};
 use rec_store::Records;
 use registry::place_entry;
 
@@ -51,11 +51,11 @@ impl ManagedRequest for InstallRequest<'_> {
         domain: u8,
         reply: &mut ArrayVec<u8, REPLY_LIMIT>,
     ) -> Result<Status, Rule> {
-        let found = judge_install(records.tables(), live, domain, self)?;
-        place_entry(records, made(self, domain, found.file));
+        let judged = judge_request(records.tables(), live, domain, self)?;
+        place_entry(records, made(self, domain, judged.found));
         confirm(
             records,
-            found.receipter,
+            judged.receipter,
             &self.file,
             Some(&self.aid),
             None,

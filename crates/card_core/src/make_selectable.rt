@@ -11,7 +11,7 @@ use apdu_core::Status;
 use arrayvec::ArrayVec;
 use card_types::{Life, LifeMark};
 use flash_core::Flash;
-use policy_rules::{Live, Rule, SelectableRequest, judge_selectable};
+use policy_rules::{Live, Rule, SelectableRequest, judge_request};
 use rec_store::Records;
 use registry::set_life;
 
@@ -28,14 +28,14 @@ impl ManagedRequest for SelectableRequest<'_> {
     fn manage<F: Flash>(
         &self,
         records: &mut Records<F>,
-        _live: &Live,
+        live: &Live,
         _held: &ChannelSession,
         domain: u8,
         reply: &mut ArrayVec<u8, REPLY_LIMIT>,
     ) -> Result<Status, Rule> {
-        let found = judge_selectable(records.tables(), domain, self)?;
-        set_life(records, found.entry, SELECTABLE);
-        confirm(records, found.receipter, &self.aid, None, None, reply);
+        let judged = judge_request(records.tables(), live, domain, self)?;
+        set_life(records, judged.found, SELECTABLE);
+        confirm(records, judged.receipter, &self.aid, None, None, reply);
         Ok(Status(0x9000))
     }
 }

@@ -1,7 +1,6 @@
 -- Which rule on the approval of a delegated command fails first.
-use Rattle.std.proofs.Common.{◌≡◌, ◌≢◌, inl, inr, List, [], ◌∷◌, Option, None, Some, ℕ, length, refl, ap, sym, subst, ◌∙◌}
+use Rattle.std.proofs.Common.{◌≡◌, ◌≢◌, inl, inr, List, Option, None, Some, ℕ, length, refl, ap, sym, subst, ◌∙◌}
 use Rattle.std.specs.Prelude.{MatchOption}
-use Rattle.std.specs.Option.{option_map}
 use Rattle.card_types.specs.Registry.{Entry, Key, Registry, domain_of, entry_named, key_named}
 use Rattle.card_types.specs.Represents.{domain_aid, key_of}
 use Rattle.card_types.specs.Slots.{held}
@@ -11,7 +10,7 @@ use Rattle.card_types.specs.declared.tables.Tables.{Tables}
 use Rattle.domain_tree.proofs.Paths.{one_first_above}
 use Rattle.tokens_receipts.specs.Token.{token}
 use Rattle.policy_rules.specs.Admission.{Admitted}
-use Rattle.policy_rules.specs.Delegation.{Approval, DelegatedFails, IsNearestHolder, IsVerifier, NoVerifier, ReceiptFails, TokenFails, delegation_rules, has_with_key, token_rules}
+use Rattle.policy_rules.specs.Delegation.{Approval, IsNearestHolder, IsVerifier, NoVerifier, ReceiptFails, TokenFails, has_with_key, token_rules}
 use Rattle.policy_rules.specs.FirstFailing.{IsFirst}
 use Rattle.policy_rules.specs.HoldersFound.{FindsReceipter}
 use Rattle.policy_rules.proofs.NearestHolder.{slot_named}
@@ -19,10 +18,7 @@ use Rattle.policy_rules.specs.Management.{acting}
 use Rattle.policy_rules.specs.Requests.{ActsIn}
 use Rattle.policy_rules.specs.declared.delegation.RuleRC.{RuleRC}
 use Rattle.policy_rules.specs.declared.delegation.RuleRC.TheVariants.{RC1}
-use Rattle.policy_rules.specs.declared.delegation.RuleTK.{RuleTK}
 use Rattle.policy_rules.specs.declared.delegation.RuleTK.TheVariants.{TK2, TK3}
-use Rattle.policy_rules.specs.declared.rule.Rule.{Rule}
-use Rattle.policy_rules.specs.declared.rule.Rule.TheVariants.{RC, TK}
 
 -- there is one nearest holder, and one key of it
 pub one_holder : (registry : Registry) (privilege version : ℕ) (domain x y : List ℕ) (key other : Key)
@@ -55,26 +51,6 @@ module _ (admitted : Admitted) (approval : Approval) (long : length approval.tok
         ),
       ),
     )
-
--- a rule on the token that fails first is the first on the approval
-pub first_of_token : (admitted : Admitted) (approval : Approval) (rule : RuleTK) → IsFirst (TokenFails admitted approval) token_rules (Some rule)
-    → IsFirst (DelegatedFails admitted approval) delegation_rules (Some (TK rule))
-first_of_token admitted approval rule (inl first) = inl (first.0, ap (option_map TK) first.1)
-first_of_token admitted approval rule (inr (one, inl second)) = inr (one, inl (second.0, ap (option_map TK) second.1))
-first_of_token admitted approval rule (inr (one, inr (two, inl third))) = inr (one, inr (two, inl (third.0, ap (option_map TK) third.1)))
-first_of_token admitted approval rule (inr (one, inr (two, inr (three, none)))) = cc
-
--- where none on the token fails, the one on the receipt decides
-pub behind_token : (admitted : Admitted) (approval : Approval) (found : Option Rule) → IsFirst (TokenFails admitted approval) token_rules None
-    → IsFirst (DelegatedFails admitted approval) (RC RC1 ∷ []) found → IsFirst (DelegatedFails admitted approval) delegation_rules found
-behind_token admitted approval found (inl first) rest = (let clash = first.1 in cc)
-behind_token admitted approval found (inr (one, inl second)) rest = (let clash = second.1 in cc)
-behind_token admitted approval found (inr (one, inr (two, inl third))) rest = (let clash = third.1 in cc)
-behind_token admitted approval found (inr (one, inr (two, inr (three, none)))) rest = inr (one, inr (two, inr (three, rest)))
-
-pub receipt_refuses : (admitted : Admitted) (approval : Approval) (rule : RuleRC) → ReceiptFails admitted rule
-    → IsFirst (DelegatedFails admitted approval) (RC RC1 ∷ []) (Some (RC rule))
-receipt_refuses admitted approval RC1 fails = inl (fails, refl)
 
 -- there is one rule on the receipt
 pub receipt_rule : (admitted : Admitted) (rule : RuleRC) → ReceiptFails admitted rule → ReceiptFails admitted RC1

@@ -9,7 +9,7 @@ use Rattle.policy_rules.specs.Admission.{Admitted}
 use Rattle.policy_rules.proofs.SameThings.{same_fits}
 use Rattle.policy_rules.specs.CardStatus.{CardIsSet, managed_card_status}
 use Rattle.card_types.specs.Registry.{Registry}
-use Rattle.policy_rules.proofs.ManagedJudging.{IsJudgeable}
+use Rattle.policy_rules.specs.RequestJudged.{IsJudgeable}
 use Rattle.policy_rules.proofs.ManagedLawful.{IsManagedLawful, IsPassedFor, MayFollow, may_follow}
 
 -- the state with a code

@@ -21,7 +21,8 @@ use Rattle.policy_rules.specs.FirstFailing.{IsFirst}
 use Rattle.policy_rules.specs.declared.delete_object.RuleDO.TheVariants.{DO2, DO4}
 use Rattle.policy_rules.proofs.DeleteObjectAsking.{one_deletion}
 use Rattle.policy_rules.proofs.RemovedFits.{KeepsHeld, removed_fits}
-use Rattle.policy_rules.proofs.ManagedJudging.{own_pass, IsJudgeable, delegation_asked}
+use Rattle.policy_rules.proofs.ManagedJudging.{own_pass, delegation_asked}
+use Rattle.policy_rules.specs.RequestJudged.{IsJudgeable}
 use Rattle.policy_rules.proofs.ManagedLawful.{IsManagedLawful, IsPassedFor, MayFollow, receipt_judged, may_follow}
 use Rattle.policy_rules.specs.ManagedForm.{command_form}
 

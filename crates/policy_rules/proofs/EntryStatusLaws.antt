@@ -25,7 +25,8 @@ use Rattle.policy_rules.specs.declared.entry_status.RuleSS.TheVariants.{SS2}
 use Rattle.policy_rules.proofs.ChangedFits.{changed_fits}
 use Rattle.policy_rules.proofs.Lawful.{some_same}
 use Rattle.card_types.specs.Aid.{IsAid}
-use Rattle.policy_rules.proofs.ManagedJudging.{own_pass, IsJudgeable}
+use Rattle.policy_rules.proofs.ManagedJudging.{own_pass}
+use Rattle.policy_rules.specs.RequestJudged.{IsJudgeable}
 use Rattle.policy_rules.proofs.ManagedLawful.{IsManagedLawful, IsPassedFor, MayFollow}
 use Rattle.policy_rules.specs.ManagedForm.{command_form}
 

@@ -16,7 +16,8 @@ use Rattle.policy_rules.specs.declared.extradition.RuleEX.TheVariants.{EX2, EX3,
 use Rattle.policy_rules.proofs.FitsKept.{load_unnamed}
 use Rattle.policy_rules.proofs.LengthFields.{one_data}
 use Rattle.policy_rules.proofs.MovedFits.{moved_fits}
-use Rattle.policy_rules.proofs.ManagedJudging.{own_pass, IsJudgeable, delegation_asked}
+use Rattle.policy_rules.proofs.ManagedJudging.{own_pass, delegation_asked}
+use Rattle.policy_rules.specs.RequestJudged.{IsJudgeable}
 use Rattle.policy_rules.proofs.ManagedLawful.{IsManagedLawful, IsPassedFor, MayFollow, receipt_judged, may_follow}
 use Rattle.policy_rules.specs.declared.extradition.RuleEX.{RuleEX}
 use Rattle.policy_rules.specs.ManagedForm.{command_form}

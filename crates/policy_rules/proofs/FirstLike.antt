@@ -1,6 +1,6 @@
 -- The first rule that fails, where each fails as another does.
 use Rattle.std.proofs.Common.{◌≡◌, List, [], ◌∷◌, Option, None, Err, Ok, refl, sym, ap, subst, inl, inr}
-use Rattle.std.specs.Prelude.{IfErr, OnOk, Result, map}
+use Rattle.std.specs.Prelude.{IfErr, Result, map}
 use Rattle.std.specs.Option.{option_map}
 use Rattle.std.specs.Result.{IsErrAnd}
 use Rattle.policy_rules.specs.FirstFailing.{IsFirst}
@@ -23,15 +23,6 @@ pub first_of_group : {Q R : Type 0} (wrap : Q → R) (fails : R → Type 0) (rul
 first_of_group wrap fails [] found first = ap (option_map wrap) first
 first_of_group wrap fails (next ∷ rules) found (inl here) = inl (here.0, ap (option_map wrap) here.1)
 first_of_group wrap fails (next ∷ rules) found (inr later) = inr (later.0, first_of_group wrap fails rules found later.1)
-
--- what is said of an outcome
-pub on_ok : {T R P Q : Type 0} (result : Result T R) → (P → Q) → OnOk result P → OnOk result Q
-on_ok (Ok value) so is = so is
-on_ok (Err rule) so is = is
-
-pub if_err : {T R : Type 0} (P Q : R → Type 0) (result : Result T R) → ((rule : R) → P rule → Q rule) → IfErr result P → IfErr result Q
-if_err P Q (Ok value) so is = is
-if_err P Q (Err rule) so is = so rule is
 
 -- a refusal that is handed on
 pub handed_on : {T R : Type 0} (P : R → Type 0) (result : Result T R) (rule : R) → IsErrAnd result (λ r. r ≡ rule) → P rule → IfErr result P

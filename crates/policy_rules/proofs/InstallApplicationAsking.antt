@@ -12,7 +12,8 @@ use Rattle.policy_rules.specs.ObjectsFound.{has_tag_in}
 use Rattle.policy_rules.proofs.Filtered.{any_there, there_any}
 use Rattle.policy_rules.proofs.LengthFields.{one_data}
 use Rattle.policy_rules.proofs.StoreDataElements.{elements_behind, elements_with, none_left, one_list}
-use Rattle.policy_rules.proofs.ManagedJudging.{IsJudgeable, delegation_asked}
+use Rattle.policy_rules.proofs.ManagedJudging.{delegation_asked}
+use Rattle.policy_rules.specs.RequestJudged.{IsJudgeable}
 
 abbrev pub AreSome : List ℕ → Type 0
 AreSome bytes = (elements : List Element) × AreElements elements bytes

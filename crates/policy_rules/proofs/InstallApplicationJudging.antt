@@ -1,6 +1,6 @@
 -- What the judgement of an INSTALL [for install] finds by slots is what its rules say by names.
 use Rattle.std.proofs.Common.{◌≡◌, ◌≢◌, ◌⊎◌, ◌↔◌, inl, inr, ℕ, List, Bool, true, false, not, ◌||◌, Option, None, Some, length, refl, sym, ap, subst, ◌∙◌, arith}
-use Rattle.std.specs.Prelude.{Contains, Err, IfNone, IfOk, IfSome, IsSome, Ok, Result, IsTrue, MatchOption, is_some}
+use Rattle.std.specs.Prelude.{Contains, IfNone, IfSome, IsSome, IsTrue, MatchOption, is_some}
 use Rattle.std.specs.List.{list_any}
 use Rattle.std.proofs.lemmas.Bool.{and_from, and_parts, not-true, not_from_false, false_from_ne_true}
 use Rattle.std.proofs.lemmas.List.Elements.{All-contains}
@@ -35,7 +35,6 @@ use Rattle.policy_rules.proofs.NearestHolder.{privilege_named}
 use Rattle.policy_rules.specs.Admission.{Admitted}
 use Rattle.policy_rules.specs.Charge.{IsFileInCharge, is_privileged}
 use Rattle.policy_rules.specs.Delegation.{Holds, MayManage}
-use Rattle.policy_rules.specs.HoldersFound.{FindsConfirmer, FindsReceipter}
 use Rattle.policy_rules.specs.InstallApplication.{InstallingFails, IsTakenAid, guarded_privileges}
 use Rattle.policy_rules.specs.InstallApplicationRequests.{IsInstallOf, IsOutOfCharge, exceeds_by, is_loaded_as, may_manage_by}
 use Rattle.policy_rules.specs.Management.{acting}
@@ -45,7 +44,6 @@ use Rattle.policy_rules.specs.declared.install_application.InstallRequest.{Insta
 use Rattle.policy_rules.specs.declared.install_application.RuleII.{RuleII}
 use Rattle.policy_rules.specs.declared.install_application.RuleII.TheVariants.{II1, II2, II3, II4, II6, II7}
 use Rattle.policy_rules.specs.declared.install_application.TheConstants.{GUARDED}
-use Rattle.policy_rules.specs.declared.rule.Rule.{Rule}
 use Rattle.policy_rules.specs.declared.live.LoadName.{LoadName}
 
 one_true : (a b : Bool) → (a || b) ≡ true → (a ≡ true) ⊎ (b ≡ true)
@@ -240,9 +238,3 @@ module _ (page : ℕ → List ℕ) (tables : Tables) (domain : ℕ) (admitted : 
 
       pub roomy : (slot : ℕ) → IsFirstFree tables.entries.items slot → Fails II7 → ⊥
       roomy slot first fails = (let below = entry_room page tables admitted.at.registry acts.says slot first.within first.free in omega (arith, below, whole, fails))
-
--- who confirms a delegated command
-pub confirms : (delegated : Type 0) (tables : Tables) (admitted : Admitted) → delegated → (result : Result (Option ℕ) Rule)
-    → IfOk result (FindsReceipter tables admitted) → IfOk result (FindsConfirmer delegated tables admitted)
-confirms delegated tables admitted is (Ok slot) finds = inl (is, finds)
-confirms delegated tables admitted is (Err rule) finds = finds

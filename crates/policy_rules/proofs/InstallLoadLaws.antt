@@ -23,7 +23,8 @@ use Rattle.policy_rules.proofs.Judging.{judged}
 use Rattle.policy_rules.proofs.Lawful.{HasNoPlaceOn, IsLawful, IsReady, managed_apart, sound_with}
 use Rattle.policy_rules.proofs.LengthFields.{one_load_data}
 use Rattle.policy_rules.proofs.SameEffect.{effect_same, state_same}
-use Rattle.policy_rules.proofs.ManagedJudging.{IsJudgeable, own_pass}
+use Rattle.policy_rules.proofs.ManagedJudging.{own_pass}
+use Rattle.policy_rules.specs.RequestJudged.{IsJudgeable}
 
 -- what is not there
 gone : {A : Type 0} (o : Option A) → (IsSome o → ⊥) → o ≡ None

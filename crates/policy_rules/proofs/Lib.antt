@@ -92,6 +92,7 @@ pub mod PutKeyLaws
 pub mod PutKeyOnce
 pub mod ReceipterKept
 pub mod RemovedFits
+pub mod RequestJudging
 pub mod SameEffect
 pub mod SameThings
 pub mod SelectLaws

@@ -18,7 +18,8 @@ use Rattle.policy_rules.specs.MakeSelectable.{AsksToMakeSelectable, MakingSelect
 use Rattle.policy_rules.specs.declared.make_selectable.RuleMS.TheVariants.{MS2, MS4}
 use Rattle.policy_rules.proofs.ChangedFits.{changed_fits}
 use Rattle.policy_rules.proofs.LengthFields.{one_data}
-use Rattle.policy_rules.proofs.ManagedJudging.{own_pass, IsJudgeable, delegation_asked}
+use Rattle.policy_rules.proofs.ManagedJudging.{own_pass, delegation_asked}
+use Rattle.policy_rules.specs.RequestJudged.{IsJudgeable}
 use Rattle.policy_rules.proofs.ManagedLawful.{IsManagedLawful, IsPassedFor, MayFollow, receipt_judged, may_follow}
 use Rattle.policy_rules.specs.declared.make_selectable.RuleMS.{RuleMS}
 use Rattle.policy_rules.specs.ManagedForm.{command_form}

@@ -1,5 +1,5 @@
 -- How a form of card content management is judged: a command asks for one thing, so the rules on that are the command's.
-use Rattle.std.proofs.Common.{◌≡◌, ℕ, List, [], ◌∷◌, ◌++◌, Option, None, Some, inl, inr, refl, sym, ap, subst, ◌∙◌, arith}
+use Rattle.std.proofs.Common.{◌≡◌, List, [], ◌∷◌, ◌++◌, Option, None, Some, inl, inr, refl, sym, ap, subst, ◌∙◌, arith}
 use Rattle.std.specs.Prelude.{Contains, map}
 use Rattle.std.proofs.lemmas.List.Elements.{Contains-append_left, Contains-append_right}
 use Rattle.card_types.proofs.Members.{contains_cases, contains_map}
@@ -7,6 +7,7 @@ use Rattle.policy_rules.specs.Admission.{Admitted}
 use Rattle.policy_rules.specs.FirstFailing.{IsFirst}
 use Rattle.policy_rules.specs.ManagedForm.{AskedFails, CommandAsks, JudgedFails, JudgedForm, OwnFirst}
 use Rattle.policy_rules.specs.Management.{ManagementFails}
+use Rattle.policy_rules.specs.RequestJudged.{IsJudgeable, IsOnAsked, IsOwn, OfEach}
 use Rattle.policy_rules.specs.declared.management.RuleM.{RuleM}
 use Rattle.policy_rules.specs.declared.rule.Rule.{Rule}
 use Rattle.policy_rules.specs.declared.rule.Rule.TheVariants.{M, RC, TK}
@@ -14,22 +15,6 @@ use Rattle.policy_rules.proofs.FirstJoined.{first_behind, first_within}
 use Rattle.policy_rules.proofs.FirstUnique.{none_fails}
 use Rattle.policy_rules.specs.Delegation.{delegation_rules}
 use Rattle.std.specs.Option.{option_map}
-
--- a rule on what is asked, and one that is not on its approval
-abbrev pub IsOnAsked : Rule → Type 0
-IsOnAsked (M rule) = ⊥
-IsOnAsked rule = Unit {0}
-
-abbrev pub IsOwn : Rule → Type 0
-IsOwn (M rule) = ⊥
-IsOwn (TK rule) = ⊥
-IsOwn (RC rule) = ⊥
-IsOwn rule = Unit {0}
-
--- it holds of each of these rules
-abbrev pub OfEach : {R : Type 0} → (R → Type 0) → List R → Type 0
-OfEach holds [] = Unit {0}
-OfEach holds (rule ∷ rules) = holds rule × OfEach holds rules
 
 of_each : {R : Type 0} (holds : R → Type 0) (rules : List R) (rule : R) → OfEach holds rules → Contains rules rule → holds rule
 of_each holds [] rule each (k, within, is) = absurd (omega arith)
@@ -41,13 +26,6 @@ of_each holds (next ∷ rules) rule each there = elim (contains_cases next rules
 -- two rules pass
 pub two_pass : {A B : Type 0} → A × B → A × (B × Unit {0})
 two_pass both = (both.0, (both.1, tt))
-
--- A data field asks for one thing, and the rules are of their kinds.
-pub record IsJudgeable (form : JudgedForm) : Type 0 where
-  pub one_asked : (p1 p2 : ℕ) (body : List ℕ) (a b : form.Asked) → form.asks p1 p2 body a → form.asks p1 p2 body b → a ≡ b
-  pub own : (one : form.Own) → IsOwn (form.group one)
-  pub one_rule : (a b : form.Own) → form.group a ≡ form.group b → a ≡ b
-  pub approving : OfEach IsOnAsked form.delegation.rules
 
 -- the rules on the approval of a delegated command
 pub delegation_asked : OfEach IsOnAsked delegation_rules

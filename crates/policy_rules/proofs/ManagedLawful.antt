@@ -18,7 +18,8 @@ use Rattle.policy_rules.specs.declared.rule.Rule.TheVariants.{RC}
 use Rattle.policy_rules.proofs.AnsweredKeeps.{answered_fits, answered_keeps, answered_once}
 use Rattle.policy_rules.proofs.Instructed.{each_byte}
 use Rattle.policy_rules.proofs.Lawful.{IsLawful, IsReady, fits_as, load_same, managed_apart, placeless_same}
-use Rattle.policy_rules.proofs.ManagedJudging.{IsJudgeable, approval_passes, own_pass}
+use Rattle.policy_rules.proofs.ManagedJudging.{approval_passes, own_pass}
+use Rattle.policy_rules.specs.RequestJudged.{IsJudgeable}
 use Rattle.policy_rules.proofs.SameEffect.{effect_same, state_same}
 
 -- A command that no rule refuses asks for this.

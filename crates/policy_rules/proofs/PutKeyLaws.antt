@@ -11,7 +11,7 @@ use Rattle.policy_rules.specs.FirstFailing.{IsFirst}
 use Rattle.policy_rules.specs.declared.rule.Rule.{Rule}
 use Rattle.std.proofs.Common.{Option}
 use Rattle.card_types.specs.Registry.{Registry}
-use Rattle.policy_rules.proofs.ManagedJudging.{IsJudgeable}
+use Rattle.policy_rules.specs.RequestJudged.{IsJudgeable}
 use Rattle.policy_rules.proofs.ManagedLawful.{IsManagedLawful, IsPassedFor, MayFollow, may_follow}
 use Rattle.policy_rules.proofs.PutKeyOnce.{one_put, keys_put_once}
 use Rattle.policy_rules.specs.KeyVersions.{with_keys}

@@ -34,7 +34,8 @@ use Rattle.policy_rules.proofs.Judging.{judged}
 use Rattle.policy_rules.specs.declared.rule.Rule.{Rule}
 use Rattle.policy_rules.proofs.DataWell.{data_well}
 use Rattle.policy_rules.specs.CommandForm.{FailsFirst}
-use Rattle.policy_rules.proofs.ManagedJudging.{two_pass, IsJudgeable, own_refuses, approval_decides}
+use Rattle.policy_rules.proofs.ManagedJudging.{two_pass, own_refuses, approval_decides}
+use Rattle.policy_rules.specs.RequestJudged.{IsJudgeable}
 use Rattle.policy_rules.proofs.ManagedLawful.{IsManagedLawful, IsPassedFor, MayFollow, may_follow}
 use Rattle.policy_rules.specs.ManagedForm.{command_form}
 

@@ -91,12 +91,6 @@ ReceiptFails admitted RC1 =
     (receipter : List ℕ) × (key : Key) × IsReceipter admitted.at.registry (acting admitted) receipter key
     × MatchOption (entry_named admitted.at.registry receipter) ⊥ (λ entry. entry.receipts ≡ RECEIPT_LIMIT)
 
--- the rules on the approval of a delegated command; of other commands no token is read, and no receipt is made
-abbrev pub DelegatedFails : Admitted → Approval → Rule → Type 0
-DelegatedFails admitted approval (TK rule) = TokenFails admitted approval rule
-DelegatedFails admitted approval (RC rule) = ReceiptFails admitted rule
-DelegatedFails admitted approval rule = ⊥
-
 -- the card's unique data: Issuer Identification Number and Card Image Number of the Issuer Security Domain, as far as there are such
 abbrev pub value_of : Option Object → List ℕ
 value_of None = []

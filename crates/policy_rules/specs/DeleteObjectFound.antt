@@ -11,13 +11,12 @@ use Rattle.card_types.specs.declared.tables.LoadFile.{LoadFile}
 use Rattle.card_types.specs.declared.tables.Tables.{Tables}
 use Rattle.card_types.specs.declared.tables.TheConstants.{ISSUER_SLOT}
 use Rattle.policy_rules.specs.Admission.{Admitted}
-use Rattle.policy_rules.specs.Delegation.{Approval, DelegatedFails}
 use Rattle.policy_rules.specs.Charge.{IsInCharge}
-use Rattle.policy_rules.specs.DeleteObject.{IsDelegated, IsToGo}
+use Rattle.policy_rules.specs.DeleteObject.{IsToGo}
 use Rattle.policy_rules.specs.Management.{acting}
+use Rattle.policy_rules.specs.declared.delete_object.DeletionRequest.{DeletionRequest}
 use Rattle.policy_rules.specs.declared.live.Live.{Live}
 use Rattle.policy_rules.specs.declared.live.TheConstants.{CHANNELS}
-use Rattle.policy_rules.specs.declared.rule.Rule.{Rule}
 
 -- the entry in the slot comes from the Executable Load File in another
 abbrev pub IsFrom : Tables → ℕ → ℕ → Type 0
@@ -87,6 +86,10 @@ abbrev pub is_file_of : ℕ → Option LoadFile → Bool
 is_file_of slot None = false
 is_file_of slot (Some file) = file.domain == slot
 
--- the rules on the approval of a deletion fail for a delegated one alone
-abbrev pub DeletionApprovalFails : Admitted → Approval → Rule → Type 0
-DeletionApprovalFails admitted approval rule = IsDelegated admitted × DelegatedFails admitted approval rule
+-- The thing is this one, and it may go.
+pub record FindsThing (request : DeletionRequest) (tables : Tables) (live : Live) (thing : Found) : Type 0 where
+  pub named : aid_of tables thing ≡ Some request.aid
+  pub alone : IsAlone tables request.related thing
+  pub unselected : IsUnselected tables live request.related thing
+  pub unloaded : HasNoneFrom tables request.related thing
+  pub lasting : IsRemovable tables thing

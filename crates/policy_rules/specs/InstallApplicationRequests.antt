@@ -2,16 +2,20 @@
 use Rattle.std.specs.Prelude.{◌≡◌, ◌⊎◌, ℕ, ◌≤◌, ◌==◌, ◌&&◌, List, Bool, false, not, Option, None, Some, MatchOption, ◌≢◌, ◌||◌, length}
 use Rattle.apdu_core.specs.Apdu.{Apdu}
 use Rattle.card_types.specs.AidOrder.{same_aid}
+use Rattle.card_types.specs.First.{NoneFree}
+use Rattle.card_types.specs.Found.{aid_of}
 use Rattle.card_types.specs.Privileges.{authorized_management, bits_of, delegated_management, has}
 use Rattle.card_types.specs.Registry.{file_named}
 use Rattle.card_types.specs.declared.factory.TheConstants.{FACTORY_FILE}
+use Rattle.card_types.specs.declared.found.Found.{Found}
+use Rattle.card_types.specs.declared.found.Found.TheVariants.{File}
 use Rattle.card_types.specs.declared.privileges.Privileges.{Privileges}
 use Rattle.card_types.specs.declared.tables.Entry.{Entry as Slot}
+use Rattle.card_types.specs.declared.tables.Tables.{Tables}
 use Rattle.domain_tree.specs.Holders.{entry_has}
 use Rattle.policy_rules.specs.Admission.{Admitted}
 use Rattle.policy_rules.specs.Charge.{IsFileInCharge}
 use Rattle.policy_rules.specs.CommandForm.{CommandForm}
-use Rattle.policy_rules.specs.Delegation.{Approval, DelegatedFails, Holds}
 use Rattle.policy_rules.specs.HoldersFound.{approval_of}
 use Rattle.policy_rules.specs.InstallApplication.{AsksToInstall, InstallAsked}
 use Rattle.policy_rules.specs.InstallFields.{approval_in}
@@ -63,6 +67,8 @@ abbrev pub IsOutOfCharge : Admitted → List ℕ → Type 0
 IsOutOfCharge admitted aid =
     (aid ≢ FACTORY_FILE) × MatchOption (file_named admitted.at.registry aid) ⊥ (λ file. IsFileInCharge admitted.at.registry (acting admitted) file → ⊥)
 
--- the rules on the approval fail for a delegated command alone
-abbrev pub ApprovalFails : Admitted → Approval → Rule → Type 0
-ApprovalFails admitted approval rule = Holds admitted delegated_management × DelegatedFails admitted approval rule
+-- the Executable Load File is in the slot, nothing has the AID, and there is room for another entry
+pub record FindsSource (request : InstallRequest) (tables : Tables) (slot : ℕ) : Type 0 where
+  pub file : aid_of tables (File slot) ≡ Some request.file
+  pub free : (thing : Found) → aid_of tables thing ≢ Some request.aid
+  pub room : NoneFree tables.entries.items → ⊥

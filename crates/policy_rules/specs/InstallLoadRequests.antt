@@ -1,13 +1,9 @@
--- For the code inside. What the code reads of an INSTALL [for load], and its own rules.
+-- For the code inside. What the code reads of an INSTALL [for load].
 use Rattle.std.specs.Prelude.{◌≡◌, ℕ, ◌≤◌, List, [], Option, None, Some, length}
 use Rattle.apdu_core.specs.Apdu.{Apdu}
 use Rattle.card_types.specs.Aid.{IsAid}
-use Rattle.card_types.specs.Privileges.{delegated_management}
-use Rattle.policy_rules.specs.Admission.{Admitted}
-use Rattle.policy_rules.specs.Delegation.{Approval, Holds, TokenFails}
 use Rattle.policy_rules.specs.HoldersFound.{approval_of}
 use Rattle.policy_rules.specs.InstallLoad.{AsksToLoad, LoadData, load_approval}
-use Rattle.policy_rules.specs.declared.delegation.RuleTK.{RuleTK}
 use Rattle.policy_rules.specs.declared.install_load.LoadFields.{LoadFields}
 use Rattle.policy_rules.specs.declared.install_load.LoadInstallRequest.{LoadInstallRequest}
 
@@ -40,7 +36,3 @@ pub record IsLoadInstallRequest (request : LoadInstallRequest) (p1 p2 : ℕ) (bo
 -- The request is that of this command.
 abbrev pub IsLoadInstallOf : LoadInstallRequest → Apdu → Type 0
 IsLoadInstallOf request command = IsLoadInstallRequest request command.p1 command.p2 command.body
-
--- the rules on the token fail for a delegated command alone
-abbrev pub LoadTokenFails : Admitted → Approval → RuleTK → Type 0
-LoadTokenFails admitted approval rule = Holds admitted delegated_management × TokenFails admitted approval rule

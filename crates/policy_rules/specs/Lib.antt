@@ -52,6 +52,7 @@ pub mod PutKey
 pub mod PutKeyRules
 pub mod Receipts
 pub mod Refusal
+pub mod RequestJudged
 pub mod Requests
 pub mod Rules
 pub mod Run

@@ -1,12 +1,27 @@
--- For the code inside. The load session that a LOAD is for, as the code names it.
-use Rattle.std.specs.Prelude.{◌≡◌, ℕ, ◌==◌, List, [], ◌∷◌, Option, None, Some, if◌then◌else◌}
+-- For the code inside. The load session that an INSTALL [for load] begins, and the one that a LOAD is for, as the code names it.
+use Rattle.std.specs.Prelude.{◌≡◌, ◌≢◌, ℕ, ◌==◌, List, [], ◌∷◌, Option, None, Some, if◌then◌else◌, length}
+use Rattle.card_types.specs.First.{NoneFree}
+use Rattle.card_types.specs.Found.{aid_of}
+use Rattle.card_types.specs.declared.found.Found.{Found}
+use Rattle.card_types.specs.declared.found.Found.TheVariants.{Entry}
 use Rattle.card_types.specs.declared.tables.Tables.{Tables}
 use Rattle.policy_rules.specs.Admission.{Admitted}
-use Rattle.policy_rules.specs.Requests.{IsLoadNamed}
-use Rattle.policy_rules.specs.Sound.{IsSound}
+use Rattle.policy_rules.specs.InstallLoad.{file_domain_for}
+use Rattle.policy_rules.specs.InstallLoadRequests.{IsLoadInstallOf}
+use Rattle.policy_rules.specs.Requests.{ForActing, IsLoadNamed}
+use Rattle.policy_rules.specs.Sound.{IsHashLength, IsSound}
+use Rattle.policy_rules.specs.declared.install_load.LoadInstallRequest.{LoadInstallRequest}
 use Rattle.policy_rules.specs.declared.live.LoadName.{LoadName}
 use Rattle.policy_rules.specs.declared.load.RuleLO.{RuleLO}
 use Rattle.policy_rules.specs.declared.load.RuleLO.TheVariants.{LO1, LO2}
+
+-- The domain of the Executable Load File is in the slot, nothing has the file's AID, and there is room for another file.
+pub record FindsDomain (request : LoadInstallRequest) (tables : Tables) (domain slot : ℕ) : Type 0 where
+  pub found : ForActing tables domain (λ page admitted. (is : IsLoadInstallOf request admitted.command)
+      → aid_of tables (Entry slot) ≡ Some (file_domain_for admitted is.given))
+  pub hash : IsHashLength (length request.hash.now)
+  pub free : (thing : Found) → aid_of tables thing ≢ Some request.file
+  pub room : NoneFree tables.files.items → ⊥
 
 -- the load session of a channel, as it is named
 abbrev pub named_on : ℕ → Option LoadName → Option LoadName

@@ -58,13 +58,20 @@ abbrev pub JudgedFails : JudgedForm → Admitted → Rule → Type 0
 JudgedFails form admitted (M rule) = ManagementFails admitted rule
 JudgedFails form admitted rule = (asked : form.Asked) × CommandAsks form admitted asked × AskedFails form admitted asked rule
 
+-- its rules, in the order in which they are judged, and the first that fails, or none
+abbrev pub judged_rules : JudgedForm → List Rule
+judged_rules form = map M form.first_rules ++ map form.group form.own_rules ++ form.delegation.rules
+
+abbrev pub JudgedFirst : JudgedForm → Admitted → Option Rule → Type 0
+JudgedFirst form admitted = IsFirst (JudgedFails form admitted) (judged_rules form)
+
 -- the command that is judged so, may have a receipt that names these, and does this
 abbrev pub judged_form : JudgedForm → (Admitted → List (List ℕ) → Type 0) → (Admitted → Effect → Type 0) → CommandForm
 judged_form form confirms does = record {
   instruction = form.instruction;
   takes = form.takes;
   takes_field = λ p1 p2 body. (asked : form.Asked) × form.asks p1 p2 body asked;
-  rules = map M form.first_rules ++ map form.group form.own_rules ++ form.delegation.rules;
+  rules = judged_rules form;
   fails = JudgedFails form;
   confirms = confirms;
   does = does;

@@ -5,13 +5,13 @@ ghost use Rattle.std.specs.Prelude.{◌≡◌, ◌↔◌, ◌≤◌, ℕ, List, 
 ghost use Rattle.std.specs.List.{list_any};
 ghost use Rattle.card_types.specs.InOrder.{IsInOrder};
 ghost use Rattle.card_types.specs.KeySets.{HasKey};
-ghost use Rattle.card_types.specs.Privileges.{bits_of};
+ghost use Rattle.card_types.specs.Privileges.{bits_of, delegated_management};
 ghost use Rattle.card_types.specs.Represents.{domain_aid, key_of};
 ghost use Rattle.card_types.specs.Slots.{held};
 ghost use Rattle.card_types.specs.Well.{IsKeyLength};
 ghost use Rattle.domain_tree.specs.Holders.{entry_has};
 ghost use Rattle.policy_rules.specs.Admission.{Admitted};
-ghost use Rattle.policy_rules.specs.Delegation.{DelegatedFails, IsNearestHolder, NoHolder, ReceiptFails, TokenFails, delegation_rules, receipt_refusal, token_refusal, token_rules};
+ghost use Rattle.policy_rules.specs.Delegation.{Holds, IsNearestHolder, NoHolder, ReceiptFails, TokenFails, receipt_refusal, token_refusal, token_rules};
 ghost use Rattle.policy_rules.specs.FirstFailing.{IsFirst};
 ghost use Rattle.policy_rules.specs.HoldersFound.{FindsReceipter, IsSignedFor, MayReceipt, approval_of, has_with_key_in, holds_lone_key as holds_lone_key_by};
 ghost use Rattle.policy_rules.specs.Management.{acting};
@@ -19,7 +19,6 @@ ghost use Rattle.policy_rules.specs.Requests.{ActsIn, ForActing};
 ghost use Rattle.policy_rules.specs.declared.delegation.RuleRC.TheVariants.{RC1};
 ghost use Rattle.tokens_receipts.specs.Token.{token};
 
-use crate::rule::Rule;
 use aes_block::{BlockKey, SealingAes128, SealingAes192, SealingAes256};
 use apdu_core::Status;
 use bitflags::Flags;
@@ -133,6 +132,13 @@ pub fn holds(entries: &[Option<Entry>], slot: u8, privilege: Privileges) -> bool
     }
 }
 
+/// Whether the domain in a slot manages content as it is delegated to.
+pub(crate) fn is_delegate(tables: &Tables, domain: u8) -> bool
+    ensures { ForActing tables.now domain (λ page admitted. IsTrue result ↔ Holds admitted delegated_management) }
+{
+    holds(&tables.entries, domain, Privileges::DELEGATED_MANAGEMENT)
+}
+
 fn has_lone_key(keys: &[Option<KeyRec>], owner: u8, version: u8) -> bool
     ensures { result ≡ list_any (holds_lone_key_by owner version) keys.now }
 {
@@ -239,25 +245,4 @@ pub(crate) fn judge_receipt(tables: &Tables, domain: u8) -> Result<Option<u8>, R
         return Err(RuleRC::RC1);
     }
     Ok(Some(slot))
-}
-
-/// Judges the token of a delegated command of the domain in a slot, and whether the command can be confirmed: the slot of the domain
-/// that confirms it, or none where nobody does.
-pub fn judge_delegated(tables: &Tables, domain: u8, signed: &Signed<'_>) -> Result<Option<u8>, Rule>
-    requires in_order { IsInOrder tables.now }
-    requires short { length signed.now.before.now ≤ 255 }
-    ensures passed { (page : ℕ → List ℕ) (admitted : Admitted) → ActsIn page tables.now domain admitted → IsSignedFor admitted signed.now
-        → OnOk result (IsFirst (DelegatedFails admitted (approval_of signed.now)) delegation_rules None) }
-    ensures refused { (page : ℕ → List ℕ) (admitted : Admitted) → ActsIn page tables.now domain admitted → IsSignedFor admitted signed.now
-        → IfErr result (λ rule. IsFirst (DelegatedFails admitted (approval_of signed.now)) delegation_rules (Some rule)) }
-    ensures found { (page : ℕ → List ℕ) (admitted : Admitted) → ActsIn page tables.now domain admitted → IfOk result (FindsReceipter tables.now admitted) }
-    ensures able { IfOk result (λ found. IfSome found (MayReceipt tables.now)) }
-{
-    if let Err(rule) = judge_token(tables, domain, signed) {
-        return Err(Rule::TK(rule));
-    }
-    match judge_receipt(tables, domain) {
-        Ok(found) => Ok(found),
-        Err(rule) => Err(Rule::RC(rule)),
-    }
 }

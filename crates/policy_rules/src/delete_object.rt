@@ -1,29 +1,26 @@
 //! DELETE of an application, a security domain or an Executable Load File (GlobalPlatform Card Specification 2.3.1, 9.5 and 11.2).
 
-ghost use Rattle.std.specs.Prelude.{◌≡◌, ◌↔◌, ◌⊎◌, ◌≤◌, ◌==◌, ℕ, List, None, Some, IfErr, IfNone, IfOk, IfSome, IsTrue, OnOk, length};
+ghost use Rattle.std.specs.Prelude.{◌≡◌, ◌↔◌, ◌⊎◌, ◌≤◌, ◌==◌, ℕ, List, Some, IfErr, IfNone, IfOk, IfSome, IsTrue, length, refl, true};
 ghost use Rattle.card_types.specs.Found.{aid_of};
 ghost use Rattle.card_types.specs.InOrder.{IsInOrder};
 ghost use Rattle.policy_rules.specs.Admission.{Admitted};
 ghost use Rattle.policy_rules.specs.DeleteKey.{DeleteParameters};
-ghost use Rattle.policy_rules.specs.DeleteObject.{AsksToDelete, DeletingFails, DeletionAsked, IsDelegated, IsTokenField, managed_delete_object, delete_object_refusal};
-ghost use Rattle.policy_rules.specs.DeleteObjectFound.{DeletionApprovalFails, HasNoneFrom, IsAlone, IsPartOutOfCharge, IsRemovable, IsUnselected};
+ghost use Rattle.policy_rules.specs.DeleteObject.{AsksToDelete, DeletingFails, DeletionAsked, IsTokenField, managed_delete_object, delete_object_refusal};
+ghost use Rattle.policy_rules.specs.DeleteObjectFound.{FindsThing, HasNoneFrom, IsAlone, IsPartOutOfCharge, IsUnselected};
 ghost use Rattle.policy_rules.specs.DeleteObjectRequests.{IsDeletionOf, IsDeletionRequest};
-ghost use Rattle.policy_rules.specs.FirstFailing.{IsFirst};
-ghost use Rattle.policy_rules.specs.HoldersFound.{FindsConfirmer, IsSignedFor, MayReceipt, approval_of};
-ghost use Rattle.policy_rules.specs.Delegation.{delegation_rules};
 ghost use Rattle.policy_rules.specs.InstallApplicationRequests.{IsRefusedBy};
-ghost use Rattle.policy_rules.specs.Requests.{ActsIn, ForActingLive};
+ghost use Rattle.policy_rules.specs.Requests.{ActsIn, ForActingLive, RepresentsState};
+ghost use Rattle.policy_rules.specs.declared.live.TheConstants.{CHANNELS};
 ghost use Rattle.policy_rules.specs.declared.delete_object.RuleDO.TheVariants.{DO3, DO4};
-ghost use Rattle.policy_rules.specs.CommandForm.{FailsFirst};
-ghost use Rattle.policy_rules.specs.ManagedForm.{OwnFirst, command_form};
+ghost use Rattle.policy_rules.specs.ManagedForm.{command_form};
 
 use crate::charge::has_charge;
-use crate::delegation::{Signed, holds, judge_delegated};
+use crate::delegation::{Signed, holds};
 use crate::extradition::is_fixed;
 use crate::in_use::{has_stranger, has_user, is_in_use, is_source};
 use crate::install_application::may_manage;
+use crate::judged_request::JudgedRequest;
 use crate::live::Live;
-use crate::management::judge_management;
 use crate::rule::{Rule, RulePS};
 use apdu_core::Status;
 use bertlv::read;
@@ -78,14 +75,6 @@ pub struct DeletionRequest<'a> {
     pub signed: Signed<'a>,
 }
 
-/// What the judgement of a DELETE of an object found: the thing, and the slot of the domain that confirms the command, or none where
-/// nobody does.
-#[derive(Clone, Copy, Debug)]
-pub struct Deletion {
-    pub thing: Found,
-    pub receipter: Option<u8>,
-}
-
 // Whether something that is to go is not in the charge of the domain in a slot.
 fn is_out_of_charge(tables: &Tables, domain: u8, thing: Found, related: bool) -> bool
     requires in_order { IsInOrder tables.now }
@@ -137,96 +126,65 @@ fn is_needed(tables: &Tables, live: &Live, thing: Found, request: &DeletionReque
     }
 }
 
-// The rules of DELETE of an object itself, for the domain in a slot: the thing.
-fn judge_removal(
-    tables: &Tables,
-    live: &Live,
-    domain: u8,
-    request: &DeletionRequest<'_>,
-) -> Result<Found, RuleDO>
-    requires in_order { IsInOrder tables.now }
-    ensures passed { ForActingLive tables.now live.now domain (λ page admitted. (is : IsDeletionOf request.now admitted.command)
-        → OnOk result (OwnFirst managed_delete_object.judged admitted is.asked None)) }
-    ensures refused { ForActingLive tables.now live.now domain (λ page admitted. (is : IsDeletionOf request.now admitted.command)
-        → IfErr result (λ rule. OwnFirst managed_delete_object.judged admitted is.asked (Some rule))) }
-    ensures thing { IfOk result (λ thing. aid_of tables.now thing ≡ Some request.now.aid) }
-    ensures alone { IfOk result (λ thing. IsAlone tables.now request.now.related thing) }
-    ensures unselected { IfOk result (λ thing. IsUnselected tables.now live.now request.now.related thing) }
-    ensures unloaded { IfOk result (λ thing. HasNoneFrom tables.now request.now.related thing) }
-    ensures lasting { IfOk result (λ thing. IsRemovable tables.now thing) }
-{
-    let Some(thing) = find(tables, &request.aid) else {
-        return Err(RuleDO::DO1);
-    };
-    if is_fixed(&request.aid) {
-        return Err(RuleDO::DO2);
-    }
-    if is_barred(tables, domain, thing, request) {
-        return Err(RuleDO::DO3);
-    }
-    if is_needed(tables, live, thing, request) {
-        return Err(RuleDO::DO4);
-    }
-    Ok(thing)
-}
+impl JudgedRequest for DeletionRequest<'_> {
+    type Own = RuleDO;
 
-// Whether the domain in a slot deletes as it is delegated to.
-fn is_delegated(tables: &Tables, domain: u8) -> bool
-    ensures { (page : ℕ → List ℕ) (admitted : Admitted) → ActsIn page tables.now domain admitted → IsTrue result ↔ IsDelegated admitted }
-{
-    holds(&tables.entries, domain, Privileges::DELEGATED_MANAGEMENT)
-        && !holds(&tables.entries, domain, Privileges::GLOBAL_DELETE)
-}
+    /// The thing.
+    type Found = Found;
 
-// The rules on the approval of a deletion by the domain in a slot, which are for a delegated one: the slot of the domain that confirms
-// it, or none where nobody does.
-fn judge_approval(tables: &Tables, domain: u8, signed: &Signed<'_>) -> Result<Option<u8>, Rule>
-    requires in_order { IsInOrder tables.now }
-    requires short { length signed.now.before.now ≤ 255 }
-    ensures passed { (page : ℕ → List ℕ) (admitted : Admitted) → ActsIn page tables.now domain admitted → IsSignedFor admitted signed.now
-        → OnOk result (IsFirst (DeletionApprovalFails admitted (approval_of signed.now)) delegation_rules None) }
-    ensures refused { (page : ℕ → List ℕ) (admitted : Admitted) → ActsIn page tables.now domain admitted → IsSignedFor admitted signed.now
-        → IfErr result (λ rule. IsFirst (DeletionApprovalFails admitted (approval_of signed.now)) delegation_rules (Some rule)) }
-    ensures found { (page : ℕ → List ℕ) (admitted : Admitted) → ActsIn page tables.now domain admitted
-        → IfOk result (FindsConfirmer (IsDelegated admitted) tables.now admitted) }
-    ensures able { IfOk result (λ found. IfSome found (MayReceipt tables.now)) }
-{
-    if !is_delegated(tables, domain) {
-        return Ok(None);
+    ghost form = { managed_delete_object.judged };
+
+    ghost receipted = { true };
+
+    ghost own = { λ rule. rule };
+
+    ghost reads = { IsDeletionOf };
+
+    ghost asked = { λ request command is. is.asked };
+
+    ghost brought = { λ request. request.signed };
+
+    ghost told = { λ page tables live admitted. RepresentsState page tables live admitted.at × (length admitted.at.volatile.channels ≡ CHANNELS) };
+
+    ghost finds = { λ request tables live domain. FindsThing request tables live };
+
+    fn judge_own(&self, tables: &Tables, live: &Live, domain: u8) -> Result<Found, RuleDO> {
+        let Some(thing) = find(tables, &self.aid) else {
+            return Err(RuleDO::DO1);
+        };
+        if is_fixed(&self.aid) {
+            return Err(RuleDO::DO2);
+        }
+        if is_barred(tables, domain, thing, self) {
+            return Err(RuleDO::DO3);
+        }
+        if is_needed(tables, live, thing, self) {
+            return Err(RuleDO::DO4);
+        }
+        Ok(thing)
     }
-    judge_delegated(tables, domain, signed)
-}
 
-/// Judges a DELETE of an object for the domain in a slot. What is kept of the state beside the tables tells what is selected, and the
-/// load session.
-pub fn judge_deletion(
-    tables: &Tables,
-    live: &Live,
-    domain: u8,
-    request: &DeletionRequest<'_>,
-) -> Result<Deletion, Rule>
-    requires in_order { IsInOrder tables.now }
-    requires short { length request.now.signed.before.now ≤ 255 }
-    ensures passed { ForActingLive tables.now live.now domain (λ page admitted. IsDeletionOf request.now admitted.command
-        → OnOk result (FailsFirst (command_form managed_delete_object) admitted None)) }
-    ensures refused { ForActingLive tables.now live.now domain (λ page admitted. IsDeletionOf request.now admitted.command
-        → IfErr result (λ rule. FailsFirst (command_form managed_delete_object) admitted (Some rule))) }
-    ensures thing { IfOk result (λ found. aid_of tables.now found.thing ≡ Some request.now.aid) }
-    ensures receipter { (page : ℕ → List ℕ) (admitted : Admitted) → ActsIn page tables.now domain admitted
-        → IfOk result (λ found. FindsConfirmer (IsDelegated admitted) tables.now admitted found.receipter) }
-    ensures able { IfOk result (λ found. IfSome found.receipter (MayReceipt tables.now)) }
-    ensures alone { IfOk result (λ found. IsAlone tables.now request.now.related found.thing) }
-    ensures unselected { IfOk result (λ found. IsUnselected tables.now live.now request.now.related found.thing) }
-    ensures unloaded { IfOk result (λ found. HasNoneFrom tables.now request.now.related found.thing) }
-    ensures lasting { IfOk result (λ found. IsRemovable tables.now found.thing) }
-{
-    judge_management(tables, domain)?;
-    let thing = match judge_removal(tables, live, domain, request) {
-        Ok(thing) => thing,
-        Err(rule) => return Err(Rule::DO(rule)),
-    };
-    let receipter = judge_approval(tables, domain, &request.signed)?;
-    Ok(Deletion { thing, receipter })
+    fn grouped(&self, rule: RuleDO) -> Rule {
+        Rule::DO(rule)
+    }
+
+    // As it is delegated to, unless it may delete whatever it wants.
+    fn is_delegated(&self, tables: &Tables, domain: u8) -> bool {
+        holds(&tables.entries, domain, Privileges::DELEGATED_MANAGEMENT)
+            && !holds(&tables.entries, domain, Privileges::GLOBAL_DELETE)
+    }
+
+    fn is_receipted(&self) -> bool {
+        true
+    }
+
+    fn signed(&self) -> Signed<'_> {
+        self.signed
+    }
+
+    ghost lawful = { record { first_rules = refl; approval_rules = refl } };
+
+    ghost meant = { λ request command is. record { asks = is.asks; parameters = is.parameters; approval = is.approval } };
 }
 
 // The token that a field has, or no bytes where the field has none.

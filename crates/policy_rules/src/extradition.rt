@@ -1,32 +1,28 @@
 //! INSTALL [for extradition] (GlobalPlatform Card Specification 2.3.1, 9.4.1 and 11.5).
 
-ghost use Rattle.std.specs.Prelude.{◌≡◌, ◌↔◌, ◌⊎◌, ◌≤◌, ℕ, List, None, Some, IfErr, IfNone, IfOk, IfSome, IsSome, IsTrue, OnOk, length};
+ghost use Rattle.std.specs.Prelude.{◌≡◌, ◌↔◌, ◌⊎◌, ◌≤◌, ℕ, List, Some, IfErr, IfNone, IfOk, IfSome, IsTrue, length, refl, true};
 ghost use Rattle.card_types.specs.Found.{aid_of};
 ghost use Rattle.card_types.specs.InOrder.{IsInOrder};
-ghost use Rattle.card_types.specs.Registry.{Registry};
 ghost use Rattle.card_types.specs.Privileges.{authorized_management, delegated_management};
-ghost use Rattle.card_types.specs.Represents.{Represents, domain_aid};
-ghost use Rattle.card_types.specs.Slots.{held};
-ghost use Rattle.card_types.specs.Well.{Well};
+ghost use Rattle.card_types.specs.Represents.{Represents};
 ghost use Rattle.card_types.specs.declared.factory.TheConstants.{FACTORY_FILE, ISSUER};
 ghost use Rattle.card_types.specs.declared.found.Found.TheVariants.{Entry};
 ghost use Rattle.policy_rules.specs.Admission.{Admitted};
 ghost use Rattle.policy_rules.specs.Delegation.{Holds};
-ghost use Rattle.policy_rules.specs.Extradition.{AsksToExtradite, ExtraditingFails, ExtraditionParameters, IsOutOfReach, IsUnapprovable, domain_of_thing, managed_extradition, extradition_refusal, is_personalized};
-ghost use Rattle.policy_rules.specs.ExtraditionRequests.{IsExtraditionOf, IsExtraditionRequest};
-ghost use Rattle.policy_rules.specs.HoldersFound.{FindsConfirmer, MayReceipt};
+ghost use Rattle.policy_rules.specs.Extradition.{AsksToExtradite, ExtraditingFails, ExtraditionParameters, IsOutOfReach, IsUnapprovable, managed_extradition, extradition_refusal, is_personalized};
+ghost use Rattle.policy_rules.specs.ExtraditionRequests.{FindsMove, IsExtraditionOf, IsExtraditionRequest};
 ghost use Rattle.policy_rules.specs.InstallFields.{InstallData};
 ghost use Rattle.policy_rules.specs.InstallApplicationRequests.{IsRefusedBy};
+ghost use Rattle.policy_rules.specs.ManagedForm.{command_form};
 ghost use Rattle.policy_rules.specs.Requests.{ActsIn};
 ghost use Rattle.policy_rules.specs.declared.extradition.RuleEX.TheVariants.{EX5, EX7};
-ghost use Rattle.policy_rules.specs.CommandForm.{FailsFirst};
-ghost use Rattle.policy_rules.specs.ManagedForm.{OwnFirst, command_form};
 
 use crate::charge::{domain_of, find_domain, has_charge, is_at_or_above, is_over};
-use crate::delegation::{Signed, TOKEN_KEY, holds, nearest_with_key};
-use crate::install_application::{is_factory_file, judge_approval, may_manage};
+use crate::delegation::{Signed, TOKEN_KEY, holds, is_delegate, nearest_with_key};
+use crate::install_application::{is_factory_file, may_manage};
 use crate::install_fields::read_fields;
-use crate::management::judge_management;
+use crate::judged_request::JudgedRequest;
+use crate::live::Live;
 use crate::rule::{Rule, RulePS};
 use apdu_core::Status;
 use card_types::{Aid, Found, ISSUER, Life, LifeMark, Privileges, Tables, find, in_slot};
@@ -91,14 +87,12 @@ pub struct ExtraditionRequest<'a> {
     pub signed: Signed<'a>,
 }
 
-/// What the judgement of an INSTALL [for extradition] found: the thing, the slots of its domain and of its new one, and that of
-/// the domain that confirms the command, or none where nobody does.
+/// What the rules of an INSTALL [for extradition] find: the thing, and the slots of its domain and of its new one.
 #[derive(Clone, Copy, Debug)]
 pub struct Extradition {
     pub thing: Found,
     pub from: u8,
     pub to: u8,
-    pub receipter: Option<u8>,
 }
 
 /// The life cycle state of a security domain that is personalized, and not locked.
@@ -182,80 +176,78 @@ fn is_barred(tables: &Tables, domain: u8, request: &ExtraditionRequest<'_>, to: 
     is_out_of_reach(tables, domain, request, to) || is_unapprovable(tables, domain, request, to)
 }
 
-// The rules of INSTALL [for extradition] itself, for the domain in a slot: the thing, and the slot of its new domain.
-fn judge_move(
-    tables: &Tables,
-    domain: u8,
-    request: &ExtraditionRequest<'_>,
-) -> Result<(Found, u8), RuleEX>
-    requires in_order { IsInOrder tables.now }
-    ensures passed { (page : ℕ → List ℕ) (admitted : Admitted) → ActsIn page tables.now domain admitted
-        → (is : IsExtraditionOf request.now admitted.command) → OnOk result (OwnFirst managed_extradition.judged admitted is.given None) }
-    ensures refused { (page : ℕ → List ℕ) (admitted : Admitted) → ActsIn page tables.now domain admitted
-        → (is : IsExtraditionOf request.now admitted.command) → IfErr result (λ rule. OwnFirst managed_extradition.judged admitted is.given (Some rule)) }
-    ensures thing { IfOk result (λ found. aid_of tables.now found.0 ≡ Some request.now.aid) }
-    ensures to { IfOk result (λ found. aid_of tables.now (Entry found.1) ≡ Some request.now.to) }
-{
-    if !may_manage(&tables.entries, domain) {
-        return Err(RuleEX::EX1);
-    }
-    let Some(thing) = find(tables, &request.aid) else {
-        return Err(RuleEX::EX2);
-    };
-    let Some(to) = find_domain(tables, &request.to) else {
-        return Err(RuleEX::EX2);
-    };
-    if is_fixed(&request.aid) {
-        return Err(RuleEX::EX3);
-    }
-    if !has_charge(tables, domain, thing) {
-        return Err(RuleEX::EX4);
-    }
-    if is_unfit(tables, to) {
-        return Err(RuleEX::EX5);
-    }
-    if is_over(tables, thing, to) {
-        return Err(RuleEX::EX6);
-    }
-    if is_barred(tables, domain, request, to) {
-        return Err(RuleEX::EX7);
-    }
-    Ok((thing, to))
-}
+impl JudgedRequest for ExtraditionRequest<'_> {
+    type Own = RuleEX;
 
-/// Judges an INSTALL [for extradition] for the domain in a slot.
-pub fn judge_extradition(
-    tables: &Tables,
-    domain: u8,
-    request: &ExtraditionRequest<'_>,
-) -> Result<Extradition, Rule>
-    requires in_order { IsInOrder tables.now }
-    requires short { length request.now.signed.before.now ≤ 255 }
-    ensures passed { (page : ℕ → List ℕ) (admitted : Admitted) → ActsIn page tables.now domain admitted
-        → IsExtraditionOf request.now admitted.command → OnOk result (FailsFirst (command_form managed_extradition) admitted None) }
-    ensures refused { (page : ℕ → List ℕ) (admitted : Admitted) → ActsIn page tables.now domain admitted
-        → IsExtraditionOf request.now admitted.command → IfErr result (λ rule. FailsFirst (command_form managed_extradition) admitted (Some rule)) }
-    ensures thing { IfOk result (λ found. aid_of tables.now found.thing ≡ Some request.now.aid) }
-    ensures from { (page : ℕ → List ℕ) (said : Registry) → Represents page tables.now said → Well said
-        → IfOk result (λ found. domain_aid tables.now.entries.items found.from ≡ domain_of_thing said request.now.aid) }
-    ensures to { IfOk result (λ found. aid_of tables.now (Entry found.to) ≡ Some request.now.to) }
-    ensures receipter { (page : ℕ → List ℕ) (admitted : Admitted) → ActsIn page tables.now domain admitted
-        → IfOk result (λ found. FindsConfirmer (Holds admitted delegated_management) tables.now admitted found.receipter) }
-    ensures able { IfOk result (λ found. IfSome found.receipter (MayReceipt tables.now)) }
-    ensures old { IfOk result (λ found. IsSome (held tables.now.entries.items found.from)) }
-{
-    judge_management(tables, domain)?;
-    let (thing, to) = match judge_move(tables, domain, request) {
-        Ok(found) => found,
-        Err(rule) => return Err(Rule::EX(rule)),
-    };
-    let receipter = judge_approval(tables, domain, &request.signed)?;
-    Ok(Extradition {
-        thing,
-        from: domain_of(tables, thing),
-        to,
-        receipter,
-    })
+    type Found = Extradition;
+
+    ghost form = { managed_extradition.judged };
+
+    ghost receipted = { true };
+
+    ghost own = { λ rule. rule };
+
+    ghost reads = { IsExtraditionOf };
+
+    ghost asked = { λ request command is. is.given };
+
+    ghost brought = { λ request. request.signed };
+
+    ghost told = { λ page tables live admitted. Unit {0} };
+
+    ghost finds = { λ request tables live domain. FindsMove request tables };
+
+    fn judge_own(&self, tables: &Tables, _live: &Live, domain: u8) -> Result<Extradition, RuleEX> {
+        if !may_manage(&tables.entries, domain) {
+            return Err(RuleEX::EX1);
+        }
+        let Some(thing) = find(tables, &self.aid) else {
+            return Err(RuleEX::EX2);
+        };
+        let Some(to) = find_domain(tables, &self.to) else {
+            return Err(RuleEX::EX2);
+        };
+        if is_fixed(&self.aid) {
+            return Err(RuleEX::EX3);
+        }
+        if !has_charge(tables, domain, thing) {
+            return Err(RuleEX::EX4);
+        }
+        if is_unfit(tables, to) {
+            return Err(RuleEX::EX5);
+        }
+        if is_over(tables, thing, to) {
+            return Err(RuleEX::EX6);
+        }
+        if is_barred(tables, domain, self, to) {
+            return Err(RuleEX::EX7);
+        }
+        Ok(Extradition {
+            thing,
+            from: domain_of(tables, thing),
+            to,
+        })
+    }
+
+    fn grouped(&self, rule: RuleEX) -> Rule {
+        Rule::EX(rule)
+    }
+
+    fn is_delegated(&self, tables: &Tables, domain: u8) -> bool {
+        is_delegate(tables, domain)
+    }
+
+    fn is_receipted(&self) -> bool {
+        true
+    }
+
+    fn signed(&self) -> Signed<'_> {
+        self.signed
+    }
+
+    ghost lawful = { record { first_rules = refl; approval_rules = refl } };
+
+    ghost meant = { λ request command is. record { asks = is.asks; parameters = is.parameters; approval = is.approval } };
 }
 
 // What the data field asks for.

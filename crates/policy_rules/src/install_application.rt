@@ -1,10 +1,9 @@
 //! INSTALL [for install] (GlobalPlatform Card Specification 2.3.1, 9.3.2 and 11.5).
 
-ghost use Rattle.std.specs.Prelude.{◌≡◌, ◌↔◌, ◌≢◌, ◌≤◌, ◌⊎◌, ◌&&◌, ℕ, List, None, Some, IfErr, IfNone, IfOk, IfSome, IsTrue, OnOk, length};
+ghost use Rattle.std.specs.Prelude.{◌≡◌, ◌↔◌, ◌≢◌, ◌≤◌, ◌⊎◌, ◌&&◌, ℕ, List, None, Some, IfErr, IfNone, IfOk, IfSome, IsTrue, length, refl, true};
 ghost use Rattle.std.specs.List.{list_any};
 ghost use Rattle.bertlv.specs.Spelling.{AreElements, Element};
 ghost use Rattle.card_types.specs.AidOrder.{same_aid};
-ghost use Rattle.card_types.specs.First.{NoneFree};
 ghost use Rattle.card_types.specs.Found.{aid_of};
 ghost use Rattle.card_types.specs.InOrder.{IsInOrder};
 ghost use Rattle.card_types.specs.Privileges.{authorized_management, delegated_management, has};
@@ -18,20 +17,16 @@ ghost use Rattle.card_types.specs.declared.found.Found.TheVariants.{File};
 ghost use Rattle.card_types.specs.declared.tables.LoadFile.{LoadFile};
 ghost use Rattle.policy_rules.specs.Admission.{Admitted};
 ghost use Rattle.policy_rules.specs.Charge.{IsFileInCharge};
-ghost use Rattle.policy_rules.specs.Delegation.{Holds, delegation_rules};
-ghost use Rattle.policy_rules.specs.FirstFailing.{IsFirst};
 ghost use Rattle.policy_rules.specs.InstallApplication.{AreInstallParameters, AsksToInstall, InstallAsked, InstallParameters, IsTakenAid, MayBeMade, managed_install, install_refusal};
-ghost use Rattle.policy_rules.specs.HoldersFound.{FindsConfirmer, IsSignedFor, MayReceipt, approval_of};
-ghost use Rattle.policy_rules.specs.InstallApplicationRequests.{ApprovalFails, IsInstallOf, IsInstallRequest, IsOutOfCharge, IsRefusedBy, exceeds_by, is_loaded_as, may_manage_by};
+ghost use Rattle.policy_rules.specs.InstallApplicationRequests.{FindsSource, IsInstallOf, IsInstallRequest, IsOutOfCharge, IsRefusedBy, exceeds_by, is_loaded_as, may_manage_by};
 ghost use Rattle.policy_rules.specs.Management.{acting};
-ghost use Rattle.policy_rules.specs.Requests.{ActsIn, ForActing, IsLoadNamed};
-ghost use Rattle.policy_rules.specs.CommandForm.{FailsFirst};
-ghost use Rattle.policy_rules.specs.ManagedForm.{OwnFirst, command_form};
+ghost use Rattle.policy_rules.specs.ManagedForm.{command_form};
+ghost use Rattle.policy_rules.specs.Requests.{ActsIn, IsLoadNamed};
 
-use crate::delegation::{Signed, holds, judge_delegated};
+use crate::delegation::{Signed, holds, is_delegate};
 use crate::install_fields::read_fields;
+use crate::judged_request::JudgedRequest;
 use crate::live::Live;
-use crate::management::judge_management;
 use crate::rule::{Rule, RulePS};
 use crate::store_data::has_tag;
 use apdu_core::Status;
@@ -181,14 +176,6 @@ pub(crate) fn parse_application(p1: u8, p2: u8, body: &[u8]) -> Result<InstallRe
     }
 }
 
-/// What the judgement of an INSTALL [for install] found: the slot of the Executable Load File, and that of the domain that
-/// confirms the command, or none where nobody does.
-#[derive(Clone, Copy, Debug)]
-pub struct Installation {
-    pub file: u8,
-    pub receipter: Option<u8>,
-}
-
 /// The privileges that are granted to nobody: DAP Verification, Mandated DAP, Final Application and Ciphered Load File Data Block.
 const REFUSED: u32 = 0x41_02_40;
 
@@ -332,97 +319,73 @@ fn exceeds_domain(entries: &[Option<Slot>], domain: u8, privileges: Privileges) 
     GUARDED.iter().any(|privilege| exceeds(entries, domain, privileges, *privilege))
 }
 
-// The rules of INSTALL [for install] itself, for the domain in a slot: the slot of the Executable Load File.
-fn judge_application(
-    tables: &Tables,
-    live: &Live,
-    domain: u8,
-    request: &InstallRequest<'_>,
-) -> Result<u8, RuleII>
-    requires in_order { IsInOrder tables.now }
-    ensures passed { ForActing tables.now domain (λ page admitted. IsLoadNamed tables.now.entries.items live.now.load admitted.at.volatile.load
-        → (is : IsInstallOf request.now admitted.command) → OnOk result (OwnFirst managed_install.judged admitted is.asked None)) }
-    ensures refused { ForActing tables.now domain (λ page admitted. IsLoadNamed tables.now.entries.items live.now.load admitted.at.volatile.load
-        → (is : IsInstallOf request.now admitted.command)
-        → IfErr result (λ rule. OwnFirst managed_install.judged admitted is.asked (Some rule))) }
-    ensures file { IfOk result (λ slot. aid_of tables.now (File slot) ≡ Some request.now.file) }
-    ensures free { OnOk result ((thing : Thing) → aid_of tables.now thing ≢ Some request.now.aid) }
-    ensures room { OnOk result (NoneFree tables.now.entries.items → ⊥) }
-{
-    if !may_manage(&tables.entries, domain) {
-        return Err(RuleII::II1);
-    }
-    let Some(file) = find_file(tables, &request.file) else {
-        return Err(RuleII::II2);
-    };
-    if lacks_module(request) {
-        return Err(RuleII::II2);
-    }
-    if is_out_of_charge(tables, domain, &request.file, file) {
-        return Err(RuleII::II3);
-    }
-    if is_taken(tables, live, &request.aid) {
-        return Err(RuleII::II4);
-    }
-    if !may_be_made(&request.file, request.privileges) {
-        return Err(RuleII::II5);
-    }
-    if exceeds_domain(&tables.entries, domain, request.privileges) {
-        return Err(RuleII::II6);
-    }
-    match first_free(&tables.entries) {
-        Some(_) => Ok(file),
-        None => Err(RuleII::II7),
-    }
-}
+impl JudgedRequest for InstallRequest<'_> {
+    type Own = RuleII;
 
-// The rules on the approval of a command of the domain in a slot, which are for a delegated one: the slot of the domain that confirms
-// it, or none where nobody does.
-pub(crate) fn judge_approval(
-    tables: &Tables,
-    domain: u8,
-    signed: &Signed<'_>,
-) -> Result<Option<u8>, Rule>
-    requires in_order { IsInOrder tables.now }
-    requires short { length signed.now.before.now ≤ 255 }
-    ensures passed { (page : ℕ → List ℕ) (admitted : Admitted) → ActsIn page tables.now domain admitted → IsSignedFor admitted signed.now
-        → OnOk result (IsFirst (ApprovalFails admitted (approval_of signed.now)) delegation_rules None) }
-    ensures refused { (page : ℕ → List ℕ) (admitted : Admitted) → ActsIn page tables.now domain admitted → IsSignedFor admitted signed.now
-        → IfErr result (λ rule. IsFirst (ApprovalFails admitted (approval_of signed.now)) delegation_rules (Some rule)) }
-    ensures found { (page : ℕ → List ℕ) (admitted : Admitted) → ActsIn page tables.now domain admitted → IfOk result (FindsConfirmer (Holds admitted delegated_management) tables.now admitted) }
-    ensures able { IfOk result (λ found. IfSome found (MayReceipt tables.now)) }
-{
-    if !holds(&tables.entries, domain, Privileges::DELEGATED_MANAGEMENT) {
-        return Ok(None);
-    }
-    judge_delegated(tables, domain, signed)
-}
+    /// The slot of the Executable Load File.
+    type Found = u8;
 
-/// Judges an INSTALL [for install] for the domain in a slot. What is kept of the state beside the tables tells the load session.
-pub fn judge_install(
-    tables: &Tables,
-    live: &Live,
-    domain: u8,
-    request: &InstallRequest<'_>,
-) -> Result<Installation, Rule>
-    requires in_order { IsInOrder tables.now }
-    requires short { length request.now.signed.before.now ≤ 255 }
-    ensures passed { ForActing tables.now domain (λ page admitted. IsLoadNamed tables.now.entries.items live.now.load admitted.at.volatile.load
-        → IsInstallOf request.now admitted.command → OnOk result (FailsFirst (command_form managed_install) admitted None)) }
-    ensures refused { ForActing tables.now domain (λ page admitted. IsLoadNamed tables.now.entries.items live.now.load admitted.at.volatile.load
-        → IsInstallOf request.now admitted.command → IfErr result (λ rule. FailsFirst (command_form managed_install) admitted (Some rule))) }
-    ensures file { IfOk result (λ found. aid_of tables.now (File found.file) ≡ Some request.now.file) }
-    ensures free { OnOk result ((thing : Thing) → aid_of tables.now thing ≢ Some request.now.aid) }
-    ensures room { OnOk result (NoneFree tables.now.entries.items → ⊥) }
-    ensures receipter { (page : ℕ → List ℕ) (admitted : Admitted) → ActsIn page tables.now domain admitted
-        → IfOk result (λ found. FindsConfirmer (Holds admitted delegated_management) tables.now admitted found.receipter) }
-    ensures able { IfOk result (λ found. IfSome found.receipter (MayReceipt tables.now)) }
-{
-    judge_management(tables, domain)?;
-    let file = match judge_application(tables, live, domain, request) {
-        Ok(file) => file,
-        Err(rule) => return Err(Rule::II(rule)),
-    };
-    let receipter = judge_approval(tables, domain, &request.signed)?;
-    Ok(Installation { file, receipter })
+    ghost form = { managed_install.judged };
+
+    ghost receipted = { true };
+
+    ghost own = { λ rule. rule };
+
+    ghost reads = { IsInstallOf };
+
+    ghost asked = { λ request command is. is.asked };
+
+    ghost brought = { λ request. request.signed };
+
+    ghost told = { λ page tables live admitted. IsLoadNamed tables.entries.items live.load admitted.at.volatile.load };
+
+    ghost finds = { λ request tables live domain. FindsSource request tables };
+
+    fn judge_own(&self, tables: &Tables, live: &Live, domain: u8) -> Result<u8, RuleII> {
+        if !may_manage(&tables.entries, domain) {
+            return Err(RuleII::II1);
+        }
+        let Some(file) = find_file(tables, &self.file) else {
+            return Err(RuleII::II2);
+        };
+        if lacks_module(self) {
+            return Err(RuleII::II2);
+        }
+        if is_out_of_charge(tables, domain, &self.file, file) {
+            return Err(RuleII::II3);
+        }
+        if is_taken(tables, live, &self.aid) {
+            return Err(RuleII::II4);
+        }
+        if !may_be_made(&self.file, self.privileges) {
+            return Err(RuleII::II5);
+        }
+        if exceeds_domain(&tables.entries, domain, self.privileges) {
+            return Err(RuleII::II6);
+        }
+        match first_free(&tables.entries) {
+            Some(_) => Ok(file),
+            None => Err(RuleII::II7),
+        }
+    }
+
+    fn grouped(&self, rule: RuleII) -> Rule {
+        Rule::II(rule)
+    }
+
+    fn is_delegated(&self, tables: &Tables, domain: u8) -> bool {
+        is_delegate(tables, domain)
+    }
+
+    fn is_receipted(&self) -> bool {
+        true
+    }
+
+    fn signed(&self) -> Signed<'_> {
+        self.signed
+    }
+
+    ghost lawful = { record { first_rules = refl; approval_rules = refl } };
+
+    ghost meant = { λ request command is. record { asks = is.asks; parameters = is.parameters; approval = is.approval } };
 }

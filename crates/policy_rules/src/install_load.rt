@@ -1,33 +1,27 @@
 //! INSTALL [for load] (GlobalPlatform Card Specification 2.3.1, 9.3.1 and 11.5).
 
-ghost use Rattle.std.specs.Prelude.{◌≡◌, ◌↔◌, ◌≢◌, ◌≤◌, ◌⊎◌, ℕ, List, [], None, Some, IfErr, IfNone, IfOk, IfSome, IsTrue, OnOk, length};
+ghost use Rattle.std.specs.Prelude.{◌≡◌, ◌↔◌, ◌≢◌, ◌≤◌, ◌⊎◌, ℕ, List, [], Some, false, IfErr, IfNone, IfOk, IfSome, IsTrue, length, refl};
 ghost use Rattle.std.specs.List.{flat_map};
 ghost use Rattle.card_types.specs.Aid.{IsAid};
-ghost use Rattle.card_types.specs.First.{NoneFree};
 ghost use Rattle.card_types.specs.Found.{aid_of};
 ghost use Rattle.card_types.specs.InOrder.{IsInOrder};
-ghost use Rattle.card_types.specs.declared.found.Found.{Found as Thing};
 ghost use Rattle.card_types.specs.declared.found.Found.TheVariants.{Entry};
 ghost use Rattle.policy_rules.specs.Admission.{Admitted};
-ghost use Rattle.policy_rules.specs.Delegation.{token_rules};
-ghost use Rattle.policy_rules.specs.FirstFailing.{IsFirst};
-ghost use Rattle.policy_rules.specs.HoldersFound.{IsSignedFor, approval_of};
 ghost use Rattle.policy_rules.specs.InstallLoad.{AsksToLoad, InstallLoadParameters, InstallingLoadFails, IsLoadData, LoadData, file_domain_for, install_load, install_load_refusal, signed_load_fields, judged_install_load};
-ghost use Rattle.policy_rules.specs.InstallLoadRequests.{IsLoadInstallOf, IsLoadInstallRequest, LoadTokenFails, NamesDomain, load_data_of};
+ghost use Rattle.policy_rules.specs.InstallLoadRequests.{IsLoadInstallOf, IsLoadInstallRequest, NamesDomain, load_data_of};
 ghost use Rattle.policy_rules.specs.InstallApplicationRequests.{IsRefusedBy};
-ghost use Rattle.policy_rules.specs.Requests.{ActsIn, ForActing, IsLoadNamed};
+ghost use Rattle.policy_rules.specs.LoadFound.{FindsDomain};
+ghost use Rattle.policy_rules.specs.Requests.{ActsIn, IsLoadNamed};
 ghost use Rattle.policy_rules.specs.Sound.{IsHashLength};
 ghost use Rattle.policy_rules.specs.declared.install_load.RuleIL.TheVariants.{IL4, IL6};
 ghost use Rattle.tokens_receipts.specs.Receipt.{with_length};
-ghost use Rattle.policy_rules.specs.CommandForm.{FailsFirst};
-ghost use Rattle.policy_rules.specs.ManagedForm.{OwnFirst};
 
 use crate::charge::{find_domain, is_at_or_above};
-use crate::delegation::{RuleTK, Signed, holds, judge_token};
+use crate::delegation::{Signed, holds, is_delegate};
 use crate::install_application::may_manage;
 use crate::install_fields::{front, read_field};
+use crate::judged_request::JudgedRequest;
 use crate::live::Live;
-use crate::management::judge_management;
 use crate::rule::{Rule, RulePS};
 use apdu_core::Status;
 use card_types::{Aid, Privileges, Tables, find, first_free};
@@ -215,91 +209,70 @@ fn is_unfit_hash(tables: &Tables, domain: u8, hash: &[u8]) -> bool
         || (hash.is_empty() && holds(&tables.entries, domain, Privileges::DELEGATED_MANAGEMENT))
 }
 
-// The rules of INSTALL [for load] itself, for the domain in a slot: the slot of the security domain of the Executable Load File.
-fn judge_loading(
-    tables: &Tables,
-    live: &Live,
-    domain: u8,
-    request: &LoadInstallRequest<'_>,
-) -> Result<u8, RuleIL>
-    requires in_order { IsInOrder tables.now }
-    ensures passed { ForActing tables.now domain (λ page admitted. IsLoadNamed tables.now.entries.items live.now.load admitted.at.volatile.load
-        → (is : IsLoadInstallOf request.now admitted.command) → OnOk result (OwnFirst judged_install_load admitted is.given None)) }
-    ensures refused { ForActing tables.now domain (λ page asked. IsLoadNamed tables.now.entries.items live.now.load asked.at.volatile.load
-        → (is : IsLoadInstallOf request.now asked.command)
-        → IfErr result (λ rule. OwnFirst judged_install_load asked is.given (Some rule))) }
-    ensures found { ForActing tables.now domain (λ page admitted. (is : IsLoadInstallOf request.now admitted.command)
-        → IfOk result (λ slot. aid_of tables.now (Entry slot) ≡ Some (file_domain_for admitted is.given))) }
-    ensures hash { OnOk result (IsHashLength (length request.now.hash.now)) }
-    ensures free { OnOk result ((thing : Thing) → aid_of tables.now thing ≢ Some request.now.file) }
-    ensures room { OnOk result (NoneFree tables.now.files.items → ⊥) }
-{
-    if !may_manage(&tables.entries, domain) {
-        return Err(RuleIL::IL1);
-    }
-    if live.load.is_some() {
-        return Err(RuleIL::IL2);
-    }
-    if find(tables, &request.file).is_some() {
-        return Err(RuleIL::IL3);
-    }
-    let Some(to) = find_named(tables, domain, &request.domain) else {
-        return Err(RuleIL::IL4);
-    };
-    if !is_at_or_above(tables, domain, to) {
-        return Err(RuleIL::IL5);
-    }
-    if is_unfit_hash(tables, domain, request.hash) {
-        return Err(RuleIL::IL6);
-    }
-    match first_free(&tables.files) {
-        Some(_) => Ok(to),
-        None => Err(RuleIL::IL7),
-    }
-}
+impl JudgedRequest for LoadInstallRequest<'_> {
+    type Own = RuleIL;
 
-// The rules on the token of a command of the domain in a slot, which are for a delegated one.
-fn judge_load_token(tables: &Tables, domain: u8, signed: &Signed<'_>) -> Result<(), RuleTK>
-    requires in_order { IsInOrder tables.now }
-    requires short { length signed.now.before.now ≤ 255 }
-    ensures passed { (page : ℕ → List ℕ) (admitted : Admitted) → ActsIn page tables.now domain admitted → IsSignedFor admitted signed.now
-        → OnOk result (IsFirst (LoadTokenFails admitted (approval_of signed.now)) token_rules None) }
-    ensures refused { (page : ℕ → List ℕ) (admitted : Admitted) → ActsIn page tables.now domain admitted → IsSignedFor admitted signed.now
-        → IfErr result (λ rule. IsFirst (LoadTokenFails admitted (approval_of signed.now)) token_rules (Some rule)) }
-{
-    if !holds(&tables.entries, domain, Privileges::DELEGATED_MANAGEMENT) {
-        return Ok(());
-    }
-    judge_token(tables, domain, signed)
-}
+    /// The slot of the security domain of the Executable Load File.
+    type Found = u8;
 
-/// Judges an INSTALL [for load] for the domain in a slot: the slot of the security domain of the Executable Load File. What is kept of
-/// the state beside the tables tells the load session.
-pub fn judge_load_install(
-    tables: &Tables,
-    live: &Live,
-    domain: u8,
-    request: &LoadInstallRequest<'_>,
-) -> Result<u8, Rule>
-    requires in_order { IsInOrder tables.now }
-    requires short { length request.now.signed.before.now ≤ 255 }
-    ensures passed { ForActing tables.now domain (λ page admitted. IsLoadNamed tables.now.entries.items live.now.load admitted.at.volatile.load
-        → IsLoadInstallOf request.now admitted.command → OnOk result (FailsFirst install_load admitted None)) }
-    ensures refused { ForActing tables.now domain (λ page admitted. IsLoadNamed tables.now.entries.items live.now.load admitted.at.volatile.load
-        → IsLoadInstallOf request.now admitted.command → IfErr result (λ rule. FailsFirst install_load admitted (Some rule))) }
-    ensures found { ForActing tables.now domain (λ page admitted. (is : IsLoadInstallOf request.now admitted.command)
-        → IfOk result (λ slot. aid_of tables.now (Entry slot) ≡ Some (file_domain_for admitted is.given))) }
-    ensures hash { OnOk result (IsHashLength (length request.now.hash.now)) }
-    ensures free { OnOk result ((thing : Thing) → aid_of tables.now thing ≢ Some request.now.file) }
-    ensures room { OnOk result (NoneFree tables.now.files.items → ⊥) }
-{
-    judge_management(tables, domain)?;
-    let to = match judge_loading(tables, live, domain, request) {
-        Ok(to) => to,
-        Err(rule) => return Err(Rule::IL(rule)),
-    };
-    match judge_load_token(tables, domain, &request.signed) {
-        Ok(()) => Ok(to),
-        Err(rule) => Err(Rule::TK(rule)),
+    ghost form = { judged_install_load };
+
+    ghost receipted = { false };
+
+    ghost own = { λ rule. rule };
+
+    ghost reads = { IsLoadInstallOf };
+
+    ghost asked = { λ request command is. is.given };
+
+    ghost brought = { λ request. request.signed };
+
+    ghost told = { λ page tables live admitted. IsLoadNamed tables.entries.items live.load admitted.at.volatile.load };
+
+    ghost finds = { λ request tables live. FindsDomain request tables };
+
+    fn judge_own(&self, tables: &Tables, live: &Live, domain: u8) -> Result<u8, RuleIL> {
+        if !may_manage(&tables.entries, domain) {
+            return Err(RuleIL::IL1);
+        }
+        if live.load.is_some() {
+            return Err(RuleIL::IL2);
+        }
+        if find(tables, &self.file).is_some() {
+            return Err(RuleIL::IL3);
+        }
+        let Some(to) = find_named(tables, domain, &self.domain) else {
+            return Err(RuleIL::IL4);
+        };
+        if !is_at_or_above(tables, domain, to) {
+            return Err(RuleIL::IL5);
+        }
+        if is_unfit_hash(tables, domain, self.hash) {
+            return Err(RuleIL::IL6);
+        }
+        match first_free(&tables.files) {
+            Some(_) => Ok(to),
+            None => Err(RuleIL::IL7),
+        }
     }
+
+    fn grouped(&self, rule: RuleIL) -> Rule {
+        Rule::IL(rule)
+    }
+
+    fn is_delegated(&self, tables: &Tables, domain: u8) -> bool {
+        is_delegate(tables, domain)
+    }
+
+    fn is_receipted(&self) -> bool {
+        false
+    }
+
+    fn signed(&self) -> Signed<'_> {
+        self.signed
+    }
+
+    ghost lawful = { record { first_rules = refl; approval_rules = refl } };
+
+    ghost meant = { λ request command is. record { asks = is.asks; parameters = is.parameters; approval = is.approval } };
 }

@@ -20,6 +20,7 @@ mod install_application;
 mod install_fields;
 mod install_load;
 mod instruction;
+mod judged_request;
 mod key_order;
 mod laws;
 mod literals;
@@ -41,20 +42,21 @@ pub use card_status::{RuleSC, judge_card_status};
 pub use class::{Class, channel_of, is_plain_management, is_protected};
 pub use delegation::{RuleRC, RuleTK, Signed, holds, nearest_with_key};
 pub use delete_key::{RuleDK, judge_delete_key};
-pub use delete_object::{Deletion, DeletionRequest, RuleDO, judge_deletion};
+pub use delete_object::{DeletionRequest, RuleDO};
 pub use entry_status::{EntryStatusRequest, RuleSS, StatusChange, judge_entry_status};
 pub use external_authenticate::RuleEA;
-pub use extradition::{Extradition, ExtraditionRequest, RuleEX, judge_extradition};
+pub use extradition::{Extradition, ExtraditionRequest, RuleEX};
 pub use get_data::{Datum, RuleGD, judge_get_data};
 pub use get_status::{ListRequest, RuleGS, judge_status, next_shown};
 pub use initialize_update::{OfferedSet, RuleIU, judge_initialize_update};
-pub use install_application::{InstallRequest, Installation, RuleII, judge_install};
+pub use install_application::{InstallRequest, RuleII};
 pub use install_fields::InstallFields;
-pub use install_load::{LoadInstallRequest, RuleIL, judge_load_install};
+pub use install_load::{LoadInstallRequest, RuleIL};
 pub use instruction::{
     EXTERNAL_AUTHENTICATE, GET_DATA, GET_STATUS, INITIALIZE_UPDATE, LOAD, MANAGE_CHANNEL, SELECT,
     instruction_bytes,
 };
+pub use judged_request::{Judged, JudgedRequest, judge_request};
 pub use key_order::{KeyName, next_key};
 pub use laws::{
     changes_are_opened, numbers_rise, one_form, one_outcome, others_are_changes, own_rules_decide,
@@ -63,7 +65,7 @@ pub use laws::{
 pub use literals::{classes, constants, key_fields, status_words};
 pub use live::{CHANNELS, Live, LoadName, Place};
 pub use load::{LoadRequest, RuleLO, judge_load, judge_loaded, judge_loaded_by};
-pub use make_selectable::{RuleMS, SelectableRequest, Selecting, judge_selectable};
+pub use make_selectable::{RuleMS, SelectableRequest};
 pub use manage_channel::{RuleMC, judge_more_channel};
 pub use management::RuleM;
 pub use own_rules::judge;

@@ -1,25 +1,19 @@
 //! INSTALL [for make selectable] (GlobalPlatform Card Specification 2.3.1, 9.3.3 and 11.5).
 
-ghost use Rattle.std.specs.Prelude.{◌≡◌, ◌↔◌, ◌≢◌, ◌≤◌, ℕ, List, None, Some, IfErr, IfNone, IfOk, IfSome, IsTrue, MatchOption, OnOk, Option, length};
-ghost use Rattle.card_types.specs.InOrder.{IsInOrder};
-ghost use Rattle.card_types.specs.Privileges.{delegated_management};
+ghost use Rattle.std.specs.Prelude.{◌≡◌, ◌↔◌, ◌≢◌, ◌≤◌, List, ℕ, IfErr, IfNone, IfOk, IfSome, IsTrue, MatchOption, Option, length, refl, true};
 ghost use Rattle.card_types.specs.Slots.{held};
-ghost use Rattle.policy_rules.specs.Admission.{Admitted};
-ghost use Rattle.policy_rules.specs.Delegation.{Holds};
-ghost use Rattle.policy_rules.specs.HoldersFound.{FindsConfirmer, MayReceipt};
 ghost use Rattle.policy_rules.specs.InstallFields.{InstallData};
 ghost use Rattle.policy_rules.specs.InstallApplicationRequests.{IsRefusedBy};
 ghost use Rattle.policy_rules.specs.MakeSelectable.{AsksToMakeSelectable, MakeSelectableParameters, is_installed, managed_selectable, selectable_refusal};
-ghost use Rattle.policy_rules.specs.Requests.{ActsIn};
 ghost use Rattle.policy_rules.specs.MakeSelectableRequests.{AreGiven, IsInstalledWith, IsSelectableOf, IsSelectableRequest};
-ghost use Rattle.policy_rules.specs.CommandForm.{FailsFirst};
-ghost use Rattle.policy_rules.specs.ManagedForm.{OwnFirst, command_form};
+ghost use Rattle.policy_rules.specs.ManagedForm.{command_form};
 
 use crate::charge::find_entry;
-use crate::delegation::Signed;
-use crate::install_application::{judge_approval, may_manage};
+use crate::delegation::{Signed, is_delegate};
+use crate::install_application::may_manage;
 use crate::install_fields::read_fields;
-use crate::management::judge_management;
+use crate::judged_request::JudgedRequest;
+use crate::live::Live;
 use crate::rule::{Rule, RulePS};
 use apdu_core::Status;
 use card_types::{Aid, Life, LifeMark, Privileges, Tables, in_slot};
@@ -84,14 +78,6 @@ const INSTALLED: LifeMark = LifeMark {
     locked: false,
 };
 
-/// What the judgement of an INSTALL [for make selectable] found: the slot of the application, and that of the domain that
-/// confirms the command, or none where nobody does.
-#[derive(Clone, Copy, Debug)]
-pub struct Selecting {
-    pub entry: u8,
-    pub receipter: Option<u8>,
-}
-
 fn is_just_installed(life: LifeMark) -> bool
     ensures { IsTrue result ↔ (life ≡ is_installed) }
 {
@@ -108,62 +94,67 @@ fn differ(given: Option<Privileges>, privileges: Privileges) -> bool
     }
 }
 
-// The rules of INSTALL [for make selectable] itself, for the domain in a slot: the slot of the application.
-fn judge_installed(
-    tables: &Tables,
-    domain: u8,
-    request: &SelectableRequest<'_>,
-) -> Result<u8, RuleMS>
-    requires in_order { IsInOrder tables.now }
-    ensures passed { (page : ℕ → List ℕ) (admitted : Admitted) → ActsIn page tables.now domain admitted
-        → (is : IsSelectableOf request.now admitted.command) → OnOk result (OwnFirst managed_selectable.judged admitted is.given None) }
-    ensures refused { (page : ℕ → List ℕ) (admitted : Admitted) → ActsIn page tables.now domain admitted
-        → (is : IsSelectableOf request.now admitted.command) → IfErr result (λ rule. OwnFirst managed_selectable.judged admitted is.given (Some rule)) }
-    ensures entry { IfOk result (λ slot. IsInstalledWith request.now.aid (held tables.now.entries.items slot)) }
-{
-    if !may_manage(&tables.entries, domain) {
-        return Err(RuleMS::MS1);
-    }
-    let Some(slot) = find_entry(tables, &request.aid) else {
-        return Err(RuleMS::MS2);
-    };
-    if !above(&tables.entries, domain, slot) {
-        return Err(RuleMS::MS3);
-    }
-    let entry = in_slot(&tables.entries, slot).unwrap();
-    if !is_just_installed(entry.life) {
-        return Err(RuleMS::MS4);
-    }
-    if differ(request.privileges, entry.privileges) {
-        return Err(RuleMS::MS5);
-    }
-    Ok(slot)
-}
+impl JudgedRequest for SelectableRequest<'_> {
+    type Own = RuleMS;
 
-/// Judges an INSTALL [for make selectable] for the domain in a slot.
-pub fn judge_selectable(
-    tables: &Tables,
-    domain: u8,
-    request: &SelectableRequest<'_>,
-) -> Result<Selecting, Rule>
-    requires in_order { IsInOrder tables.now }
-    requires short { length request.now.signed.before.now ≤ 255 }
-    ensures passed { (page : ℕ → List ℕ) (admitted : Admitted) → ActsIn page tables.now domain admitted
-        → IsSelectableOf request.now admitted.command → OnOk result (FailsFirst (command_form managed_selectable) admitted None) }
-    ensures refused { (page : ℕ → List ℕ) (admitted : Admitted) → ActsIn page tables.now domain admitted
-        → IsSelectableOf request.now admitted.command → IfErr result (λ rule. FailsFirst (command_form managed_selectable) admitted (Some rule)) }
-    ensures entry { IfOk result (λ found. IsInstalledWith request.now.aid (held tables.now.entries.items found.entry)) }
-    ensures receipter { (page : ℕ → List ℕ) (admitted : Admitted) → ActsIn page tables.now domain admitted
-        → IfOk result (λ found. FindsConfirmer (Holds admitted delegated_management) tables.now admitted found.receipter) }
-    ensures able { IfOk result (λ found. IfSome found.receipter (MayReceipt tables.now)) }
-{
-    judge_management(tables, domain)?;
-    let entry = match judge_installed(tables, domain, request) {
-        Ok(entry) => entry,
-        Err(rule) => return Err(Rule::MS(rule)),
-    };
-    let receipter = judge_approval(tables, domain, &request.signed)?;
-    Ok(Selecting { entry, receipter })
+    /// The slot of the application.
+    type Found = u8;
+
+    ghost form = { managed_selectable.judged };
+
+    ghost receipted = { true };
+
+    ghost own = { λ rule. rule };
+
+    ghost reads = { IsSelectableOf };
+
+    ghost asked = { λ request command is. is.given };
+
+    ghost brought = { λ request. request.signed };
+
+    ghost told = { λ page tables live admitted. Unit {0} };
+
+    ghost finds = { λ request tables live domain slot. IsInstalledWith request.aid (held tables.entries.items slot) };
+
+    fn judge_own(&self, tables: &Tables, _live: &Live, domain: u8) -> Result<u8, RuleMS> {
+        if !may_manage(&tables.entries, domain) {
+            return Err(RuleMS::MS1);
+        }
+        let Some(slot) = find_entry(tables, &self.aid) else {
+            return Err(RuleMS::MS2);
+        };
+        if !above(&tables.entries, domain, slot) {
+            return Err(RuleMS::MS3);
+        }
+        let entry = in_slot(&tables.entries, slot).unwrap();
+        if !is_just_installed(entry.life) {
+            return Err(RuleMS::MS4);
+        }
+        if differ(self.privileges, entry.privileges) {
+            return Err(RuleMS::MS5);
+        }
+        Ok(slot)
+    }
+
+    fn grouped(&self, rule: RuleMS) -> Rule {
+        Rule::MS(rule)
+    }
+
+    fn is_delegated(&self, tables: &Tables, domain: u8) -> bool {
+        is_delegate(tables, domain)
+    }
+
+    fn is_receipted(&self) -> bool {
+        true
+    }
+
+    fn signed(&self) -> Signed<'_> {
+        self.signed
+    }
+
+    ghost lawful = { record { first_rules = refl; approval_rules = refl } };
+
+    ghost meant = { λ request command is. record { asks = is.asks; parameters = is.parameters; approval = is.approval } };
 }
 
 // The privileges of the bytes, or none where there are no bytes.

@@ -14,17 +14,13 @@ ghost use Rattle.policy_rules.specs.declared.instruction.TheConstants.{EXTERNAL_
 
 use crate::card_status::judge_card_status;
 use crate::delete_key::judge_delete_key;
-use crate::delete_object::judge_deletion;
 use crate::entry_status::judge_entry_status;
-use crate::extradition::judge_extradition;
 use crate::get_data::judge_get_data;
 use crate::get_status::judge_status;
 use crate::initialize_update::judge_initialize_update;
-use crate::install_application::judge_install;
-use crate::install_load::judge_load_install;
+use crate::judged_request::judge_request;
 use crate::live::{CHANNELS, Live};
 use crate::load::judge_load;
-use crate::make_selectable::judge_selectable;
 use crate::manage_channel::judge_more_channel;
 use crate::put_key::judge_put_key;
 use crate::request::Request;
@@ -90,11 +86,11 @@ pub fn judge(
             version,
             identifier,
         } => judge_delete_key(tables, domain, *version, *identifier).err(),
-        Request::DeleteObject(request) => judge_deletion(tables, live, domain, request).err(),
-        Request::Install(request) => judge_install(tables, live, domain, request).err(),
-        Request::MakeSelectable(request) => judge_selectable(tables, domain, request).err(),
-        Request::Extradite(request) => judge_extradition(tables, domain, request).err(),
-        Request::InstallLoad(request) => judge_load_install(tables, live, domain, request).err(),
+        Request::DeleteObject(request) => judge_request(tables, live, domain, request).err(),
+        Request::Install(request) => judge_request(tables, live, domain, request).err(),
+        Request::MakeSelectable(request) => judge_request(tables, live, domain, request).err(),
+        Request::Extradite(request) => judge_request(tables, live, domain, request).err(),
+        Request::InstallLoad(request) => judge_request(tables, live, domain, request).err(),
         Request::CardStatus { life } => judge_card_status(tables, domain, *life).err(),
         Request::EntryStatus(request) => judge_entry_status(tables, domain, request).err(),
         Request::Load(request) => judge_load(tables, live, channel, domain, request).err(),

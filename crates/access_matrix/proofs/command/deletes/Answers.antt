@@ -1,5 +1,6 @@
 use Rattle.std.proofs.Common.{inl, inr, refl, sym, subst, ◌∙◌}
 use Rattle.card_types.specs.Represents.{domain_aid}
+use Rattle.policy_rules.proofs.DeleteObjectLaws.{deletion_judgeable}
 use Rattle.policy_rules.specs.DeleteObject.{IsDelegated, managed_delete_object}
 use Rattle.policy_rules.specs.ManagedForm.{command_form}
 use Rattle.policy_rules.specs.Requests.{RepresentsState}
@@ -37,6 +38,6 @@ returns c page said says well =
     let is = deletion_request aid given c.args.related p2 told _ c.requires.aid c.token_for-token.ensures.size refl refl refl refl
     (c.deref-2.ensures.0 ∙ c.object_field-before.ensures.items) c.token_bytes.ensures in
     deletion_accepted aid given c.args.related p2 told said domain approved
-    (passes_told ((command_form managed_delete_object).fails admitted) (command_form managed_delete_object).rules c.judge_deletion.result
-    (c.judge_deletion.ensures.passed page admitted acts represented refl is) (c.judge_deletion.ensures.refused page admitted acts represented refl is)
+    (passes_told ((command_form managed_delete_object).fails admitted) (command_form managed_delete_object).rules c.judge_request.result
+    (c.judge_request.ensures.passed deletion_judgeable page admitted acts (represented, refl) is) (c.judge_request.ensures.refused deletion_judgeable page admitted acts (represented, refl) is)
     c.is_ok.result c.is_ok.ensures.value)

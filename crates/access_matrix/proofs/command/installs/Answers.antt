@@ -4,6 +4,7 @@ use Rattle.std.specs.Prelude.{IsTrue}
 use Rattle.card_types.specs.Aid.{IsAid}
 use Rattle.card_types.specs.Privileges.{delegated_management}
 use Rattle.card_types.specs.Represents.{domain_aid}
+use Rattle.policy_rules.proofs.InstallApplicationAsking.{install_judgeable}
 use Rattle.policy_rules.specs.Delegation.{Holds}
 use Rattle.policy_rules.specs.InstallApplication.{managed_install}
 use Rattle.policy_rules.specs.ManagedForm.{command_form}
@@ -40,5 +41,5 @@ returns c page said says well =
     (subst (λ (bytes : List ℕ). length bytes ≤ 0x7F) spelled (omega arith)) c.privileges_from-spelled.ensures.named c.token_for-token.ensures.size
     refl refl c.module_from-module.ensures refl refl refl (c.deref-2.ensures.0 ∙ front) c.token_bytes.ensures in
     install_accepted file aid given said domain (c.free_aid-aid.ensures page said says) approved
-    (passes_told ((command_form managed_install).fails admitted) (command_form managed_install).rules c.judge_install.result
-    (c.judge_install.ensures.passed page admitted acts none is) (c.judge_install.ensures.refused page admitted acts none is) c.is_ok.result c.is_ok.ensures.value)
+    (passes_told ((command_form managed_install).fails admitted) (command_form managed_install).rules c.judge_request.result
+    (c.judge_request.ensures.passed install_judgeable page admitted acts none is) (c.judge_request.ensures.refused install_judgeable page admitted acts none is) c.is_ok.result c.is_ok.ensures.value)

@@ -3,6 +3,7 @@ use Rattle.std.specs.List.{flat_map}
 use Rattle.std.specs.Prelude.{IsTrue, replicate}
 use Rattle.card_types.specs.Privileges.{delegated_management}
 use Rattle.card_types.specs.Represents.{domain_aid}
+use Rattle.policy_rules.proofs.InstallLoadLaws.{load_install_judgeable}
 use Rattle.policy_rules.specs.Delegation.{Holds}
 use Rattle.policy_rules.specs.InstallLoad.{install_load}
 use Rattle.policy_rules.specs.Requests.{IsLoadNamed}
@@ -34,5 +35,5 @@ returns c page said says well =
     let is = load_request file given _ c.as_bytes.ensures.length c.token_for-token.ensures.size refl refl refl refl refl
     (c.deref-2.ensures.0 ∙ front) c.token_bytes.ensures in
     load_accepted file given said domain (c.free_aid-file.ensures page said says) approved
-    (passes_told (install_load.fails admitted) install_load.rules c.judge_load_install.result
-    (c.judge_load_install.ensures.passed page admitted acts none is) (c.judge_load_install.ensures.refused page admitted acts none is) c.is_ok.result c.is_ok.ensures.value)
+    (passes_told (install_load.fails admitted) install_load.rules c.judge_request.result
+    (c.judge_request.ensures.passed load_install_judgeable page admitted acts none is) (c.judge_request.ensures.refused load_install_judgeable page admitted acts none is) c.is_ok.result c.is_ok.ensures.value)

@@ -3,6 +3,7 @@ use Rattle.std.specs.List.{flat_map}
 use Rattle.std.specs.Prelude.{IsTrue}
 use Rattle.card_types.specs.Privileges.{delegated_management}
 use Rattle.card_types.specs.Represents.{domain_aid}
+use Rattle.policy_rules.proofs.ExtraditionLaws.{extradition_judgeable}
 use Rattle.policy_rules.specs.Delegation.{Holds}
 use Rattle.policy_rules.specs.Extradition.{managed_extradition}
 use Rattle.policy_rules.specs.ManagedForm.{command_form}
@@ -32,5 +33,5 @@ returns c page said says well =
     let is = move_request to aid given _ c.as_bytes.ensures.length c.as_bytes-2.ensures.length c.token_for-token.ensures.size refl refl refl refl
     (c.deref-2.ensures.0 ∙ front) c.token_bytes.ensures in
     move_accepted to aid given said domain approved
-    (passes_told ((command_form managed_extradition).fails admitted) (command_form managed_extradition).rules c.judge_extradition.result
-    (c.judge_extradition.ensures.passed page admitted acts is) (c.judge_extradition.ensures.refused page admitted acts is) c.is_ok.result c.is_ok.ensures.value)
+    (passes_told ((command_form managed_extradition).fails admitted) (command_form managed_extradition).rules c.judge_request.result
+    (c.judge_request.ensures.passed extradition_judgeable page admitted acts tt is) (c.judge_request.ensures.refused extradition_judgeable page admitted acts tt is) c.is_ok.result c.is_ok.ensures.value)

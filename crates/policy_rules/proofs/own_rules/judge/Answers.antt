@@ -21,12 +21,16 @@ use Rattle.card_types.specs.Represents.{Represents}
 use Rattle.card_types.specs.Well.{Well}
 use Rattle.policy_rules.specs.GetStatusRequests.{IsPlaceBefore}
 use Rattle.policy_rules.specs.Volatile.{channel_at, place_in, selected_on}
+use Rattle.policy_rules.proofs.DeleteObjectLaws.{deletion_judgeable}
+use Rattle.policy_rules.proofs.ExtraditionLaws.{extradition_judgeable}
+use Rattle.policy_rules.proofs.InstallApplicationAsking.{install_judgeable}
+use Rattle.policy_rules.proofs.MakeSelectableLaws.{selectable_judgeable}
 use Rattle.policy_rules.proofs.DataAsked.{asked_for, asks, has_data}
 use Rattle.policy_rules.proofs.GetDataLaws.{get_passes, get_refused}
 use Rattle.policy_rules.proofs.InitializeUpdateLaws.{offer_judged}
 use Rattle.policy_rules.proofs.Judging.{by_err, judged}
 use Rattle.policy_rules.proofs.ManageChannelLaws.{open_passes, open_refused}
-use Rattle.policy_rules.proofs.InstallLoadLaws.{load_install_judged}
+use Rattle.policy_rules.proofs.InstallLoadLaws.{load_install_judgeable, load_install_judged}
 use Rattle.policy_rules.proofs.PutKeyLaws.{put_judged}
 use Rattle.policy_rules.proofs.SelectLaws.{select_passes, select_refused}
 use Rattle.policy_rules.proofs.Selected.{selected_acts, selected_entry}
@@ -124,8 +128,8 @@ returns-in-DeleteKey-clause-judged c page admitted says sound here request behin
     rw c.err-in-DeleteKey.ensures.value (by_err (Judges admitted) c.judge_delete_key.result
     (c.judge_delete_key.ensures.passed page admitted acts asked) (c.judge_delete_key.ensures.refused page admitted acts asked))
 
-pub judge_deletion-requires-clause-short : goal.judge_deletion-requires-clause-short
-judge_deletion-requires-clause-short c =
+pub judge_request-requires-clause-short : goal.judge_request-requires-clause-short
+judge_request-requires-clause-short c =
     let meant = rw c.in-DeleteObject.is at c.requires.meant in
     omega (arith, meant.3.short, meant.4)
 
@@ -135,12 +139,12 @@ returns-in-DeleteObject-clause-judged c page admitted says sound here request be
     let is : slice_index_or c.args.live.now.selected c.args.channel None ≡ Some c.unwrap-domain.result = search rules in
     let acts = selected_acts page c.args.tables.now c.args.live.now admitted c.args.channel c.unwrap-domain.result says sound c.requires.channel is here in
     judged (command_form managed_delete_object) (λ holds here. inr (inl here)) admitted asked.form refl _
-    (rw c.err-in-DeleteObject.ensures.value (by_err (FailsFirst (command_form managed_delete_object) admitted) c.judge_deletion.result
-    (c.judge_deletion.ensures.passed page admitted acts says sound.fits.channels asked.means)
-    (c.judge_deletion.ensures.refused page admitted acts says sound.fits.channels asked.means)))
+    (rw c.err-in-DeleteObject.ensures.value (by_err (FailsFirst (command_form managed_delete_object) admitted) c.judge_request.result
+    (c.judge_request.ensures.passed deletion_judgeable page admitted acts (says, sound.fits.channels) asked.means)
+    (c.judge_request.ensures.refused deletion_judgeable page admitted acts (says, sound.fits.channels) asked.means)))
 
-pub judge_install-requires-clause-short : goal.judge_install-requires-clause-short
-judge_install-requires-clause-short c =
+pub judge_request-requires-in-Install-clause-short : goal.judge_request-requires-in-Install-clause-short
+judge_request-requires-in-Install-clause-short c =
     let meant = rw c.in-Install.is at c.requires.meant in
     omega (arith, meant.3.short, meant.4)
 
@@ -150,11 +154,11 @@ returns-in-Install-clause-judged c page admitted says sound here request behind 
     let is : slice_index_or c.args.live.now.selected c.args.channel None ≡ Some c.unwrap-domain.result = search rules in
     let acts = selected_acts page c.args.tables.now c.args.live.now admitted c.args.channel c.unwrap-domain.result says sound c.requires.channel is here in
     judged (command_form managed_install) (λ holds here. inl here) admitted asked.form refl _
-    (rw c.err-in-Install.ensures.value (by_err (FailsFirst (command_form managed_install) admitted) c.judge_install.result
-    (c.judge_install.ensures.passed page admitted acts says.load asked.means) (c.judge_install.ensures.refused page admitted acts says.load asked.means)))
+    (rw c.err-in-Install.ensures.value (by_err (FailsFirst (command_form managed_install) admitted) c.judge_request-in-Install.result
+    (c.judge_request-in-Install.ensures.passed install_judgeable page admitted acts says.load asked.means) (c.judge_request-in-Install.ensures.refused install_judgeable page admitted acts says.load asked.means)))
 
-pub judge_selectable-requires-clause-short : goal.judge_selectable-requires-clause-short
-judge_selectable-requires-clause-short c =
+pub judge_request-requires-in-MakeSelectable-clause-short : goal.judge_request-requires-in-MakeSelectable-clause-short
+judge_request-requires-in-MakeSelectable-clause-short c =
     let meant = rw c.in-MakeSelectable.is at c.requires.meant in
     omega (arith, meant.3.short, meant.4)
 
@@ -164,11 +168,11 @@ returns-in-MakeSelectable-clause-judged c page admitted says sound here request 
     let is : slice_index_or c.args.live.now.selected c.args.channel None ≡ Some c.unwrap-domain.result = search rules in
     let acts = selected_acts page c.args.tables.now c.args.live.now admitted c.args.channel c.unwrap-domain.result says sound c.requires.channel is here in
     judged (command_form managed_selectable) (λ holds here. inr (inl here)) admitted asked.form refl _
-    (rw c.err-in-MakeSelectable.ensures.value (by_err (FailsFirst (command_form managed_selectable) admitted) c.judge_selectable.result
-    (c.judge_selectable.ensures.passed page admitted acts asked.means) (c.judge_selectable.ensures.refused page admitted acts asked.means)))
+    (rw c.err-in-MakeSelectable.ensures.value (by_err (FailsFirst (command_form managed_selectable) admitted) c.judge_request-in-MakeSelectable.result
+    (c.judge_request-in-MakeSelectable.ensures.passed selectable_judgeable page admitted acts tt asked.means) (c.judge_request-in-MakeSelectable.ensures.refused selectable_judgeable page admitted acts tt asked.means)))
 
-pub judge_extradition-requires-clause-short : goal.judge_extradition-requires-clause-short
-judge_extradition-requires-clause-short c =
+pub judge_request-requires-in-Extradite-clause-short : goal.judge_request-requires-in-Extradite-clause-short
+judge_request-requires-in-Extradite-clause-short c =
     let meant = rw c.in-Extradite.is at c.requires.meant in
     omega (arith, meant.3.short, meant.4)
 
@@ -178,11 +182,11 @@ returns-in-Extradite-clause-judged c page admitted says sound here request behin
     let is : slice_index_or c.args.live.now.selected c.args.channel None ≡ Some c.unwrap-domain.result = search rules in
     let acts = selected_acts page c.args.tables.now c.args.live.now admitted c.args.channel c.unwrap-domain.result says sound c.requires.channel is here in
     judged (command_form managed_extradition) (λ holds here. inr (inr (inl here))) admitted asked.form refl _
-    (rw c.err-in-Extradite.ensures.value (by_err (FailsFirst (command_form managed_extradition) admitted) c.judge_extradition.result
-    (c.judge_extradition.ensures.passed page admitted acts asked.means) (c.judge_extradition.ensures.refused page admitted acts asked.means)))
+    (rw c.err-in-Extradite.ensures.value (by_err (FailsFirst (command_form managed_extradition) admitted) c.judge_request-in-Extradite.result
+    (c.judge_request-in-Extradite.ensures.passed extradition_judgeable page admitted acts tt asked.means) (c.judge_request-in-Extradite.ensures.refused extradition_judgeable page admitted acts tt asked.means)))
 
-pub judge_load_install-requires-clause-short : goal.judge_load_install-requires-clause-short
-judge_load_install-requires-clause-short c =
+pub judge_request-requires-in-InstallLoad-clause-short : goal.judge_request-requires-in-InstallLoad-clause-short
+judge_request-requires-in-InstallLoad-clause-short c =
     let meant = rw c.in-InstallLoad.is at c.requires.meant in
     omega (arith, meant.3.short, meant.4)
 
@@ -192,8 +196,8 @@ returns-in-InstallLoad-clause-judged c page admitted says sound here request beh
     let is : slice_index_or c.args.live.now.selected c.args.channel None ≡ Some c.unwrap-domain.result = search rules in
     let acts = selected_acts page c.args.tables.now c.args.live.now admitted c.args.channel c.unwrap-domain.result says sound c.requires.channel is here in
     load_install_judged admitted _ asked.form
-    (rw c.err-in-InstallLoad.ensures.value (by_err (FailsFirst install_load admitted) c.judge_load_install.result
-    (c.judge_load_install.ensures.passed page admitted acts says.load asked.means) (c.judge_load_install.ensures.refused page admitted acts says.load asked.means)))
+    (rw c.err-in-InstallLoad.ensures.value (by_err (FailsFirst install_load admitted) c.judge_request-in-InstallLoad.result
+    (c.judge_request-in-InstallLoad.ensures.passed load_install_judgeable page admitted acts says.load asked.means) (c.judge_request-in-InstallLoad.ensures.refused load_install_judgeable page admitted acts says.load asked.means)))
 
 pub returns-in-CardStatus-clause-judged : goal.returns-in-CardStatus-clause-judged
 returns-in-CardStatus-clause-judged c page admitted says sound here request behind checks =

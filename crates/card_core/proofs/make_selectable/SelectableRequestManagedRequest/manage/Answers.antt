@@ -14,7 +14,7 @@ use Rattle.card_types.specs.Represents.{Represents, domain_aid}
 use Rattle.card_types.specs.Slots.{held}
 use Rattle.card_types.specs.declared.tables.Entry.{Entry}
 use Rattle.card_types.specs.declared.tables.Tables.{Tables}
-use Rattle.policy_rules.proofs.MakeSelectableLaws.{selectable_life, selectable_of_card}
+use Rattle.policy_rules.proofs.MakeSelectableLaws.{selectable_judgeable, selectable_life, selectable_of_card}
 use Rattle.policy_rules.specs.Delegation.{Holds}
 use Rattle.policy_rules.specs.HoldersFound.{FindsConfirmer, MayReceipt}
 use Rattle.policy_rules.specs.MakeSelectable.{managed_selectable}
@@ -35,22 +35,22 @@ found_at aid entries slot is = by (held entries slot) refl is
 named : (aid : List ℕ) (entries : List (Option Entry)) (slot : ℕ) → IsInstalledWith aid (held entries slot) → domain_aid entries slot ≡ aid
 named aid entries slot is = (let found = found_at aid entries slot is in domain_aid_is entries slot found.0 found.1 ∙ found.2)
 
-pub judge_selectable-requires-clause-in_order : goal.judge_selectable-requires-clause-in_order
-judge_selectable-requires-clause-in_order g c = subst IsInOrder (sym c.tables.ensures.tables) (in_order c.args.records.now.tables c.requires.cards)
+pub judge_request-requires-clause-in_order : goal.judge_request-requires-clause-in_order
+judge_request-requires-clause-in_order g c = subst IsInOrder (sym c.tables.ensures.tables) (in_order c.args.records.now.tables c.requires.cards)
 
-pub judge_selectable-requires-clause-short : goal.judge_selectable-requires-clause-short
-judge_selectable-requires-clause-short g c = omega (arith, c.requires.formed.1.means.short, c.requires.formed.2)
+pub judge_request-requires-clause-short : goal.judge_request-requires-clause-short
+judge_request-requires-clause-short g c = omega (arith, c.requires.formed.1.means.short, c.requires.formed.2)
 
-pub returns-in_err-found-clause-done : goal.returns-in_err-found-clause-done
-returns-in_err-found-clause-done g c page admitted acts says channels request holds =
+pub returns-in_err-judged-clause-done : goal.returns-in_err-judged-clause-done
+returns-in_err-judged-clause-done g c page admitted acts says channels request holds =
     let here = subst (λ (t : Tables). ActsIn page t c.args.domain admitted) (sym c.tables.ensures.tables) acts in
-    refused_as (command_form managed_selectable) (λ holds found. inr (inl found)) admitted request.form refl page c.args.records.now.tables c.args.reply.now.items c.from_residual.result c.in_err-found.field-0.0
-    c.from_residual.ensures.1 (c.in_err-found.ensures.refused page admitted here request.means) c.requires.empty
+    refused_as (command_form managed_selectable) (λ holds found. inr (inl found)) admitted request.form refl page c.args.records.now.tables c.args.reply.now.items c.from_residual.result c.in_err-judged.field-0.0
+    c.from_residual.ensures.1 (c.in_err-judged.ensures.refused selectable_judgeable page admitted here tt request.means) c.requires.empty
 
 pub set_life-requires-clause-slot : goal.set_life-requires-clause-slot
 set_life-requires-clause-slot g c =
-    let at = subst (λ (t : Tables). IsInstalledWith c.args.self.now.aid (held t.entries.items c.in_ok-found.found.entry)) c.tables.ensures.tables c.in_ok-found.ensures.entry in
-    let there = found_at c.args.self.now.aid c.args.records.now.tables.entries.items c.in_ok-found.found.entry at in
+    let at = subst (λ (t : Tables). IsInstalledWith c.args.self.now.aid (held t.entries.items c.in_ok-judged.judged.found)) c.tables.ensures.tables c.in_ok-judged.ensures.found in
+    let there = found_at c.args.self.now.aid c.args.records.now.tables.entries.items c.in_ok-judged.judged.found at in
     subst IsSome (sym there.1) refl
 
 pub set_life-requires-clause-room : goal.set_life-requires-clause-room
@@ -63,26 +63,26 @@ pub confirm-requires-clause-able : goal.confirm-requires-clause-able
 confirm-requires-clause-able g c =
     let before = c.args.records.now.tables in
     let after = c.set_life.new.records.tables in
-    still_able before after (changing_keeps before after c.in_ok-found.found.entry (λ entry. record entry { life = selectable_life }) (λ e. (refl, refl)) c.set_life.ensures.slots)
-    c.in_ok-found.found.receipter
-    (subst (λ (t : Tables). IfSome c.in_ok-found.found.receipter (MayReceipt t)) c.tables.ensures.tables c.in_ok-found.ensures.able)
+    still_able before after (changing_keeps before after c.in_ok-judged.judged.found (λ entry. record entry { life = selectable_life }) (λ e. (refl, refl)) c.set_life.ensures.slots)
+    c.in_ok-judged.judged.receipter
+    (subst (λ (t : Tables). IfSome c.in_ok-judged.judged.receipter (MayReceipt t)) c.tables.ensures.tables c.in_ok-judged.ensures.able)
 
 pub confirm-requires-clause-cards : goal.confirm-requires-clause-cards
 confirm-requires-clause-cards g c =
     let before = c.args.records.now.tables in
     let after = c.set_life.new.records.tables in
-    let slot = c.in_ok-found.found.entry in
+    let slot = c.in_ok-judged.judged.found in
     let keeps = changing_keeps before after slot (λ entry. record entry { life = selectable_life }) (λ e. (refl, refl)) c.set_life.ensures.slots in
     let request = c.requires.formed.1 in
     let given = request.means.given in
-    let at = subst (λ (t : Tables). IsInstalledWith c.args.self.now.aid (held t.entries.items slot)) c.tables.ensures.tables c.in_ok-found.ensures.entry in
+    let at = subst (λ (t : Tables). IsInstalledWith c.args.self.now.aid (held t.entries.items slot)) c.tables.ensures.tables c.in_ok-judged.ensures.found in
     let aid = named c.args.self.now.aid before.entries.items slot at ∙ request.means.aid in
     entry_cards before after slot _ c.set_life.ensures.slots (aids_kept before after keeps) (λ page said says well.
     (let some = some_admitted page before said says well c.args.domain c.requires.domain None c.requires.formed.0 in
     let acts = some_acts page before said says well c.args.domain c.requires.domain None c.requires.formed.0 in
     let here = subst (λ (t : Tables). ActsIn page t c.args.domain some) (sym c.tables.ensures.tables) acts in
     let kept = selectable_of_card some given request.means.asks (of_card page before said says well c.args.domain c.requires.domain)
-    (c.in_ok-found.ensures.passed page some here request.means) in (
+    (c.in_ok-judged.ensures.passed selectable_judgeable page some here tt request.means) in (
       with_life said given.third selectable_life,
       subst (λ (name : List ℕ). Represents page after (with_life said name selectable_life)) aid (c.set_life.ensures.said page said says),
       kept.well,
@@ -92,8 +92,8 @@ pub returns-clause-selected : goal.returns-clause-selected
 returns-clause-selected g c =
     let before = c.args.records.now.tables in
     let after = c.set_life.new.records.tables in
-    aids_selected c.args._live.now before.entries.items c.confirm.new.records.tables.entries.items (aids_on before.entries.items after.entries.items c.confirm.new.records.tables.entries.items
-    (aids_kept before after (changing_keeps before after c.in_ok-found.found.entry (λ entry. record entry { life = selectable_life }) (λ e. (refl, refl)) c.set_life.ensures.slots))
+    aids_selected c.args.live.now before.entries.items c.confirm.new.records.tables.entries.items (aids_on before.entries.items after.entries.items c.confirm.new.records.tables.entries.items
+    (aids_kept before after (changing_keeps before after c.in_ok-judged.judged.found (λ entry. record entry { life = selectable_life }) (λ e. (refl, refl)) c.set_life.ensures.slots))
     c.confirm.ensures.aids)
 
 pub returns-clause-free : goal.returns-clause-free
@@ -103,16 +103,16 @@ pub returns-clause-done : goal.returns-clause-done
 returns-clause-done g c page admitted acts says channels request holds =
     let before = c.args.records.now.tables in
     let after = c.set_life.new.records.tables in
-    let slot = c.in_ok-found.found.entry in
+    let slot = c.in_ok-judged.judged.found in
     let here = subst (λ (t : Tables). ActsIn page t c.args.domain admitted) (sym c.tables.ensures.tables) acts in
     let given = request.means.given in
-    let at = subst (λ (t : Tables). IsInstalledWith c.args.self.now.aid (held t.entries.items slot)) c.tables.ensures.tables c.in_ok-found.ensures.entry in
+    let at = subst (λ (t : Tables). IsInstalledWith c.args.self.now.aid (held t.entries.items slot)) c.tables.ensures.tables c.in_ok-judged.ensures.found in
     let aid = named c.args.self.now.aid before.entries.items slot at ∙ request.means.aid in
     let changed = with_life admitted.at.registry given.third selectable_life in
     let says = subst (λ (name : List ℕ). Represents page after (with_life admitted.at.registry name selectable_life)) aid (c.set_life.ensures.said page admitted.at.registry acts.says) in
     let delegated = Holds admitted delegated_management in
-    let finds = subst (λ (t : Tables). FindsConfirmer delegated t admitted c.in_ok-found.found.receipter) c.tables.ensures.tables (c.in_ok-found.ensures.receipter page admitted here) in
+    let finds = subst (λ (t : Tables). FindsConfirmer delegated t admitted c.in_ok-judged.judged.receipter) c.tables.ensures.tables (c.in_ok-judged.ensures.receipter page admitted here refl) in
     confirmed_managed managed_selectable (λ holds found. inr (inl found)) admitted request.form given request.means.asks changed refl refl refl
-    (c.in_ok-found.ensures.passed page admitted here request.means) page before after c.confirm.new.records.tables c.args.domain c.requires.cards acts c.in_ok-found.found.receipter finds
-    (receipts_kept before after (changing_keeps before after slot (λ entry. record entry { life = selectable_life }) (λ e. (refl, refl)) c.set_life.ensures.slots) c.in_ok-found.found.receipter)
+    (c.in_ok-judged.ensures.passed selectable_judgeable page admitted here tt request.means) page before after c.confirm.new.records.tables c.args.domain c.requires.cards acts c.in_ok-judged.judged.receipter finds
+    (receipts_kept before after (changing_keeps before after slot (λ entry. record entry { life = selectable_life }) (λ e. (refl, refl)) c.set_life.ensures.slots) c.in_ok-judged.judged.receipter)
     says _ (ap (λ (name : List ℕ). name ∷ []) request.means.aid) c.confirm.new.reply.items c.confirm.ensures.answered (record { 0 = 0x9000 }) refl

@@ -1,0 +1,47 @@
+use Rattle.std.proofs.Common.{◌++◌, List, None, Some, subst, sym}
+use Rattle.std.specs.Prelude.{IfErr, map}
+use Rattle.policy_rules.proofs.FirstLike.{handed_on}
+use Rattle.policy_rules.proofs.ManagedJudging.{approval_decides, own_refuses}
+use Rattle.policy_rules.proofs.ManagementFirst.{management_handed}
+use Rattle.policy_rules.proofs.RequestJudging.{management_passes}
+use Rattle.policy_rules.specs.FirstFailing.{IsFirst}
+use Rattle.policy_rules.specs.ManagedForm.{JudgedFails, JudgedFirst}
+use Rattle.policy_rules.specs.declared.management.RuleM.{RuleM}
+use Rattle.policy_rules.specs.declared.rule.Rule.{Rule}
+use Rattle.policy_rules.specs.declared.rule.Rule.TheVariants.{M}
+use Rattle.policy_rules.proofs.judged_request.judge_request.Goals as goal
+
+pub returns-in_err-judge_management-clause-refused : goal.returns-in_err-judge_management-clause-refused
+returns-in_err-judge_management-clause-refused g c judgeable page admitted acts told is =
+    let form = g.M.JudgedRequest.form in
+    let Fails = JudgedFails form admitted in
+    subst (λ (rules : List RuleM). IfErr c.from_residual.result (λ r. IsFirst Fails (map M rules ++ map form.group form.own_rules ++ form.delegation.rules) (Some r))) (sym g.met.M.JudgedRequest.lawful.first_rules)
+    (management_handed Fails (map form.group form.own_rules ++ form.delegation.rules) c.from_residual.result c.in_err-judge_management.field-0.0 c.from_residual.ensures.1
+    (c.in_err-judge_management.ensures.refused page admitted acts))
+
+pub returns-in-Err-clause-refused : goal.returns-in-Err-clause-refused
+returns-in-Err-clause-refused g c judgeable page admitted acts told is =
+    let form = g.M.JudgedRequest.form in
+    let lawful = g.met.M.JudgedRequest.lawful in
+    let meant = g.met.M.JudgedRequest.meant c.args.request.now admitted.command is in
+    subst (λ (r : Rule). JudgedFirst form admitted (Some r)) (sym c.grouped.ensures)
+    (own_refuses form judgeable admitted _ meant.asks (management_passes form _ lawful admitted (c.in_ok-judge_management.ensures.passed page admitted acts)) _
+    (c.in-Err.ensures.refused page admitted acts told is))
+
+pub returns-in_err-receipter-clause-refused : goal.returns-in_err-receipter-clause-refused
+returns-in_err-receipter-clause-refused g c judgeable page admitted acts told is =
+    let form = g.M.JudgedRequest.form in
+    let lawful = g.met.M.JudgedRequest.lawful in
+    let meant = g.met.M.JudgedRequest.meant c.args.request.now admitted.command is in
+    let rule = c.in_err-receipter.field-0.0 in
+    handed_on (λ r. JudgedFirst form admitted (Some r)) c.from_residual-in_err-receipter.result rule c.from_residual-in_err-receipter.ensures.1
+    (approval_decides form judgeable admitted _ meant.asks (management_passes form _ lawful admitted (c.in_ok-judge_management.ensures.passed page admitted acts)) (Some rule)
+    (c.in-Ok.ensures.passed page admitted acts told is) (c.in_err-receipter.ensures.refused page admitted acts is))
+
+pub returns-clause-passed : goal.returns-clause-passed
+returns-clause-passed g c judgeable page admitted acts told is =
+    let form = g.M.JudgedRequest.form in
+    let lawful = g.met.M.JudgedRequest.lawful in
+    let meant = g.met.M.JudgedRequest.meant c.args.request.now admitted.command is in
+    approval_decides form judgeable admitted _ meant.asks (management_passes form _ lawful admitted (c.in_ok-judge_management.ensures.passed page admitted acts)) None
+    (c.in-Ok.ensures.passed page admitted acts told is) (c.in_ok-receipter.ensures.passed page admitted acts is)

@@ -1,0 +1,146 @@
+//! A request of a form of card content management, whose commands a token may approve (GlobalPlatform Card Specification 2.3.1,
+//! chapter 9): it is judged by the rules that such commands have in common, by those of its form, and by those on its approval.
+
+ghost use Rattle.std.specs.Prelude.{◌≡◌, ◌↔◌, ◌≤◌, ℕ, Bool, List, None, Some, true, IfErr, IfOk, IfSome, IsTrue, OnOk, length};
+ghost use Rattle.apdu_core.specs.Apdu.{Apdu};
+ghost use Rattle.card_types.specs.InOrder.{IsInOrder};
+ghost use Rattle.policy_rules.specs.Admission.{Admitted};
+ghost use Rattle.policy_rules.specs.FirstFailing.{IsFirst};
+ghost use Rattle.policy_rules.specs.HoldersFound.{FindsConfirmer, MayReceipt};
+ghost use Rattle.policy_rules.specs.ManagedForm.{AskedFails, JudgedFirst, JudgedForm, OwnFirst};
+ghost use Rattle.policy_rules.specs.RequestJudged.{IsBroughtFor, IsJudgeable, IsTokenForm};
+ghost use Rattle.policy_rules.specs.Requests.{ForActing};
+
+use crate::delegation::{Signed, judge_receipt, judge_token};
+use crate::live::Live;
+use crate::management::judge_management;
+use crate::rule::Rule;
+use card_types::Tables;
+
+/// What the judgement of a request found: what the rules of its form did, and the slot of the domain that confirms the command, or
+/// none where nobody does.
+#[derive(Clone, Copy, Debug)]
+pub struct Judged<T> {
+    pub found: T,
+    pub receipter: Option<u8>,
+}
+
+/// A request of a form whose commands a token may approve.
+pub trait JudgedRequest {
+    ghost use Rattle.card_types.specs.declared.tables.Tables.{Tables};
+    ghost use Rattle.policy_rules.specs.declared.delegation.Signed.{Signed};
+    ghost use Rattle.policy_rules.specs.declared.live.Live.{Live};
+
+    /// The rules of the form's own.
+    type Own;
+
+    /// What they find.
+    type Found: Copy;
+
+    ghost form: { JudgedForm };
+
+    ghost receipted: { Bool };
+
+    ghost own: { Self.Own → form.Own };
+
+    /// The request is that of the command.
+    ghost reads: { Self → Apdu → Type 0 };
+
+    ghost asked: { (request : Self) (command : Apdu) → reads request command → form.Asked };
+
+    ghost brought: { Self → Signed };
+
+    /// What the rules look at of the state beside the tables is told.
+    ghost told: { (ℕ → List ℕ) → Tables → Live → Admitted → Type 0 };
+
+    ghost finds: { Self → Tables → Live → ℕ → Self.Found → Type 0 };
+
+    /// Judges the rules of the form's own for the domain in a slot. What is kept of the state beside the tables tells what is
+    /// selected, and the load session.
+    fn judge_own(&self, tables: &Tables, live: &Live, domain: u8) -> Result<Self::Found, Self::Own>
+        requires in_order { IsInOrder tables.now }
+        ensures passed { ForActing tables.now domain (λ page admitted. told page tables.now live.now admitted → (is : reads self.now admitted.command)
+            → OnOk result (OwnFirst form admitted (asked self.now admitted.command is) None)) }
+        ensures refused { ForActing tables.now domain (λ page admitted. told page tables.now live.now admitted → (is : reads self.now admitted.command)
+            → IfErr result (λ rule. OwnFirst form admitted (asked self.now admitted.command is) (Some (own rule)))) }
+        ensures found { IfOk result (finds self.now tables.now live.now domain) };
+
+    /// One of these rules, among those of all forms.
+    fn grouped(&self, rule: Self::Own) -> Rule
+        ensures { result ≡ form.group (own rule) };
+
+    /// Whether a command of the domain in a slot is delegated.
+    fn is_delegated(&self, tables: &Tables, domain: u8) -> bool
+        ensures { ForActing tables.now domain (λ page admitted. IsTrue result ↔ form.delegation.is_delegated admitted) };
+
+    /// Whether a delegated command may have a receipt.
+    fn is_receipted(&self) -> bool
+        ensures { result ≡ receipted };
+
+    /// What the command brings for its approval.
+    fn signed(&self) -> Signed<'_>
+        ensures { result ≡ brought self.now };
+
+    ghost lawful: { IsTokenForm form receipted };
+
+    ghost meant: { (request : Self) (command : Apdu) (is : reads request command) → IsBroughtFor form command (asked request command is) (brought request) };
+}
+
+// The rules on the approval of a command of the domain in a slot, which are for a delegated one: the slot of the domain that confirms
+// it, or none where nobody does.
+fn judge_approval<M: JudgedRequest>(
+    tables: &Tables,
+    domain: u8,
+    request: &M,
+) -> Result<Option<u8>, Rule>
+    requires in_order { IsInOrder tables.now }
+    requires short { length (M.brought request.now).before.now ≤ 255 }
+    ensures passed { ForActing tables.now domain (λ page admitted. (is : M.reads request.now admitted.command)
+        → OnOk result (IsFirst (AskedFails M.form admitted (M.asked request.now admitted.command is)) M.form.delegation.rules None)) }
+    ensures refused { ForActing tables.now domain (λ page admitted. (is : M.reads request.now admitted.command)
+        → IfErr result (λ rule. IsFirst (AskedFails M.form admitted (M.asked request.now admitted.command is)) M.form.delegation.rules (Some rule))) }
+    ensures receipter { ForActing tables.now domain (λ page admitted. M.receipted ≡ true
+        → IfOk result (FindsConfirmer (M.form.delegation.is_delegated admitted) tables.now admitted)) }
+    ensures able { IfOk result (λ found. IfSome found (MayReceipt tables.now)) }
+{
+    if !request.is_delegated(tables, domain) {
+        return Ok(None);
+    }
+    if let Err(rule) = judge_token(tables, domain, &request.signed()) {
+        return Err(Rule::TK(rule));
+    }
+    if !request.is_receipted() {
+        return Ok(None);
+    }
+    match judge_receipt(tables, domain) {
+        Ok(found) => Ok(found),
+        Err(rule) => Err(Rule::RC(rule)),
+    }
+}
+
+/// Judges a request for the domain in a slot.
+pub fn judge_request<M: JudgedRequest>(
+    tables: &Tables,
+    live: &Live,
+    domain: u8,
+    request: &M,
+) -> Result<Judged<M::Found>, Rule>
+    requires in_order { IsInOrder tables.now }
+    requires short { length (M.brought request.now).before.now ≤ 255 }
+    ensures passed { IsJudgeable M.form → ForActing tables.now domain (λ page admitted. M.told page tables.now live.now admitted → M.reads request.now admitted.command
+        → OnOk result (JudgedFirst M.form admitted None)) }
+    ensures refused { IsJudgeable M.form → ForActing tables.now domain (λ page admitted. M.told page tables.now live.now admitted → M.reads request.now admitted.command
+        → IfErr result (λ rule. JudgedFirst M.form admitted (Some rule))) }
+    ensures found { IfOk result (λ judged. M.finds request.now tables.now live.now domain judged.found) }
+    ensures receipter { ForActing tables.now domain (λ page admitted. M.receipted ≡ true
+        → IfOk result (λ judged. FindsConfirmer (M.form.delegation.is_delegated admitted) tables.now admitted judged.receipter)) }
+    ensures able { IfOk result (λ judged. IfSome judged.receipter (MayReceipt tables.now)) }
+{
+    judge_management(tables, domain)?;
+    let found = match request.judge_own(tables, live, domain) {
+        Ok(found) => found,
+        Err(rule) => return Err(request.grouped(rule)),
+    };
+    let receipter = judge_approval(tables, domain, request)?;
+    Ok(Judged { found, receipter })
+}
