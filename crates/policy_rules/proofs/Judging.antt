@@ -73,3 +73,10 @@ malformed_judged admitted rule begins wrong = inl (record {
 pub by_err : {T : Type 0} (holds : Option Rule → Type 0) (result : Result T Rule) → OnOk result (holds None) → IfErr result (λ rule. holds (Some rule)) → holds (result_err result)
 by_err holds (Ok x) passed refused = passed
 by_err holds (Err rule) passed refused = refused
+
+-- a form that nothing stands before, by such a judgement
+pub judged_by : (form : CommandForm) → IsListed form → (admitted : Admitted) → TakesCommand form admitted.command → rules_before_form form.instruction ≡ []
+    → {T : Type 0} (result : Result T Rule) → OnOk result (IsFirst (form.fails admitted) form.rules None)
+    → IfErr result (λ rule. IsFirst (form.fails admitted) form.rules (Some rule)) → Judges admitted (result_err result)
+judged_by form listed admitted takes none result passed refused =
+    judged form listed admitted takes none (result_err result) (by_err (λ found. IsFirst (form.fails admitted) form.rules found) result passed refused)

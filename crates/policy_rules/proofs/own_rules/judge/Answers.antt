@@ -1,4 +1,4 @@
-use Rattle.std.proofs.Common.{rules, ◌≡◌, ℕ, ◌<◌, length, None, Some, arith, inl, inr, refl, sym, ap, subst, ◌∙◌}
+use Rattle.std.proofs.Common.{rules, ◌≡◌, ℕ, ◌<◌, List, length, None, Some, arith, inl, inr, refl, sym, ap, subst, ◌∙◌}
 use Rattle.std.specs.Prelude.{option_copied, slice_index_or}
 use Rattle.std.specs.Option.{option_map}
 use Rattle.std.proofs.lemmas.List.{get_or_default}
@@ -14,9 +14,11 @@ use Rattle.policy_rules.specs.InstallApplication.{managed_install}
 use Rattle.policy_rules.specs.Load.{LoadFails, front_rules}
 use Rattle.policy_rules.specs.LoadFound.{IsForLoad}
 use Rattle.policy_rules.specs.MakeSelectable.{managed_selectable}
-use Rattle.policy_rules.specs.GetStatus.{GetStatusFails, get_status, get_status_rules}
+use Rattle.policy_rules.specs.GetStatus.{get_status}
 use Rattle.policy_rules.specs.KeptPlaces.{place_of}
-use Rattle.policy_rules.specs.Requests.{ActsIn}
+use Rattle.policy_rules.specs.Requests.{ActsIn, RepresentsState}
+use Rattle.policy_rules.specs.Admission.{Admitted}
+use Rattle.policy_rules.specs.Sound.{IsSound}
 use Rattle.card_types.specs.Represents.{Represents}
 use Rattle.card_types.specs.Well.{Well}
 use Rattle.policy_rules.specs.GetStatusRequests.{IsPlaceBefore}
@@ -28,17 +30,25 @@ use Rattle.policy_rules.proofs.MakeSelectableLaws.{selectable_judgeable}
 use Rattle.policy_rules.proofs.DataAsked.{asked_for, asks, has_data}
 use Rattle.policy_rules.proofs.GetDataLaws.{get_passes, get_refused}
 use Rattle.policy_rules.proofs.InitializeUpdateLaws.{offer_judged}
-use Rattle.policy_rules.proofs.Judging.{by_err, judged}
+use Rattle.policy_rules.proofs.Judging.{by_err, judged_by}
 use Rattle.policy_rules.proofs.ManageChannelLaws.{open_passes, open_refused}
 use Rattle.policy_rules.proofs.InstallLoadLaws.{load_install_judgeable, load_install_judged}
 use Rattle.policy_rules.proofs.PutKeyLaws.{put_judged}
 use Rattle.policy_rules.proofs.SelectLaws.{select_passes, select_refused}
 use Rattle.policy_rules.proofs.Selected.{selected_acts, selected_entry}
 use Rattle.policy_rules.proofs.own_rules.judge.Goals as goal
+use Rattle.policy_rules.proofs.own_rules.judge.Goals.{After-unwrap-domain}
 use Rattle.policy_rules.specs.CommandForm.{FailsFirst}
 use Rattle.policy_rules.specs.InstallLoad.{install_load}
 use Rattle.policy_rules.specs.PutKey.{managed_put_key}
 use Rattle.policy_rules.specs.ManagedForm.{command_form}
+
+-- the domain that is selected acts
+acts_in : (c : After-unwrap-domain) (page : ℕ → List ℕ) (admitted : Admitted) → RepresentsState page c.args.tables.now c.args.live.now admitted.at
+    → IsSound admitted.at → c.args.channel ≡ admitted.channel → ActsIn page c.args.tables.now c.unwrap-domain.result admitted
+acts_in c page admitted says sound here =
+    let is : slice_index_or c.args.live.now.selected c.args.channel None ≡ Some c.unwrap-domain.result = search rules in
+    selected_acts page c.args.tables.now c.args.live.now admitted c.args.channel c.unwrap-domain.result says sound c.requires.channel is here
 
 pub returns-in-Ok-clause-judged : goal.returns-in-Ok-clause-judged
 returns-in-Ok-clause-judged c page admitted says sound here request behind checks =
@@ -85,16 +95,14 @@ returns-in-Err-judge_get_data-clause-judged c page admitted says sound here requ
 pub returns-in-Ok-judge_initialize_update-clause-judged : goal.returns-in-Ok-judge_initialize_update-clause-judged
 returns-in-Ok-judge_initialize_update-clause-judged c page admitted says sound here request behind checks =
     let asked = rw c.in-Initialize.is at request in
-    let is : slice_index_or c.args.live.now.selected c.args.channel None ≡ Some c.unwrap-domain.result = search rules in
-    let acts = selected_acts page c.args.tables.now c.args.live.now admitted c.args.channel c.unwrap-domain.result says sound c.requires.channel is here in
+    let acts = acts_in (goal.at.returns-in-Ok-judge_initialize_update-clause-judged c).After-unwrap-domain page admitted says sound here in
     offer_judged admitted None asked.form
     (c.in-Ok-judge_initialize_update.ensures.passed page admitted acts asked.means.0)
 
 pub returns-in-Err-judge_initialize_update-clause-judged : goal.returns-in-Err-judge_initialize_update-clause-judged
 returns-in-Err-judge_initialize_update-clause-judged c page admitted says sound here request behind checks =
     let asked = rw c.in-Initialize.is at request in
-    let is : slice_index_or c.args.live.now.selected c.args.channel None ≡ Some c.unwrap-domain.result = search rules in
-    let acts = selected_acts page c.args.tables.now c.args.live.now admitted c.args.channel c.unwrap-domain.result says sound c.requires.channel is here in
+    let acts = acts_in (goal.at.returns-in-Err-judge_initialize_update-clause-judged c).After-unwrap-domain page admitted says sound here in
     offer_judged admitted (Some c.in-Err-judge_initialize_update.rule) asked.form
     (c.in-Err-judge_initialize_update.ensures.refused page admitted acts asked.means.0)
 
@@ -106,8 +114,7 @@ returns-in-Authenticate-clause-judged c page admitted says sound here request be
 pub returns-in-PutKey-clause-judged : goal.returns-in-PutKey-clause-judged
 returns-in-PutKey-clause-judged c page admitted says sound here request behind checks =
     let asked = rw c.in-PutKey.is at request in
-    let is : slice_index_or c.args.live.now.selected c.args.channel None ≡ Some c.unwrap-domain.result = search rules in
-    let acts = selected_acts page c.args.tables.now c.args.live.now admitted c.args.channel c.unwrap-domain.result says sound c.requires.channel is here in
+    let acts = acts_in (goal.at.returns-in-PutKey-clause-judged c).After-unwrap-domain page admitted says sound here in
     put_judged admitted _ asked.form
     (rw c.err.ensures.value (by_err (FailsFirst (command_form managed_put_key) admitted) c.judge_put_key.result
     (c.judge_put_key.ensures.passed page admitted acts asked (checks asked.form.0)) (c.judge_put_key.ensures.refused page admitted acts asked (checks asked.form.0))))
@@ -115,86 +122,65 @@ returns-in-PutKey-clause-judged c page admitted says sound here request behind c
 pub returns-in-Store-clause-judged : goal.returns-in-Store-clause-judged
 returns-in-Store-clause-judged c page admitted says sound here request behind checks =
     let asked = rw c.in-Store.is at request in
-    let is : slice_index_or c.args.live.now.selected c.args.channel None ≡ Some c.unwrap-domain.result = search rules in
-    let acts = selected_acts page c.args.tables.now c.args.live.now admitted c.args.channel c.unwrap-domain.result says sound c.requires.channel is here in
+    let acts = acts_in (goal.at.returns-in-Store-clause-judged c).After-unwrap-domain page admitted says sound here in
     rw c.err-in-Store.ensures.value (by_err (Judges admitted) c.judge_store_data.result
     (c.judge_store_data.ensures.passed page admitted acts asked) (c.judge_store_data.ensures.refused page admitted acts asked))
 
 pub returns-in-DeleteKey-clause-judged : goal.returns-in-DeleteKey-clause-judged
 returns-in-DeleteKey-clause-judged c page admitted says sound here request behind checks =
     let asked = rw c.in-DeleteKey.is at request in
-    let is : slice_index_or c.args.live.now.selected c.args.channel None ≡ Some c.unwrap-domain.result = search rules in
-    let acts = selected_acts page c.args.tables.now c.args.live.now admitted c.args.channel c.unwrap-domain.result says sound c.requires.channel is here in
+    let acts = acts_in (goal.at.returns-in-DeleteKey-clause-judged c).After-unwrap-domain page admitted says sound here in
     rw c.err-in-DeleteKey.ensures.value (by_err (Judges admitted) c.judge_delete_key.result
     (c.judge_delete_key.ensures.passed page admitted acts asked) (c.judge_delete_key.ensures.refused page admitted acts asked))
 
 pub judge_request-requires-clause-short : goal.judge_request-requires-clause-short
-judge_request-requires-clause-short c =
-    let meant = rw c.in-DeleteObject.is at c.requires.meant in
-    omega (arith, meant.3.short, meant.4)
+judge_request-requires-clause-short c = (let meant = rw c.in-DeleteObject.is at c.requires.meant in omega (arith, meant.3.short, meant.4))
 
 pub returns-in-DeleteObject-clause-judged : goal.returns-in-DeleteObject-clause-judged
 returns-in-DeleteObject-clause-judged c page admitted says sound here request behind checks =
     let asked = rw c.in-DeleteObject.is at request in
-    let is : slice_index_or c.args.live.now.selected c.args.channel None ≡ Some c.unwrap-domain.result = search rules in
-    let acts = selected_acts page c.args.tables.now c.args.live.now admitted c.args.channel c.unwrap-domain.result says sound c.requires.channel is here in
-    judged (command_form managed_delete_object) (λ holds here. inr (inl here)) admitted asked.form refl _
-    (rw c.err-in-DeleteObject.ensures.value (by_err (FailsFirst (command_form managed_delete_object) admitted) c.judge_request.result
+    let acts = acts_in (goal.at.returns-in-DeleteObject-clause-judged c).After-unwrap-domain page admitted says sound here in
+    rw c.err-in-DeleteObject.ensures.value (judged_by (command_form managed_delete_object) (λ holds here. inr (inl here)) admitted asked.form refl _
     (c.judge_request.ensures.passed deletion_judgeable page admitted acts (says, sound.fits.channels) asked.means)
-    (c.judge_request.ensures.refused deletion_judgeable page admitted acts (says, sound.fits.channels) asked.means)))
+    (c.judge_request.ensures.refused deletion_judgeable page admitted acts (says, sound.fits.channels) asked.means))
 
 pub judge_request-requires-in-Install-clause-short : goal.judge_request-requires-in-Install-clause-short
-judge_request-requires-in-Install-clause-short c =
-    let meant = rw c.in-Install.is at c.requires.meant in
-    omega (arith, meant.3.short, meant.4)
+judge_request-requires-in-Install-clause-short c = (let meant = rw c.in-Install.is at c.requires.meant in omega (arith, meant.3.short, meant.4))
 
 pub returns-in-Install-clause-judged : goal.returns-in-Install-clause-judged
 returns-in-Install-clause-judged c page admitted says sound here request behind checks =
     let asked = rw c.in-Install.is at request in
-    let is : slice_index_or c.args.live.now.selected c.args.channel None ≡ Some c.unwrap-domain.result = search rules in
-    let acts = selected_acts page c.args.tables.now c.args.live.now admitted c.args.channel c.unwrap-domain.result says sound c.requires.channel is here in
-    judged (command_form managed_install) (λ holds here. inl here) admitted asked.form refl _
-    (rw c.err-in-Install.ensures.value (by_err (FailsFirst (command_form managed_install) admitted) c.judge_request-in-Install.result
-    (c.judge_request-in-Install.ensures.passed install_judgeable page admitted acts says.load asked.means) (c.judge_request-in-Install.ensures.refused install_judgeable page admitted acts says.load asked.means)))
+    let acts = acts_in (goal.at.returns-in-Install-clause-judged c).After-unwrap-domain page admitted says sound here in
+    rw c.err-in-Install.ensures.value (judged_by (command_form managed_install) (λ holds here. inl here) admitted asked.form refl _
+    (c.judge_request-in-Install.ensures.passed install_judgeable page admitted acts says.load asked.means) (c.judge_request-in-Install.ensures.refused install_judgeable page admitted acts says.load asked.means))
 
 pub judge_request-requires-in-MakeSelectable-clause-short : goal.judge_request-requires-in-MakeSelectable-clause-short
-judge_request-requires-in-MakeSelectable-clause-short c =
-    let meant = rw c.in-MakeSelectable.is at c.requires.meant in
-    omega (arith, meant.3.short, meant.4)
+judge_request-requires-in-MakeSelectable-clause-short c = (let meant = rw c.in-MakeSelectable.is at c.requires.meant in omega (arith, meant.3.short, meant.4))
 
 pub returns-in-MakeSelectable-clause-judged : goal.returns-in-MakeSelectable-clause-judged
 returns-in-MakeSelectable-clause-judged c page admitted says sound here request behind checks =
     let asked = rw c.in-MakeSelectable.is at request in
-    let is : slice_index_or c.args.live.now.selected c.args.channel None ≡ Some c.unwrap-domain.result = search rules in
-    let acts = selected_acts page c.args.tables.now c.args.live.now admitted c.args.channel c.unwrap-domain.result says sound c.requires.channel is here in
-    judged (command_form managed_selectable) (λ holds here. inr (inl here)) admitted asked.form refl _
-    (rw c.err-in-MakeSelectable.ensures.value (by_err (FailsFirst (command_form managed_selectable) admitted) c.judge_request-in-MakeSelectable.result
-    (c.judge_request-in-MakeSelectable.ensures.passed selectable_judgeable page admitted acts tt asked.means) (c.judge_request-in-MakeSelectable.ensures.refused selectable_judgeable page admitted acts tt asked.means)))
+    let acts = acts_in (goal.at.returns-in-MakeSelectable-clause-judged c).After-unwrap-domain page admitted says sound here in
+    rw c.err-in-MakeSelectable.ensures.value (judged_by (command_form managed_selectable) (λ holds here. inr (inl here)) admitted asked.form refl _
+    (c.judge_request-in-MakeSelectable.ensures.passed selectable_judgeable page admitted acts tt asked.means) (c.judge_request-in-MakeSelectable.ensures.refused selectable_judgeable page admitted acts tt asked.means))
 
 pub judge_request-requires-in-Extradite-clause-short : goal.judge_request-requires-in-Extradite-clause-short
-judge_request-requires-in-Extradite-clause-short c =
-    let meant = rw c.in-Extradite.is at c.requires.meant in
-    omega (arith, meant.3.short, meant.4)
+judge_request-requires-in-Extradite-clause-short c = (let meant = rw c.in-Extradite.is at c.requires.meant in omega (arith, meant.3.short, meant.4))
 
 pub returns-in-Extradite-clause-judged : goal.returns-in-Extradite-clause-judged
 returns-in-Extradite-clause-judged c page admitted says sound here request behind checks =
     let asked = rw c.in-Extradite.is at request in
-    let is : slice_index_or c.args.live.now.selected c.args.channel None ≡ Some c.unwrap-domain.result = search rules in
-    let acts = selected_acts page c.args.tables.now c.args.live.now admitted c.args.channel c.unwrap-domain.result says sound c.requires.channel is here in
-    judged (command_form managed_extradition) (λ holds here. inr (inr (inl here))) admitted asked.form refl _
-    (rw c.err-in-Extradite.ensures.value (by_err (FailsFirst (command_form managed_extradition) admitted) c.judge_request-in-Extradite.result
-    (c.judge_request-in-Extradite.ensures.passed extradition_judgeable page admitted acts tt asked.means) (c.judge_request-in-Extradite.ensures.refused extradition_judgeable page admitted acts tt asked.means)))
+    let acts = acts_in (goal.at.returns-in-Extradite-clause-judged c).After-unwrap-domain page admitted says sound here in
+    rw c.err-in-Extradite.ensures.value (judged_by (command_form managed_extradition) (λ holds here. inr (inr (inl here))) admitted asked.form refl _
+    (c.judge_request-in-Extradite.ensures.passed extradition_judgeable page admitted acts tt asked.means) (c.judge_request-in-Extradite.ensures.refused extradition_judgeable page admitted acts tt asked.means))
 
 pub judge_request-requires-in-InstallLoad-clause-short : goal.judge_request-requires-in-InstallLoad-clause-short
-judge_request-requires-in-InstallLoad-clause-short c =
-    let meant = rw c.in-InstallLoad.is at c.requires.meant in
-    omega (arith, meant.3.short, meant.4)
+judge_request-requires-in-InstallLoad-clause-short c = (let meant = rw c.in-InstallLoad.is at c.requires.meant in omega (arith, meant.3.short, meant.4))
 
 pub returns-in-InstallLoad-clause-judged : goal.returns-in-InstallLoad-clause-judged
 returns-in-InstallLoad-clause-judged c page admitted says sound here request behind checks =
     let asked = rw c.in-InstallLoad.is at request in
-    let is : slice_index_or c.args.live.now.selected c.args.channel None ≡ Some c.unwrap-domain.result = search rules in
-    let acts = selected_acts page c.args.tables.now c.args.live.now admitted c.args.channel c.unwrap-domain.result says sound c.requires.channel is here in
+    let acts = acts_in (goal.at.returns-in-InstallLoad-clause-judged c).After-unwrap-domain page admitted says sound here in
     load_install_judged admitted _ asked.form
     (rw c.err-in-InstallLoad.ensures.value (by_err (FailsFirst install_load admitted) c.judge_request-in-InstallLoad.result
     (c.judge_request-in-InstallLoad.ensures.passed load_install_judgeable page admitted acts says.load asked.means) (c.judge_request-in-InstallLoad.ensures.refused load_install_judgeable page admitted acts says.load asked.means)))
@@ -202,21 +188,17 @@ returns-in-InstallLoad-clause-judged c page admitted says sound here request beh
 pub returns-in-CardStatus-clause-judged : goal.returns-in-CardStatus-clause-judged
 returns-in-CardStatus-clause-judged c page admitted says sound here request behind checks =
     let asked = rw c.in-CardStatus.is at request in
-    let is : slice_index_or c.args.live.now.selected c.args.channel None ≡ Some c.unwrap-domain.result = search rules in
-    let acts = selected_acts page c.args.tables.now c.args.live.now admitted c.args.channel c.unwrap-domain.result says sound c.requires.channel is here in
+    let acts = acts_in (goal.at.returns-in-CardStatus-clause-judged c).After-unwrap-domain page admitted says sound here in
     let means : IsCardStatusOf c.in-CardStatus.life admitted.command = record { parameters = asked.form.1; code_is = asked.means } in
-    judged (command_form managed_card_status) (λ holds here. inl here) admitted asked.form refl _
-    (rw c.err-in-CardStatus.ensures.value (by_err (FailsFirst (command_form managed_card_status) admitted) c.judge_card_status.result
-    (c.judge_card_status.ensures.passed page admitted acts means) (c.judge_card_status.ensures.refused page admitted acts means)))
+    rw c.err-in-CardStatus.ensures.value (judged_by (command_form managed_card_status) (λ holds here. inl here) admitted asked.form refl _
+    (c.judge_card_status.ensures.passed page admitted acts means) (c.judge_card_status.ensures.refused page admitted acts means))
 
 pub returns-in-EntryStatus-clause-judged : goal.returns-in-EntryStatus-clause-judged
 returns-in-EntryStatus-clause-judged c page admitted says sound here request behind checks =
     let asked = rw c.in-EntryStatus.is at request in
-    let is : slice_index_or c.args.live.now.selected c.args.channel None ≡ Some c.unwrap-domain.result = search rules in
-    let acts = selected_acts page c.args.tables.now c.args.live.now admitted c.args.channel c.unwrap-domain.result says sound c.requires.channel is here in
-    judged (command_form managed_entry_status) (λ holds here. inr (inl here)) admitted asked.form refl _
-    (rw c.err-in-EntryStatus.ensures.value (by_err (FailsFirst (command_form managed_entry_status) admitted) c.judge_entry_status.result
-    (c.judge_entry_status.ensures.passed page admitted acts asked.means) (c.judge_entry_status.ensures.refused page admitted acts asked.means)))
+    let acts = acts_in (goal.at.returns-in-EntryStatus-clause-judged c).After-unwrap-domain page admitted says sound here in
+    rw c.err-in-EntryStatus.ensures.value (judged_by (command_form managed_entry_status) (λ holds here. inr (inl here)) admitted asked.form refl _
+    (c.judge_entry_status.ensures.passed page admitted acts asked.means) (c.judge_entry_status.ensures.refused page admitted acts asked.means))
 
 pub returns-in-List-clause-judged : goal.returns-in-List-clause-judged
 returns-in-List-clause-judged c page admitted says sound here request behind checks =
@@ -243,9 +225,8 @@ returns-in-List-clause-listed c page admitted says sound here before request ins
     ∙ get_or_default c.args.live.now.places c.args.channel c.index-live-from.result None (subst (λ (n : ℕ). c.args.channel < n) (sym four) c.requires.channel) in
     let place : IsPlaceBefore (option_copied c.as_ref-place.result) admitted =
     ap (option_map place_of) copied ∙ says.places c.args.channel c.requires.channel ∙ ap (λ (n : ℕ). place_in (channel_at admitted.before.volatile n)) here in
-    judged get_status (λ holds here. inl here) admitted asked.form refl _
-    (rw c.err-in-List.ensures.value (by_err (λ found. IsFirst (GetStatusFails admitted) get_status_rules found) c.judge_status.result
-    (c.judge_status.ensures.passed page admitted acts place asked.means) (c.judge_status.ensures.refused page admitted acts place asked.means)))
+    rw c.err-in-List.ensures.value (judged_by get_status (λ holds here. inl here) admitted asked.form refl _
+    (c.judge_status.ensures.passed page admitted acts place asked.means) (c.judge_status.ensures.refused page admitted acts place asked.means))
 
 pub returns-in-Load-clause-judged : goal.returns-in-Load-clause-judged
 returns-in-Load-clause-judged c page admitted says sound here request behind checks =
@@ -255,8 +236,7 @@ returns-in-Load-clause-judged c page admitted says sound here request behind che
 pub returns-in-Load-clause-numbered : goal.returns-in-Load-clause-numbered
 returns-in-Load-clause-numbered c page admitted says sound here request ins =
     let asked = rw c.in-Load.is at request in
-    let is : slice_index_or c.args.live.now.selected c.args.channel None ≡ Some c.unwrap-domain.result = search rules in
-    let acts = selected_acts page c.args.tables.now c.args.live.now admitted c.args.channel c.unwrap-domain.result says sound c.requires.channel is here in
+    let acts = acts_in (goal.at.returns-in-Load-clause-numbered c).After-unwrap-domain page admitted says sound here in
     let is_for : IsForLoad c.args.tables.now c.args.live.now.load c.args.channel admitted = record { named = says.load; on = here } in
     rw c.err-in-Load.ensures.value (by_err (λ found. IsFirst (LoadFails admitted) front_rules found) c.judge_load.result
     (c.judge_load.ensures.passed page admitted acts is_for asked.means) (c.judge_load.ensures.refused page admitted acts is_for asked.means))
