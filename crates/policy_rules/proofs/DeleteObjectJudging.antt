@@ -1,5 +1,5 @@
 -- The rules of DELETE of an object after its form, by its request.
-use Rattle.std.proofs.Common.{◌≡◌, ◌≢◌, ◌↔◌, ◌⊎◌, inl, inr, ℕ, true, false, List, length, Option, None, Some, refl, ap, sym, subst, ◌∙◌, arith}
+use Rattle.std.proofs.Common.{◌≡◌, ◌≢◌, ◌↔◌, ◌⊎◌, inl, inr, ℕ, true, false, List, length, Option, Some, refl, ap, sym, subst, ◌∙◌, arith}
 use Rattle.std.specs.Prelude.{IsSome, MatchOption}
 use Rattle.std.specs.Option.{option_map}
 use Rattle.std.proofs.lemmas.Bool.{eqb-false, eqb-true}
@@ -16,15 +16,13 @@ use Rattle.card_types.specs.declared.tables.Tables.{Tables}
 use Rattle.domain_tree.specs.Above.{Above}
 use Rattle.policy_rules.specs.Admission.{Admitted}
 use Rattle.policy_rules.specs.Charge.{IsFileInCharge, IsInCharge}
-use Rattle.policy_rules.specs.DeleteObject.{ComesFrom, DeletingFails, DeletionAsked, IsInUse, IsToGo, managed_delete_object}
+use Rattle.policy_rules.specs.DeleteObject.{ComesFrom, DeletingFails, IsInUse, IsToGo}
 use Rattle.policy_rules.specs.DeleteObjectFound.{IsFrom, IsInUseIn}
 use Rattle.policy_rules.specs.DeleteObjectRequests.{IsDeletionOf}
-use Rattle.policy_rules.specs.FirstFailing.{IsFirst}
 use Rattle.policy_rules.specs.Management.{acting}
 use Rattle.policy_rules.specs.Requests.{ActsIn, RepresentsState}
 use Rattle.policy_rules.specs.declared.delete_object.DeletionRequest.{DeletionRequest}
-use Rattle.policy_rules.specs.declared.delete_object.RuleDO.{RuleDO}
-use Rattle.policy_rules.specs.declared.delete_object.RuleDO.TheVariants.{DO1, DO2, DO3, DO4}
+use Rattle.policy_rules.specs.declared.delete_object.RuleDO.TheVariants.{DO1, DO2, DO4}
 use Rattle.policy_rules.specs.declared.live.Live.{Live}
 use Rattle.policy_rules.specs.declared.live.TheConstants.{CHANNELS}
 use Rattle.policy_rules.proofs.ChargeNamed.{above_alike}
@@ -32,35 +30,6 @@ use Rattle.policy_rules.proofs.DeleteObjectNames.{entry_no_source, file_alone, f
 use Rattle.policy_rules.proofs.DeleteObjectSlots.{from_used}
 use Rattle.policy_rules.proofs.InstallApplicationJudging.{entry_no_file}
 use Rattle.policy_rules.proofs.ThingsFound.{acting_named, entry_at}
-
--- the first of the form's own rules that fails
-module _ (admitted : Admitted) (asked : DeletionAsked) where
-  abbrev Fails : RuleDO → Type 0
-  Fails = DeletingFails admitted asked
-
-  abbrev Passes : RuleDO → Type 0
-  Passes rule = Fails rule → ⊥
-
-  abbrev First : Option RuleDO → Type 0
-  First found = IsFirst Fails managed_delete_object.judged.own_rules found
-
-  pub first_1 : Fails DO1 → First (Some DO1)
-  first_1 fails = inl (fails, refl)
-
-  module _ (one : Passes DO1) where
-    pub first_2 : Fails DO2 → First (Some DO2)
-    first_2 fails = inr (one, inl (fails, refl))
-
-    module _ (two : Passes DO2) where
-      pub first_3 : Fails DO3 → First (Some DO3)
-      first_3 fails = inr (one, inr (two, inl (fails, refl)))
-
-      module _ (three : Passes DO3) where
-        pub first_4 : Fails DO4 → First (Some DO4)
-        first_4 fails = inr (one, inr (two, inr (three, inl (fails, refl))))
-
-        pub none_first : Passes DO4 → First None
-        none_first four = inr (one, inr (two, inr (three, inr (four, refl))))
 
 module _ (page : ℕ → List ℕ) (tables : Tables) (domain : ℕ) (admitted : Admitted) (acts : ActsIn page tables domain admitted) where
   -- an entry is in the charge of the domains above it

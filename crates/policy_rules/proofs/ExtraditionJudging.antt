@@ -1,5 +1,5 @@
 -- The rules of INSTALL [for extradition] after its form, by its request.
-use Rattle.std.proofs.Common.{◌≡◌, ◌≢◌, ◌↔◌, ◌⊎◌, inl, inr, ℕ, Bool, true, false, List, Option, None, Some, refl, ap, sym, subst, ◌∙◌}
+use Rattle.std.proofs.Common.{◌≡◌, ◌≢◌, ◌↔◌, ◌⊎◌, inl, inr, ℕ, Bool, true, false, List, Option, Some, ap, sym, subst, ◌∙◌}
 use Rattle.std.specs.Prelude.{IsTrue, MatchOption, not}
 use Rattle.std.proofs.lemmas.Bool.{false_from_ne_true, not-true, not_from_false}
 use Rattle.card_types.proofs.FoundNames.{found_entry_named, found_file_named, none_found_none_named}
@@ -20,16 +20,15 @@ use Rattle.domain_tree.specs.Holders.{entry_has}
 use Rattle.policy_rules.specs.Admission.{Admitted}
 use Rattle.policy_rules.specs.Charge.{IsAtOrAbove}
 use Rattle.policy_rules.specs.Delegation.{Holds, IsVerifier}
-use Rattle.policy_rules.specs.Extradition.{ExtraditingFails, IsOutOfReach, IsUnapprovable, is_personalized, managed_extradition}
+use Rattle.policy_rules.specs.Extradition.{ExtraditingFails, IsOutOfReach, IsUnapprovable, is_personalized}
 use Rattle.policy_rules.specs.ExtraditionRequests.{IsExtraditionOf}
-use Rattle.policy_rules.specs.FirstFailing.{IsFirst}
 use Rattle.policy_rules.specs.InstallFields.{InstallData}
 use Rattle.policy_rules.specs.InstallApplicationRequests.{may_manage_by}
 use Rattle.policy_rules.specs.Management.{acting}
 use Rattle.policy_rules.specs.Requests.{ActsIn}
 use Rattle.policy_rules.specs.declared.extradition.ExtraditionRequest.{ExtraditionRequest}
 use Rattle.policy_rules.specs.declared.extradition.RuleEX.{RuleEX}
-use Rattle.policy_rules.specs.declared.extradition.RuleEX.TheVariants.{EX1, EX2, EX3, EX4, EX5, EX6, EX7}
+use Rattle.policy_rules.specs.declared.extradition.RuleEX.TheVariants.{EX1, EX2, EX3, EX5}
 use Rattle.policy_rules.proofs.Approved.{one_holder}
 use Rattle.policy_rules.proofs.InstallApplicationJudging.{holds_named, manages, may_manage}
 use Rattle.policy_rules.proofs.ThingsFound.{entry_at, named_as}
@@ -103,46 +102,12 @@ module _ (page : ℕ → List ℕ) (tables : Tables) (domain : ℕ) (admitted : 
         negated : IsTrue (not above) ↔ (IsAtOrAbove admitted.at.registry verifier is.given.first → ⊥)
         negated = not_told above (to_given verifier above told)
 
--- the first of the form's own rules that fails
 module _ (admitted : Admitted) (given : InstallData) where
   abbrev Fails : RuleEX → Type 0
   Fails = ExtraditingFails admitted given
 
   abbrev Passes : RuleEX → Type 0
   Passes rule = Fails rule → ⊥
-
-  abbrev First : Option RuleEX → Type 0
-  First found = IsFirst Fails managed_extradition.judged.own_rules found
-
-  pub first_1 : Fails EX1 → First (Some EX1)
-  first_1 fails = inl (fails, refl)
-
-  module _ (one : Passes EX1) where
-    pub first_2 : Fails EX2 → First (Some EX2)
-    first_2 fails = inr (one, inl (fails, refl))
-
-    module _ (two : Passes EX2) where
-      pub first_3 : Fails EX3 → First (Some EX3)
-      first_3 fails = inr (one, inr (two, inl (fails, refl)))
-
-      module _ (three : Passes EX3) where
-        pub first_4 : Fails EX4 → First (Some EX4)
-        first_4 fails = inr (one, inr (two, inr (three, inl (fails, refl))))
-
-        module _ (four : Passes EX4) where
-          pub first_5 : Fails EX5 → First (Some EX5)
-          first_5 fails = inr (one, inr (two, inr (three, inr (four, inl (fails, refl)))))
-
-          module _ (five : Passes EX5) where
-            pub first_6 : Fails EX6 → First (Some EX6)
-            first_6 fails = inr (one, inr (two, inr (three, inr (four, inr (five, inl (fails, refl))))))
-
-            module _ (six : Passes EX6) where
-              pub first_7 : Fails EX7 → First (Some EX7)
-              first_7 fails = inr (one, inr (two, inr (three, inr (four, inr (five, inr (six, inl (fails, refl)))))))
-
-              pub none_first : Passes EX7 → First None
-              none_first seven = inr (one, inr (two, inr (three, inr (four, inr (five, inr (six, inr (seven, refl)))))))
 
 -- what the tests of the code tell of these rules
 module _ (page : ℕ → List ℕ) (tables : Tables) (domain : ℕ) (admitted : Admitted) (acts : ActsIn page tables domain admitted)

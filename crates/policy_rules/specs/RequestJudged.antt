@@ -1,10 +1,11 @@
 -- For the code inside. Forms whose commands are judged for what they ask for, those whose commands a token may approve, and what the code
 -- reads of such a command.
-use Rattle.std.specs.Prelude.{◌≡◌, ℕ, Bool, true, false, List, [], ◌∷◌, ◌++◌, map}
+use Rattle.std.specs.Prelude.{◌≡◌, ℕ, Bool, true, false, List, [], ◌∷◌, ◌++◌, Some, map}
 use Rattle.apdu_core.specs.Apdu.{Apdu}
+use Rattle.policy_rules.specs.Admission.{Admitted}
 use Rattle.policy_rules.specs.Delegation.{token_rules}
 use Rattle.policy_rules.specs.HoldersFound.{approval_of}
-use Rattle.policy_rules.specs.ManagedForm.{JudgedForm}
+use Rattle.policy_rules.specs.ManagedForm.{JudgedForm, OwnFirst}
 use Rattle.policy_rules.specs.declared.delegation.RuleRC.TheVariants.{RC1}
 use Rattle.policy_rules.specs.declared.delegation.Signed.{Signed}
 use Rattle.policy_rules.specs.declared.management.RuleM.TheVariants.{M1, M2}
@@ -49,3 +50,7 @@ pub record IsBroughtFor (form : JudgedForm) (command : Apdu) (asked : form.Asked
   pub asks : form.asks command.p1 command.p2 command.body asked
   pub parameters : (brought.p1 ≡ command.p1) × (brought.p2 ≡ command.p2)
   pub approval : approval_of brought ≡ form.delegation.approval asked
+
+-- of the form's own rules this one is the first that fails for what is asked
+abbrev pub OwnRefuses : (form : JudgedForm) → Admitted → form.Asked → Rule → Type 0
+OwnRefuses form admitted asked rule = (own : form.Own) × (form.group own ≡ rule) × OwnFirst form admitted asked (Some own)

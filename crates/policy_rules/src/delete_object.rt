@@ -127,16 +127,12 @@ fn is_needed(tables: &Tables, live: &Live, thing: Found, request: &DeletionReque
 }
 
 impl JudgedRequest for DeletionRequest<'_> {
-    type Own = RuleDO;
-
     /// The thing.
     type Found = Found;
 
     ghost form = { managed_delete_object.judged };
 
     ghost receipted = { true };
-
-    ghost own = { λ rule. rule };
 
     ghost reads = { IsDeletionOf };
 
@@ -148,24 +144,20 @@ impl JudgedRequest for DeletionRequest<'_> {
 
     ghost finds = { λ request tables live domain. FindsThing request tables live };
 
-    fn judge_own(&self, tables: &Tables, live: &Live, domain: u8) -> Result<Found, RuleDO> {
+    fn judge_own(&self, tables: &Tables, live: &Live, domain: u8) -> Result<Found, Rule> {
         let Some(thing) = find(tables, &self.aid) else {
-            return Err(RuleDO::DO1);
+            return Err(Rule::DO(RuleDO::DO1));
         };
         if is_fixed(&self.aid) {
-            return Err(RuleDO::DO2);
+            return Err(Rule::DO(RuleDO::DO2));
         }
         if is_barred(tables, domain, thing, self) {
-            return Err(RuleDO::DO3);
+            return Err(Rule::DO(RuleDO::DO3));
         }
         if is_needed(tables, live, thing, self) {
-            return Err(RuleDO::DO4);
+            return Err(Rule::DO(RuleDO::DO4));
         }
         Ok(thing)
-    }
-
-    fn grouped(&self, rule: RuleDO) -> Rule {
-        Rule::DO(rule)
     }
 
     // As it is delegated to, unless it may delete whatever it wants.

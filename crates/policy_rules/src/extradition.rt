@@ -177,15 +177,11 @@ fn is_barred(tables: &Tables, domain: u8, request: &ExtraditionRequest<'_>, to: 
 }
 
 impl JudgedRequest for ExtraditionRequest<'_> {
-    type Own = RuleEX;
-
     type Found = Extradition;
 
     ghost form = { managed_extradition.judged };
 
     ghost receipted = { true };
-
-    ghost own = { λ rule. rule };
 
     ghost reads = { IsExtraditionOf };
 
@@ -197,40 +193,36 @@ impl JudgedRequest for ExtraditionRequest<'_> {
 
     ghost finds = { λ request tables live domain. FindsMove request tables };
 
-    fn judge_own(&self, tables: &Tables, _live: &Live, domain: u8) -> Result<Extradition, RuleEX> {
+    fn judge_own(&self, tables: &Tables, _live: &Live, domain: u8) -> Result<Extradition, Rule> {
         if !may_manage(&tables.entries, domain) {
-            return Err(RuleEX::EX1);
+            return Err(Rule::EX(RuleEX::EX1));
         }
         let Some(thing) = find(tables, &self.aid) else {
-            return Err(RuleEX::EX2);
+            return Err(Rule::EX(RuleEX::EX2));
         };
         let Some(to) = find_domain(tables, &self.to) else {
-            return Err(RuleEX::EX2);
+            return Err(Rule::EX(RuleEX::EX2));
         };
         if is_fixed(&self.aid) {
-            return Err(RuleEX::EX3);
+            return Err(Rule::EX(RuleEX::EX3));
         }
         if !has_charge(tables, domain, thing) {
-            return Err(RuleEX::EX4);
+            return Err(Rule::EX(RuleEX::EX4));
         }
         if is_unfit(tables, to) {
-            return Err(RuleEX::EX5);
+            return Err(Rule::EX(RuleEX::EX5));
         }
         if is_over(tables, thing, to) {
-            return Err(RuleEX::EX6);
+            return Err(Rule::EX(RuleEX::EX6));
         }
         if is_barred(tables, domain, self, to) {
-            return Err(RuleEX::EX7);
+            return Err(Rule::EX(RuleEX::EX7));
         }
         Ok(Extradition {
             thing,
             from: domain_of(tables, thing),
             to,
         })
-    }
-
-    fn grouped(&self, rule: RuleEX) -> Rule {
-        Rule::EX(rule)
     }
 
     fn is_delegated(&self, tables: &Tables, domain: u8) -> bool {

@@ -320,16 +320,12 @@ fn exceeds_domain(entries: &[Option<Slot>], domain: u8, privileges: Privileges) 
 }
 
 impl JudgedRequest for InstallRequest<'_> {
-    type Own = RuleII;
-
     /// The slot of the Executable Load File.
     type Found = u8;
 
     ghost form = { managed_install.judged };
 
     ghost receipted = { true };
-
-    ghost own = { λ rule. rule };
 
     ghost reads = { IsInstallOf };
 
@@ -341,36 +337,32 @@ impl JudgedRequest for InstallRequest<'_> {
 
     ghost finds = { λ request tables live domain. FindsSource request tables };
 
-    fn judge_own(&self, tables: &Tables, live: &Live, domain: u8) -> Result<u8, RuleII> {
+    fn judge_own(&self, tables: &Tables, live: &Live, domain: u8) -> Result<u8, Rule> {
         if !may_manage(&tables.entries, domain) {
-            return Err(RuleII::II1);
+            return Err(Rule::II(RuleII::II1));
         }
         let Some(file) = find_file(tables, &self.file) else {
-            return Err(RuleII::II2);
+            return Err(Rule::II(RuleII::II2));
         };
         if lacks_module(self) {
-            return Err(RuleII::II2);
+            return Err(Rule::II(RuleII::II2));
         }
         if is_out_of_charge(tables, domain, &self.file, file) {
-            return Err(RuleII::II3);
+            return Err(Rule::II(RuleII::II3));
         }
         if is_taken(tables, live, &self.aid) {
-            return Err(RuleII::II4);
+            return Err(Rule::II(RuleII::II4));
         }
         if !may_be_made(&self.file, self.privileges) {
-            return Err(RuleII::II5);
+            return Err(Rule::II(RuleII::II5));
         }
         if exceeds_domain(&tables.entries, domain, self.privileges) {
-            return Err(RuleII::II6);
+            return Err(Rule::II(RuleII::II6));
         }
         match first_free(&tables.entries) {
             Some(_) => Ok(file),
-            None => Err(RuleII::II7),
+            None => Err(Rule::II(RuleII::II7)),
         }
-    }
-
-    fn grouped(&self, rule: RuleII) -> Rule {
-        Rule::II(rule)
     }
 
     fn is_delegated(&self, tables: &Tables, domain: u8) -> bool {

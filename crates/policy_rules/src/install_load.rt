@@ -210,16 +210,12 @@ fn is_unfit_hash(tables: &Tables, domain: u8, hash: &[u8]) -> bool
 }
 
 impl JudgedRequest for LoadInstallRequest<'_> {
-    type Own = RuleIL;
-
     /// The slot of the security domain of the Executable Load File.
     type Found = u8;
 
     ghost form = { judged_install_load };
 
     ghost receipted = { false };
-
-    ghost own = { λ rule. rule };
 
     ghost reads = { IsLoadInstallOf };
 
@@ -231,33 +227,29 @@ impl JudgedRequest for LoadInstallRequest<'_> {
 
     ghost finds = { λ request tables live. FindsDomain request tables };
 
-    fn judge_own(&self, tables: &Tables, live: &Live, domain: u8) -> Result<u8, RuleIL> {
+    fn judge_own(&self, tables: &Tables, live: &Live, domain: u8) -> Result<u8, Rule> {
         if !may_manage(&tables.entries, domain) {
-            return Err(RuleIL::IL1);
+            return Err(Rule::IL(RuleIL::IL1));
         }
         if live.load.is_some() {
-            return Err(RuleIL::IL2);
+            return Err(Rule::IL(RuleIL::IL2));
         }
         if find(tables, &self.file).is_some() {
-            return Err(RuleIL::IL3);
+            return Err(Rule::IL(RuleIL::IL3));
         }
         let Some(to) = find_named(tables, domain, &self.domain) else {
-            return Err(RuleIL::IL4);
+            return Err(Rule::IL(RuleIL::IL4));
         };
         if !is_at_or_above(tables, domain, to) {
-            return Err(RuleIL::IL5);
+            return Err(Rule::IL(RuleIL::IL5));
         }
         if is_unfit_hash(tables, domain, self.hash) {
-            return Err(RuleIL::IL6);
+            return Err(Rule::IL(RuleIL::IL6));
         }
         match first_free(&tables.files) {
             Some(_) => Ok(to),
-            None => Err(RuleIL::IL7),
+            None => Err(Rule::IL(RuleIL::IL7)),
         }
-    }
-
-    fn grouped(&self, rule: RuleIL) -> Rule {
-        Rule::IL(rule)
     }
 
     fn is_delegated(&self, tables: &Tables, domain: u8) -> bool {

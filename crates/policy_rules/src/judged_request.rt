@@ -8,7 +8,7 @@ ghost use Rattle.policy_rules.specs.Admission.{Admitted};
 ghost use Rattle.policy_rules.specs.FirstFailing.{IsFirst};
 ghost use Rattle.policy_rules.specs.HoldersFound.{FindsConfirmer, MayReceipt};
 ghost use Rattle.policy_rules.specs.ManagedForm.{AskedFails, JudgedFirst, JudgedForm, OwnFirst};
-ghost use Rattle.policy_rules.specs.RequestJudged.{IsBroughtFor, IsJudgeable, IsTokenForm};
+ghost use Rattle.policy_rules.specs.RequestJudged.{IsBroughtFor, IsJudgeable, IsTokenForm, OwnRefuses};
 ghost use Rattle.policy_rules.specs.Requests.{ForActing};
 
 use crate::delegation::{Signed, judge_receipt, judge_token};
@@ -31,17 +31,12 @@ pub trait JudgedRequest {
     ghost use Rattle.policy_rules.specs.declared.delegation.Signed.{Signed};
     ghost use Rattle.policy_rules.specs.declared.live.Live.{Live};
 
-    /// The rules of the form's own.
-    type Own;
-
-    /// What they find.
+    /// What the rules of the form's own find.
     type Found: Copy;
 
     ghost form: { JudgedForm };
 
     ghost receipted: { Bool };
-
-    ghost own: { Self.Own → form.Own };
 
     /// The request is that of the command.
     ghost reads: { Self → Apdu → Type 0 };
@@ -57,17 +52,13 @@ pub trait JudgedRequest {
 
     /// Judges the rules of the form's own for the domain in a slot. What is kept of the state beside the tables tells what is
     /// selected, and the load session.
-    fn judge_own(&self, tables: &Tables, live: &Live, domain: u8) -> Result<Self::Found, Self::Own>
+    fn judge_own(&self, tables: &Tables, live: &Live, domain: u8) -> Result<Self::Found, Rule>
         requires in_order { IsInOrder tables.now }
         ensures passed { ForActing tables.now domain (λ page admitted. told page tables.now live.now admitted → (is : reads self.now admitted.command)
             → OnOk result (OwnFirst form admitted (asked self.now admitted.command is) None)) }
         ensures refused { ForActing tables.now domain (λ page admitted. told page tables.now live.now admitted → (is : reads self.now admitted.command)
-            → IfErr result (λ rule. OwnFirst form admitted (asked self.now admitted.command is) (Some (own rule)))) }
+            → IfErr result (OwnRefuses form admitted (asked self.now admitted.command is))) }
         ensures found { IfOk result (finds self.now tables.now live.now domain) };
-
-    /// One of these rules, among those of all forms.
-    fn grouped(&self, rule: Self::Own) -> Rule
-        ensures { result ≡ form.group (own rule) };
 
     /// Whether a command of the domain in a slot is delegated.
     fn is_delegated(&self, tables: &Tables, domain: u8) -> bool
@@ -137,10 +128,7 @@ pub fn judge_request<M: JudgedRequest>(
     ensures able { IfOk result (λ judged. IfSome judged.receipter (MayReceipt tables.now)) }
 {
     judge_management(tables, domain)?;
-    let found = match request.judge_own(tables, live, domain) {
-        Ok(found) => found,
-        Err(rule) => return Err(request.grouped(rule)),
-    };
+    let found = request.judge_own(tables, live, domain)?;
     let receipter = judge_approval(tables, domain, request)?;
     Ok(Judged { found, receipter })
 }

@@ -95,16 +95,12 @@ fn differ(given: Option<Privileges>, privileges: Privileges) -> bool
 }
 
 impl JudgedRequest for SelectableRequest<'_> {
-    type Own = RuleMS;
-
     /// The slot of the application.
     type Found = u8;
 
     ghost form = { managed_selectable.judged };
 
     ghost receipted = { true };
-
-    ghost own = { λ rule. rule };
 
     ghost reads = { IsSelectableOf };
 
@@ -116,28 +112,24 @@ impl JudgedRequest for SelectableRequest<'_> {
 
     ghost finds = { λ request tables live domain slot. IsInstalledWith request.aid (held tables.entries.items slot) };
 
-    fn judge_own(&self, tables: &Tables, _live: &Live, domain: u8) -> Result<u8, RuleMS> {
+    fn judge_own(&self, tables: &Tables, _live: &Live, domain: u8) -> Result<u8, Rule> {
         if !may_manage(&tables.entries, domain) {
-            return Err(RuleMS::MS1);
+            return Err(Rule::MS(RuleMS::MS1));
         }
         let Some(slot) = find_entry(tables, &self.aid) else {
-            return Err(RuleMS::MS2);
+            return Err(Rule::MS(RuleMS::MS2));
         };
         if !above(&tables.entries, domain, slot) {
-            return Err(RuleMS::MS3);
+            return Err(Rule::MS(RuleMS::MS3));
         }
         let entry = in_slot(&tables.entries, slot).unwrap();
         if !is_just_installed(entry.life) {
-            return Err(RuleMS::MS4);
+            return Err(Rule::MS(RuleMS::MS4));
         }
         if differ(self.privileges, entry.privileges) {
-            return Err(RuleMS::MS5);
+            return Err(Rule::MS(RuleMS::MS5));
         }
         Ok(slot)
-    }
-
-    fn grouped(&self, rule: RuleMS) -> Rule {
-        Rule::MS(rule)
     }
 
     fn is_delegated(&self, tables: &Tables, domain: u8) -> bool {

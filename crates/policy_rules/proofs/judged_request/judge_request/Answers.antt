@@ -19,14 +19,15 @@ returns-in_err-judge_management-clause-refused g c judgeable page admitted acts 
     (management_handed Fails (map form.group form.own_rules ++ form.delegation.rules) c.from_residual.result c.in_err-judge_management.field-0.0 c.from_residual.ensures.1
     (c.in_err-judge_management.ensures.refused page admitted acts))
 
-pub returns-in-Err-clause-refused : goal.returns-in-Err-clause-refused
-returns-in-Err-clause-refused g c judgeable page admitted acts told is =
+pub returns-in_err-found-clause-refused : goal.returns-in_err-found-clause-refused
+returns-in_err-found-clause-refused g c judgeable page admitted acts told is =
     let form = g.M.JudgedRequest.form in
     let lawful = g.met.M.JudgedRequest.lawful in
     let meant = g.met.M.JudgedRequest.meant c.args.request.now admitted.command is in
-    subst (λ (r : Rule). JudgedFirst form admitted (Some r)) (sym c.grouped.ensures)
-    (own_refuses form judgeable admitted _ meant.asks (management_passes form _ lawful admitted (c.in_ok-judge_management.ensures.passed page admitted acts)) _
-    (c.in-Err.ensures.refused page admitted acts told is))
+    let refused = c.in_err-found.ensures.refused page admitted acts told is in
+    handed_on (λ r. JudgedFirst form admitted (Some r)) c.from_residual-in_err-found.result c.in_err-found.field-0.0 c.from_residual-in_err-found.ensures.1
+    (subst (λ (r : Rule). JudgedFirst form admitted (Some r)) refused.1
+    (own_refuses form judgeable admitted _ meant.asks (management_passes form _ lawful admitted (c.in_ok-judge_management.ensures.passed page admitted acts)) refused.0 refused.2))
 
 pub returns-in_err-receipter-clause-refused : goal.returns-in_err-receipter-clause-refused
 returns-in_err-receipter-clause-refused g c judgeable page admitted acts told is =
@@ -36,7 +37,7 @@ returns-in_err-receipter-clause-refused g c judgeable page admitted acts told is
     let rule = c.in_err-receipter.field-0.0 in
     handed_on (λ r. JudgedFirst form admitted (Some r)) c.from_residual-in_err-receipter.result rule c.from_residual-in_err-receipter.ensures.1
     (approval_decides form judgeable admitted _ meant.asks (management_passes form _ lawful admitted (c.in_ok-judge_management.ensures.passed page admitted acts)) (Some rule)
-    (c.in-Ok.ensures.passed page admitted acts told is) (c.in_err-receipter.ensures.refused page admitted acts is))
+    (c.in_ok-found.ensures.passed page admitted acts told is) (c.in_err-receipter.ensures.refused page admitted acts is))
 
 pub returns-clause-passed : goal.returns-clause-passed
 returns-clause-passed g c judgeable page admitted acts told is =
@@ -44,4 +45,4 @@ returns-clause-passed g c judgeable page admitted acts told is =
     let lawful = g.met.M.JudgedRequest.lawful in
     let meant = g.met.M.JudgedRequest.meant c.args.request.now admitted.command is in
     approval_decides form judgeable admitted _ meant.asks (management_passes form _ lawful admitted (c.in_ok-judge_management.ensures.passed page admitted acts)) None
-    (c.in-Ok.ensures.passed page admitted acts told is) (c.in_ok-receipter.ensures.passed page admitted acts is)
+    (c.in_ok-found.ensures.passed page admitted acts told is) (c.in_ok-receipter.ensures.passed page admitted acts is)

@@ -1,86 +1,100 @@
-use Rattle.std.proofs.Common.{rules, ◌≡◌, Some, ap, ◌∙◌}
+use Rattle.std.proofs.Common.{rules, ℕ, List, [], ◌∷◌, Option, Some, inl, inr, refl, ap, ◌∙◌}
 use Rattle.std.proofs.lemmas.Bool.{iff_false}
-use Rattle.card_types.specs.Found.{aid_of}
-use Rattle.policy_rules.proofs.ExtraditionJudging.{first_1, first_2, first_3, first_4, first_5, first_6, first_7, fixed, free, known, managed, no_domain, none_first, unknown, unmanaged}
-use Rattle.policy_rules.specs.Extradition.{ExtraditingFails}
-use Rattle.policy_rules.specs.declared.extradition.RuleEX.TheVariants.{EX4}
-use Rattle.card_types.specs.declared.found.Found.TheVariants.{Entry}
+use Rattle.policy_rules.proofs.ExtraditionJudging.{fixed, free, known, managed, no_domain, unknown, unmanaged}
+use Rattle.policy_rules.specs.Admission.{Admitted}
+use Rattle.policy_rules.specs.Extradition.{ExtraditingFails, managed_extradition}
+use Rattle.policy_rules.specs.ExtraditionRequests.{IsExtraditionOf}
+use Rattle.policy_rules.specs.FirstFailing.{IsFirst}
+use Rattle.policy_rules.specs.InstallFields.{InstallData}
+use Rattle.policy_rules.specs.ManagedForm.{OwnFirst}
+use Rattle.policy_rules.specs.Requests.{ActsIn}
+use Rattle.policy_rules.specs.declared.extradition.RuleEX.{RuleEX}
+use Rattle.policy_rules.specs.declared.extradition.RuleEX.TheVariants.{EX1, EX2, EX3, EX4, EX5, EX6, EX7}
 use Rattle.policy_rules.proofs.extradition.ExtraditionRequestJudgedRequest.judge_own.Goals as goal
+use Rattle.policy_rules.proofs.extradition.ExtraditionRequestJudgedRequest.judge_own.Goals.{After-is_barred, After-is_fixed, After-is_unfit}
+
+abbrev First : Admitted → InstallData → List RuleEX → Option RuleEX → Type 0
+First admitted given = IsFirst (ExtraditingFails admitted given)
+
+-- the rules before one pass, so the first that fails is among those that are left
+from_3 : (c : After-is_fixed) (page : ℕ → List ℕ) (admitted : Admitted) (acts : ActsIn page c.args.tables.now c.args.domain admitted)
+    (is : IsExtraditionOf c.args.self.now admitted.command) (found : Option RuleEX)
+    → First admitted is.given (EX3 ∷ EX4 ∷ EX5 ∷ EX6 ∷ EX7 ∷ []) found → OwnFirst managed_extradition.judged admitted is.given found
+from_3 c page admitted acts is found rest =
+    let tables = c.args.tables.now in
+    let one = managed page tables c.args.domain admitted acts c.args.self.now is c.may_manage.result (rw c.deref.ensures.value at c.may_manage.ensures) c.if-not-may_manage.false in
+    let there = c.in-Some-find_domain.ensures.domain page admitted.at.registry acts.says acts.well in
+    inr (one, inr (known page tables c.args.domain admitted acts c.args.self.now is c.in-Some.thing c.in-Some.ensures.some there, rest))
+
+from_5 : (c : After-is_unfit) (page : ℕ → List ℕ) (admitted : Admitted) (acts : ActsIn page c.args.tables.now c.args.domain admitted)
+    (is : IsExtraditionOf c.args.self.now admitted.command) (found : Option RuleEX)
+    → First admitted is.given (EX5 ∷ EX6 ∷ EX7 ∷ []) found → First admitted is.given (EX3 ∷ EX4 ∷ EX5 ∷ EX6 ∷ EX7 ∷ []) found
+from_5 c page admitted acts is found rest =
+    let three = free page c.args.tables.now c.args.domain admitted acts c.args.self.now is (iff_false c.is_fixed.ensures c.if-is_fixed.false) in
+    let charge = c.has_charge.ensures page admitted is.given.third acts (c.in-Some.ensures.some ∙ ap Some is.aid) in
+    inr (three, inr ((λ fails. fails (charge.0 c.if-not-has_charge.false)), rest))
+
+from_7 : (c : After-is_barred) (page : ℕ → List ℕ) (admitted : Admitted) (acts : ActsIn page c.args.tables.now c.args.domain admitted)
+    (is : IsExtraditionOf c.args.self.now admitted.command) (found : Option RuleEX)
+    → First admitted is.given (EX7 ∷ []) found → First admitted is.given (EX5 ∷ EX6 ∷ EX7 ∷ []) found
+from_7 c page admitted acts is found rest =
+    let into = c.in-Some-find_domain.ensures.some ∙ ap Some is.to in
+    let over = c.is_over.ensures page admitted.at.registry is.given.third is.given.first acts.says acts.well (c.in-Some.ensures.some ∙ ap Some is.aid) into in
+    inr (iff_false (c.is_unfit.ensures page admitted is.given acts.says into) c.if-is_unfit.false, inr (iff_false over c.if-is_over.false, rest))
 
 pub returns-then-not-may_manage-clause-refused : goal.returns-then-not-may_manage-clause-refused
 returns-then-not-may_manage-clause-refused c page admitted acts told is =
-    first_1 admitted is.given (unmanaged page c.args.tables.now c.args.domain admitted acts c.args.self.now is c.may_manage.result (rw c.deref.ensures.value at c.may_manage.ensures) c.if-not-may_manage.true)
+    (EX1, refl, inl (unmanaged page c.args.tables.now c.args.domain admitted acts c.args.self.now is c.may_manage.result (rw c.deref.ensures.value at c.may_manage.ensures) c.if-not-may_manage.true, refl))
 
 pub returns-in_default-clause-refused : goal.returns-in_default-clause-refused
 returns-in_default-clause-refused c page admitted acts told is =
     let one = managed page c.args.tables.now c.args.domain admitted acts c.args.self.now is c.may_manage.result (rw c.deref.ensures.value at c.may_manage.ensures) c.if-not-may_manage.false in
-    first_2 admitted is.given one (unknown page c.args.tables.now c.args.domain admitted acts c.args.self.now is c.in_default.ensures.none)
+    (EX2, refl, inr (one, inl (unknown page c.args.tables.now c.args.domain admitted acts c.args.self.now is c.in_default.ensures.none, refl)))
 
 pub returns-in_default-find_domain-clause-refused : goal.returns-in_default-find_domain-clause-refused
 returns-in_default-find_domain-clause-refused c page admitted acts told is =
     let one = managed page c.args.tables.now c.args.domain admitted acts c.args.self.now is c.may_manage.result (rw c.deref.ensures.value at c.may_manage.ensures) c.if-not-may_manage.false in
-    first_2 admitted is.given one (no_domain page c.args.tables.now c.args.domain admitted acts c.args.self.now is (c.in_default-find_domain.ensures.none page admitted.at.registry acts.says acts.well))
+    let none = c.in_default-find_domain.ensures.none page admitted.at.registry acts.says acts.well in
+    (EX2, refl, inr (one, inl (no_domain page c.args.tables.now c.args.domain admitted acts c.args.self.now is none, refl)))
 
 pub returns-then-is_fixed-clause-refused : goal.returns-then-is_fixed-clause-refused
 returns-then-is_fixed-clause-refused c page admitted acts told is =
-    let one = managed page c.args.tables.now c.args.domain admitted acts c.args.self.now is c.may_manage.result (rw c.deref.ensures.value at c.may_manage.ensures) c.if-not-may_manage.false in
-    let two = known page c.args.tables.now c.args.domain admitted acts c.args.self.now is c.in-Some.thing c.in-Some.ensures.some (c.in-Some-find_domain.ensures.domain page admitted.at.registry acts.says acts.well) in
-    first_3 admitted is.given one two (fixed page c.args.tables.now c.args.domain admitted acts c.args.self.now is (c.is_fixed.ensures.0 c.if-is_fixed.true))
+    let at = goal.at.returns-then-is_fixed-clause-refused c in
+    let fails = fixed page c.args.tables.now c.args.domain admitted acts c.args.self.now is (c.is_fixed.ensures.0 c.if-is_fixed.true) in
+    (EX3, refl, from_3 at.After-is_fixed page admitted acts is _ (inl (fails, refl)))
 
 pub returns-then-not-has_charge-clause-refused : goal.returns-then-not-has_charge-clause-refused
 returns-then-not-has_charge-clause-refused c page admitted acts told is =
-    let one = managed page c.args.tables.now c.args.domain admitted acts c.args.self.now is c.may_manage.result (rw c.deref.ensures.value at c.may_manage.ensures) c.if-not-may_manage.false in
-    let two = known page c.args.tables.now c.args.domain admitted acts c.args.self.now is c.in-Some.thing c.in-Some.ensures.some (c.in-Some-find_domain.ensures.domain page admitted.at.registry acts.says acts.well) in
+    let at = goal.at.returns-then-not-has_charge-clause-refused c in
     let three = free page c.args.tables.now c.args.domain admitted acts c.args.self.now is (iff_false c.is_fixed.ensures c.if-is_fixed.false) in
-    let named : aid_of c.args.tables.now c.in-Some.thing ≡ Some is.given.third = c.in-Some.ensures.some ∙ ap Some is.aid in
-    first_4 admitted is.given one two three (iff_false (c.has_charge.ensures page admitted is.given.third acts named) c.if-not-has_charge.true)
+    let charge = c.has_charge.ensures page admitted is.given.third acts (c.in-Some.ensures.some ∙ ap Some is.aid) in
+    (EX4, refl, from_3 at.After-is_fixed page admitted acts is _ (inr (three, inl (iff_false charge c.if-not-has_charge.true, refl))))
 
 pub returns-then-is_unfit-clause-refused : goal.returns-then-is_unfit-clause-refused
 returns-then-is_unfit-clause-refused c page admitted acts told is =
-    let one = managed page c.args.tables.now c.args.domain admitted acts c.args.self.now is c.may_manage.result (rw c.deref.ensures.value at c.may_manage.ensures) c.if-not-may_manage.false in
-    let two = known page c.args.tables.now c.args.domain admitted acts c.args.self.now is c.in-Some.thing c.in-Some.ensures.some (c.in-Some-find_domain.ensures.domain page admitted.at.registry acts.says acts.well) in
-    let three = free page c.args.tables.now c.args.domain admitted acts c.args.self.now is (iff_false c.is_fixed.ensures c.if-is_fixed.false) in
-    let named : aid_of c.args.tables.now c.in-Some.thing ≡ Some is.given.third = c.in-Some.ensures.some ∙ ap Some is.aid in
-    let four : ExtraditingFails admitted is.given EX4 → ⊥ = (λ fails. fails (((c.has_charge.ensures page admitted is.given.third acts named).0) c.if-not-has_charge.false)) in
-    let into : aid_of c.args.tables.now (Entry c.in-Some-find_domain.to) ≡ Some is.given.first = c.in-Some-find_domain.ensures.some ∙ ap Some is.to in
-    first_5 admitted is.given one two three four ((c.is_unfit.ensures page admitted is.given acts.says into).0 c.if-is_unfit.true)
+    let at = goal.at.returns-then-is_unfit-clause-refused c in
+    let unfit = c.is_unfit.ensures page admitted is.given acts.says (c.in-Some-find_domain.ensures.some ∙ ap Some is.to) in
+    (EX5, refl, from_3 at.After-is_fixed page admitted acts is _ (from_5 at.After-is_unfit page admitted acts is _ (inl (unfit.0 c.if-is_unfit.true, refl))))
 
 pub returns-then-is_over-clause-refused : goal.returns-then-is_over-clause-refused
 returns-then-is_over-clause-refused c page admitted acts told is =
-    let one = managed page c.args.tables.now c.args.domain admitted acts c.args.self.now is c.may_manage.result (rw c.deref.ensures.value at c.may_manage.ensures) c.if-not-may_manage.false in
-    let two = known page c.args.tables.now c.args.domain admitted acts c.args.self.now is c.in-Some.thing c.in-Some.ensures.some (c.in-Some-find_domain.ensures.domain page admitted.at.registry acts.says acts.well) in
-    let three = free page c.args.tables.now c.args.domain admitted acts c.args.self.now is (iff_false c.is_fixed.ensures c.if-is_fixed.false) in
-    let named : aid_of c.args.tables.now c.in-Some.thing ≡ Some is.given.third = c.in-Some.ensures.some ∙ ap Some is.aid in
-    let four : ExtraditingFails admitted is.given EX4 → ⊥ = (λ fails. fails (((c.has_charge.ensures page admitted is.given.third acts named).0) c.if-not-has_charge.false)) in
-    let into : aid_of c.args.tables.now (Entry c.in-Some-find_domain.to) ≡ Some is.given.first = c.in-Some-find_domain.ensures.some ∙ ap Some is.to in
+    let at = goal.at.returns-then-is_over-clause-refused c in
+    let into = c.in-Some-find_domain.ensures.some ∙ ap Some is.to in
+    let over = c.is_over.ensures page admitted.at.registry is.given.third is.given.first acts.says acts.well (c.in-Some.ensures.some ∙ ap Some is.aid) into in
     let five = iff_false (c.is_unfit.ensures page admitted is.given acts.says into) c.if-is_unfit.false in
-    first_6 admitted is.given one two three four five
-    ((c.is_over.ensures page admitted.at.registry is.given.third is.given.first acts.says acts.well named into).0 c.if-is_over.true)
+    (EX6, refl, from_3 at.After-is_fixed page admitted acts is _ (from_5 at.After-is_unfit page admitted acts is _ (inr (five, inl (over.0 c.if-is_over.true, refl)))))
 
 pub returns-then-is_barred-clause-refused : goal.returns-then-is_barred-clause-refused
 returns-then-is_barred-clause-refused c page admitted acts told is =
-    let one = managed page c.args.tables.now c.args.domain admitted acts c.args.self.now is c.may_manage.result (rw c.deref.ensures.value at c.may_manage.ensures) c.if-not-may_manage.false in
-    let two = known page c.args.tables.now c.args.domain admitted acts c.args.self.now is c.in-Some.thing c.in-Some.ensures.some (c.in-Some-find_domain.ensures.domain page admitted.at.registry acts.says acts.well) in
-    let three = free page c.args.tables.now c.args.domain admitted acts c.args.self.now is (iff_false c.is_fixed.ensures c.if-is_fixed.false) in
-    let named : aid_of c.args.tables.now c.in-Some.thing ≡ Some is.given.third = c.in-Some.ensures.some ∙ ap Some is.aid in
-    let four : ExtraditingFails admitted is.given EX4 → ⊥ = (λ fails. fails (((c.has_charge.ensures page admitted is.given.third acts named).0) c.if-not-has_charge.false)) in
-    let into : aid_of c.args.tables.now (Entry c.in-Some-find_domain.to) ≡ Some is.given.first = c.in-Some-find_domain.ensures.some ∙ ap Some is.to in
-    let five = iff_false (c.is_unfit.ensures page admitted is.given acts.says into) c.if-is_unfit.false in
-    let six = iff_false (c.is_over.ensures page admitted.at.registry is.given.third is.given.first acts.says acts.well named into) c.if-is_over.false in
-    first_7 admitted is.given one two three four five six ((c.is_barred.ensures page admitted acts is c.in-Some-find_domain.ensures.some).0 c.if-is_barred.true)
+    let at = goal.at.returns-then-is_barred-clause-refused c in
+    let fails = (c.is_barred.ensures page admitted acts is c.in-Some-find_domain.ensures.some).0 c.if-is_barred.true in
+    (EX7, refl, from_3 at.After-is_fixed page admitted acts is _ (from_5 at.After-is_unfit page admitted acts is _ (from_7 at.After-is_barred page admitted acts is _ (inl (fails, refl)))))
 
 pub returns-clause-passed : goal.returns-clause-passed
 returns-clause-passed c page admitted acts told is =
-    let one = managed page c.args.tables.now c.args.domain admitted acts c.args.self.now is c.may_manage.result (rw c.deref.ensures.value at c.may_manage.ensures) c.if-not-may_manage.false in
-    let two = known page c.args.tables.now c.args.domain admitted acts c.args.self.now is c.in-Some.thing c.in-Some.ensures.some (c.in-Some-find_domain.ensures.domain page admitted.at.registry acts.says acts.well) in
-    let three = free page c.args.tables.now c.args.domain admitted acts c.args.self.now is (iff_false c.is_fixed.ensures c.if-is_fixed.false) in
-    let named : aid_of c.args.tables.now c.in-Some.thing ≡ Some is.given.third = c.in-Some.ensures.some ∙ ap Some is.aid in
-    let four : ExtraditingFails admitted is.given EX4 → ⊥ = (λ fails. fails (((c.has_charge.ensures page admitted is.given.third acts named).0) c.if-not-has_charge.false)) in
-    let into : aid_of c.args.tables.now (Entry c.in-Some-find_domain.to) ≡ Some is.given.first = c.in-Some-find_domain.ensures.some ∙ ap Some is.to in
-    let five = iff_false (c.is_unfit.ensures page admitted is.given acts.says into) c.if-is_unfit.false in
-    let six = iff_false (c.is_over.ensures page admitted.at.registry is.given.third is.given.first acts.says acts.well named into) c.if-is_over.false in
+    let at = goal.at.returns-clause-passed c in
     let seven = iff_false (c.is_barred.ensures page admitted acts is c.in-Some-find_domain.ensures.some) c.if-is_barred.false in
-    none_first admitted is.given one two three four five six seven
+    from_3 at.After-is_fixed page admitted acts is _ (from_5 at.After-is_unfit page admitted acts is _ (from_7 at.After-is_barred page admitted acts is _ (inr (seven, refl))))
 
 pub returns-clause-found : goal.returns-clause-found
 returns-clause-found c = record {
