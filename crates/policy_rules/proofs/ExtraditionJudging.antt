@@ -23,14 +23,13 @@ use Rattle.policy_rules.specs.Delegation.{Holds, IsVerifier}
 use Rattle.policy_rules.specs.Extradition.{ExtraditingFails, IsOutOfReach, IsUnapprovable, is_personalized}
 use Rattle.policy_rules.specs.ExtraditionRequests.{IsExtraditionOf}
 use Rattle.policy_rules.specs.InstallFields.{InstallData}
-use Rattle.policy_rules.specs.InstallApplicationRequests.{may_manage_by}
 use Rattle.policy_rules.specs.Management.{acting}
 use Rattle.policy_rules.specs.Requests.{ActsIn}
 use Rattle.policy_rules.specs.declared.extradition.ExtraditionRequest.{ExtraditionRequest}
 use Rattle.policy_rules.specs.declared.extradition.RuleEX.{RuleEX}
-use Rattle.policy_rules.specs.declared.extradition.RuleEX.TheVariants.{EX1, EX2, EX3, EX5}
+use Rattle.policy_rules.specs.declared.extradition.RuleEX.TheVariants.{EX2, EX3, EX5}
 use Rattle.policy_rules.proofs.Approved.{one_holder}
-use Rattle.policy_rules.proofs.InstallApplicationJudging.{holds_named, manages, may_manage}
+use Rattle.policy_rules.proofs.InstallApplicationJudging.{holds_named}
 use Rattle.policy_rules.proofs.ThingsFound.{entry_at, named_as}
 
 -- what a negated test tells
@@ -112,12 +111,6 @@ module _ (admitted : Admitted) (given : InstallData) where
 -- what the tests of the code tell of these rules
 module _ (page : ℕ → List ℕ) (tables : Tables) (domain : ℕ) (admitted : Admitted) (acts : ActsIn page tables domain admitted)
     (request : ExtraditionRequest) (is : IsExtraditionOf request admitted.command) where
-  pub unmanaged : (may : Bool) → may ≡ may_manage_by (held tables.entries.items domain) → may ≡ false → Fails admitted is.given EX1
-  unmanaged may told lacks manages_ = (let clash = sym (told ∙ manages page tables domain admitted acts manages_) ∙ lacks in cc)
-
-  pub managed : (may : Bool) → may ≡ may_manage_by (held tables.entries.items domain) → may ≡ true → Passes admitted is.given EX1
-  managed may told has fails = fails (may_manage page tables domain admitted acts (sym told ∙ has))
-
   pub unknown : ((thing : Found) → aid_of tables thing ≢ Some request.aid) → Fails admitted is.given EX2
   unknown none = inl (none_found_none_named page tables admitted.at.registry acts.says is.given.third (λ thing named. none thing (named ∙ ap Some (sym is.aid))))
 

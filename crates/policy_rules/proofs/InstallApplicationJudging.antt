@@ -1,5 +1,5 @@
 -- What the judgement of an INSTALL [for install] finds by slots is what its rules say by names.
-use Rattle.std.proofs.Common.{◌≡◌, ◌≢◌, ◌⊎◌, ◌↔◌, inl, inr, ℕ, List, Bool, true, false, not, ◌||◌, Option, None, Some, length, refl, sym, ap, subst, ◌∙◌, arith}
+use Rattle.std.proofs.Common.{◌≡◌, ◌≢◌, ◌⊎◌, ◌↔◌, inl, inr, ℕ, List, Bool, true, false, not, Option, None, Some, length, refl, sym, ap, subst, ◌∙◌, arith}
 use Rattle.std.specs.Prelude.{Contains, IfNone, IfSome, IsSome, IsTrue, MatchOption, is_some}
 use Rattle.std.specs.List.{list_any}
 use Rattle.std.proofs.lemmas.Bool.{and_from, and_parts, not-true, not_from_false, false_from_ne_true}
@@ -13,7 +13,7 @@ use Rattle.card_types.proofs.SameAid.{same_aid_decides}
 use Rattle.card_types.specs.AidOrder.{same_aid}
 use Rattle.card_types.specs.First.{IsFirstFree, NoneFree}
 use Rattle.card_types.specs.Found.{aid_of}
-use Rattle.card_types.specs.Privileges.{authorized_management, bits_of, delegated_management, has}
+use Rattle.card_types.specs.Privileges.{bits_of, has}
 use Rattle.card_types.specs.Registry as registry
 use Rattle.card_types.specs.Registry.{entry_named, file_named}
 use Rattle.card_types.specs.Represents.{Represents, domain_aid, domain_slot, file_of}
@@ -34,25 +34,17 @@ use Rattle.policy_rules.proofs.Filtered.{any_there, there_any}
 use Rattle.policy_rules.proofs.NearestHolder.{privilege_named}
 use Rattle.policy_rules.specs.Admission.{Admitted}
 use Rattle.policy_rules.specs.Charge.{IsFileInCharge, is_privileged}
-use Rattle.policy_rules.specs.Delegation.{Holds, MayManage}
+use Rattle.policy_rules.specs.Delegation.{Holds}
 use Rattle.policy_rules.specs.InstallApplication.{InstallingFails, IsTakenAid, guarded_privileges}
-use Rattle.policy_rules.specs.InstallApplicationRequests.{IsInstallOf, IsOutOfCharge, exceeds_by, is_loaded_as, may_manage_by}
+use Rattle.policy_rules.specs.InstallApplicationRequests.{IsInstallOf, IsOutOfCharge, exceeds_by, is_loaded_as}
 use Rattle.policy_rules.specs.Management.{acting}
 use Rattle.policy_rules.specs.Requests.{ActsIn, IsLoadNamed}
 use Rattle.policy_rules.specs.Volatile.{LoadSession}
 use Rattle.policy_rules.specs.declared.install_application.InstallRequest.{InstallRequest}
 use Rattle.policy_rules.specs.declared.install_application.RuleII.{RuleII}
-use Rattle.policy_rules.specs.declared.install_application.RuleII.TheVariants.{II1, II2, II3, II4, II6, II7}
+use Rattle.policy_rules.specs.declared.install_application.RuleII.TheVariants.{II2, II3, II4, II6, II7}
 use Rattle.policy_rules.specs.declared.install_application.TheConstants.{GUARDED}
 use Rattle.policy_rules.specs.declared.live.LoadName.{LoadName}
-
-one_true : (a b : Bool) → (a || b) ≡ true → (a ≡ true) ⊎ (b ≡ true)
-one_true true b is = inl refl
-one_true false b is = inr is
-
-or_true : (b : Bool) → (b || true) ≡ true
-or_true true = refl
-or_true false = refl
 
 -- an entry's AID is that of no Executable Load File
 pub apart_from_entry : (said : registry.Registry) → Well said → (aid : List ℕ) (entry : registry.Entry) → entry_named said aid ≡ Some entry → file_named said aid ≡ None
@@ -106,19 +98,6 @@ module _ (page : ℕ → List ℕ) (tables : Tables) (domain : ℕ) (admitted : 
   holds_named privilege =
       privilege_named page tables admitted.at.registry acts.says privilege domain acts.entry acts.at
       ∙ ap (λ (aid : List ℕ). is_privileged (bits_of privilege) (entry_named admitted.at.registry aid)) (sym acts.on)
-
-  pub may_manage : may_manage_by (held tables.entries.items domain) ≡ true → MayManage admitted
-  may_manage may = elim (one_true (entry_has (record { 0 = authorized_management }) (held tables.entries.items domain)) (entry_has (record { 0 = delegated_management }) (held tables.entries.items domain)) may) [
-    | inl one ↦ inl (sym (holds_named (record { 0 = authorized_management })) ∙ one)
-    | inr other ↦ inr (sym (holds_named (record { 0 = delegated_management })) ∙ other)
-  ]
-
-  pub manages : MayManage admitted → may_manage_by (held tables.entries.items domain) ≡ true
-  manages (inl one) = (let is = holds_named (record { 0 = authorized_management }) ∙ one in rw is refl)
-  manages (inr other) =
-      (let is = holds_named (record { 0 = delegated_management }) ∙ other in
-      let second = entry_has (record { 0 = authorized_management }) (held tables.entries.items domain) in
-      rw is (or_true second))
 
   -- a guarded privilege that the domain does not hold
   exceeding : (privileges : Privileges) → list_any (exceeds_by privileges (held tables.entries.items domain)) GUARDED ≡ true
@@ -186,12 +165,6 @@ module _ (page : ℕ → List ℕ) (tables : Tables) (domain : ℕ) (admitted : 
   module _ (request : InstallRequest) (is : IsInstallOf request admitted.command) where
     abbrev Fails : RuleII → Type 0
     Fails = InstallingFails admitted is.asked
-
-    pub unmanaged : (b : Bool) → b ≡ may_manage_by (held tables.entries.items domain) → b ≡ false → Fails II1
-    unmanaged b told none may = (let is_so = manages may in let clash = sym is_so ∙ sym told ∙ none in cc)
-
-    pub managing : (b : Bool) → b ≡ may_manage_by (held tables.entries.items domain) → b ≡ true → Fails II1 → ⊥
-    managing b told some fails = fails (may_manage (sym told ∙ some))
 
     pub no_file : file_named admitted.at.registry request.file ≡ None → Fails II2
     no_file none = inl (ap (file_named admitted.at.registry) (sym is.file) ∙ none)

@@ -6,7 +6,6 @@ use Rattle.card_types.specs.Aid.{IsAid}
 use Rattle.card_types.specs.First.{IsFirstFree, NoneFree}
 use Rattle.card_types.specs.Found.{aid_of}
 use Rattle.card_types.specs.Registry.{entry_named, file_named}
-use Rattle.card_types.specs.Slots.{held}
 use Rattle.card_types.specs.Well.{IsDomainNamed}
 use Rattle.card_types.specs.declared.found.Found.{Found}
 use Rattle.card_types.specs.declared.found.Found.TheVariants as found
@@ -17,15 +16,14 @@ use Rattle.policy_rules.specs.Admission.{Admitted}
 use Rattle.policy_rules.specs.Charge.{IsAtOrAbove}
 use Rattle.policy_rules.specs.InstallLoad.{InstallingLoadFails, LoadData, file_domain_for, named_or}
 use Rattle.policy_rules.specs.InstallLoadRequests.{IsLoadInstallOf, NamesDomain}
-use Rattle.policy_rules.specs.InstallApplicationRequests.{may_manage_by}
 use Rattle.policy_rules.specs.Management.{acting}
 use Rattle.policy_rules.specs.Requests.{ActsIn, IsLoadNamed}
 use Rattle.policy_rules.specs.Volatile.{LoadSession}
 use Rattle.policy_rules.specs.declared.install_load.LoadInstallRequest.{LoadInstallRequest}
 use Rattle.policy_rules.specs.declared.install_load.RuleIL.{RuleIL}
-use Rattle.policy_rules.specs.declared.install_load.RuleIL.TheVariants.{IL1, IL2, IL3, IL4, IL5, IL7}
+use Rattle.policy_rules.specs.declared.install_load.RuleIL.TheVariants.{IL2, IL3, IL4, IL5, IL7}
 use Rattle.policy_rules.specs.declared.live.LoadName.{LoadName}
-use Rattle.policy_rules.proofs.InstallApplicationJudging.{manages, may_manage, not_there, there}
+use Rattle.policy_rules.proofs.InstallApplicationJudging.{not_there, there}
 use Rattle.policy_rules.proofs.ThingsFound.{acting_named}
 
 -- a name of a domain is not empty
@@ -72,12 +70,6 @@ module _ (page : ℕ → List ℕ) (tables : Tables) (domain : ℕ) (admitted : 
     (request : LoadInstallRequest) (is : IsLoadInstallOf request admitted.command) where
   abbrev Fails : RuleIL → Type 0
   Fails = InstallingLoadFails admitted is.given
-
-  pub unmanaged : (may : Bool) → may ≡ may_manage_by (held tables.entries.items domain) → may ≡ false → Fails IL1
-  unmanaged may told lacks manages_ = (let clash = sym (told ∙ manages page tables domain admitted acts manages_) ∙ lacks in cc)
-
-  pub managed : (may : Bool) → may ≡ may_manage_by (held tables.entries.items domain) → may ≡ true → Fails IL1 → ⊥
-  managed may told has fails = fails (may_manage page tables domain admitted acts (sym told ∙ has))
 
   pub loading : (name : Option LoadName) → IsLoadNamed tables.entries.items name admitted.at.volatile.load → is_some name ≡ true → Fails IL2
   loading name named some = sym (load_told tables.entries.items name admitted.at.volatile.load named) ∙ some

@@ -1,10 +1,10 @@
 -- For the code inside. What the code reads of an INSTALL [for install], and what it finds.
-use Rattle.std.specs.Prelude.{◌≡◌, ◌⊎◌, ℕ, ◌≤◌, ◌==◌, ◌&&◌, List, Bool, false, not, Option, None, Some, MatchOption, ◌≢◌, ◌||◌, length}
+use Rattle.std.specs.Prelude.{◌≡◌, ◌⊎◌, ℕ, ◌≤◌, ◌==◌, ◌&&◌, List, Bool, false, not, Option, None, Some, MatchOption, ◌≢◌, length}
 use Rattle.apdu_core.specs.Apdu.{Apdu}
 use Rattle.card_types.specs.AidOrder.{same_aid}
 use Rattle.card_types.specs.First.{NoneFree}
 use Rattle.card_types.specs.Found.{aid_of}
-use Rattle.card_types.specs.Privileges.{authorized_management, bits_of, delegated_management, has}
+use Rattle.card_types.specs.Privileges.{bits_of, has}
 use Rattle.card_types.specs.Registry.{file_named}
 use Rattle.card_types.specs.declared.factory.TheConstants.{FACTORY_FILE}
 use Rattle.card_types.specs.declared.found.Found.{Found}
@@ -57,10 +57,6 @@ is_loaded_as aid (Some load) = same_aid load.aid aid
 -- the privileges have one that the entry in a slot does not hold
 abbrev pub exceeds_by : Privileges → Option Slot → Privileges → Bool
 exceeds_by privileges entry privilege = has (bits_of privilege) privileges && not (entry_has privilege entry)
-
--- the entry in a slot manages content
-abbrev pub may_manage_by : Option Slot → Bool
-may_manage_by entry = entry_has (record { 0 = authorized_management }) entry || entry_has (record { 0 = delegated_management }) entry
 
 -- an Executable Load File is not the factory's, and not in the charge of the domain
 abbrev pub IsOutOfCharge : Admitted → List ℕ → Type 0

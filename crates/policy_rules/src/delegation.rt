@@ -105,6 +105,21 @@ pub struct Signed<'a> {
     pub token: &'a [u8],
 }
 
+impl<'a> Signed<'a> {
+    pub(crate) fn over(p1: u8, p2: u8, before: &'a [u8], token: &'a [u8]) -> Signed<'a>
+        ensures parameters { (result.p1 ≡ p1) × (result.p2 ≡ p2) }
+        ensures approval { approval_of result ≡ record { before = before.now; token = token.now } }
+        ensures short { length result.before.now ≤ length before.now }
+    {
+        Signed {
+            p1,
+            p2,
+            before,
+            token,
+        }
+    }
+}
+
 // The entries that hold a privilege, and a key of their own with a key version number and key identifier 01.
 #[derive(Drop)]
 struct Holders<'a> {

@@ -9,7 +9,7 @@ ghost use Rattle.policy_rules.specs.DeleteObject.{AsksToDelete, DeletingFails, D
 ghost use Rattle.policy_rules.specs.DeleteObjectFound.{FindsThing, HasNoneFrom, IsAlone, IsPartOutOfCharge, IsUnselected};
 ghost use Rattle.policy_rules.specs.DeleteObjectRequests.{IsDeletionOf, IsDeletionRequest};
 ghost use Rattle.policy_rules.specs.InstallApplicationRequests.{IsRefusedBy};
-ghost use Rattle.policy_rules.specs.Requests.{ActsIn, ForActingLive, RepresentsState};
+ghost use Rattle.policy_rules.specs.Requests.{ActsIn, ForActing, ForActingLive, RepresentsState};
 ghost use Rattle.policy_rules.specs.declared.live.TheConstants.{CHANNELS};
 ghost use Rattle.policy_rules.specs.declared.delete_object.RuleDO.TheVariants.{DO3, DO4};
 ghost use Rattle.policy_rules.specs.ManagedForm.{command_form};
@@ -19,7 +19,7 @@ use crate::delegation::{Signed, holds};
 use crate::extradition::is_fixed;
 use crate::in_use::{has_stranger, has_user, is_in_use, is_source};
 use crate::install_application::may_manage;
-use crate::judged_request::JudgedRequest;
+use crate::judged_request::{Approving, JudgedRequest};
 use crate::live::Live;
 use crate::rule::{Rule, RulePS};
 use apdu_core::Status;
@@ -101,7 +101,7 @@ fn is_barred(tables: &Tables, domain: u8, thing: Found, request: &DeletionReques
     if holds(&tables.entries, domain, Privileges::GLOBAL_DELETE) {
         return false;
     }
-    !may_manage(&tables.entries, domain) || is_out_of_charge(tables, domain, thing, request.related)
+    !may_manage(tables, domain) || is_out_of_charge(tables, domain, thing, request.related)
 }
 
 // Whether something that is to go is in use, or something comes from an Executable Load File that is to go alone.
@@ -124,6 +124,14 @@ fn is_needed(tables: &Tables, live: &Live, thing: Found, request: &DeletionReque
             }
         }
     }
+}
+
+// Whether the domain in a slot deletes as it is delegated to, and may not delete whatever it wants.
+fn deletes_as_delegate(tables: &Tables, domain: u8) -> bool
+    ensures { ForActing tables.now domain (λ page admitted. IsTrue result ↔ managed_delete_object.judged.delegation.is_delegated admitted) }
+{
+    holds(&tables.entries, domain, Privileges::DELEGATED_MANAGEMENT)
+        && !holds(&tables.entries, domain, Privileges::GLOBAL_DELETE)
 }
 
 impl JudgedRequest for DeletionRequest<'_> {
@@ -160,18 +168,12 @@ impl JudgedRequest for DeletionRequest<'_> {
         Ok(thing)
     }
 
-    // As it is delegated to, unless it may delete whatever it wants.
-    fn is_delegated(&self, tables: &Tables, domain: u8) -> bool {
-        holds(&tables.entries, domain, Privileges::DELEGATED_MANAGEMENT)
-            && !holds(&tables.entries, domain, Privileges::GLOBAL_DELETE)
-    }
-
-    fn is_receipted(&self) -> bool {
-        true
-    }
-
-    fn signed(&self) -> Signed<'_> {
-        self.signed
+    fn approving(&self, tables: &Tables, domain: u8) -> Approving<'_> {
+        Approving {
+            signed: self.signed,
+            delegated: deletes_as_delegate(tables, domain),
+            receipted: true,
+        }
     }
 
     ghost lawful = { record { first_rules = refl; approval_rules = refl } };
@@ -213,12 +215,7 @@ fn read_request(p1: u8, p2: u8, body: &[u8]) -> Option<DeletionRequest<'_>>
     Some(DeletionRequest {
         aid,
         related: p2 == 0x80,
-        signed: Signed {
-            p1,
-            p2,
-            before: &body[..body.len() - rest.len()],
-            token,
-        },
+        signed: Signed::over(p1, p2, &body[..body.len() - rest.len()], token),
     })
 }
 

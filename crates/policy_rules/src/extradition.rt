@@ -18,10 +18,10 @@ ghost use Rattle.policy_rules.specs.Requests.{ActsIn};
 ghost use Rattle.policy_rules.specs.declared.extradition.RuleEX.TheVariants.{EX5, EX7};
 
 use crate::charge::{domain_of, find_domain, has_charge, is_at_or_above, is_over};
-use crate::delegation::{Signed, TOKEN_KEY, holds, is_delegate, nearest_with_key};
+use crate::delegation::{Signed, TOKEN_KEY, holds, nearest_with_key};
 use crate::install_application::{is_factory_file, may_manage};
 use crate::install_fields::read_fields;
-use crate::judged_request::JudgedRequest;
+use crate::judged_request::{Approving, JudgedRequest};
 use crate::live::Live;
 use crate::rule::{Rule, RulePS};
 use apdu_core::Status;
@@ -194,7 +194,7 @@ impl JudgedRequest for ExtraditionRequest<'_> {
     ghost finds = { λ request tables live domain. FindsMove request tables };
 
     fn judge_own(&self, tables: &Tables, _live: &Live, domain: u8) -> Result<Extradition, Rule> {
-        if !may_manage(&tables.entries, domain) {
+        if !may_manage(tables, domain) {
             return Err(Rule::EX(RuleEX::EX1));
         }
         let Some(thing) = find(tables, &self.aid) else {
@@ -225,16 +225,8 @@ impl JudgedRequest for ExtraditionRequest<'_> {
         })
     }
 
-    fn is_delegated(&self, tables: &Tables, domain: u8) -> bool {
-        is_delegate(tables, domain)
-    }
-
-    fn is_receipted(&self) -> bool {
-        true
-    }
-
-    fn signed(&self) -> Signed<'_> {
-        self.signed
+    fn approving(&self, tables: &Tables, domain: u8) -> Approving<'_> {
+        Approving::of_delegate(tables, domain, self.signed, true)
     }
 
     ghost lawful = { record { first_rules = refl; approval_rules = refl } };
@@ -256,12 +248,7 @@ fn read_request(p1: u8, p2: u8, body: &[u8]) -> Option<ExtraditionRequest<'_>>
     Some(ExtraditionRequest {
         to,
         aid,
-        signed: Signed {
-            p1,
-            p2,
-            before: fields.before,
-            token: fields.token,
-        },
+        signed: Signed::over(p1, p2, fields.before, fields.token),
     })
 }
 

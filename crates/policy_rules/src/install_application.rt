@@ -17,15 +17,16 @@ ghost use Rattle.card_types.specs.declared.found.Found.TheVariants.{File};
 ghost use Rattle.card_types.specs.declared.tables.LoadFile.{LoadFile};
 ghost use Rattle.policy_rules.specs.Admission.{Admitted};
 ghost use Rattle.policy_rules.specs.Charge.{IsFileInCharge};
+ghost use Rattle.policy_rules.specs.Delegation.{MayManage};
 ghost use Rattle.policy_rules.specs.InstallApplication.{AreInstallParameters, AsksToInstall, InstallAsked, InstallParameters, IsTakenAid, MayBeMade, managed_install, install_refusal};
-ghost use Rattle.policy_rules.specs.InstallApplicationRequests.{FindsSource, IsInstallOf, IsInstallRequest, IsOutOfCharge, IsRefusedBy, exceeds_by, is_loaded_as, may_manage_by};
+ghost use Rattle.policy_rules.specs.InstallApplicationRequests.{FindsSource, IsInstallOf, IsInstallRequest, IsOutOfCharge, IsRefusedBy, exceeds_by, is_loaded_as};
 ghost use Rattle.policy_rules.specs.Management.{acting};
 ghost use Rattle.policy_rules.specs.ManagedForm.{command_form};
-ghost use Rattle.policy_rules.specs.Requests.{ActsIn, IsLoadNamed};
+ghost use Rattle.policy_rules.specs.Requests.{ActsIn, ForActing, IsLoadNamed};
 
-use crate::delegation::{Signed, holds, is_delegate};
+use crate::delegation::{Signed, holds};
 use crate::install_fields::read_fields;
-use crate::judged_request::JudgedRequest;
+use crate::judged_request::{Approving, JudgedRequest};
 use crate::live::Live;
 use crate::rule::{Rule, RulePS};
 use crate::store_data::has_tag;
@@ -152,12 +153,7 @@ fn read_request(p1: u8, p2: u8, body: &[u8]) -> Option<InstallRequest<'_>>
         module,
         aid,
         privileges,
-        signed: Signed {
-            p1,
-            p2,
-            before: fields.before,
-            token: fields.token,
-        },
+        signed: Signed::over(p1, p2, fields.before, fields.token),
     })
 }
 
@@ -192,11 +188,11 @@ const GUARDED: [Privileges; 8] = [
 ];
 
 // Whether the domain in a slot manages content, in its own right or as it is delegated to.
-pub(crate) fn may_manage(entries: &[Option<Slot>], domain: u8) -> bool
-    ensures { result ≡ may_manage_by (held entries.now domain) }
+pub(crate) fn may_manage(tables: &Tables, domain: u8) -> bool
+    ensures { ForActing tables.now domain (λ page admitted. IsTrue result ↔ MayManage admitted) }
 {
-    holds(entries, domain, Privileges::AUTHORIZED_MANAGEMENT)
-        || holds(entries, domain, Privileges::DELEGATED_MANAGEMENT)
+    holds(&tables.entries, domain, Privileges::AUTHORIZED_MANAGEMENT)
+        || holds(&tables.entries, domain, Privileges::DELEGATED_MANAGEMENT)
 }
 
 pub(crate) fn is_factory_file(aid: &Aid) -> bool
@@ -338,7 +334,7 @@ impl JudgedRequest for InstallRequest<'_> {
     ghost finds = { λ request tables live domain. FindsSource request tables };
 
     fn judge_own(&self, tables: &Tables, live: &Live, domain: u8) -> Result<u8, Rule> {
-        if !may_manage(&tables.entries, domain) {
+        if !may_manage(tables, domain) {
             return Err(Rule::II(RuleII::II1));
         }
         let Some(file) = find_file(tables, &self.file) else {
@@ -365,16 +361,8 @@ impl JudgedRequest for InstallRequest<'_> {
         }
     }
 
-    fn is_delegated(&self, tables: &Tables, domain: u8) -> bool {
-        is_delegate(tables, domain)
-    }
-
-    fn is_receipted(&self) -> bool {
-        true
-    }
-
-    fn signed(&self) -> Signed<'_> {
-        self.signed
+    fn approving(&self, tables: &Tables, domain: u8) -> Approving<'_> {
+        Approving::of_delegate(tables, domain, self.signed, true)
     }
 
     ghost lawful = { record { first_rules = refl; approval_rules = refl } };

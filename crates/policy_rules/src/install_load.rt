@@ -17,10 +17,10 @@ ghost use Rattle.policy_rules.specs.declared.install_load.RuleIL.TheVariants.{IL
 ghost use Rattle.tokens_receipts.specs.Receipt.{with_length};
 
 use crate::charge::{find_domain, is_at_or_above};
-use crate::delegation::{Signed, holds, is_delegate};
+use crate::delegation::{Signed, holds};
 use crate::install_application::may_manage;
 use crate::install_fields::{front, read_field};
-use crate::judged_request::JudgedRequest;
+use crate::judged_request::{Approving, JudgedRequest};
 use crate::live::Live;
 use crate::rule::{Rule, RulePS};
 use apdu_core::Status;
@@ -148,12 +148,7 @@ fn read_request(p1: u8, p2: u8, body: &[u8]) -> Option<LoadInstallRequest<'_>>
         file,
         domain,
         hash: fields.hash,
-        signed: Signed {
-            p1,
-            p2,
-            before: fields.before,
-            token: fields.token,
-        },
+        signed: Signed::over(p1, p2, fields.before, fields.token),
     })
 }
 
@@ -228,7 +223,7 @@ impl JudgedRequest for LoadInstallRequest<'_> {
     ghost finds = { λ request tables live. FindsDomain request tables };
 
     fn judge_own(&self, tables: &Tables, live: &Live, domain: u8) -> Result<u8, Rule> {
-        if !may_manage(&tables.entries, domain) {
+        if !may_manage(tables, domain) {
             return Err(Rule::IL(RuleIL::IL1));
         }
         if live.load.is_some() {
@@ -252,16 +247,8 @@ impl JudgedRequest for LoadInstallRequest<'_> {
         }
     }
 
-    fn is_delegated(&self, tables: &Tables, domain: u8) -> bool {
-        is_delegate(tables, domain)
-    }
-
-    fn is_receipted(&self) -> bool {
-        false
-    }
-
-    fn signed(&self) -> Signed<'_> {
-        self.signed
+    fn approving(&self, tables: &Tables, domain: u8) -> Approving<'_> {
+        Approving::of_delegate(tables, domain, self.signed, false)
     }
 
     ghost lawful = { record { first_rules = refl; approval_rules = refl } };

@@ -4,14 +4,16 @@
 ghost use Rattle.std.specs.Prelude.{◌≡◌, ◌↔◌, ◌≤◌, ℕ, Bool, List, None, Some, true, IfErr, IfOk, IfSome, IsTrue, OnOk, length};
 ghost use Rattle.apdu_core.specs.Apdu.{Apdu};
 ghost use Rattle.card_types.specs.InOrder.{IsInOrder};
+ghost use Rattle.card_types.specs.Privileges.{delegated_management};
 ghost use Rattle.policy_rules.specs.Admission.{Admitted};
+ghost use Rattle.policy_rules.specs.Delegation.{Holds};
 ghost use Rattle.policy_rules.specs.FirstFailing.{IsFirst};
 ghost use Rattle.policy_rules.specs.HoldersFound.{FindsConfirmer, MayReceipt};
 ghost use Rattle.policy_rules.specs.ManagedForm.{AskedFails, JudgedFirst, JudgedForm, OwnFirst};
 ghost use Rattle.policy_rules.specs.RequestJudged.{IsBroughtFor, IsJudgeable, IsTokenForm, OwnRefuses};
 ghost use Rattle.policy_rules.specs.Requests.{ForActing};
 
-use crate::delegation::{Signed, judge_receipt, judge_token};
+use crate::delegation::{Signed, is_delegate, judge_receipt, judge_token};
 use crate::live::Live;
 use crate::management::judge_management;
 use crate::rule::Rule;
@@ -23,6 +25,34 @@ use card_types::Tables;
 pub struct Judged<T> {
     pub found: T,
     pub receipter: Option<u8>,
+}
+
+/// How a command is approved: what it brings for that, whether it is delegated, and whether it may have a receipt then.
+#[derive(Clone, Copy, Debug)]
+pub struct Approving<'a> {
+    pub signed: Signed<'a>,
+    pub delegated: bool,
+    pub receipted: bool,
+}
+
+impl<'a> Approving<'a> {
+    /// For a command of the domain in a slot, which is delegated where the domain holds Delegated Management.
+    pub(crate) fn of_delegate(
+        tables: &Tables,
+        domain: u8,
+        signed: Signed<'a>,
+        receipted: bool,
+    ) -> Approving<'a>
+        ensures signed { result.signed ≡ signed.entry }
+        ensures delegated { ForActing tables.now domain (λ page admitted. IsTrue result.delegated ↔ Holds admitted delegated_management) }
+        ensures receipted { result.receipted ≡ receipted }
+    {
+        Approving {
+            signed,
+            delegated: is_delegate(tables, domain),
+            receipted,
+        }
+    }
 }
 
 /// A request of a form whose commands a token may approve.
@@ -60,17 +90,11 @@ pub trait JudgedRequest {
             → IfErr result (OwnRefuses form admitted (asked self.now admitted.command is))) }
         ensures found { IfOk result (finds self.now tables.now live.now domain) };
 
-    /// Whether a command of the domain in a slot is delegated.
-    fn is_delegated(&self, tables: &Tables, domain: u8) -> bool
-        ensures { ForActing tables.now domain (λ page admitted. IsTrue result ↔ form.delegation.is_delegated admitted) };
-
-    /// Whether a delegated command may have a receipt.
-    fn is_receipted(&self) -> bool
-        ensures { result ≡ receipted };
-
-    /// What the command brings for its approval.
-    fn signed(&self) -> Signed<'_>
-        ensures { result ≡ brought self.now };
+    /// How a command of the domain in a slot is approved.
+    fn approving(&self, tables: &Tables, domain: u8) -> Approving<'_>
+        ensures signed { result.signed ≡ brought self.now }
+        ensures delegated { ForActing tables.now domain (λ page admitted. IsTrue result.delegated ↔ form.delegation.is_delegated admitted) }
+        ensures receipted { result.receipted ≡ receipted };
 
     ghost lawful: { IsTokenForm form receipted };
 
@@ -94,13 +118,14 @@ fn judge_approval<M: JudgedRequest>(
         → IfOk result (FindsConfirmer (M.form.delegation.is_delegated admitted) tables.now admitted)) }
     ensures able { IfOk result (λ found. IfSome found (MayReceipt tables.now)) }
 {
-    if !request.is_delegated(tables, domain) {
+    let approval = request.approving(tables, domain);
+    if !approval.delegated {
         return Ok(None);
     }
-    if let Err(rule) = judge_token(tables, domain, &request.signed()) {
+    if let Err(rule) = judge_token(tables, domain, &approval.signed) {
         return Err(Rule::TK(rule));
     }
-    if !request.is_receipted() {
+    if !approval.receipted {
         return Ok(None);
     }
     match judge_receipt(tables, domain) {

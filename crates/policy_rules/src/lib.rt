@@ -56,7 +56,7 @@ pub use instruction::{
     EXTERNAL_AUTHENTICATE, GET_DATA, GET_STATUS, INITIALIZE_UPDATE, LOAD, MANAGE_CHANNEL, SELECT,
     instruction_bytes,
 };
-pub use judged_request::{Judged, JudgedRequest, judge_request};
+pub use judged_request::{Approving, Judged, JudgedRequest, judge_request};
 pub use key_order::{KeyName, next_key};
 pub use laws::{
     changes_are_opened, numbers_rise, one_form, one_outcome, others_are_changes, own_rules_decide,

@@ -9,10 +9,10 @@ ghost use Rattle.policy_rules.specs.MakeSelectableRequests.{AreGiven, IsInstalle
 ghost use Rattle.policy_rules.specs.ManagedForm.{command_form};
 
 use crate::charge::find_entry;
-use crate::delegation::{Signed, is_delegate};
+use crate::delegation::Signed;
 use crate::install_application::may_manage;
 use crate::install_fields::read_fields;
-use crate::judged_request::JudgedRequest;
+use crate::judged_request::{Approving, JudgedRequest};
 use crate::live::Live;
 use crate::rule::{Rule, RulePS};
 use apdu_core::Status;
@@ -113,7 +113,7 @@ impl JudgedRequest for SelectableRequest<'_> {
     ghost finds = { λ request tables live domain slot. IsInstalledWith request.aid (held tables.entries.items slot) };
 
     fn judge_own(&self, tables: &Tables, _live: &Live, domain: u8) -> Result<u8, Rule> {
-        if !may_manage(&tables.entries, domain) {
+        if !may_manage(tables, domain) {
             return Err(Rule::MS(RuleMS::MS1));
         }
         let Some(slot) = find_entry(tables, &self.aid) else {
@@ -132,16 +132,8 @@ impl JudgedRequest for SelectableRequest<'_> {
         Ok(slot)
     }
 
-    fn is_delegated(&self, tables: &Tables, domain: u8) -> bool {
-        is_delegate(tables, domain)
-    }
-
-    fn is_receipted(&self) -> bool {
-        true
-    }
-
-    fn signed(&self) -> Signed<'_> {
-        self.signed
+    fn approving(&self, tables: &Tables, domain: u8) -> Approving<'_> {
+        Approving::of_delegate(tables, domain, self.signed, true)
     }
 
     ghost lawful = { record { first_rules = refl; approval_rules = refl } };
@@ -175,12 +167,7 @@ fn read_request(p1: u8, p2: u8, body: &[u8]) -> Option<SelectableRequest<'_>>
     Some(SelectableRequest {
         aid,
         privileges,
-        signed: Signed {
-            p1,
-            p2,
-            before: fields.before,
-            token: fields.token,
-        },
+        signed: Signed::over(p1, p2, fields.before, fields.token),
     })
 }
 

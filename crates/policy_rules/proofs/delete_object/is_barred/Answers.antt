@@ -1,7 +1,6 @@
-use Rattle.std.proofs.Common.{inl, inr, Some, ap, sym, ◌∙◌}
-use Rattle.std.proofs.lemmas.Bool.{false≢true, not_from_false}
+use Rattle.std.proofs.Common.{inl, inr, Some, ap, ◌∙◌}
+use Rattle.std.proofs.lemmas.Bool.{false≢true, iff_false, not_from_false}
 use Rattle.policy_rules.proofs.ExtraditionJudging.{holds_told, lacks_told}
-use Rattle.policy_rules.proofs.InstallApplicationJudging.{manages, may_manage}
 use Rattle.policy_rules.proofs.delete_object.is_barred.Goals as goal
 
 pub returns-then-holds : goal.returns-then-holds
@@ -15,16 +14,13 @@ pub returns-then-not-may_manage : goal.returns-then-not-may_manage
 returns-then-not-may_manage c page admitted acts is at =
     let tables = c.args.tables.now in
     let lacks = lacks_told page tables c.args.domain admitted acts _ c.holds.result (rw c.deref.ensures.value at c.holds.ensures) c.if-holds.false in
-    let told = rw c.deref-2.ensures.value at c.may_manage.ensures in (
-      λ so. (lacks, inl (λ may. (let clash = sym (told ∙ manages page tables c.args.domain admitted acts may) ∙ c.if-not-may_manage.true in cc))),
-      λ fails. not_from_false c.may_manage.result c.if-not-may_manage.true,
-    )
+    ((λ so. (lacks, inl (iff_false (c.may_manage.ensures page admitted acts) c.if-not-may_manage.true))), (λ fails. not_from_false c.may_manage.result c.if-not-may_manage.true))
 
 pub returns-else-not-may_manage : goal.returns-else-not-may_manage
 returns-else-not-may_manage c page admitted acts is at =
     let tables = c.args.tables.now in
     let lacks = lacks_told page tables c.args.domain admitted acts _ c.holds.result (rw c.deref.ensures.value at c.holds.ensures) c.if-holds.false in
-    let may = may_manage page tables c.args.domain admitted acts (sym (rw c.deref-2.ensures.value at c.may_manage.ensures) ∙ c.if-not-may_manage.false) in
+    let may = (c.may_manage.ensures page admitted acts).0 c.if-not-may_manage.false in
     let told = c.is_out_of_charge.ensures page admitted is.asked.aid acts (at ∙ ap Some is.aid) is.related in (
       λ so. (lacks, inr (told.0 so)),
       λ fails. elim fails.1 [

@@ -27,7 +27,7 @@ returns-clause-some c =
       form = c.requires.form;
       aid = c.in_ok-aid.ensures.some;
       related = refl;
-      parameters = (refl, refl);
-      approval = refl;
-      short = omega (arith, length-take-le size body (omega arith));
+      parameters = c.over.ensures.parameters;
+      approval = c.over.ensures.approval;
+      short = omega (arith, c.over.ensures.short, length-take-le size body (omega arith));
     }

@@ -1,4 +1,4 @@
-use Rattle.std.proofs.Common.{◌≡◌, [], length, refl, sym, ap, subst, ◌∙◌}
+use Rattle.std.proofs.Common.{◌≡◌, [], length, sym, ap, subst, ◌∙◌, arith}
 use Rattle.std.proofs.lemmas.Bool.{eq-eqb, eqb-true}
 use Rattle.std.proofs.lemmas.List.{nil_from_length}
 use Rattle.card_types.specs.Aid.{IsAid}
@@ -43,7 +43,7 @@ returns-clause-some c =
       };
       to = c.in_ok-to.ensures.some;
       aid = c.in_ok-aid.ensures.some;
-      parameters = (refl, refl);
-      approval = (λ i. record { before = before i; token = fields.token.now });
-      short = c.in_ok-fields.ensures.short;
+      parameters = c.over.ensures.parameters;
+      approval = c.over.ensures.approval ∙ (λ i. record { before = before i; token = fields.token.now });
+      short = omega (arith, c.over.ensures.short, c.in_ok-fields.ensures.short);
     }

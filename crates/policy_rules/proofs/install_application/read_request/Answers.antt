@@ -1,4 +1,4 @@
-use Rattle.std.proofs.Common.{refl, subst}
+use Rattle.std.proofs.Common.{refl, subst, arith, ◌∙◌}
 use Rattle.std.proofs.lemmas.Bool.{iff_false}
 use Rattle.card_types.specs.Aid.{IsAid}
 use Rattle.card_types.specs.Privileges.{ArePrivilegeBytes}
@@ -52,7 +52,7 @@ returns-clause-some c =
       module_ = c.in_ok-module.ensures.some;
       aid = c.in_ok-aid.ensures.some;
       privileges = refl;
-      parameters = (refl, refl);
-      approval = (λ i. record { before = before i; token = fields.token.now });
-      short = c.in_ok-fields.ensures.short;
+      parameters = c.over.ensures.parameters;
+      approval = c.over.ensures.approval ∙ (λ i. record { before = before i; token = fields.token.now });
+      short = omega (arith, c.over.ensures.short, c.in_ok-fields.ensures.short);
     }

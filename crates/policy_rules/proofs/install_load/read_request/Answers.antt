@@ -1,4 +1,4 @@
-use Rattle.std.proofs.Common.{◌≡◌, ◌⊎◌, [], refl, subst}
+use Rattle.std.proofs.Common.{◌≡◌, ◌⊎◌, [], refl, subst, arith, ◌∙◌}
 use Rattle.card_types.specs.Aid.{IsAid}
 use Rattle.policy_rules.specs.InstallLoad.{LoadData}
 use Rattle.policy_rules.specs.InstallLoadRequests.{load_data_of}
@@ -33,7 +33,7 @@ returns-clause-some c =
       file = c.in_ok-file.ensures.some;
       domain = c.in_ok-domain.ensures.some;
       hash = refl;
-      parameters = (refl, refl);
-      approval = (λ i. record { before = before i; token = fields.token.now });
-      short = c.in_ok-fields.ensures.short;
+      parameters = c.over.ensures.parameters;
+      approval = c.over.ensures.approval ∙ (λ i. record { before = before i; token = fields.token.now });
+      short = omega (arith, c.over.ensures.short, c.in_ok-fields.ensures.short);
     }

@@ -3,41 +3,50 @@ use Rattle.std.proofs.lemmas.Bool.{iff_false}
 use Rattle.policy_rules.proofs.Approved.{receipt_passes}
 use Rattle.policy_rules.proofs.RequestJudging.{by_receipt, by_token, receipted_so, undelegated, unreceipted}
 use Rattle.policy_rules.specs.RequestJudged.{IsBroughtFor}
+use Rattle.policy_rules.specs.Admission.{Admitted}
+use Rattle.policy_rules.proofs.judged_request.judge_approval.Given.{Over}
 use Rattle.policy_rules.proofs.judged_request.judge_approval.Goals as goal
+use Rattle.policy_rules.proofs.judged_request.judge_approval.Goals.{After-approving-approval}
 
-pub returns-then-not-is_delegated-clause-passed : goal.returns-then-not-is_delegated-clause-passed
-returns-then-not-is_delegated-clause-passed g c page admitted acts is =
-    undelegated _ _ g.met.M.JudgedRequest.lawful admitted _ (iff_false (c.is_delegated.ensures page admitted acts) c.if-not-is_delegated.true)
+-- what the request brings is what its command does
+brought : (g : Over) (c : After-approving-approval g) (admitted : Admitted) (is : g.M.JudgedRequest.reads c.args.request.now admitted.command)
+    → IsBroughtFor g.M.JudgedRequest.form admitted.command (g.M.JudgedRequest.asked c.args.request.now admitted.command is) c.approving-approval.result.signed
+brought g c admitted is =
+    subst (IsBroughtFor g.M.JudgedRequest.form admitted.command _) (sym c.approving-approval.ensures.signed) (g.met.M.JudgedRequest.meant c.args.request.now admitted.command is)
 
-pub returns-then-not-is_delegated-clause-receipter : goal.returns-then-not-is_delegated-clause-receipter
-returns-then-not-is_delegated-clause-receipter g c page admitted acts some = inr (iff_false (c.is_delegated.ensures page admitted acts) c.if-not-is_delegated.true, refl)
+pub returns-then-not-approval-clause-passed : goal.returns-then-not-approval-clause-passed
+returns-then-not-approval-clause-passed g c page admitted acts is =
+    undelegated _ _ g.met.M.JudgedRequest.lawful admitted _ (iff_false (c.approving-approval.ensures.delegated page admitted acts) c.if-not-approval.true)
+
+pub returns-then-not-approval-clause-receipter : goal.returns-then-not-approval-clause-receipter
+returns-then-not-approval-clause-receipter g c page admitted acts some = inr (iff_false (c.approving-approval.ensures.delegated page admitted acts) c.if-not-approval.true, refl)
 
 pub returns-in-Err-clause-refused : goal.returns-in-Err-clause-refused
 returns-in-Err-clause-refused g c page admitted acts is =
-    let meant = subst (IsBroughtFor g.M.JudgedRequest.form admitted.command _) (sym c.signed.ensures) (g.met.M.JudgedRequest.meant c.args.request.now admitted.command is) in
-    by_token _ _ g.met.M.JudgedRequest.lawful admitted _ ((c.is_delegated.ensures page admitted acts).0 c.if-not-is_delegated.false) _ meant
+    let meant = brought g (goal.at.returns-in-Err-clause-refused g c).After-approving-approval admitted is in
+    by_token _ _ g.met.M.JudgedRequest.lawful admitted _ ((c.approving-approval.ensures.delegated page admitted acts).0 c.if-not-approval.false) _ meant
     c.in-Err.rule (c.in-Err.ensures.refused page admitted acts meant.parameters)
 
-pub returns-then-not-is_receipted-clause-passed : goal.returns-then-not-is_receipted-clause-passed
-returns-then-not-is_receipted-clause-passed g c page admitted acts is =
-    let meant = subst (IsBroughtFor g.M.JudgedRequest.form admitted.command _) (sym c.signed.ensures) (g.met.M.JudgedRequest.meant c.args.request.now admitted.command is) in
-    unreceipted _ _ g.met.M.JudgedRequest.lawful admitted _ ((c.is_delegated.ensures page admitted acts).0 c.if-not-is_delegated.false) _ meant
-    (c.in_default.ensures.passed page admitted acts meant.parameters) (sym c.is_receipted.ensures ∙ c.if-not-is_receipted.true)
+pub returns-then-not-approval-2-clause-passed : goal.returns-then-not-approval-2-clause-passed
+returns-then-not-approval-2-clause-passed g c page admitted acts is =
+    let meant = brought g (goal.at.returns-then-not-approval-2-clause-passed g c).After-approving-approval admitted is in
+    unreceipted _ _ g.met.M.JudgedRequest.lawful admitted _ ((c.approving-approval.ensures.delegated page admitted acts).0 c.if-not-approval.false) _ meant
+    (c.in_default.ensures.passed page admitted acts meant.parameters) (sym c.approving-approval.ensures.receipted ∙ c.if-not-approval-2.true)
 
 pub returns-in-Ok-clause-passed : goal.returns-in-Ok-clause-passed
 returns-in-Ok-clause-passed g c page admitted acts is =
-    let meant = subst (IsBroughtFor g.M.JudgedRequest.form admitted.command _) (sym c.signed.ensures) (g.met.M.JudgedRequest.meant c.args.request.now admitted.command is) in
-    receipted_so _ _ g.met.M.JudgedRequest.lawful admitted _ ((c.is_delegated.ensures page admitted acts).0 c.if-not-is_delegated.false) _ meant
+    let meant = brought g (goal.at.returns-in-Ok-clause-passed g c).After-approving-approval admitted is in
+    receipted_so _ _ g.met.M.JudgedRequest.lawful admitted _ ((c.approving-approval.ensures.delegated page admitted acts).0 c.if-not-approval.false) _ meant
     (c.in_default.ensures.passed page admitted acts meant.parameters)
     (receipt_passes page c.args.tables.now c.args.domain admitted acts c.in-Ok.found (c.in-Ok.ensures.found page admitted acts))
 
 pub returns-in-Ok-clause-receipter : goal.returns-in-Ok-clause-receipter
 returns-in-Ok-clause-receipter g c page admitted acts some =
-    inl ((c.is_delegated.ensures page admitted acts).0 c.if-not-is_delegated.false, c.in-Ok.ensures.found page admitted acts)
+    inl ((c.approving-approval.ensures.delegated page admitted acts).0 c.if-not-approval.false, c.in-Ok.ensures.found page admitted acts)
 
 pub returns-in-Err-judge_receipt-clause-refused : goal.returns-in-Err-judge_receipt-clause-refused
 returns-in-Err-judge_receipt-clause-refused g c page admitted acts is =
-    let meant = subst (IsBroughtFor g.M.JudgedRequest.form admitted.command _) (sym c.signed.ensures) (g.met.M.JudgedRequest.meant c.args.request.now admitted.command is) in
-    by_receipt _ _ g.met.M.JudgedRequest.lawful admitted _ ((c.is_delegated.ensures page admitted acts).0 c.if-not-is_delegated.false) _ meant
-    (c.in_default.ensures.passed page admitted acts meant.parameters) (sym c.is_receipted.ensures ∙ c.if-not-is_receipted.false)
+    let meant = brought g (goal.at.returns-in-Err-judge_receipt-clause-refused g c).After-approving-approval admitted is in
+    by_receipt _ _ g.met.M.JudgedRequest.lawful admitted _ ((c.approving-approval.ensures.delegated page admitted acts).0 c.if-not-approval.false) _ meant
+    (c.in_default.ensures.passed page admitted acts meant.parameters) (sym c.approving-approval.ensures.receipted ∙ c.if-not-approval-2.false)
     c.in-Err-judge_receipt.rule (c.in-Err-judge_receipt.ensures.refused page admitted acts)

@@ -1,4 +1,4 @@
-use Rattle.std.proofs.Common.{length, refl, sym, subst, ◌∙◌}
+use Rattle.std.proofs.Common.{length, sym, subst, ◌∙◌, arith}
 use Rattle.std.proofs.lemmas.Bool.{eqb-true}
 use Rattle.std.proofs.lemmas.List.{nil_from_length}
 use Rattle.policy_rules.specs.FieldsRead.{given_of}
@@ -29,7 +29,7 @@ returns-clause-some c =
       };
       aid = c.in_ok-aid.ensures.some;
       privileges = c.in_ok-privileges.ensures.some;
-      parameters = (refl, refl);
-      approval = (λ i. record { before = before i; token = fields.token.now });
-      short = c.in_ok-fields.ensures.short;
+      parameters = c.over.ensures.parameters;
+      approval = c.over.ensures.approval ∙ (λ i. record { before = before i; token = fields.token.now });
+      short = omega (arith, c.over.ensures.short, c.in_ok-fields.ensures.short);
     }

@@ -1,6 +1,6 @@
 use Rattle.std.proofs.Common.{rules, ℕ, List, [], ◌∷◌, Option, Some, inl, inr, refl, ap, ◌∙◌}
 use Rattle.std.proofs.lemmas.Bool.{iff_false}
-use Rattle.policy_rules.proofs.ExtraditionJudging.{fixed, free, known, managed, no_domain, unknown, unmanaged}
+use Rattle.policy_rules.proofs.ExtraditionJudging.{fixed, free, known, no_domain, unknown}
 use Rattle.policy_rules.specs.Admission.{Admitted}
 use Rattle.policy_rules.specs.Extradition.{ExtraditingFails, managed_extradition}
 use Rattle.policy_rules.specs.ExtraditionRequests.{IsExtraditionOf}
@@ -22,9 +22,9 @@ from_3 : (c : After-is_fixed) (page : ℕ → List ℕ) (admitted : Admitted) (a
     → First admitted is.given (EX3 ∷ EX4 ∷ EX5 ∷ EX6 ∷ EX7 ∷ []) found → OwnFirst managed_extradition.judged admitted is.given found
 from_3 c page admitted acts is found rest =
     let tables = c.args.tables.now in
-    let one = managed page tables c.args.domain admitted acts c.args.self.now is c.may_manage.result (rw c.deref.ensures.value at c.may_manage.ensures) c.if-not-may_manage.false in
+    let may = (c.may_manage.ensures page admitted acts).0 c.if-not-may_manage.false in
     let there = c.in-Some-find_domain.ensures.domain page admitted.at.registry acts.says acts.well in
-    inr (one, inr (known page tables c.args.domain admitted acts c.args.self.now is c.in-Some.thing c.in-Some.ensures.some there, rest))
+    inr ((λ fails. fails may), inr (known page tables c.args.domain admitted acts c.args.self.now is c.in-Some.thing c.in-Some.ensures.some there, rest))
 
 from_5 : (c : After-is_unfit) (page : ℕ → List ℕ) (admitted : Admitted) (acts : ActsIn page c.args.tables.now c.args.domain admitted)
     (is : IsExtraditionOf c.args.self.now admitted.command) (found : Option RuleEX)
@@ -44,18 +44,18 @@ from_7 c page admitted acts is found rest =
 
 pub returns-then-not-may_manage-clause-refused : goal.returns-then-not-may_manage-clause-refused
 returns-then-not-may_manage-clause-refused c page admitted acts told is =
-    (EX1, refl, inl (unmanaged page c.args.tables.now c.args.domain admitted acts c.args.self.now is c.may_manage.result (rw c.deref.ensures.value at c.may_manage.ensures) c.if-not-may_manage.true, refl))
+    (EX1, refl, inl (iff_false (c.may_manage.ensures page admitted acts) c.if-not-may_manage.true, refl))
 
 pub returns-in_default-clause-refused : goal.returns-in_default-clause-refused
 returns-in_default-clause-refused c page admitted acts told is =
-    let one = managed page c.args.tables.now c.args.domain admitted acts c.args.self.now is c.may_manage.result (rw c.deref.ensures.value at c.may_manage.ensures) c.if-not-may_manage.false in
-    (EX2, refl, inr (one, inl (unknown page c.args.tables.now c.args.domain admitted acts c.args.self.now is c.in_default.ensures.none, refl)))
+    let may = (c.may_manage.ensures page admitted acts).0 c.if-not-may_manage.false in
+    (EX2, refl, inr ((λ fails. fails may), inl (unknown page c.args.tables.now c.args.domain admitted acts c.args.self.now is c.in_default.ensures.none, refl)))
 
 pub returns-in_default-find_domain-clause-refused : goal.returns-in_default-find_domain-clause-refused
 returns-in_default-find_domain-clause-refused c page admitted acts told is =
-    let one = managed page c.args.tables.now c.args.domain admitted acts c.args.self.now is c.may_manage.result (rw c.deref.ensures.value at c.may_manage.ensures) c.if-not-may_manage.false in
+    let may = (c.may_manage.ensures page admitted acts).0 c.if-not-may_manage.false in
     let none = c.in_default-find_domain.ensures.none page admitted.at.registry acts.says acts.well in
-    (EX2, refl, inr (one, inl (no_domain page c.args.tables.now c.args.domain admitted acts c.args.self.now is none, refl)))
+    (EX2, refl, inr ((λ fails. fails may), inl (no_domain page c.args.tables.now c.args.domain admitted acts c.args.self.now is none, refl)))
 
 pub returns-then-is_fixed-clause-refused : goal.returns-then-is_fixed-clause-refused
 returns-then-is_fixed-clause-refused c page admitted acts told is =

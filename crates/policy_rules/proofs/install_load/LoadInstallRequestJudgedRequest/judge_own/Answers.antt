@@ -1,7 +1,7 @@
 use Rattle.std.proofs.Common.{rules, ℕ, List, [], ◌∷◌, Option, inl, inr, refl, sym, ◌∙◌}
 use Rattle.std.proofs.lemmas.Bool.{iff_false}
 use Rattle.policy_rules.proofs.InstallApplicationJudging.{none_found}
-use Rattle.policy_rules.proofs.InstallLoadJudging.{free, full, idle, loading, managed, roomy, taken, unmanaged, within}
+use Rattle.policy_rules.proofs.InstallLoadJudging.{free, full, idle, loading, roomy, taken, within}
 use Rattle.policy_rules.proofs.ThingsFound.{acting_named}
 use Rattle.policy_rules.specs.Admission.{Admitted}
 use Rattle.policy_rules.specs.FirstFailing.{IsFirst}
@@ -24,9 +24,9 @@ from_3 : (c : After-find) (page : ℕ → List ℕ) (admitted : Admitted) (acts 
     → First admitted is.given (IL3 ∷ IL4 ∷ IL5 ∷ IL6 ∷ IL7 ∷ []) found → OwnFirst judged_install_load admitted is.given found
 from_3 c page admitted acts told is found rest =
     let tables = c.args.tables.now in
-    let one = managed page tables c.args.domain admitted acts c.args.self.now is c.may_manage.result (rw c.deref.ensures.value at c.may_manage.ensures) c.if-not-may_manage.false in
+    let may = (c.may_manage.ensures page admitted acts).0 c.if-not-may_manage.false in
     let two = idle page tables c.args.domain admitted acts c.args.self.now is c.args.live.now.load told (sym c.is_some.ensures ∙ c.if-is_some.false) in
-    inr (one, inr (two, rest))
+    inr ((λ fails. fails may), inr (two, rest))
 
 from_5 : (c : After-is_at_or_above) (page : ℕ → List ℕ) (admitted : Admitted) (acts : ActsIn page c.args.tables.now c.args.domain admitted)
     (is : IsLoadInstallOf c.args.self.now admitted.command) (found : Option RuleIL)
@@ -48,13 +48,13 @@ from_7 c page admitted acts is found rest =
 
 pub returns-then-not-may_manage-clause-refused : goal.returns-then-not-may_manage-clause-refused
 returns-then-not-may_manage-clause-refused c page admitted acts told is =
-    (IL1, refl, inl (unmanaged page c.args.tables.now c.args.domain admitted acts c.args.self.now is c.may_manage.result (rw c.deref.ensures.value at c.may_manage.ensures) c.if-not-may_manage.true, refl))
+    (IL1, refl, inl (iff_false (c.may_manage.ensures page admitted acts) c.if-not-may_manage.true, refl))
 
 pub returns-then-is_some-clause-refused : goal.returns-then-is_some-clause-refused
 returns-then-is_some-clause-refused c page admitted acts told is =
-    let one = managed page c.args.tables.now c.args.domain admitted acts c.args.self.now is c.may_manage.result (rw c.deref.ensures.value at c.may_manage.ensures) c.if-not-may_manage.false in
+    let may = (c.may_manage.ensures page admitted acts).0 c.if-not-may_manage.false in
     let fails = loading page c.args.tables.now c.args.domain admitted acts c.args.self.now is c.args.live.now.load told (sym c.is_some.ensures ∙ c.if-is_some.true) in
-    (IL2, refl, inr (one, inl (fails, refl)))
+    (IL2, refl, inr ((λ fails. fails may), inl (fails, refl)))
 
 pub returns-then-is_some-2-clause-refused : goal.returns-then-is_some-2-clause-refused
 returns-then-is_some-2-clause-refused c page admitted acts told is =
@@ -95,7 +95,7 @@ returns-then-is_unfit_hash-clause-refused c page admitted acts told is =
 pub returns-in-None-clause-refused : goal.returns-in-None-clause-refused
 returns-in-None-clause-refused c page admitted acts told is =
     let at = goal.at.returns-in-None-clause-refused c in
-    let fails = full page c.args.tables.now c.args.domain admitted acts c.args.self.now is c.requires.in_order.layout.files (rw c.deref-2.ensures.value at c.in-None.ensures.none) in (
+    let fails = full page c.args.tables.now c.args.domain admitted acts c.args.self.now is c.requires.in_order.layout.files (rw c.deref.ensures.value at c.in-None.ensures.none) in (
       IL7,
       refl,
       from_3 at.After-find page admitted acts told is _ (from_5 at.After-is_at_or_above page admitted acts is _
@@ -106,7 +106,7 @@ pub returns-in-Some-first_free-clause-passed : goal.returns-in-Some-first_free-c
 returns-in-Some-first_free-clause-passed c page admitted acts told is =
     let at = goal.at.returns-in-Some-first_free-clause-passed c in
     let seven = roomy page c.args.tables.now c.args.domain admitted acts c.args.self.now is c.requires.in_order.layout.files c.in-Some-first_free.field-0
-    (rw c.deref-2.ensures.value at c.in-Some-first_free.ensures.some) in
+    (rw c.deref.ensures.value at c.in-Some-first_free.ensures.some) in
     from_3 at.After-find page admitted acts told is _ (from_5 at.After-is_at_or_above page admitted acts is _
     (from_7 at.After-first_free page admitted acts is _ (inr (seven, refl))))
 

@@ -1,7 +1,7 @@
 use Rattle.std.proofs.Common.{sym, ◌∙◌}
 use Rattle.std.proofs.lemmas.Bool.{false_from_ne_true, not-true, not_from_false}
 use Rattle.policy_rules.proofs.ExtraditionJudging.{holds_told, lacks_told}
-use Rattle.policy_rules.proofs.delete_object.DeletionRequestJudgedRequest.is_delegated.Goals as goal
+use Rattle.policy_rules.proofs.delete_object.deletes_as_delegate.Goals as goal
 
 pub returns-then-holds : goal.returns-then-holds
 returns-then-holds c page admitted acts =
