@@ -1,5 +1,5 @@
 -- The rules of INSTALL [for make selectable] after its form, by its request.
-use Rattle.std.proofs.Common.{◌≡◌, ◌≢◌, ℕ, List, Option, None, Some, refl, ap, sym, subst, ◌∙◌, inl, inr}
+use Rattle.std.proofs.Common.{◌≡◌, ◌≢◌, ℕ, List, [], ◌∷◌, Option, None, Some, refl, ap, sym, subst, ◌∙◌, inl, inr}
 use Rattle.std.specs.Prelude.{MatchOption}
 use Rattle.card_types.specs.Found.{aid_of}
 use Rattle.card_types.specs.Registry as registry
@@ -78,42 +78,18 @@ module _ (page : ℕ → List ℕ) (tables : Tables) (domain : ℕ) (admitted : 
         installed : Fails MS4 → ⊥
         installed fails = of_slot (λ e. e.life ≢ is_installed) fails life
 
+        last : (found : Option RuleMS) → IsFirst Fails (MS5 ∷ []) found → IsFirst Fails managed_selectable.judged.own_rules found
+        last found rest = inr ((λ fails. fails manages), inr (known, inr (below, inr (installed, rest))))
+
         pub others_first : MatchOption request.privileges ⊥ (λ these. entry.privileges ≢ these) → IsFirst Fails managed_selectable.judged.own_rules (Some MS5)
         others_first differ =
             let others = others_given entry.privileges is.given.privileges request.privileges is.privileges differ in
-            inr (
-              (λ fails. fails manages),
-              inr (
-                known,
-                inr (
-                  below,
-                  inr (
-                    installed,
-                    inl (
-                      (others.0, others.1, of_named (λ e. e.privileges ≢ others.0) others.2),
-                      refl,
-                    ),
-                  ),
-                ),
-              ),
-            )
+            last (Some MS5) (inl ((others.0, others.1, of_named (λ e. e.privileges ≢ others.0) others.2), refl))
 
         pub own_passes : (MatchOption request.privileges ⊥ (λ these. entry.privileges ≢ these) → ⊥) → IsFirst Fails managed_selectable.judged.own_rules None
         own_passes alike =
-            inr (
-              (λ fails. fails manages),
-              inr (
-                known,
-                inr (
-                  below,
-                  inr (
-                    installed,
-                    inr (
-                      (λ fails. same_given entry.privileges is.given.privileges request.privileges is.privileges alike fails.0 fails.1
-                          (of_slot (λ e. e.privileges ≢ fails.0) fails.2)),
-                      refl,
-                    ),
-                  ),
-                ),
-              ),
-            )
+            last None (inr (
+              (λ fails. same_given entry.privileges is.given.privileges request.privileges is.privileges alike fails.0 fails.1
+                  (of_slot (λ e. e.privileges ≢ fails.0) fails.2)),
+              refl,
+            ))
