@@ -1,5 +1,5 @@
 -- A block that is taken: what LOAD does then, and what a card keeps.
-use Rattle.std.proofs.Common.{◌≡◌, ℕ, List, [], ◌∷◌, Bool, false, true, Option, None, Some, Result, refl, sym, ap, subst, ◌∙◌, inl, inr}
+use Rattle.std.proofs.Common.{◌≡◌, ◌⊎◌, ℕ, List, [], ◌∷◌, Bool, false, true, Option, None, Some, Result, refl, sym, ap, subst, ◌∙◌, inl, inr}
 use Rattle.std.specs.Prelude.{All, drop, if◌then◌else◌}
 use Rattle.std.specs.Result.{IsErrAnd}
 use Rattle.std.proofs.lemmas.Bool.{eq-eqb}
@@ -19,12 +19,12 @@ use Rattle.load_session.specs.declared.session.LoadSession.{LoadSession as Kept}
 use Rattle.policy_rules.proofs.Judging.{IsListed, does_so, judged}
 use Rattle.policy_rules.proofs.LoadNamed.{counted_named}
 use Rattle.policy_rules.specs.Admission.{Admitted}
-use Rattle.policy_rules.specs.Commands.{TakesCommand}
+use Rattle.policy_rules.specs.Commands.{HasEffect, TakesCommand}
 use Rattle.policy_rules.specs.Delegation.{Holds, IsAnswered, unconfirmed}
 use Rattle.policy_rules.specs.FirstFailing.{IsFirst}
 use Rattle.policy_rules.specs.HoldersFound.{FindsConfirmer}
 use Rattle.policy_rules.specs.LiveEnds.{live_with_block, live_without_load}
-use Rattle.policy_rules.specs.Load.{LoadFails, block_of, file_of_load, load_rules, loading}
+use Rattle.policy_rules.specs.Load.{EndsLoad, GoesOn, LoadFails, block_of, file_of_load, load_rules, loading}
 use Rattle.policy_rules.specs.LoadBlocks.{Block, BringsBytes, with_block}
 use Rattle.policy_rules.specs.Requests.{ActsIn, IsLoadNamed, RepresentsState}
 use Rattle.policy_rules.specs.State.{Effect, State}
@@ -94,6 +94,18 @@ module _ (page : ℕ → List ℕ) (tables : Tables) (live : Live) (kept : Kept)
   says_then : RepresentsState page_then tables live admitted.at
   says_then = record { registry = said_then; selected = says.selected; places = says.places; load = says.load }
 
+  -- the block is counted, and its bytes go behind those that came
+  counts : (done : Effect) → GoesOn admitted next done ⊎ EndsLoad admitted next done → done.status ≡ 0x9000 → HasEffect admitted done
+  counts done ends word = does_so loading listed admitted takes done (record {
+    load = load;
+    on = (load_on page tables kept name domain request admitted is_for).on;
+    size = taken.size;
+    bytes = drop taken.start request.block.now;
+    brings = brings;
+    taken = ends;
+    status = word;
+  })
+
   -- more blocks come
   pub more_loaded : request.last ≡ false → (after : Kept) → RepresentsLoad page_then tables after next → IsLoaded admitted page_then tables (live_with_block live) (Some after) (0x00 ∷ []) (record { 0 = 0x9000 })
   more_loaded more after stands =
@@ -104,15 +116,7 @@ module _ (page : ℕ → List ℕ) (tables : Tables) (live : Live) (kept : Kept)
       record {
         judges = judged loading listed admitted takes refl None passes;
         done = done;
-        does = does_so loading listed admitted takes done (record {
-          load = load;
-          on = on.on;
-          size = taken.size;
-          bytes = drop taken.start request.block.now;
-          brings = brings;
-          taken = inl (record { more = is_more page tables kept name domain request admitted is_for more; registry = refl; volatile = refl; body = refl });
-          status = refl;
-        });
+        does = counts done (inl (record { more = is_more page tables kept name domain request admitted is_for more; registry = refl; volatile = refl; body = refl })) refl;
         channels = refl;
         says = record {
           registry = said_then;
@@ -163,21 +167,13 @@ module _ (page : ℕ → List ℕ) (tables : Tables) (live : Live) (kept : Kept)
         record {
           judges = judged loading listed admitted takes refl None passes;
           done = done;
-          does = does_so loading listed admitted takes done (record {
-            load = load;
-            on = on.on;
-            size = taken.size;
-            bytes = drop taken.start request.block.now;
-            brings = brings;
-            taken = inr (record {
-              last = is_last page tables kept name domain request admitted is_for last;
-              changed = added.0;
-              added = added.1;
-              answered = answered;
-              volatile = refl;
-            });
-            status = refl;
-          });
+          does = counts done (inr (record {
+            last = is_last page tables kept name domain request admitted is_for last;
+            changed = added.0;
+            added = added.1;
+            answered = answered;
+            volatile = refl;
+          })) refl;
           channels = refl;
           says = record {
             registry = added.2.1;

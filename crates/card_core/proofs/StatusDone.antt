@@ -1,10 +1,10 @@
 -- A GET STATUS was done.
-use Rattle.std.proofs.Common.{◌≡◌, ℕ, ◌<◌, ◌≤◌, List, [], ◌∷◌, None, Some, length, inl, inr, refl, sym, subst, ◌∙◌}
+use Rattle.std.proofs.Common.{◌≡◌, ℕ, ◌<◌, ◌≤◌, List, [], ◌∷◌, Option, None, Some, length, inl, inr, refl, sym, subst, ◌∙◌}
 use Rattle.apdu_core.specs.declared.reply.Status.{Status}
 use Rattle.card_types.specs.declared.tables.Tables.{Tables}
 use Rattle.policy_rules.proofs.Judging.{does_so, judged}
 use Rattle.policy_rules.specs.Admission.{Admitted}
-use Rattle.policy_rules.specs.Commands.{Judges}
+use Rattle.policy_rules.specs.Commands.{HasEffect, Judges}
 use Rattle.policy_rules.specs.FirstFailing.{IsFirst}
 use Rattle.policy_rules.specs.GetStatus.{GetStatusFails, IsLeftAt, Thing, get_status, get_status_rules, last_aid, part_limit, place_behind, with_place}
 use Rattle.policy_rules.specs.KeptPlaces.{place_of}
@@ -49,22 +49,26 @@ module _ (admitted : Admitted) where
       judges : Judges admitted None
       judges = judged get_status (λ holds here. inl here) admitted of.form refl None first
 
+      shows_part : (volatile : Volatile) (word : ℕ) (ends : Option (List ℕ)) (part : IsPart admitted bytes ends) → IsLeftAt admitted (leaves volatile bytes word) part.shown part.left
+          → HasEffect admitted (leaves volatile bytes word)
+      shows_part volatile word ends part left_at = does_so get_status (λ holds here. inl here) admitted of.form _ (record {
+        shown = part.shown;
+        left = part.left;
+        listing = part.listing;
+        body = part.body;
+        fits = room;
+        full = part.full;
+        registry = refl;
+        left_at = left_at;
+      })
+
       -- nothing is left
       pub whole_done : (live : Live) → RepresentsState page tables live admitted.at → IsPart admitted bytes None → status.0 ≡ 0x9000
           → IsShown admitted page tables live bytes status
       whole_done live says part word = record {
         judges = judges;
         done = leaves admitted.at.volatile bytes 0x9000;
-        does = does_so get_status (λ holds here. inl here) admitted of.form _ (record {
-          shown = part.shown;
-          left = part.left;
-          listing = part.listing;
-          body = part.body;
-          fits = room;
-          full = part.full;
-          registry = refl;
-          left_at = whole_left bytes part.shown part.left part.ends;
-        });
+        does = shows_part admitted.at.volatile 0x9000 None part (whole_left bytes part.shown part.left part.ends);
         registry = refl;
         volatile = inl refl;
         says = says;
@@ -90,16 +94,7 @@ module _ (admitted : Admitted) where
           record {
             judges = judges;
             done = leaves (with_place admitted.at.volatile admitted.channel place) bytes 0x6310;
-            does = does_so get_status (λ holds here. inl here) admitted of.form _ (record {
-              shown = part.shown;
-              left = part.left;
-              listing = part.listing;
-              body = part.body;
-              fits = room;
-              full = part.full;
-              registry = refl;
-              left_at = more_left bytes last part.shown part.left part.ends;
-            });
+            does = shows_part (with_place admitted.at.volatile admitted.channel place) 0x6310 (Some last) part (more_left bytes last part.shown part.left part.ends);
             registry = refl;
             volatile = inr (place, refl);
             says = subst (λ (l : Live). RepresentsState page tables l (record { registry = admitted.at.registry; volatile = with_place admitted.at.volatile admitted.channel place }))

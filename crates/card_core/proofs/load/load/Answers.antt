@@ -77,73 +77,38 @@ returns-then-not-request-clause-done g c page admitted acts says channels whole 
     subst (So c.count_block.new.self) (sym body) (subst (λ (l : Live). So l (0x00 ∷ [])) (sym c.count_block.ensures) done)
 
 -- it was the last one: what its file is like
-pub add_loaded-requires-clause-domain : goal.add_loaded-requires-clause-domain
-add_loaded-requires-clause-domain g c =
+pub add_loaded-requires : goal.add_loaded-requires
+add_loaded-requires g c =
     let tables = c.args.records.now.tables in
-    let kept = c.unwrap-session.result.now in
+    let kept = c.unwrap-session-2.result.now in
     let at : c.args.loading.now.session ≡ Some kept = search rules in
-    let held = held_load tables c.args.live.now c.args.loading.now.session c.requires.holds c.in_ok-name.name c.in_ok-name.ensures.name.0 kept at in
+    let same : c.unwrap-session.result.now ≡ kept = search rules in
+    let last : c.unwrap-session-3.result ≡ c.take_block.new.self = search rules in
     let slot : c.finish.result.domain ≡ load_slot kept = search rules in
-    subst (λ (s : ℕ). is_domain_in tables.entries.items s ≡ true) (sym slot) held.domain
-
-pub add_loaded-requires-clause-fresh : goal.add_loaded-requires-clause-fresh
-add_loaded-requires-clause-fresh g c =
-    let tables = c.args.records.now.tables in
-    let kept = c.unwrap-session.result.now in
-    let at : c.args.loading.now.session ≡ Some kept = search rules in
-    let held = held_load tables c.args.live.now c.args.loading.now.session c.requires.holds c.in_ok-name.name c.in_ok-name.ensures.name.0 kept at in
     let aid : c.finish.result.aid ≡ load_aid kept = search rules in
-    subst (NoneHas tables) (sym aid) held.fresh
-
-pub add_loaded-requires-clause-free : goal.add_loaded-requires-clause-free
-add_loaded-requires-clause-free g c =
-    let tables = c.args.records.now.tables in
-    let kept = c.unwrap-session.result.now in
-    let at : c.args.loading.now.session ≡ Some kept = search rules in
-    let held = held_load tables c.args.live.now c.args.loading.now.session c.requires.holds c.in_ok-name.name c.in_ok-name.ensures.name.0 kept at in
-    held.free c.tables.ensures.roomy.slots.files
-
-pub add_loaded-requires-clause-pages : goal.add_loaded-requires-clause-pages
-add_loaded-requires-clause-pages g c =
-    let tables = c.args.records.now.tables in
-    let sound = rw c.tables-3.ensures.tables at c.take_block.ensures.sound in
-    let last : c.unwrap-session-3.result ≡ c.take_block.new.self = search rules in
-    let whole = subst (λ (b : Bool). IsAfterBlock b tables c.take_block.new.self) c.if-not-request.false sound in
-    (c.finish.ensures.pages tables (subst (IsWholeFile tables) (sym last) whole)).0
-
-pub add_loaded-requires-clause-own : goal.add_loaded-requires-clause-own
-add_loaded-requires-clause-own g c =
-    let tables = c.args.records.now.tables in
-    let sound = rw c.tables-3.ensures.tables at c.take_block.ensures.sound in
-    let last : c.unwrap-session-3.result ≡ c.take_block.new.self = search rules in
-    let whole = subst (λ (b : Bool). IsAfterBlock b tables c.take_block.new.self) c.if-not-request.false sound in
-    (c.finish.ensures.pages tables (subst (IsWholeFile tables) (sym last) whole)).1
-
-pub add_loaded-requires-clause-some : goal.add_loaded-requires-clause-some
-add_loaded-requires-clause-some g c =
-    let tables = c.args.records.now.tables in
-    let kept = c.unwrap-session-2.result.now in
-    let at : c.args.loading.now.session ≡ Some kept = search rules in
-    let same : c.unwrap-session.result.now ≡ kept = search rules in
-    let last : c.unwrap-session-3.result ≡ c.take_block.new.self = search rules in
     let held = held_load tables c.args.live.now c.args.loading.now.session c.requires.holds c.in_ok-name.name c.in_ok-name.ensures.name.0 kept at in
     let brought = subst (λ (k : LoadSession). IsBlockTaken tables k (block_in c.args.request.now) c.in_ok-judged.judged.taken) same (rw c.tables-2.ensures.tables at c.in_ok-judged.ensures.taken) in
-    subst (λ (n : ℕ). 1 ≤ n) (sym (c.finish.ensures.len ∙ ap len_of last))
-    (some_last tables kept c.take_block.new.self held c.args.request.now c.in_ok-judged.judged.taken brought c.take_block.new.writes.items c.if-not-request.false
-    (rw c.tables-3.ensures.tables at c.take_block.ensures.stands))
-
-pub add_loaded-requires-clause-few : goal.add_loaded-requires-clause-few
-add_loaded-requires-clause-few g c =
-    let tables = c.args.records.now.tables in
-    let kept = c.unwrap-session-2.result.now in
-    let at : c.args.loading.now.session ≡ Some kept = search rules in
-    let same : c.unwrap-session.result.now ≡ kept = search rules in
-    let last : c.unwrap-session-3.result ≡ c.take_block.new.self = search rules in
-    let held = held_load tables c.args.live.now c.args.loading.now.session c.requires.holds c.in_ok-name.name c.in_ok-name.ensures.name.0 kept at in
-    let brought = subst (λ (k : LoadSession). IsBlockTaken tables k (block_in c.args.request.now) c.in_ok-judged.judged.taken) same (rw c.tables-2.ensures.tables at c.in_ok-judged.ensures.taken) in
-    subst (λ (n : ℕ). pages_in tables + pages_of n ≤ LOAD_PAGES) (sym (c.finish.ensures.len ∙ ap len_of last))
-    (few_last tables kept c.take_block.new.self held c.args.request.now c.in_ok-judged.judged.taken brought c.take_block.new.writes.items c.if-not-request.false
-    (rw c.tables-3.ensures.tables at c.take_block.ensures.stands))
+    let stands = rw c.tables-3.ensures.tables at c.take_block.ensures.stands in
+    let sound = rw c.tables-3.ensures.tables at c.take_block.ensures.sound in
+    let whole = subst (λ (b : Bool). IsAfterBlock b tables c.take_block.new.self) c.if-not-request.false sound in
+    let pages = c.finish.ensures.pages tables (subst (IsWholeFile tables) (sym last) whole) in
+    let len = sym (c.finish.ensures.len ∙ ap len_of last) in
+    record {
+      live = search rules;
+      clean = search rules;
+      cards = search rules;
+      domain = subst (λ (s : ℕ). is_domain_in tables.entries.items s ≡ true) (sym slot) held.domain;
+      pages = pages.0;
+      own = pages.1;
+      some = subst (λ (n : ℕ). 1 ≤ n) len
+          (some_last tables kept c.take_block.new.self held c.args.request.now c.in_ok-judged.judged.taken brought c.take_block.new.writes.items c.if-not-request.false stands);
+      few = subst (λ (n : ℕ). pages_in tables + pages_of n ≤ LOAD_PAGES) len
+          (few_last tables kept c.take_block.new.self held c.args.request.now c.in_ok-judged.judged.taken brought c.take_block.new.writes.items c.if-not-request.false stands);
+      fresh = subst (NoneHas tables) (sym aid) held.fresh;
+      free = held.free c.tables.ensures.roomy.slots.files;
+      able = search rules;
+      empty = search rules;
+    }
 
 pub returns-clause-done : goal.returns-clause-done
 returns-clause-done g c page admitted acts says channels whole sound loads on asked =
