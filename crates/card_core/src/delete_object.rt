@@ -20,13 +20,14 @@ ghost use Rattle.registry.specs.Pages.{entry_pages};
 
 use crate::channel_session::ChannelSession;
 use crate::confirm::confirm;
+use crate::judging::judge;
 use crate::managed_request::ManagedRequest;
 use crate::reply::REPLY_LIMIT;
 use apdu_core::Status;
 use arrayvec::ArrayVec;
 use card_types::Found;
 use flash_core::Flash;
-use policy_rules::{DeletionRequest, Live, Rule, judge_request};
+use policy_rules::{DeletionRequest, Live, Rule};
 use rec_store::Records;
 use registry::{remove_applications, remove_entry, remove_file};
 
@@ -87,7 +88,7 @@ impl ManagedRequest for DeletionRequest<'_> {
         domain: u8,
         reply: &mut ArrayVec<u8, REPLY_LIMIT>,
     ) -> Result<Status, Rule> {
-        let judged = judge_request(records.tables(), live, domain, self)?;
+        let judged = judge(records, live, domain, self)?;
         remove(records, judged.found, self.related);
         confirm(records, judged.receipter, &self.aid, None, None, reply);
         Ok(Status(0x9000))

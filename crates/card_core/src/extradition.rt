@@ -4,13 +4,14 @@ ghost use Rattle.policy_rules.specs.declared.request.Request.TheVariants.{Extrad
 
 use crate::channel_session::ChannelSession;
 use crate::confirm::confirm;
+use crate::judging::judge;
 use crate::managed_request::ManagedRequest;
 use crate::reply::REPLY_LIMIT;
 use apdu_core::Status;
 use arrayvec::ArrayVec;
 use card_types::in_slot;
 use flash_core::Flash;
-use policy_rules::{ExtraditionRequest, Live, Rule, judge_request};
+use policy_rules::{ExtraditionRequest, Live, Rule};
 use rec_store::Records;
 use registry::move_to;
 
@@ -26,7 +27,7 @@ impl ManagedRequest for ExtraditionRequest<'_> {
         domain: u8,
         reply: &mut ArrayVec<u8, REPLY_LIMIT>,
     ) -> Result<Status, Rule> {
-        let judged = judge_request(records.tables(), live, domain, self)?;
+        let judged = judge(records, live, domain, self)?;
         let found = judged.found;
         let from = in_slot(&records.tables().entries, found.from).unwrap().aid;
         move_to(records, found.thing, found.to);

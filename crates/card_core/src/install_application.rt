@@ -6,13 +6,14 @@ ghost use Rattle.policy_rules.specs.declared.request.Request.TheVariants.{Instal
 
 use crate::channel_session::ChannelSession;
 use crate::confirm::confirm;
+use crate::judging::judge;
 use crate::managed_request::ManagedRequest;
 use crate::reply::REPLY_LIMIT;
 use apdu_core::Status;
 use arrayvec::ArrayVec;
 use card_types::{Entry, Life, LifeMark};
 use flash_core::Flash;
-use policy_rules::{InstallRequest, Live, Rule, judge_request};
+use policy_rules::{InstallRequest, Live, Rule};
 use rec_store::Records;
 use registry::place_entry;
 
@@ -51,7 +52,7 @@ impl ManagedRequest for InstallRequest<'_> {
         domain: u8,
         reply: &mut ArrayVec<u8, REPLY_LIMIT>,
     ) -> Result<Status, Rule> {
-        let judged = judge_request(records.tables(), live, domain, self)?;
+        let judged = judge(records, live, domain, self)?;
         place_entry(records, made(self, domain, judged.found));
         confirm(
             records,

@@ -24,6 +24,7 @@ mod get_data;
 mod get_status;
 mod initialize_update;
 mod install_application;
+mod judging;
 mod literals;
 mod load;
 mod loaded_file;

@@ -5,13 +5,14 @@ ghost use Rattle.policy_rules.specs.declared.request.Request.TheVariants.{MakeSe
 
 use crate::channel_session::ChannelSession;
 use crate::confirm::confirm;
+use crate::judging::judge;
 use crate::managed_request::ManagedRequest;
 use crate::reply::REPLY_LIMIT;
 use apdu_core::Status;
 use arrayvec::ArrayVec;
 use card_types::{Life, LifeMark};
 use flash_core::Flash;
-use policy_rules::{Live, Rule, SelectableRequest, judge_request};
+use policy_rules::{Live, Rule, SelectableRequest};
 use rec_store::Records;
 use registry::set_life;
 
@@ -33,7 +34,7 @@ impl ManagedRequest for SelectableRequest<'_> {
         domain: u8,
         reply: &mut ArrayVec<u8, REPLY_LIMIT>,
     ) -> Result<Status, Rule> {
-        let judged = judge_request(records.tables(), live, domain, self)?;
+        let judged = judge(records, live, domain, self)?;
         set_life(records, judged.found, SELECTABLE);
         confirm(records, judged.receipter, &self.aid, None, None, reply);
         Ok(Status(0x9000))

@@ -1,16 +1,13 @@
 use Rattle.std.proofs.Common.{◌≡◌, ℕ, inl, List, [], ◌∷◌, Option, None, Some, refl, ap, sym, subst, ◌∙◌, arith}
-use Rattle.std.specs.Prelude.{IfSome, IsSome}
+use Rattle.std.specs.Prelude.{IsSome}
 use Rattle.std.specs.Option.{option_map}
 use Rattle.card_core.proofs.Answered.{aids_on, aids_selected, entry_room, room_again, still_able}
-use Rattle.card_core.proofs.Cards.{in_order}
 use Rattle.card_core.proofs.EntryCards.{adding_keeps, aids_kept, entry_cards, receipts_kept}
 use Rattle.card_core.proofs.Installing.{made_named}
 use Rattle.card_core.proofs.FreePages.{files_free}
 use Rattle.card_core.proofs.Managing.{confirmed_managed, refused_as}
 use Rattle.card_core.proofs.SomeAdmitted.{domain_named, domain_there, of_card, some_acts, some_admitted, some_load}
-use Rattle.card_types.specs.First.{NoneFree}
 use Rattle.card_types.specs.Found.{aid_of}
-use Rattle.card_types.specs.InOrder.{IsInOrder}
 use Rattle.card_types.specs.Privileges.{delegated_management}
 use Rattle.card_types.specs.Registry as registry
 use Rattle.card_types.specs.RegistryChange.{IsEntryAdded}
@@ -24,25 +21,17 @@ use Rattle.policy_rules.proofs.InstallApplicationAsking.{install_judgeable}
 use Rattle.policy_rules.proofs.InstallApplicationLaws.{made_of_card}
 use Rattle.policy_rules.specs.InstallApplication.{managed_install}
 use Rattle.policy_rules.specs.Delegation.{Holds}
-use Rattle.policy_rules.specs.HoldersFound.{FindsConfirmer, MayReceipt}
-use Rattle.policy_rules.specs.Requests.{ActsIn, IsLoadNamed}
 use Rattle.registry.specs.Adding.{NoneHas}
 use Rattle.card_core.proofs.install_application.InstallRequestManagedRequest.manage.Goals as goal
 use Rattle.policy_rules.specs.ManagedForm.{command_form}
 
-pub judge_request-requires-clause-in_order : goal.judge_request-requires-clause-in_order
-judge_request-requires-clause-in_order g c = subst IsInOrder (sym c.tables.ensures.tables) (in_order c.args.records.now.tables c.requires.cards)
-
-pub judge_request-requires-clause-short : goal.judge_request-requires-clause-short
-judge_request-requires-clause-short g c = omega (arith, c.requires.formed.1.means.short, c.requires.formed.2)
+pub judge-requires-clause-short : goal.judge-requires-clause-short
+judge-requires-clause-short g c = omega (arith, c.requires.formed.1.means.short, c.requires.formed.2)
 
 pub returns-in_err-judged-clause-done : goal.returns-in_err-judged-clause-done
 returns-in_err-judged-clause-done g c page admitted acts says channels request holds =
-    let load = says.load in
-    let here = subst (λ (t : Tables). ActsIn page t c.args.domain admitted) (sym c.tables.ensures.tables) acts in
-    let named = subst (λ (t : Tables). IsLoadNamed t.entries.items c.args.live.now.load admitted.at.volatile.load) (sym c.tables.ensures.tables) load in
     refused_as (command_form managed_install) (λ holds found. inl found) admitted request.form refl page c.args.records.now.tables c.args.reply.now.items c.from_residual.result c.in_err-judged.field-0.0
-    c.from_residual.ensures.1 (c.in_err-judged.ensures.refused install_judgeable page admitted here named request.means) c.requires.empty
+    c.from_residual.ensures.1 (c.in_err-judged.ensures.refused install_judgeable page admitted acts says.load request.means) c.requires.empty
 
 file_there : (tables : Tables) (slot : ℕ) (aid : List ℕ) → aid_of tables (File slot) ≡ Some aid → IsSome (held tables.files.items slot)
 file_there tables slot aid is = by (held tables.files.items slot) is
@@ -60,15 +49,15 @@ pub place_entry-requires-clause-file : goal.place_entry-requires-clause-file
 place_entry-requires-clause-file g c =
     subst (λ (entry : Entry). IsSome (held c.args.records.now.tables.files.items entry.file)) (sym c.made.ensures)
     (file_there c.args.records.now.tables c.in_ok-judged.judged.found c.args.self.now.file
-    (subst (λ (t : Tables). aid_of t (File c.in_ok-judged.judged.found) ≡ Some c.args.self.now.file) c.tables.ensures.tables c.in_ok-judged.ensures.found.file))
+    c.in_ok-judged.ensures.found.file)
 
 pub place_entry-requires-clause-fresh : goal.place_entry-requires-clause-fresh
 place_entry-requires-clause-fresh g c =
     subst (λ (entry : Entry). NoneHas c.args.records.now.tables entry.aid) (sym c.made.ensures)
-    (subst (λ (t : Tables). NoneHas t c.args.self.now.aid) c.tables.ensures.tables c.in_ok-judged.ensures.found.free)
+    c.in_ok-judged.ensures.found.free
 
 pub place_entry-requires-clause-free : goal.place_entry-requires-clause-free
-place_entry-requires-clause-free g c = subst (λ (t : Tables). NoneFree t.entries.items → ⊥) c.tables.ensures.tables c.in_ok-judged.ensures.found.room
+place_entry-requires-clause-free g c = c.in_ok-judged.ensures.found.room
 
 pub place_entry-requires-clause-room : goal.place_entry-requires-clause-room
 place_entry-requires-clause-room g c = entry_room c.args.records.now.staged c.requires.clean
@@ -81,7 +70,7 @@ confirm-requires-clause-able g c =
     let before = c.args.records.now.tables in
     let after = c.place_entry.new.records.tables in
     still_able before after (adding_keeps before after c.place_entry.result c.made.result c.place_entry.ensures.slots) c.in_ok-judged.judged.receipter
-    (subst (λ (t : Tables). IfSome c.in_ok-judged.judged.receipter (MayReceipt t)) c.tables.ensures.tables c.in_ok-judged.ensures.able)
+    c.in_ok-judged.ensures.able
 
 pub confirm-requires-clause-cards : goal.confirm-requires-clause-cards
 confirm-requires-clause-cards g c =
@@ -89,20 +78,18 @@ confirm-requires-clause-cards g c =
     let after = c.place_entry.new.records.tables in
     let request = c.requires.formed.1 in
     let asked = request.means.asked in
-    let file = subst (λ (t : Tables). aid_of t (File c.in_ok-judged.judged.found) ≡ Some c.args.self.now.file) c.tables.ensures.tables c.in_ok-judged.ensures.found.file in
+    let file = c.in_ok-judged.ensures.found.file in
     entry_cards before after c.place_entry.result (Some c.made.result) c.place_entry.ensures.slots.set
     (aids_kept before after (adding_keeps before after c.place_entry.result c.made.result c.place_entry.ensures.slots)) (λ page said says well.
     (let some = some_admitted page before said says well c.args.domain c.requires.domain c.args.live.now.load c.requires.formed.0 in
     let acts = some_acts page before said says well c.args.domain c.requires.domain c.args.live.now.load c.requires.formed.0 in
-    let here = subst (λ (t : Tables). ActsIn page t c.args.domain some) (sym c.tables.ensures.tables) acts in
     let load = some_load page before said says well c.args.domain c.requires.domain c.args.live.now.load c.requires.formed.0 in
-    let named = subst (λ (t : Tables). IsLoadNamed t.entries.items c.args.live.now.load some.at.volatile.load) (sym c.tables.ensures.tables) load in
     let made = ap (entry_of before.entries.items before.files.items) c.made.ensures
     ∙ made_named page before c.args.domain some acts c.args.self.now request.means c.in_ok-judged.judged.found file in
     let added = c.place_entry.ensures.said page said says well in
     let joined = subst (λ (entry : registry.Entry). IsEntryAdded entry said added.0) made added.1 in
     let kept = made_of_card some asked request.means.asks (of_card page before said says well c.args.domain c.requires.domain)
-    (domain_named page before said says well c.args.domain c.requires.domain) (c.in_ok-judged.ensures.passed install_judgeable page some here named request.means) added.0 joined in
+    (domain_named page before said says well c.args.domain c.requires.domain) (c.in_ok-judged.ensures.passed install_judgeable page some acts load request.means) added.0 joined in
     (added.0, added.2, kept.well))) c.requires.cards
 
 pub returns-clause-selected : goal.returns-clause-selected
@@ -115,22 +102,19 @@ returns-clause-selected g c =
 
 pub returns-clause-done : goal.returns-clause-done
 returns-clause-done g c page admitted acts says channels request holds =
-    let load = says.load in
     let before = c.args.records.now.tables in
     let after = c.place_entry.new.records.tables in
     let said = admitted.at.registry in
     let asked = request.means.asked in
-    let here = subst (λ (t : Tables). ActsIn page t c.args.domain admitted) (sym c.tables.ensures.tables) acts in
-    let named = subst (λ (t : Tables). IsLoadNamed t.entries.items c.args.live.now.load admitted.at.volatile.load) (sym c.tables.ensures.tables) load in
-    let file = subst (λ (t : Tables). aid_of t (File c.in_ok-judged.judged.found) ≡ Some c.args.self.now.file) c.tables.ensures.tables c.in_ok-judged.ensures.found.file in
+    let file = c.in_ok-judged.ensures.found.file in
     let made = ap (entry_of before.entries.items before.files.items) c.made.ensures
     ∙ made_named page before c.args.domain admitted acts c.args.self.now request.means c.in_ok-judged.judged.found file in
     let added = c.place_entry.ensures.said page said acts.says acts.well in
     let joined = subst (λ (entry : registry.Entry). IsEntryAdded entry said added.0) made added.1 in
     let delegated = Holds admitted delegated_management in
-    let finds = subst (λ (t : Tables). FindsConfirmer delegated t admitted c.in_ok-judged.judged.receipter) c.tables.ensures.tables (c.in_ok-judged.ensures.receipter page admitted here refl) in
+    let finds = c.in_ok-judged.ensures.receipter page admitted acts refl in
     confirmed_managed managed_install (λ holds found. inl found) admitted request.form asked request.means.asks added.0 joined refl refl
-    (c.in_ok-judged.ensures.passed install_judgeable page admitted here named request.means) page before after c.confirm.new.records.tables c.args.domain c.requires.cards acts c.in_ok-judged.judged.receipter finds
+    (c.in_ok-judged.ensures.passed install_judgeable page admitted acts says.load request.means) page before after c.confirm.new.records.tables c.args.domain c.requires.cards acts c.in_ok-judged.judged.receipter finds
     (receipts_kept before after (adding_keeps before after c.place_entry.result c.made.result c.place_entry.ensures.slots) c.in_ok-judged.judged.receipter)
     added.2 _ (λ i. request.means.file i ∷ request.means.aid i ∷ []) c.confirm.new.reply.items c.confirm.ensures.answered (record { 0 = 0x9000 }) refl
 
