@@ -17,20 +17,27 @@ use Rattle.policy_rules.proofs.Selected.{selected_acts}
 use Rattle.policy_rules.proofs.SetChannel.{set_other, set_same}
 use Rattle.policy_rules.specs.GetStatus.{channel_at_place, with_place}
 use Rattle.policy_rules.specs.Volatile.{Channel, Volatile, channel_at, secure_channel_of}
-use Rattle.policy_rules.specs.Requests.{ActsIn}
+use Rattle.policy_rules.specs.Requests.{ActsIn, IsRequestOf}
 use Rattle.policy_rules.specs.declared.live.Live.{Live}
 use Rattle.policy_rules.specs.declared.live.TheConstants.{CHANNELS}
 use Rattle.policy_rules.specs.declared.rule.Rule.{Rule}
 use Rattle.card_core.specs.SecureChannels.{RepresentsChannels, RepresentsSecureChannel, held_on, without_offer_held}
-use Rattle.card_core.specs.Kept.{KeptRepresents, RepresentsSoundly}
+use Rattle.card_core.specs.Kept.{Kept, KeptRepresents, RepresentsSoundly}
 use Rattle.card_core.specs.Lists.{IsSameButPlace, Lists}
 use Rattle.card_core.specs.Manages.{KeepsSelected, Manages}
-use Rattle.card_core.specs.Offers.{AnswersAs, OffersAs, secure_channel_for}
-use Rattle.card_core.specs.Serves.{CarriesOutBut, live_refused}
+use Rattle.card_core.specs.Offers.{AnswersAs, HoldsFor, OffersAs, secure_channel_for}
+use Rattle.card_core.specs.Serves.{AsksForLoad, CarriesOn, CarriesOutBut, live_refused}
+use Rattle.card_core.specs.Loading.{RepresentsLoading}
+use Rattle.card_core.specs.Loads.{LoadsAs}
+use Rattle.load_session.specs.declared.session.LoadSession.{LoadSession}
+use Rattle.policy_rules.specs.declared.request.Request.{Request}
+use Rattle.std.specs.Prelude.{OnErr}
 use Rattle.card_core.specs.declared.channel_session.ChannelSession.{ChannelSession}
 use Rattle.card_core.specs.declared.channel_session.ChannelSession.TheVariants as held
 use Rattle.card_core.proofs.Carrying.{refusal_shows}
 use Rattle.card_core.proofs.ChannelChanges.{HasFour, held_same, says_kept, says_over, secure_channel_shows}
+use Rattle.card_core.proofs.LoadCarried.{IsLeft, loaded_on}
+use Rattle.card_core.proofs.LoadsKept.{loads_same, not_loading}
 
 -- a place in a listing changes nothing of what the channels hold
 still_held : (all : List ChannelSession) (volatile : Volatile) (number : ℕ) → length volatile.channels ≡ CHANNELS → number < CHANNELS → RepresentsChannels all volatile
@@ -193,3 +200,43 @@ module _ (page : ℕ → List ℕ) (tables : Tables) (live : Live) (all : List C
   pub managed_done : (tables' : Tables) (body : List ℕ) (result : Result Status Rule) → KeepsSelected live tables.entries.items tables'.entries.items → Manages admitted page tables tables' body result
       → CarriesOutBut page admitted (record { tables = tables'; live = live; held = all }) body result
   managed_done = managed_carried page tables live all admitted stands four low
+
+  -- what the commands of the secure channel, GET STATUS, INSTALL [for load] and LOAD do for this domain
+  module _ (place : ℕ) (other : ChannelSession) (is : place ≡ channel) (now : ChannelSession) where
+    pub answer_done : (result : Result Status Rule) → TakesCommand external_authenticate admitted.command
+        → (HoldsFor (slice_index_or all place other) admitted → AnswersAs admitted (slice_index_or all place other) now result)
+        → CarriesOutBut page admitted (record { tables = tables; live = live; held = slice_set all place now }) [] result
+    answer_done result takes answers =
+        let there = held_there place other is in
+        subst (λ (n : ℕ). CarriesOutBut page admitted (record { tables = tables; live = live; held = slice_set all n now }) [] result) (sym (is ∙ here))
+        (answer_carried page tables live all admitted stands four low slot now result takes opened (subst (λ (h : ChannelSession). AnswersAs admitted h now result) there
+        (answers (subst (λ (h : ChannelSession). RepresentsSecureChannel h (secure_channel_for admitted)) (sym there) (stands.shows.holds admitted.channel low)))))
+
+    pub offer_done : (tables' : Tables) (body : List ℕ) (result : Result Status Rule) → TakesCommand initialize_update admitted.command
+        → tables'.entries.items ≡ tables.entries.items → (ActsIn page tables slot admitted → OffersAs admitted page tables tables' (slice_index_or all place other) now body result)
+        → CarriesOutBut page admitted (record { tables = tables'; live = live; held = slice_set all place now }) body result
+    offer_done tables' body result takes entries offers =
+        subst (λ (n : ℕ). CarriesOutBut page admitted (record { tables = tables'; live = live; held = slice_set all n now }) body result) (sym (is ∙ here))
+        (offer_carried page tables live all admitted stands four low slot tables' now body result takes opened entries
+        (subst (λ (h : ChannelSession). OffersAs admitted page tables tables' h now body result) (held_there place other is) (offers acts_for)))
+
+  pub listing_done : (live' : Live) (body : List ℕ) (result : Result Status Rule) → (ActsIn page tables slot admitted → Lists admitted page tables live live' body result)
+      → CarriesOutBut page admitted (record { tables = tables; live = live'; held = all }) body result
+  listing_done live' body result lists = listing_carried page tables live all admitted stands four low live' body result (lists acts_for)
+
+  pub loading_done : (after : ℕ → List ℕ) (tables' : Tables) (live' : Live) (session session' : Option LoadSession) (body : List ℕ) (result : Result Status Rule)
+      → OnErr result (IsLeft page after tables tables' live live' session session') → RepresentsLoading page tables session admitted.at.volatile.load
+      → (ActsIn page tables slot admitted → LoadsAs admitted after tables' live' session' body result)
+      → CarriesOn after admitted (record { tables = tables'; live = live'; held = all }) session' body result
+  loading_done after tables' live' session session' body result left kept loads =
+      loaded_on page after tables tables' live live' all admitted stands four low session session' body result left kept (loads acts_for)
+
+-- a request that does not load has done so much, and leaves of the load session what is kept
+pub carries_other : (page : ℕ → List ℕ) (admitted : Admitted) (card : Kept) (loading : Option LoadSession) (body : List ℕ) (result : Result Status Rule) (request other : Request)
+    → request ≡ other → (AsksForLoad other → ⊥) → IsRequestOf request admitted.command → RepresentsLoading page card.tables loading admitted.at.volatile.load
+    → (IsRequestOf other admitted.command → CarriesOutBut page admitted card body result) → CarriesOn page admitted card loading body result
+carries_other page admitted card loading body result request other is unloading asks kept does = record {
+  done = does (subst (λ (r : Request). IsRequestOf r admitted.command) is asks);
+  loads = loads_same page card.tables loading admitted result
+      (not_loading request (subst (λ (r : Request). AsksForLoad r → ⊥) (sym is) unloading) admitted.command asks) kept;
+}

@@ -70,48 +70,24 @@ pub fn perform<F: Flash>(
     ensures room { length reply.new.items ≤ DATA_LIMIT }
 {
     let channel = received.channel;
+    let domain = received.selected;
     let at = usize::from(channel);
     match request {
-        Request::Select { prefix } => {
-            select(
-                records.tables(),
-                live,
-                &mut held[at],
-                channel,
-                prefix,
-                reply,
-            )
+        Request::Select { prefix: aid } => {
+            select(records.tables(), live, &mut held[at], channel, aid, reply)
         }
         Request::MoreChannel => open_channel(live, reply),
         Request::LessChannel { number } => close_channel(live, held, *number),
-        Request::Get { tag } => get_data(
-            records.tables(),
-            live,
-            channel,
-            received.selected,
-            *tag,
-            reply,
-        ),
-        Request::Initialize { version, challenge } => initialize_update(
-            records,
-            &mut held[at],
-            received.selected,
-            *version,
-            challenge,
-            reply,
-        ),
+        Request::Get { tag } => get_data(records.tables(), live, channel, domain, *tag, reply),
+        Request::Initialize { version, challenge } => {
+            initialize_update(records, &mut held[at], domain, *version, challenge, reply)
+        }
         Request::Authenticate { level, proof } => {
             external_authenticate(&mut held[at], *level, proof)
         }
-        Request::List(request) => get_status(
-            records.tables(),
-            live,
-            place,
-            channel,
-            received.selected,
-            request,
-            reply,
-        ),
+        Request::List(list) => {
+            get_status(records.tables(), live, place, channel, domain, list, reply)
+        }
         Request::PutKey {
             replaced,
             version,
@@ -147,23 +123,9 @@ pub fn perform<F: Flash>(
             manage(records, live, held, received, &status, reply)
         }
         Request::EntryStatus(request) => manage(records, live, held, received, request, reply),
-        Request::InstallLoad(request) => begin_load(
-            records.tables(),
-            live,
-            loading,
-            channel,
-            received.selected,
-            request,
-            reply,
-        ),
-        Request::Load(request) => load(
-            records,
-            live,
-            loading,
-            channel,
-            received.selected,
-            request,
-            reply,
-        ),
+        Request::InstallLoad(new) => {
+            begin_load(records.tables(), live, loading, channel, domain, new, reply)
+        }
+        Request::Load(block) => load(records, live, loading, channel, domain, block, reply),
     }
 }

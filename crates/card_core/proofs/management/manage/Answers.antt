@@ -6,7 +6,7 @@ use Rattle.std.specs.Prelude.{Contains, ◌==◌}
 use Rattle.policy_rules.specs.Classes.{changing}
 use Rattle.policy_rules.specs.declared.live.TheConstants.{CHANNELS}
 use Rattle.policy_rules.specs.Requests.{form_in}
-use Rattle.card_core.proofs.Acting.{acts_for, held_there, low, managed_carried}
+use Rattle.card_core.proofs.Acting.{acts_for, held_there, low, managed_done}
 use Rattle.card_core.proofs.LoadsKept.{kept_loading, loads_same, not_loading}
 use Rattle.card_core.proofs.Passed.{read_at}
 use Rattle.card_core.specs.Offers.{secure_channel_for}
@@ -46,7 +46,7 @@ returns-clause-done g c = λ place loading page judged whole shown asked.
     let managed = c.manage.ensures.done page judged acts stands.shows.says stands.sound.fits.channels asked.asks
     (subst (λ (h : ChannelSession). RepresentsSecureChannel h (secure_channel_for judged)) (sym here) (stands.shows.holds judged.channel low)) in
     record {
-      done = managed_carried page tables live all judged stands (record { held = four; channels = stands.sound.fits.channels }) low
+      done = managed_done page tables live all judged stands four c.args.received.now.channel slot c.requires.channel asked.on c.requires.selected
           after c.manage.new.reply.items c.manage.result c.manage.ensures.selected managed;
       loads = loads_same page after loading judged c.manage.result
           (not_loading (g.M.ManagedRequest.request c.args.request.now) c.requires.other judged.command asked.asks)

@@ -1,26 +1,17 @@
-use Rattle.std.proofs.Common.{rules, ◌≡◌, arith, Option, ℕ, ◌<◌, List, None, Some, refl, sym, ap, subst, ◌∙◌}
-use Rattle.std.specs.Prelude.{Contains, slice_index_or}
-use Rattle.std.proofs.lemmas.List.{get_or_default}
+use Rattle.std.proofs.Common.{◌≡◌, arith, Option, ℕ, ◌<◌, List, refl, sym, ap, subst}
+use Rattle.std.specs.Prelude.{Contains, slice_set}
 use Rattle.card_types.specs.InOrder.{IsInOrder}
 use Rattle.policy_rules.specs.Classes.{changing}
-use Rattle.policy_rules.specs.Requests.{ActsIn, IsRequestOf, IsWellFormed, RepresentsState, form_in}
-use Rattle.card_types.specs.declared.tables.Tables.{Tables}
-use Rattle.card_core.specs.Lists.{Lists}
+use Rattle.policy_rules.specs.Requests.{IsRequestOf, IsWellFormed, form_in}
 use Rattle.policy_rules.specs.declared.live.TheConstants.{CHANNELS}
 use Rattle.policy_rules.specs.declared.request.Request.{Request}
-use Rattle.card_core.proofs.Acting.{acts_for, answer_carried, listing_carried, low, offer_carried}
+use Rattle.card_core.proofs.Acting.{answer_done, carries_other, listing_done, loading_done, offer_done}
 use Rattle.card_core.proofs.Cards.{in_order}
-use Rattle.card_core.proofs.ChannelChanges.{HasFour}
 use Rattle.card_core.proofs.Passed.{read_at}
-use Rattle.card_core.specs.SecureChannels.{RepresentsSecureChannel}
 use Rattle.card_core.specs.Kept.{kept_of}
-use Rattle.card_core.specs.Serves.{AsksForLoad}
-use Rattle.card_core.specs.Offers.{AnswersAs, OffersAs, secure_channel_for}
-use Rattle.card_core.specs.declared.channel_session.ChannelSession.{ChannelSession}
-use Rattle.card_core.specs.declared.channel_session.ChannelSession.TheVariants as held
 use Rattle.card_core.proofs.FreePages.{files_free}
-use Rattle.card_core.proofs.LoadCarried.{begin_left, load_left, loaded_on}
-use Rattle.card_core.proofs.LoadsKept.{loads_same, not_loading, over_loading}
+use Rattle.card_core.proofs.LoadCarried.{begin_left, load_left}
+use Rattle.card_core.proofs.LoadsKept.{over_loading}
 use Rattle.card_types.specs.Represents.{domain_aid}
 use Rattle.card_types.specs.declared.tables.Entry.{Entry}
 use Rattle.load_session.specs.Loaded.{loaded}
@@ -39,93 +30,64 @@ external_authenticate-requires-clause-formed g c = subst IsWellFormed c.in-Authe
 -- SELECT
 pub returns-in-Select-clause-done : goal.returns-in-Select-clause-done
 returns-in-Select-clause-done g c = rw c.requires.unwritten (λ page judged whole shown asked.
-    let stands = shown.on in
-    record {
-      done = rw c.from-at.ensures ((rw c.tables.ensures.tables at c.select.ensures.done) page c.args.held.now judged stands c.told-held asked.on
-          (sym (read_at c.args.held.now c.from-at.result c.args.received.now.channel c.index-held-at.result c.told-held c.requires.channel c.from-at.ensures))
-          (subst (λ (r : Request). IsRequestOf r judged.command) c.in-Select.is asked.asks));
-      loads = loads_same page c.args.records.now.tables c.args.loading.now.session judged c.select.result (not_loading c.args.request.now (subst (λ (r : Request). AsksForLoad r → ⊥) (sym c.in-Select.is) (λ no. no)) judged.command asked.asks) shown.loading;
-    })
+    let all = c.args.held.now in
+    carries_other page judged (kept_of c.args.records.now.tables c.select.new.live (slice_set all c.from-at.result c.select.new.held)) c.args.loading.now.session c.select.new.reply.items c.select.result
+    c.args.request.now _ c.in-Select.is (λ no. no) asked.asks shown.loading
+    (λ is. rw c.from-at.ensures ((rw c.tables.ensures.tables at c.select.ensures.done) page all judged shown.on c.told-held asked.on
+    (sym (read_at all c.from-at.result c.args.received.now.channel c.index-held-at.result c.told-held c.requires.channel c.from-at.ensures)) is)))
 
 -- MANAGE CHANNEL
 pub returns-in-MoreChannel-clause-done : goal.returns-in-MoreChannel-clause-done
 returns-in-MoreChannel-clause-done g c = rw c.requires.unwritten (λ page judged whole shown asked.
-    let stands = shown.on in
-    record {
-      done = c.open_channel.ensures.done c.args.records.now.tables (in_order c.args.records.now.tables c.requires.cards).layout page c.args.held.now judged stands c.told-held
-          (subst (λ (n : ℕ). n < CHANNELS) asked.on c.requires.channel)
-          (subst (λ (r : Request). IsRequestOf r judged.command) c.in-MoreChannel.is asked.asks);
-      loads = loads_same page c.args.records.now.tables c.args.loading.now.session judged c.open_channel.result (not_loading c.args.request.now (subst (λ (r : Request). AsksForLoad r → ⊥) (sym c.in-MoreChannel.is) (λ no. no)) judged.command asked.asks) shown.loading;
-    })
+    let tables = c.args.records.now.tables in
+    let all = c.args.held.now in
+    carries_other page judged (kept_of tables c.open_channel.new.live all) c.args.loading.now.session c.open_channel.new.reply.items c.open_channel.result
+    c.args.request.now _ c.in-MoreChannel.is (λ no. no) asked.asks shown.loading
+    (c.open_channel.ensures.done tables (in_order tables c.requires.cards).layout page all judged shown.on c.told-held (subst (λ (n : ℕ). n < CHANNELS) asked.on c.requires.channel)))
 
 pub returns-in-LessChannel-clause-done : goal.returns-in-LessChannel-clause-done
 returns-in-LessChannel-clause-done g c = rw c.requires.unwritten (λ page judged whole shown asked.
-    let stands = shown.on in
-    record {
-      done = search rules;
-      loads = loads_same page c.args.records.now.tables c.args.loading.now.session judged c.close_channel.result (not_loading c.args.request.now (subst (λ (r : Request). AsksForLoad r → ⊥) (sym c.in-LessChannel.is) (λ no. no)) judged.command asked.asks) shown.loading;
-    })
+    let tables = c.args.records.now.tables in
+    carries_other page judged (kept_of tables c.close_channel.new.live c.close_channel.new.held) c.args.loading.now.session c.args.reply.now.items c.close_channel.result
+    c.args.request.now _ c.in-LessChannel.is (λ no. no) asked.asks shown.loading (λ is. rw c.requires.empty (c.close_channel.ensures.done page tables judged shown.on is)))
 
 -- GET DATA
 pub returns-in-Get-clause-done : goal.returns-in-Get-clause-done
 returns-in-Get-clause-done g c = rw c.requires.unwritten (λ page judged whole shown asked.
-    let stands = shown.on in
-    record {
-      done = search rules;
-      loads = loads_same page c.args.records.now.tables c.args.loading.now.session judged c.get_data.result (not_loading c.args.request.now (subst (λ (r : Request). AsksForLoad r → ⊥) (sym c.in-Get.is) (λ no. no)) judged.command asked.asks) shown.loading;
-    })
+    let all = c.args.held.now in
+    carries_other page judged (kept_of c.args.records.now.tables c.args.live.now all) c.args.loading.now.session c.get_data.new.reply.items c.get_data.result
+    c.args.request.now _ c.in-Get.is (λ no. no) asked.asks shown.loading
+    ((rw c.tables-in-Get.ensures.tables at c.get_data.ensures.done) page all judged shown.on c.told-held asked.on))
 
 -- INITIALIZE UPDATE
 pub returns-in-Initialize-clause-done : goal.returns-in-Initialize-clause-done
 returns-in-Initialize-clause-done g c = rw c.requires.unwritten (λ page judged whole shown asked.
-    let stands = shown.on in
-    let at = asked.on in
-    let low : judged.channel < CHANNELS = subst (λ (n : ℕ). n < CHANNELS) at c.requires.channel in
-    let four : HasFour (record { tables = c.args.records.now.tables; live = c.args.live.now; held = c.args.held.now }) judged.at =
-    record { held = c.told-held; channels = stands.sound.fits.channels } in
-    let opened : slice_index_or c.args.live.now.selected judged.channel None ≡ Some c.args.received.now.selected =
-    subst (λ (n : ℕ). slice_index_or c.args.live.now.selected n None ≡ Some c.args.received.now.selected) at c.requires.selected in
-    let acts = acts_for page c.args.records.now.tables c.args.live.now c.args.held.now judged stands c.told-held c.args.received.now.channel c.args.received.now.selected
-    c.requires.channel at c.requires.selected in
-    let is = subst (λ (r : Request). IsRequestOf r judged.command) c.in-Initialize.is asked.asks in
-    let here : slice_index_or c.args.held.now c.from-at.result c.index-held-at-in-Initialize.result ≡ slice_index_or c.args.held.now judged.channel held.Nothing =
-    ap (λ (n : ℕ). slice_index_or c.args.held.now n c.index-held-at-in-Initialize.result) (c.from-at.ensures ∙ at)
-    ∙ get_or_default c.args.held.now judged.channel c.index-held-at-in-Initialize.result held.Nothing (subst (λ (n : ℕ). judged.channel < n) (sym c.told-held) low) in
-    let offers = c.initialize_update.ensures.done page judged acts is in
-    record {
-      done = rw (c.from-at.ensures ∙ at) (offer_carried page c.args.records.now.tables c.args.live.now c.args.held.now judged stands four low c.args.received.now.selected
-          c.initialize_update.new.records.tables c.initialize_update.new.held c.initialize_update.new.reply.items c.initialize_update.result
-          is.form opened c.initialize_update.ensures.entries
-          (subst (λ (h : ChannelSession). OffersAs judged page c.args.records.now.tables c.initialize_update.new.records.tables h c.initialize_update.new.held c.initialize_update.new.reply.items c.initialize_update.result) here offers));
-      loads = loads_same page c.initialize_update.new.records.tables c.args.loading.now.session judged c.initialize_update.result
-          (not_loading c.args.request.now (subst (λ (r : Request). AsksForLoad r → ⊥) (sym c.in-Initialize.is) (λ no. no)) judged.command asked.asks)
-          (over_loading page c.args.records.now.tables c.initialize_update.new.records.tables c.args.loading.now.session judged.at.volatile.load
-          (files_free c.args.records.now.tables c.initialize_update.new.records.tables c.initialize_update.ensures.files)
-          (λ kept there. ap (λ (es : List (Option Entry)). domain_aid es (load_slot kept)) c.initialize_update.ensures.entries) shown.loading);
-    })
+    let tables = c.args.records.now.tables in
+    let after = c.initialize_update.new.records.tables in
+    let live = c.args.live.now in
+    let all = c.args.held.now in
+    let now = c.initialize_update.new.held in
+    let body = c.initialize_update.new.reply.items in
+    let loading = c.args.loading.now.session in
+    carries_other page judged (kept_of after live (slice_set all c.from-at.result now)) loading body c.initialize_update.result
+    c.args.request.now _ c.in-Initialize.is (λ no. no) asked.asks
+    (over_loading page tables after loading judged.at.volatile.load (files_free tables after c.initialize_update.ensures.files)
+    (λ kept there. ap (λ (es : List (Option Entry)). domain_aid es (load_slot kept)) c.initialize_update.ensures.entries) shown.loading)
+    (λ is. offer_done page tables live all judged shown.on c.told-held c.args.received.now.channel c.args.received.now.selected c.requires.channel asked.on c.requires.selected
+    c.from-at.result c.index-held-at-in-Initialize.result c.from-at.ensures now after body c.initialize_update.result is.form c.initialize_update.ensures.entries
+    (λ acts. c.initialize_update.ensures.done page judged acts is)))
 
 -- EXTERNAL AUTHENTICATE
 pub returns-in-Authenticate-clause-done : goal.returns-in-Authenticate-clause-done
 returns-in-Authenticate-clause-done g c = rw c.requires.unwritten (λ page judged whole shown asked.
-    let stands = shown.on in
-    let at = asked.on in
-    let low : judged.channel < CHANNELS = subst (λ (n : ℕ). n < CHANNELS) at c.requires.channel in
-    let four : HasFour (record { tables = c.args.records.now.tables; live = c.args.live.now; held = c.args.held.now }) judged.at =
-    record { held = c.told-held; channels = stands.sound.fits.channels } in
-    let opened : slice_index_or c.args.live.now.selected judged.channel None ≡ Some c.args.received.now.selected =
-    subst (λ (n : ℕ). slice_index_or c.args.live.now.selected n None ≡ Some c.args.received.now.selected) at c.requires.selected in
-    let is = subst (λ (r : Request). IsRequestOf r judged.command) c.in-Authenticate.is asked.asks in
-    let here : slice_index_or c.args.held.now c.from-at.result c.index-held-at-in-Authenticate.result ≡ slice_index_or c.args.held.now judged.channel held.Nothing =
-    ap (λ (n : ℕ). slice_index_or c.args.held.now n c.index-held-at-in-Authenticate.result) (c.from-at.ensures ∙ at)
-    ∙ get_or_default c.args.held.now judged.channel c.index-held-at-in-Authenticate.result held.Nothing (subst (λ (n : ℕ). judged.channel < n) (sym c.told-held) low) in
-    let answers = c.external_authenticate.ensures judged is
-    (subst (λ (h : ChannelSession). RepresentsSecureChannel h (secure_channel_for judged)) (sym here) (stands.shows.holds judged.channel low)) in
-    record {
-      done = rw (c.from-at.ensures ∙ at, c.requires.empty) (answer_carried page c.args.records.now.tables c.args.live.now c.args.held.now judged stands four low c.args.received.now.selected
-          c.external_authenticate.new.held c.external_authenticate.result is.form opened
-          (subst (λ (h : ChannelSession). AnswersAs judged h c.external_authenticate.new.held c.external_authenticate.result) here answers));
-      loads = loads_same page c.args.records.now.tables c.args.loading.now.session judged c.external_authenticate.result (not_loading c.args.request.now (subst (λ (r : Request). AsksForLoad r → ⊥) (sym c.in-Authenticate.is) (λ no. no)) judged.command asked.asks) shown.loading;
-    })
+    let tables = c.args.records.now.tables in
+    let live = c.args.live.now in
+    let all = c.args.held.now in
+    let now = c.external_authenticate.new.held in
+    carries_other page judged (kept_of tables live (slice_set all c.from-at.result now)) c.args.loading.now.session c.args.reply.now.items c.external_authenticate.result
+    c.args.request.now _ c.in-Authenticate.is (λ no. no) asked.asks shown.loading
+    (λ is. rw c.requires.empty (answer_done page tables live all judged shown.on c.told-held c.args.received.now.channel c.args.received.now.selected c.requires.channel asked.on c.requires.selected
+    c.from-at.result c.index-held-at-in-Authenticate.result c.from-at.ensures now c.external_authenticate.result is.form (c.external_authenticate.ensures judged is))))
 
 -- GET STATUS
 pub get_status-requires-clause-in_order : goal.get_status-requires-clause-in_order
@@ -136,25 +98,18 @@ get_status-requires-clause-formed g c = subst IsWellFormed c.in-List.is c.requir
 
 pub returns-in-List-clause-done : goal.returns-in-List-clause-done
 returns-in-List-clause-done g c = rw c.requires.unwritten (λ page judged whole shown asked.
-    let stands = shown.on in
     let tables = c.args.records.now.tables in
     let live = c.args.live.now in
     let all = c.args.held.now in
-    let slot = c.args.received.now.selected in
-    let low = low page tables live all judged stands c.told-held c.args.received.now.channel slot c.requires.channel asked.on c.requires.selected in
-    let acts = acts_for page tables live all judged stands c.told-held c.args.received.now.channel slot c.requires.channel asked.on c.requires.selected in
-    let here = subst (λ (t : Tables). ActsIn page t slot judged) (sym c.tables-in-List.ensures.tables) acts in
-    let says = subst (λ (t : Tables). RepresentsState page t live judged.at) (sym c.tables-in-List.ensures.tables) stands.shows.says in
-    let lists = c.get_status.ensures.done page judged here says (record {
+    let body = c.get_status.new.reply.items in
+    carries_other page judged (kept_of tables c.get_status.new.live all) c.args.loading.now.session body c.get_status.result
+    c.args.request.now _ c.in-List.is (λ no. no) asked.asks shown.loading
+    (λ is. listing_done page tables live all judged shown.on c.told-held c.args.received.now.channel c.args.received.now.selected c.requires.channel asked.on c.requires.selected
+    c.get_status.new.live body c.get_status.result (λ acts. (rw c.tables-in-List.ensures.tables at c.get_status.ensures.done) page judged acts shown.on.shows.says (record {
       on = asked.on;
-      asks = subst (λ (r : Request). IsRequestOf r judged.command) c.in-List.is asked.asks;
+      asks = is;
       goes_on = λ lists. asked.goes_on (ap (λ (r : Request). (form_in r).instruction) c.in-List.is);
-    }) in
-    record {
-      done = listing_carried page tables live all judged stands (record { held = c.told-held; channels = stands.sound.fits.channels }) low c.get_status.new.live c.get_status.new.reply.items c.get_status.result
-          (subst (λ (t : Tables). Lists judged page t live c.get_status.new.live c.get_status.new.reply.items c.get_status.result) c.tables-in-List.ensures.tables lists);
-      loads = loads_same page c.args.records.now.tables c.args.loading.now.session judged c.get_status.result (not_loading c.args.request.now (subst (λ (r : Request). AsksForLoad r → ⊥) (sym c.in-List.is) (λ no. no)) judged.command asked.asks) shown.loading;
-    })
+    }))))
 
 -- card content management
 changes_as : (request other : Request) → request ≡ other → Contains changing (form_in other).instruction → Contains changing (form_in request).instruction
@@ -223,19 +178,15 @@ begin_load-requires-clause-formed g c = subst IsWellFormed c.in-InstallLoad.is c
 
 pub returns-in-InstallLoad-clause-done : goal.returns-in-InstallLoad-clause-done
 returns-in-InstallLoad-clause-done g c = λ page judged whole shown asked.
-    let stands = shown.on in
     let tables = c.args.records.now.tables in
     let live = c.args.live.now in
-    let all = c.args.held.now in
-    let slot = c.args.received.now.selected in
-    let four : HasFour (kept_of tables live all) judged.at = record { held = c.told-held; channels = stands.sound.fits.channels } in
-    let low = low page tables live all judged stands c.told-held c.args.received.now.channel slot c.requires.channel asked.on c.requires.selected in
-    let acts = acts_for page tables live all judged stands c.told-held c.args.received.now.channel slot c.requires.channel asked.on c.requires.selected in
-    let asks = subst (λ (r : Request). IsRequestOf r judged.command) c.in-InstallLoad.is asked.asks in
-    let loads = (rw c.tables-in-InstallLoad.ensures.tables at c.begin_load.ensures.done) page judged acts stands.shows.says stands.sound.fits.channels asked.on asks in
-    let left = begin_left page tables live c.begin_load.new.live c.args.loading.now c.begin_load.new.loading c.begin_load.result c.begin_load.ensures.refused in
-    rw (c.begin_load.ensures.writes, c.requires.unwritten) (loaded_on page page tables tables live c.begin_load.new.live all judged stands four low
-    c.args.loading.now.session c.begin_load.new.loading.session c.begin_load.new.reply.items c.begin_load.result left shown.loading loads)
+    let begin = c.begin_load in
+    rw (begin.ensures.writes, c.requires.unwritten)
+    (loading_done page tables live c.args.held.now judged shown.on c.told-held c.args.received.now.channel c.args.received.now.selected c.requires.channel asked.on c.requires.selected
+    page tables begin.new.live c.args.loading.now.session begin.new.loading.session begin.new.reply.items begin.result
+    (begin_left page tables live begin.new.live c.args.loading.now begin.new.loading begin.result begin.ensures.refused) shown.loading
+    (λ acts. (rw c.tables-in-InstallLoad.ensures.tables at begin.ensures.done) page judged acts shown.on.shows.says shown.on.sound.fits.channels asked.on
+    (subst (λ (r : Request). IsRequestOf r judged.command) c.in-InstallLoad.is asked.asks)))
 
 -- LOAD
 pub load-requires-clause-formed : goal.load-requires-clause-formed
@@ -248,19 +199,13 @@ load-requires-clause-holds g c =
 
 pub returns-in-Load-clause-done : goal.returns-in-Load-clause-done
 returns-in-Load-clause-done g c = λ page judged whole shown asked.
-    let stands = shown.on in
-    let tables = c.args.records.now.tables in
     let live = c.args.live.now in
-    let all = c.args.held.now in
-    let slot = c.args.received.now.selected in
-    let four : HasFour (kept_of tables live all) judged.at = record { held = c.told-held; channels = stands.sound.fits.channels } in
-    let low = low page tables live all judged stands c.told-held c.args.received.now.channel slot c.requires.channel asked.on c.requires.selected in
-    let acts = acts_for page tables live all judged stands c.told-held c.args.received.now.channel slot c.requires.channel asked.on c.requires.selected in
-    let asks = subst (λ (r : Request). IsRequestOf r judged.command) c.in-Load.is asked.asks in
-    let loads = c.load.ensures.done page judged acts stands.shows.says stands.sound.fits.channels whole stands.sound shown.loading asked.on asks in
-    let left = load_left page c.args.records.now c.load.new.records live c.load.new.live c.args.loading.now c.load.new.loading c.load.result c.requires.unwritten c.load.ensures.refused in
-    loaded_on page (loaded page c.load.new.loading.writes.items) tables c.load.new.records.tables live c.load.new.live all judged stands four low
-    c.args.loading.now.session c.load.new.loading.session c.load.new.reply.items c.load.result left shown.loading loads
+    let load = c.load in
+    loading_done page c.args.records.now.tables live c.args.held.now judged shown.on c.told-held c.args.received.now.channel c.args.received.now.selected c.requires.channel asked.on c.requires.selected
+    (loaded page load.new.loading.writes.items) load.new.records.tables load.new.live c.args.loading.now.session load.new.loading.session load.new.reply.items load.result
+    (load_left page c.args.records.now load.new.records live load.new.live c.args.loading.now load.new.loading load.result c.requires.unwritten load.ensures.refused) shown.loading
+    (λ acts. load.ensures.done page judged acts shown.on.shows.says shown.on.sound.fits.channels whole shown.on.sound shown.loading asked.on
+    (subst (λ (r : Request). IsRequestOf r judged.command) c.in-Load.is asked.asks))
 
 pub returns-in-Load-clause-idle : goal.returns-in-Load-clause-idle
 returns-in-Load-clause-idle g c = λ other unmanaged. absurd (unmanaged (changes_as c.args.request.now _ c.in-Load.is (4, omega arith, refl)))
