@@ -5,6 +5,7 @@ pub mod CardLifeSet
 pub mod Cards
 pub mod Carrying
 pub mod ChannelChanges
+pub mod Coming
 pub mod Confirming
 pub mod CounterRaised
 pub mod DeleteKeyDone

@@ -55,16 +55,6 @@ pub written_at : (all : List ChannelSession) (place number : ℕ) (now other : C
     → slice_index_or (slice_set all place now) place other ≡ now
 written_at all place number now other four low is = get_or-set_same all place now other (subst (λ (n : ℕ). n < length all) (sym is) (within all number four low))
 
--- a session that opened a command is held still where the command keeps what the channels hold
-pub opened_kept : (all after : List ChannelSession) (place number : ℕ) (checked opened other : ChannelSession) → length all ≡ CHANNELS → number < CHANNELS → place ≡ number → IsInSession opened
-    → (IsInSession (slice_index_or (slice_set (slice_set all place checked) place opened) number held.Nothing) → after ≡ slice_set (slice_set all place checked) place opened)
-    → slice_index_or after place other ≡ opened
-opened_kept all after place number checked opened other four low is secured keeps =
-    let old = slice_set all place checked in
-    let still = length-set all place checked ∙ four in
-    let there = subst (λ (n : ℕ). slice_index_or (slice_set old n opened) number held.Nothing ≡ opened) (sym is) (written_at old number number opened held.Nothing still low refl) in
-    ap (λ (l : List ChannelSession). slice_index_or l place other) (keeps (subst IsInSession (sym there) secured)) ∙ written_at old place number opened other still low is
-
 session_stays : (now : ChannelSession) → IsInSession now → without_offer_held now ≡ now
 session_stays held.Nothing secured = absurd secured
 session_stays (held.Offered offer) secured = absurd secured
@@ -76,14 +66,6 @@ pub session_kept : (all : List ChannelSession) (place number : ℕ) (now other :
 session_kept all place number now other four low is dropped secured =
     let here = dropped ∙ ap without_offer_held (read_at all place number other four low is) ∙ session_stays (slice_index_or all number held.Nothing) secured in
     ap (slice_set all place) here ∙ ap (λ (n : ℕ). slice_set all n (slice_index_or all number held.Nothing)) is ∙ set-get_or all number held.Nothing
-
--- the place is the channel's number
-pub placed : (page : ℕ → List ℕ) (tables : Tables) (live : Live) (all : List ChannelSession) (state : State) (place number : ℕ) (passed other now : ChannelSession) → place ≡ number → passed ≡ other
-    → RepresentsSoundly page (record { tables = tables; live = live; held = slice_set (slice_set all number other) number now }) state
-    → RepresentsSoundly page (record { tables = tables; live = live; held = slice_set (slice_set all place passed) place now }) state
-placed page tables live all state place number passed other now is same stands =
-    subst (λ (n : ℕ). RepresentsSoundly page (record { tables = tables; live = live; held = slice_set (slice_set all n passed) n now }) state) (sym is)
-    (subst (λ (h : ChannelSession). RepresentsSoundly page (record { tables = tables; live = live; held = slice_set (slice_set all number h) number now }) state) (sym same) stands)
 
 pub protects_so : (command : Apdu) (class : Class) (answer test : Bool) → class_of command.class ≡ Some class → answer ≡ protects (Some class) command.ins
     → answer ≡ test → is_protected command ≡ test
@@ -105,18 +87,6 @@ module _ (all : List ChannelSession) (held_four : length all ≡ CHANNELS) (comm
   -- what the command's channel holds after the check of the class
   abbrev pub passed_held : ChannelSession
   passed_held = held_passed (command.ins == EXTERNAL_AUTHENTICATE) (slice_index_or all (channel_of command.class) held.Nothing)
-
-  pub passed_as : (place : ℕ) (other now : ChannelSession) → place ≡ channel_of command.class
-      → now ≡ held_passed (command.ins == EXTERNAL_AUTHENTICATE) (slice_index_or all place other) → now ≡ passed_held
-  passed_as place other now is passed =
-      passed ∙ ap (held_passed (command.ins == EXTERNAL_AUTHENTICATE)) (read_at all place (channel_of command.class) other held_four (channel_is_low command.class) is)
-
-  pub passed_there : (place : ℕ) (now other : ChannelSession) → place ≡ channel_of command.class → now ≡ passed_held
-      → slice_index_or (slice_set all place now) place other ≡ slice_index_or (slice_set all (channel_of command.class) passed_held) (channel_of command.class) held.Nothing
-  passed_there place now other is passed =
-      written_at all place (channel_of command.class) now other held_four (channel_is_low command.class) is
-      ∙ passed
-      ∙ sym (written_at all (channel_of command.class) (channel_of command.class) passed_held held.Nothing held_four (channel_is_low command.class) refl)
 
 module _ (page : ℕ → List ℕ) (tables : Tables) (live : Live) (all : List ChannelSession) (state : State) (stands : RepresentsSoundly page (record { tables = tables; live = live; held = all }) state)
     (held_four : length all ≡ CHANNELS) (command : Apdu) where
@@ -148,9 +118,6 @@ module _ (page : ℕ → List ℕ) (tables : Tables) (live : Live) (all : List C
     held = length-set all number (passed_held all held_four command) ∙ held_four;
     channels = (class_fits state.registry state.volatile command stands.sound.fits).channels;
   }
-
-  pub length_passed : length all_passed ≡ CHANNELS
-  length_passed = four_passed.held
 
   sound_at : (session : Option Session) (plain : List ℕ) → IsTaken state command session plain → IsSound (admitted_as state command session plain).at
   sound_at session plain taken = record {

@@ -14,6 +14,7 @@ pub mod Loads
 pub mod Manages
 pub mod ObjectsPut
 pub mod Offers
+pub mod Passes
 pub mod PowerOn
 pub mod SecureChannels
 pub mod Secured

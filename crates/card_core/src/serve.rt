@@ -1,6 +1,6 @@
 //! What is done with a command (GlobalPlatform Card Specification 2.3.1, chapter 11).
 
-ghost use Rattle.std.specs.Prelude.{◌≡◌, ◌≢◌, ◌⊎◌, ◌<◌, ◌≤◌, ◌++◌, ◌==◌, ℕ, List, [], length, false, true, None, Some, IsSome, Contains, OnOk, OnErr, IfErr, option_copied, slice_index_or};
+ghost use Rattle.std.specs.Prelude.{◌≡◌, ◌≢◌, ◌⊎◌, ◌<◌, ◌≤◌, ◌++◌, ◌==◌, ℕ, List, [], length, false, true, None, Some, Option, IsSome, Contains, OnOk, OnErr, IfOk, IfErr, IfSome, option_copied, slice_index_or, slice_set};
 ghost use Rattle.apdu_core.specs.Apdu.{apdu_of};
 ghost use Rattle.apdu_core.specs.Reply.{status_bytes};
 ghost use Rattle.card_check.specs.IsCard.{HasPages};
@@ -9,11 +9,13 @@ ghost use Rattle.card_core.specs.Domains.{is_domain_in};
 ghost use Rattle.card_core.specs.Kept.{AreCards, kept_of};
 ghost use Rattle.card_core.specs.Loading.{AreFree, RepresentsAll, RepresentsSome};
 ghost use Rattle.card_core.specs.SecureChannels.{RepresentsSecureChannel, IsInSession, held_on, held_passed, without_offer_held};
+ghost use Rattle.card_core.specs.Passes.{Bars, ForCome, IsOpenedIn, Passes, plain_of};
 ghost use Rattle.card_core.specs.Serves.{CarriesOutLoading, ForPassed, IsPassedOver, IsTerminatedFor, ServesLoading, live_passed, live_refused, rule_of, status_word};
-ghost use Rattle.policy_rules.specs.Classes.{changing, managing};
+ghost use Rattle.policy_rules.specs.Classes.{IsKnown, changing, class_of, is_protected as is_protected_command, managing};
 ghost use Rattle.policy_rules.specs.Commands.{IsBuilt};
 ghost use Rattle.policy_rules.specs.LiveEnds.{live_without_place};
 ghost use Rattle.policy_rules.specs.State.{State};
+ghost use Rattle.policy_rules.specs.Step.{sent};
 ghost use Rattle.policy_rules.specs.Volatile.{Secured};
 ghost use Rattle.policy_rules.specs.declared.instruction.TheConstants.{SELECT, MANAGE_CHANNEL, GET_DATA, GET_STATUS, INITIALIZE_UPDATE};
 ghost use Rattle.scp03_card.specs.Protected.{protected};
@@ -139,6 +141,63 @@ fn act<F: Flash>(
     served
 }
 
+// Passes a command on to the rules of its own, where none on the life cycle state of the card and on secure messaging refuses it. A
+// protected command is opened: its plain data field is in the front of `plain` then, and its length is answered.
+fn pass(
+    card_life: CardLife,
+    received: &Received<'_>,
+    live: &mut Live,
+    held: &mut ChannelSession,
+    plain: &mut [u8; 255],
+) -> Result<Option<usize>, RuleG>
+    requires short { length received.now.command.body.now ≤ 255 }
+    requires known { IsKnown received.now.command.class received.now.command.ins }
+    requires class { class_of received.now.command.class ≡ Some received.now.class }
+    ensures passed { ForCome received.now live.old held.old (λ page tables all state bytes. tables.life ≡ card_life
+        → IfOk result (λ opened. Passes page (kept_of tables live.new (slice_set all received.now.channel held.new)) state bytes (apdu_of received.now.command) held.new opened plain.new)) }
+    ensures refused { ForCome received.now live.old held.old (λ page tables all state bytes. tables.life ≡ card_life
+        → IfErr result (Bars page (kept_of tables live.new (slice_set all received.now.channel held.new)) state bytes)) }
+    ensures short { IfOk result (λ opened. IfSome opened (λ count. count ≤ 255)) }
+    ensures secured { IfOk result (λ opened. IfSome opened (λ count. IsInSession held.new × (is_protected_command (apdu_of received.now.command) ≡ true))) }
+    ensures managed { OnOk result (Contains managing received.now.command.ins → IsInSession held.new) }
+    ensures selected { OnOk result (live.new.selected ≡ live.old.selected) }
+{
+    check_class(card_life, received, held)?;
+    if is_plain_management(received.class, received.command.ins) {
+        held.end();
+        live.end_load(received.channel);
+        return Err(RuleG::G6);
+    }
+    if !is_protected(received.class, received.command.ins) {
+        pass_session(received, live);
+        return Ok(None);
+    }
+    match open_command(held, &received.command, plain) {
+        Ok(count) => {
+            pass_session(received, live);
+            Ok(Some(count))
+        }
+        Err(rule) => {
+            // A channel without a session has no load session.
+            live.end_load(received.channel);
+            Err(rule)
+        }
+    }
+}
+
+// The data field in plain of a command that has passed.
+fn plain_body<'a>(command: &Command<'a>, opened: Option<usize>, plain: &'a [u8; 255]) -> &'a [u8]
+    requires short { length command.now.body.now ≤ 255 }
+    requires opened { IfSome opened (λ count. count ≤ 255) }
+    ensures plain { result.now ≡ plain_of (apdu_of command.now) opened plain.now }
+    ensures short { length result.now ≤ 255 }
+{
+    match opened {
+        None => command.body,
+        Some(count) => &plain[..count],
+    }
+}
+
 // Closes a reply in plain, and answers the rule.
 fn close_plain(served: Result<Status, Rule>, reply: &mut ArrayVec<u8, REPLY_LIMIT>) -> Option<Rule>
     requires { length reply.old.items ≤ DATA_LIMIT }
@@ -181,6 +240,25 @@ fn close_protected(
     }
 }
 
+// Closes the reply to a command, in the session that it was opened in, and answers the rule.
+fn close(
+    served: Result<Status, Rule>,
+    opened: Option<usize>,
+    held: &mut ChannelSession,
+    reply: &mut ArrayVec<u8, REPLY_LIMIT>,
+) -> Option<Rule>
+    requires secured { IfSome opened (λ count. IsInSession held.old) }
+    requires room { length reply.old.items ≤ DATA_LIMIT }
+    ensures closed { (session : Option Session) → IsOpenedIn opened held.old session → reply.new.items ≡ sent session reply.old.items (status_word served) }
+    ensures rule { result ≡ rule_of served }
+    ensures same { held.new ≡ held.old }
+{
+    match opened {
+        None => close_plain(served, reply),
+        Some(_) => close_protected(served, held, reply),
+    }
+}
+
 /// Does what the bytes ask for, and makes the whole reply. It answers the rule that refused them, if one did. It commits
 /// nothing.
 pub fn serve<F: Flash>(
@@ -211,52 +289,25 @@ pub fn serve<F: Flash>(
     };
     let channel = usize::from(received.channel);
     let place = take_place(live, &received);
-    if let Err(rule) = check_class(records.tables().life, &received, &mut held[channel]) {
-        return close_plain(Err(Rule::G(rule)), reply);
-    }
-    if is_plain_management(received.class, received.command.ins) {
-        held[channel].end();
-        live.end_load(received.channel);
-        return close_plain(Err(Rule::G(RuleG::G6)), reply);
-    }
-    if !is_protected(received.class, received.command.ins) {
-        pass_session(&received, live);
-        let served = act(
-            records,
-            live,
-            held,
-            loading,
-            &received,
-            &received.command,
-            place.as_ref(),
-            reply,
-        );
-        return close_plain(served, reply);
-    }
+    let life = records.tables().life;
     let mut plain = [0; 255];
-    match open_command(&mut held[channel], &received.command, &mut plain) {
-        Ok(count) => {
-            pass_session(&received, live);
-            let command = Command {
-                body: &plain[..count],
-                ..received.command
-            };
-            let served = act(
-                records,
-                live,
-                held,
-                loading,
-                &received,
-                &command,
-                place.as_ref(),
-                reply,
-            );
-            close_protected(served, &mut held[channel], reply)
-        }
-        Err(rule) => {
-            // A channel without a session has no load session.
-            live.end_load(received.channel);
-            close_plain(Err(Rule::G(rule)), reply)
-        }
-    }
+    let opened = match pass(life, &received, live, &mut held[channel], &mut plain) {
+        Ok(opened) => opened,
+        Err(rule) => return close_plain(Err(Rule::G(rule)), reply),
+    };
+    let command = Command {
+        body: plain_body(&received.command, opened, &plain),
+        ..received.command
+    };
+    let served = act(
+        records,
+        live,
+        held,
+        loading,
+        &received,
+        &command,
+        place.as_ref(),
+        reply,
+    );
+    close(served, opened, &mut held[channel], reply)
 }
