@@ -1,4 +1,4 @@
-use Rattle.std.proofs.Common.{[], ◌∷◌, ◌∙◌, None, Some, ap, inl, inr, length, refl, sym, subst}
+use Rattle.std.proofs.Common.{[], ◌∷◌, ◌∙◌, None, Some, ap, inl, inr, length, refl, rules, sym, subst}
 use Rattle.card_types.specs.InOrder.{IsInOrder}
 use Rattle.card_types.specs.Well.{IsKeyLength}
 use Rattle.policy_rules.proofs.FirstJoined.{first_behind, first_within}
@@ -139,106 +139,82 @@ returns-in_err-judge_put_keys-in-Three-clause-done g c page admitted acts says c
     c.from_residual-in_err-judge_put_keys-in-Three.ensures.1
     (put_judged admitted (Some c.in_err-judge_put_keys-in-Three.field-0.0) request.form first) c.requires.empty
 
-pub returns-in_ok-judge_put_keys-in-One-clause-done : goal.returns-in_ok-judge_put_keys-in-One-clause-done
-returns-in_ok-judge_put_keys-in-One-clause-done g c page admitted acts says channels request holds =
+pub returns-in_ok-judge_put_keys-in-One : goal.returns-in_ok-judge_put_keys-in-One
+returns-in_ok-judge_put_keys-in-One g c =
+    let put = c.args.self.now in
+    let before = c.args.records.now.tables in
+    let after = c.place_one.new.keeper.tables in
+    let same = c.place_one.ensures.same_else in
     let sent = c.in-One.sent in
     let key = c.open_key-key.result.bytes.items in
-    let form = formed_one c.args.self.now.replaced c.args.self.now.version sent (subst (λ k. IsWellFormed (PutKey c.args.self.now.replaced c.args.self.now.version k)) c.in-One.is c.requires.formed) in
-    let asked = subst (λ k. IsRequestOf (PutKey c.args.self.now.replaced c.args.self.now.version k) admitted.command) c.in-One.is request in
-    let secured = subst (λ h. RepresentsSecureChannel h (secure_channel_for admitted)) c.in-Secured.is holds in
-    let brings = brought admitted c.args.self.now.replaced c.args.self.now.version (One sent) asked c.in-Secured.session secured (key ∷ []) (λ session stands. (c.open_key-key.ensures.key session stands, tt)) in
-    let checks = checks_said admitted c.args.self.now.replaced c.args.self.now.version (One sent) asked c.in-Secured.session secured (key ∷ []) (λ session stands. (c.open_key-key.ensures.key session stands, tt))
-    c.open_key-key.result.fits (fits_one c.open_key-key.result.fits (sent_key sent) key c.open_key-key.ensures.fits) in
-    let before = c.in_ok-judge_put_versions.ensures.passed page admitted c.args.self.now.keys.now (subst (λ t. ActsIn page t c.args.domain admitted) (sym c.tables.ensures.tables) acts) request in
-    let passed = c.in_ok-judge_put_keys-in-One.ensures.passed page admitted c.args.self.now.version
-    (subst (λ t. ActsIn page t c.args.domain admitted) (sym c.tables-in-One.ensures.tables) acts) request checks in
-    let first = first_behind ((command_form managed_put_key).fails admitted) key_rules version_rules None before passed in
-    let judged = judged_by c.args.domain c.args.self.now.replaced c.args.self.now.version c.tables.result.now c.tables-in-One.result.now c.args.records.now.tables c.args.self.now.keys.now (One c.in-One.sent)
-    c.tables.ensures.tables c.tables-in-One.ensures.tables c.in-One.is c.in_ok-judge_put_versions.ensures.known c.in_ok-judge_put_versions.ensures.free
-    (c.in_ok-judge_put_keys-in-One.ensures.roomy c.args.self.now.version) in
-    let same = c.place_one.ensures.same_else in
-    put_managed c.args.records.now.tables c.place_one.new.keeper.tables same.life same.entries same.files same.objects c.args.domain c.args.self.now.replaced c.args.self.now.version (key ∷ [])
-    (puts_lent c.args.domain c.args.self.now.replaced c.args.self.now.version c.args.records.now.tables.keys.items c.place_one.new.keeper.tables.keys.items
-    (c.deref.result.now ∷ []) (key ∷ []) (λ i. c.deref.ensures.0 i ∷ []) c.place_one.ensures.put) (one_length sent key form.lengths c.open_key-key.ensures.length) (inr (form.new, refl)) judged c.requires.domain
-    page admitted acts (One sent) asked brings c.write_check.new.reply.items _
-    (put_judged admitted None request.form first)
-    (body_one c.args.self.now.version (sent_key sent) c.args.reply.now.items c.push.new.self.items c.write_check.new.reply.items c.requires.empty c.push.ensures.items c.write_check.ensures.written) refl
+    let form = formed_one put.replaced put.version sent (subst (λ k. IsWellFormed (PutKey put.replaced put.version k)) c.in-One.is c.requires.formed) in
+    let judged = judged_by c.args.domain put.replaced put.version c.tables.result.now c.tables-in-One.result.now before put.keys.now (One sent) c.tables.ensures.tables c.tables-in-One.ensures.tables c.in-One.is
+    c.in_ok-judge_put_versions.ensures.known c.in_ok-judge_put_versions.ensures.free (c.in_ok-judge_put_keys-in-One.ensures.roomy put.version) in
+    let puts = puts_lent c.args.domain put.replaced put.version before.keys.items after.keys.items (c.deref.result.now ∷ []) (key ∷ []) (λ i. c.deref.ensures.0 i ∷ []) c.place_one.ensures.put in
+    let lengths = one_length sent key form.lengths c.open_key-key.ensures.length in
+    record {
+      done = λ page admitted acts says channels request holds.
+          (let asked = subst (λ k. IsRequestOf (PutKey put.replaced put.version k) admitted.command) c.in-One.is request in
+          let secured = subst (λ h. RepresentsSecureChannel h (secure_channel_for admitted)) c.in-Secured.is holds in
+          let brings = brought admitted put.replaced put.version (One sent) asked c.in-Secured.session secured (key ∷ []) (λ session stands. (c.open_key-key.ensures.key session stands, tt)) in
+          let checks = checks_said admitted put.replaced put.version (One sent) asked c.in-Secured.session secured (key ∷ []) (λ session stands. (c.open_key-key.ensures.key session stands, tt))
+          c.open_key-key.result.fits (fits_one c.open_key-key.result.fits (sent_key sent) key c.open_key-key.ensures.fits) in
+          let versions = c.in_ok-judge_put_versions.ensures.passed page admitted put.keys.now (subst (λ t. ActsIn page t c.args.domain admitted) (sym c.tables.ensures.tables) acts) request in
+          let passed = c.in_ok-judge_put_keys-in-One.ensures.passed page admitted put.version (subst (λ t. ActsIn page t c.args.domain admitted) (sym c.tables-in-One.ensures.tables) acts) request checks in
+          let first = first_behind ((command_form managed_put_key).fails admitted) key_rules version_rules None versions passed in
+          put_managed before after same.life same.entries same.files same.objects c.args.domain put.replaced put.version (key ∷ []) puts lengths (inr (form.new, refl)) judged c.requires.domain
+          page admitted acts (One sent) asked brings c.write_check.new.reply.items _ (put_judged admitted None request.form first)
+          (body_one put.version (sent_key sent) c.args.reply.now.items c.push.new.self.items c.write_check.new.reply.items c.requires.empty c.push.ensures.items c.write_check.ensures.written) refl);
+      selected = entries_selected c.args._live.now before.entries.items after.entries.items same.entries;
+      free = files_free before after same.files;
+      cards = put_cards before after same.life same.entries same.files same.objects c.args.domain put.replaced put.version (key ∷ []) puts lengths (inr (form.new, refl)) judged c.requires.domain c.requires.cards;
+      same = search rules;
+      refused = search rules;
+      room = search rules;
+    }
 
-pub returns-in_ok-judge_put_keys-in-One-clause-cards : goal.returns-in_ok-judge_put_keys-in-One-clause-cards
-returns-in_ok-judge_put_keys-in-One-clause-cards g c =
-    let sent = c.in-One.sent in
-    let key = c.open_key-key.result.bytes.items in
-    let form = formed_one c.args.self.now.replaced c.args.self.now.version sent (subst (λ k. IsWellFormed (PutKey c.args.self.now.replaced c.args.self.now.version k)) c.in-One.is c.requires.formed) in
-    let judged = judged_by c.args.domain c.args.self.now.replaced c.args.self.now.version c.tables.result.now c.tables-in-One.result.now c.args.records.now.tables c.args.self.now.keys.now (One c.in-One.sent)
-    c.tables.ensures.tables c.tables-in-One.ensures.tables c.in-One.is c.in_ok-judge_put_versions.ensures.known c.in_ok-judge_put_versions.ensures.free
-    (c.in_ok-judge_put_keys-in-One.ensures.roomy c.args.self.now.version) in
-    let same = c.place_one.ensures.same_else in
-    put_cards c.args.records.now.tables c.place_one.new.keeper.tables same.life same.entries same.files same.objects c.args.domain c.args.self.now.replaced c.args.self.now.version (key ∷ [])
-    (puts_lent c.args.domain c.args.self.now.replaced c.args.self.now.version c.args.records.now.tables.keys.items c.place_one.new.keeper.tables.keys.items
-    (c.deref.result.now ∷ []) (key ∷ []) (λ i. c.deref.ensures.0 i ∷ []) c.place_one.ensures.put) (one_length sent key form.lengths c.open_key-key.ensures.length) (inr (form.new, refl)) judged c.requires.domain c.requires.cards
-
-pub returns-in_ok-judge_put_keys-in-Three-clause-done : goal.returns-in_ok-judge_put_keys-in-Three-clause-done
-returns-in_ok-judge_put_keys-in-Three-clause-done g c page admitted acts says channels request holds =
-    let keys = Three c.in-Three.first c.in-Three.second c.in-Three.third in
-    let bytes = c.open_key-enc.result.bytes.items ∷ c.open_key-mac.result.bytes.items ∷ c.open_key-kek.result.bytes.items ∷ [] in
-    let form = formed_set c.args.self.now.replaced c.args.self.now.version c.in-Three.first c.in-Three.second c.in-Three.third
-    (subst (λ k. IsWellFormed (PutKey c.args.self.now.replaced c.args.self.now.version k)) c.in-Three.is c.requires.formed) in
-    let asked = subst (λ k. IsRequestOf (PutKey c.args.self.now.replaced c.args.self.now.version k) admitted.command) c.in-Three.is request in
-    let secured = subst (λ h. RepresentsSecureChannel h (secure_channel_for admitted)) c.in-Secured.is holds in
-    let brings = brought admitted c.args.self.now.replaced c.args.self.now.version keys asked c.in-Secured.session secured bytes
-    (λ session stands. (c.open_key-enc.ensures.key session stands, (c.open_key-mac.ensures.key session stands, (c.open_key-kek.ensures.key session stands, tt)))) in
-    let checks = checks_said admitted c.args.self.now.replaced c.args.self.now.version keys asked c.in-Secured.session secured bytes
-    (λ session stands. (c.open_key-enc.ensures.key session stands, (c.open_key-mac.ensures.key session stands, (c.open_key-kek.ensures.key session stands, tt)))) c.all_fit-fit.result
-    (fits_three c.open_key-enc.result.fits c.open_key-mac.result.fits c.open_key-kek.result.fits c.all_fit-fit.result
-    (sent_key c.in-Three.first) (sent_key c.in-Three.second) (sent_key c.in-Three.third) c.open_key-enc.result.bytes.items c.open_key-mac.result.bytes.items c.open_key-kek.result.bytes.items
-    c.all_fit-fit.ensures c.open_key-enc.ensures.fits c.open_key-mac.ensures.fits c.open_key-kek.ensures.fits) in
-    let before = c.in_ok-judge_put_versions.ensures.passed page admitted c.args.self.now.keys.now (subst (λ t. ActsIn page t c.args.domain admitted) (sym c.tables.ensures.tables) acts) request in
-    let passed = c.in_ok-judge_put_keys-in-Three.ensures.passed page admitted c.args.self.now.version
-    (subst (λ t. ActsIn page t c.args.domain admitted) (sym c.tables-in-Three.ensures.tables) acts) request checks in
-    let first = first_behind ((command_form managed_put_key).fails admitted) key_rules version_rules None before passed in
-    let judged = judged_by c.args.domain c.args.self.now.replaced c.args.self.now.version c.tables.result.now c.tables-in-Three.result.now c.args.records.now.tables c.args.self.now.keys.now
-    (Three c.in-Three.first c.in-Three.second c.in-Three.third) c.tables.ensures.tables c.tables-in-Three.ensures.tables c.in-Three.is
-    c.in_ok-judge_put_versions.ensures.known c.in_ok-judge_put_versions.ensures.free (c.in_ok-judge_put_keys-in-Three.ensures.roomy c.args.self.now.version) in
+pub returns-in_ok-judge_put_keys-in-Three : goal.returns-in_ok-judge_put_keys-in-Three
+returns-in_ok-judge_put_keys-in-Three g c =
+    let put = c.args.self.now in
+    let before = c.args.records.now.tables in
+    let after = c.place_set.new.keeper.tables in
     let same = c.place_set.ensures.same_else in
-    put_managed c.args.records.now.tables c.place_set.new.keeper.tables same.life same.entries same.files same.objects c.args.domain c.args.self.now.replaced c.args.self.now.version bytes
-    (puts_lent c.args.domain c.args.self.now.replaced c.args.self.now.version c.args.records.now.tables.keys.items c.place_set.new.keeper.tables.keys.items
-    (c.deref-in-Three.result.now ∷ c.deref-in-Three-2.result.now ∷ c.deref-in-Three-3.result.now ∷ []) bytes
-    (λ i. c.deref-in-Three.ensures.0 i ∷ c.deref-in-Three-2.ensures.0 i ∷ c.deref-in-Three-3.ensures.0 i ∷ []) c.place_set.ensures.put)
-    (three_lengths c.args.self.now.replaced c.args.self.now.version c.in-Three.first c.in-Three.second c.in-Three.third _ _ _ form
-    c.open_key-enc.ensures.length c.open_key-mac.ensures.length c.open_key-kek.ensures.length) (inl (form.new.0, form.new.1, refl)) judged c.requires.domain
-    page admitted acts keys asked brings c.write_check-in-Three-3.new.reply.items _
-    (put_judged admitted None request.form first)
-    (body_three c.args.self.now.version (sent_key c.in-Three.first) (sent_key c.in-Three.second) (sent_key c.in-Three.third) c.args.reply.now.items c.push-in-Three.new.self.items
-    c.write_check-in-Three.new.reply.items c.write_check-in-Three-2.new.reply.items c.write_check-in-Three-3.new.reply.items c.requires.empty c.push-in-Three.ensures.items
-    c.write_check-in-Three.ensures.written c.write_check-in-Three-2.ensures.written c.write_check-in-Three-3.ensures.written) refl
-
-pub returns-in_ok-judge_put_keys-in-Three-clause-cards : goal.returns-in_ok-judge_put_keys-in-Three-clause-cards
-returns-in_ok-judge_put_keys-in-Three-clause-cards g c =
-    let keys = Three c.in-Three.first c.in-Three.second c.in-Three.third in
-    let bytes = c.open_key-enc.result.bytes.items ∷ c.open_key-mac.result.bytes.items ∷ c.open_key-kek.result.bytes.items ∷ [] in
-    let form = formed_set c.args.self.now.replaced c.args.self.now.version c.in-Three.first c.in-Three.second c.in-Three.third
-    (subst (λ k. IsWellFormed (PutKey c.args.self.now.replaced c.args.self.now.version k)) c.in-Three.is c.requires.formed) in
-    let judged = judged_by c.args.domain c.args.self.now.replaced c.args.self.now.version c.tables.result.now c.tables-in-Three.result.now c.args.records.now.tables c.args.self.now.keys.now
-    (Three c.in-Three.first c.in-Three.second c.in-Three.third) c.tables.ensures.tables c.tables-in-Three.ensures.tables c.in-Three.is
-    c.in_ok-judge_put_versions.ensures.known c.in_ok-judge_put_versions.ensures.free (c.in_ok-judge_put_keys-in-Three.ensures.roomy c.args.self.now.version) in
-    let same = c.place_set.ensures.same_else in
-    put_cards c.args.records.now.tables c.place_set.new.keeper.tables same.life same.entries same.files same.objects c.args.domain c.args.self.now.replaced c.args.self.now.version bytes
-    (puts_lent c.args.domain c.args.self.now.replaced c.args.self.now.version c.args.records.now.tables.keys.items c.place_set.new.keeper.tables.keys.items
-    (c.deref-in-Three.result.now ∷ c.deref-in-Three-2.result.now ∷ c.deref-in-Three-3.result.now ∷ []) bytes
-    (λ i. c.deref-in-Three.ensures.0 i ∷ c.deref-in-Three-2.ensures.0 i ∷ c.deref-in-Three-3.ensures.0 i ∷ []) c.place_set.ensures.put)
-    (three_lengths c.args.self.now.replaced c.args.self.now.version c.in-Three.first c.in-Three.second c.in-Three.third _ _ _ form
-    c.open_key-enc.ensures.length c.open_key-mac.ensures.length c.open_key-kek.ensures.length) (inl (form.new.0, form.new.1, refl)) judged c.requires.domain c.requires.cards
-
-pub returns-in_ok-judge_put_keys-in-One-clause-selected : goal.returns-in_ok-judge_put_keys-in-One-clause-selected
-returns-in_ok-judge_put_keys-in-One-clause-selected g c =
-    entries_selected c.args._live.now c.args.records.now.tables.entries.items c.place_one.new.keeper.tables.entries.items c.place_one.ensures.same_else.entries
-
-pub returns-in_ok-judge_put_keys-in-One-clause-free : goal.returns-in_ok-judge_put_keys-in-One-clause-free
-returns-in_ok-judge_put_keys-in-One-clause-free g c = files_free c.args.records.now.tables c.place_one.new.keeper.tables c.place_one.ensures.same_else.files
-
-pub returns-in_ok-judge_put_keys-in-Three-clause-selected : goal.returns-in_ok-judge_put_keys-in-Three-clause-selected
-returns-in_ok-judge_put_keys-in-Three-clause-selected g c =
-    entries_selected c.args._live.now c.args.records.now.tables.entries.items c.place_set.new.keeper.tables.entries.items c.place_set.ensures.same_else.entries
-
-pub returns-in_ok-judge_put_keys-in-Three-clause-free : goal.returns-in_ok-judge_put_keys-in-Three-clause-free
-returns-in_ok-judge_put_keys-in-Three-clause-free g c = files_free c.args.records.now.tables c.place_set.new.keeper.tables c.place_set.ensures.same_else.files
+    let one = c.in-Three.first in
+    let two = c.in-Three.second in
+    let three = c.in-Three.third in
+    let enc = c.open_key-enc in
+    let mac = c.open_key-mac in
+    let kek = c.open_key-kek in
+    let keys = Three one two three in
+    let bytes = enc.result.bytes.items ∷ mac.result.bytes.items ∷ kek.result.bytes.items ∷ [] in
+    let form = formed_set put.replaced put.version one two three (subst (λ k. IsWellFormed (PutKey put.replaced put.version k)) c.in-Three.is c.requires.formed) in
+    let judged = judged_by c.args.domain put.replaced put.version c.tables.result.now c.tables-in-Three.result.now before put.keys.now keys c.tables.ensures.tables c.tables-in-Three.ensures.tables c.in-Three.is
+    c.in_ok-judge_put_versions.ensures.known c.in_ok-judge_put_versions.ensures.free (c.in_ok-judge_put_keys-in-Three.ensures.roomy put.version) in
+    let puts = puts_lent c.args.domain put.replaced put.version before.keys.items after.keys.items (c.deref-in-Three.result.now ∷ c.deref-in-Three-2.result.now ∷ c.deref-in-Three-3.result.now ∷ []) bytes
+    (λ i. c.deref-in-Three.ensures.0 i ∷ c.deref-in-Three-2.ensures.0 i ∷ c.deref-in-Three-3.ensures.0 i ∷ []) c.place_set.ensures.put in
+    let lengths = three_lengths put.replaced put.version one two three _ _ _ form enc.ensures.length mac.ensures.length kek.ensures.length in
+    record {
+      done = λ page admitted acts says channels request holds.
+          (let asked = subst (λ k. IsRequestOf (PutKey put.replaced put.version k) admitted.command) c.in-Three.is request in
+          let secured = subst (λ h. RepresentsSecureChannel h (secure_channel_for admitted)) c.in-Secured.is holds in
+          let brings = brought admitted put.replaced put.version keys asked c.in-Secured.session secured bytes
+          (λ session stands. (enc.ensures.key session stands, (mac.ensures.key session stands, (kek.ensures.key session stands, tt)))) in
+          let checks = checks_said admitted put.replaced put.version keys asked c.in-Secured.session secured bytes
+          (λ session stands. (enc.ensures.key session stands, (mac.ensures.key session stands, (kek.ensures.key session stands, tt)))) c.all_fit-fit.result
+          (fits_three enc.result.fits mac.result.fits kek.result.fits c.all_fit-fit.result (sent_key one) (sent_key two) (sent_key three) enc.result.bytes.items mac.result.bytes.items kek.result.bytes.items
+          c.all_fit-fit.ensures enc.ensures.fits mac.ensures.fits kek.ensures.fits) in
+          let versions = c.in_ok-judge_put_versions.ensures.passed page admitted put.keys.now (subst (λ t. ActsIn page t c.args.domain admitted) (sym c.tables.ensures.tables) acts) request in
+          let passed = c.in_ok-judge_put_keys-in-Three.ensures.passed page admitted put.version (subst (λ t. ActsIn page t c.args.domain admitted) (sym c.tables-in-Three.ensures.tables) acts) request checks in
+          let first = first_behind ((command_form managed_put_key).fails admitted) key_rules version_rules None versions passed in
+          put_managed before after same.life same.entries same.files same.objects c.args.domain put.replaced put.version bytes puts lengths (inl (form.new.0, form.new.1, refl)) judged c.requires.domain
+          page admitted acts keys asked brings c.write_check-in-Three-3.new.reply.items _ (put_judged admitted None request.form first)
+          (body_three put.version (sent_key one) (sent_key two) (sent_key three) c.args.reply.now.items c.push-in-Three.new.self.items
+          c.write_check-in-Three.new.reply.items c.write_check-in-Three-2.new.reply.items c.write_check-in-Three-3.new.reply.items c.requires.empty c.push-in-Three.ensures.items
+          c.write_check-in-Three.ensures.written c.write_check-in-Three-2.ensures.written c.write_check-in-Three-3.ensures.written) refl);
+      selected = entries_selected c.args._live.now before.entries.items after.entries.items same.entries;
+      free = files_free before after same.files;
+      cards = put_cards before after same.life same.entries same.files same.objects c.args.domain put.replaced put.version bytes puts lengths (inl (form.new.0, form.new.1, refl)) judged c.requires.domain c.requires.cards;
+      same = search rules;
+      refused = search rules;
+      room = search rules;
+    }
