@@ -16,6 +16,7 @@ pub mod ObjectsPut
 pub mod Offers
 pub mod Passes
 pub mod PowerOn
+pub mod Ready
 pub mod SecureChannels
 pub mod Secured
 pub mod Serves

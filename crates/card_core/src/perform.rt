@@ -1,14 +1,14 @@
 //! What a request asks for is done (GlobalPlatform Card Specification 2.3.1, chapter 11).
 
-ghost use Rattle.std.specs.Prelude.{◌≡◌, ◌≢◌, ◌⊎◌, ◌<◌, ◌≤◌, List, [], length, true, None, Some, Contains, OnErr, Option, option_copied, slice_index_or};
-ghost use Rattle.card_core.specs.Domains.{is_domain_in};
+ghost use Rattle.std.specs.Prelude.{◌≡◌, ◌⊎◌, ◌≤◌, [], length, true, Contains, OnErr, option_copied};
 ghost use Rattle.card_core.specs.Kept.{AreCards, kept_of};
 ghost use Rattle.card_core.specs.Loading.{AreFree, RepresentsSome, with_due};
-ghost use Rattle.card_core.specs.SecureChannels.{IsInSession, IsOffered, held_on};
+ghost use Rattle.card_core.specs.Ready.{IsReady};
+ghost use Rattle.card_core.specs.SecureChannels.{IsOffered, held_on};
 ghost use Rattle.card_core.specs.Serves.{CarriesOn, ForAsked};
 ghost use Rattle.policy_rules.specs.Classes.{changing, managing};
 ghost use Rattle.policy_rules.specs.Requests.{IsWellFormed, form_in};
-ghost use Rattle.policy_rules.specs.declared.instruction.TheConstants.{EXTERNAL_AUTHENTICATE, SELECT, MANAGE_CHANNEL, GET_DATA, INITIALIZE_UPDATE};
+ghost use Rattle.policy_rules.specs.declared.instruction.TheConstants.{EXTERNAL_AUTHENTICATE, GET_DATA, INITIALIZE_UPDATE};
 ghost use Rattle.scp03_card.specs.declared.close.TheConstants.{DATA_LIMIT};
 
 use crate::admit::Received;
@@ -46,19 +46,10 @@ pub fn perform<F: Flash>(
     place: Option<&Place>,
     reply: &mut ArrayVec<u8, REPLY_LIMIT>,
 ) -> Result<Status, Rule>
-    requires live { records.old.live ≡ true }
-    requires clean { records.old.staged ≡ [] }
-    requires cards { AreCards records.old.tables }
-    requires channel { received.now.channel < CHANNELS }
-    requires selected { slice_index_or live.old.selected received.now.channel None ≡ Some received.now.selected }
-    requires domain { (form_in request.now).instruction ≢ SELECT → (form_in request.now).instruction ≢ MANAGE_CHANNEL
-        → is_domain_in records.old.tables.entries.items received.now.selected ≡ true }
-    requires secured { Contains managing (form_in request.now).instruction → IsInSession (held_on held.old received.now.channel) }
+    requires ready { IsReady (form_in request.now).instruction records.old live.old held.old loading.old received.now reply.old.items }
     requires offered { (form_in request.now).instruction ≡ EXTERNAL_AUTHENTICATE → IsOffered (held_on held.old received.now.channel) }
     requires formed { IsWellFormed request.now }
     requires some { RepresentsSome (kept_of records.old.tables live.old held.old) loading.old.session }
-    requires unwritten { loading.old.writes.items ≡ [] }
-    requires empty { reply.old.items ≡ [] }
     ensures done { ForAsked received.now.channel request.now (option_copied place.entry) (kept_of records.old.tables live.old held.old) loading.old.session
         (λ at told. CarriesOn (with_due at loading.new) told (kept_of records.new.tables live.new held.new) loading.new.session reply.new.items result) }
     ensures cards { AreCards records.new.tables }

@@ -1,13 +1,13 @@
 //! What is done with a command (GlobalPlatform Card Specification 2.3.1, chapter 11).
 
-ghost use Rattle.std.specs.Prelude.{◌≡◌, ◌≢◌, ◌⊎◌, ◌<◌, ◌≤◌, ◌++◌, ◌==◌, ℕ, List, [], length, false, true, None, Some, Option, IsSome, Contains, OnOk, OnErr, IfOk, IfErr, IfSome, option_copied, slice_index_or, slice_set};
+ghost use Rattle.std.specs.Prelude.{◌≡◌, ◌⊎◌, ◌<◌, ◌≤◌, ◌++◌, ◌==◌, ℕ, List, [], length, false, true, None, Some, Option, IsSome, Contains, OnOk, OnErr, IfOk, IfErr, IfSome, option_copied, slice_index_or, slice_set};
 ghost use Rattle.apdu_core.specs.Apdu.{apdu_of};
 ghost use Rattle.apdu_core.specs.Reply.{status_bytes};
 ghost use Rattle.card_check.specs.IsCard.{HasPages};
 ghost use Rattle.card_core.specs.Commits.{MayCommit};
-ghost use Rattle.card_core.specs.Domains.{is_domain_in};
 ghost use Rattle.card_core.specs.Kept.{AreCards, kept_of};
 ghost use Rattle.card_core.specs.Loading.{AreFree, RepresentsAll, RepresentsSome};
+ghost use Rattle.card_core.specs.Ready.{IsReady};
 ghost use Rattle.card_core.specs.SecureChannels.{RepresentsSecureChannel, IsInSession, held_on, held_passed, without_offer_held};
 ghost use Rattle.card_core.specs.Passes.{Bars, ForCome, IsOpenedIn, Passes, plain_of};
 ghost use Rattle.card_core.specs.Serves.{CarriesOutLoading, ForPassed, IsPassedOver, IsTerminatedFor, ServesLoading, live_passed, live_refused, rule_of, status_word};
@@ -17,7 +17,7 @@ ghost use Rattle.policy_rules.specs.LiveEnds.{live_without_place};
 ghost use Rattle.policy_rules.specs.State.{State};
 ghost use Rattle.policy_rules.specs.Step.{sent};
 ghost use Rattle.policy_rules.specs.Volatile.{Secured};
-ghost use Rattle.policy_rules.specs.declared.instruction.TheConstants.{SELECT, MANAGE_CHANNEL, GET_DATA, GET_STATUS, INITIALIZE_UPDATE};
+ghost use Rattle.policy_rules.specs.declared.instruction.TheConstants.{GET_DATA, GET_STATUS, INITIALIZE_UPDATE};
 ghost use Rattle.scp03_card.specs.Protected.{protected};
 ghost use Rattle.scp03_card.specs.Session.{Session};
 ghost use Rattle.scp03_card.specs.declared.close.TheConstants.{DATA_LIMIT};
@@ -102,18 +102,10 @@ fn act<F: Flash>(
     place: Option<&Place>,
     reply: &mut ArrayVec<u8, REPLY_LIMIT>,
 ) -> Result<Status, Rule>
-    requires live { records.old.live ≡ true }
-    requires clean { records.old.staged ≡ [] }
-    requires cards { AreCards records.old.tables }
+    requires ready { IsReady command.now.ins records.old live.old held.old loading.old received.now reply.old.items }
     requires built { IsBuilt command.now.ins }
-    requires channel { received.now.channel < CHANNELS }
-    requires selected { slice_index_or live.old.selected received.now.channel None ≡ Some received.now.selected }
-    requires domain { command.now.ins ≢ SELECT → command.now.ins ≢ MANAGE_CHANNEL → is_domain_in records.old.tables.entries.items received.now.selected ≡ true }
-    requires secured { Contains managing command.now.ins → IsInSession (held_on held.old received.now.channel) }
     requires short { length command.now.body.now ≤ 255 }
     requires passed { IsPassedOver received.now.channel (apdu_of command.now) (option_copied place) (kept_of records.old.tables live.old held.old) loading.old.session }
-    requires unwritten { loading.old.writes.items ≡ [] }
-    requires empty { reply.old.items ≡ [] }
     ensures done { ForPassed received.now.channel (apdu_of command.now) (option_copied place.entry) (kept_of records.old.tables live.old held.old) loading.old.session
         (λ page told. CarriesOutLoading page told (kept_of records.new.tables live.new held.new) loading.new reply.new.items result) }
     ensures cards { AreCards records.new.tables }

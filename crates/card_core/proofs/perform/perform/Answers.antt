@@ -19,41 +19,41 @@ use Rattle.load_session.specs.Session.{load_slot}
 use Rattle.card_core.proofs.perform.perform.Goals as goal
 
 pub select-requires-clause-in_order : goal.select-requires-clause-in_order
-select-requires-clause-in_order g c = subst IsInOrder (sym c.tables.ensures.tables) (in_order c.args.records.now.tables c.requires.cards)
+select-requires-clause-in_order g c = subst IsInOrder (sym c.tables.ensures.tables) (in_order c.args.records.now.tables c.requires.ready.cards)
 
 pub get_data-requires-clause-in_order : goal.get_data-requires-clause-in_order
-get_data-requires-clause-in_order g c = subst IsInOrder (sym c.tables-in-Get.ensures.tables) (in_order c.args.records.now.tables c.requires.cards)
+get_data-requires-clause-in_order g c = subst IsInOrder (sym c.tables-in-Get.ensures.tables) (in_order c.args.records.now.tables c.requires.ready.cards)
 
 pub external_authenticate-requires-clause-formed : goal.external_authenticate-requires-clause-formed
 external_authenticate-requires-clause-formed g c = subst IsWellFormed c.in-Authenticate.is c.requires.formed
 
 -- SELECT
 pub returns-in-Select-clause-done : goal.returns-in-Select-clause-done
-returns-in-Select-clause-done g c = rw c.requires.unwritten (λ page judged whole shown asked.
+returns-in-Select-clause-done g c = rw c.requires.ready.unwritten (λ page judged whole shown asked.
     let all = c.args.held.now in
     carries_other page judged (kept_of c.args.records.now.tables c.select.new.live (slice_set all c.from-at.result c.select.new.held)) c.args.loading.now.session c.select.new.reply.items c.select.result
     c.args.request.now _ c.in-Select.is (λ no. no) asked.asks shown.loading
     (λ is. rw c.from-at.ensures ((rw c.tables.ensures.tables at c.select.ensures.done) page all judged shown.on c.told-held asked.on
-    (sym (read_at all c.from-at.result c.args.received.now.channel c.index-held-at.result c.told-held c.requires.channel c.from-at.ensures)) is)))
+    (sym (read_at all c.from-at.result c.args.received.now.channel c.index-held-at.result c.told-held c.requires.ready.channel c.from-at.ensures)) is)))
 
 -- MANAGE CHANNEL
 pub returns-in-MoreChannel-clause-done : goal.returns-in-MoreChannel-clause-done
-returns-in-MoreChannel-clause-done g c = rw c.requires.unwritten (λ page judged whole shown asked.
+returns-in-MoreChannel-clause-done g c = rw c.requires.ready.unwritten (λ page judged whole shown asked.
     let tables = c.args.records.now.tables in
     let all = c.args.held.now in
     carries_other page judged (kept_of tables c.open_channel.new.live all) c.args.loading.now.session c.open_channel.new.reply.items c.open_channel.result
     c.args.request.now _ c.in-MoreChannel.is (λ no. no) asked.asks shown.loading
-    (c.open_channel.ensures.done tables (in_order tables c.requires.cards).layout page all judged shown.on c.told-held (subst (λ (n : ℕ). n < CHANNELS) asked.on c.requires.channel)))
+    (c.open_channel.ensures.done tables (in_order tables c.requires.ready.cards).layout page all judged shown.on c.told-held (subst (λ (n : ℕ). n < CHANNELS) asked.on c.requires.ready.channel)))
 
 pub returns-in-LessChannel-clause-done : goal.returns-in-LessChannel-clause-done
-returns-in-LessChannel-clause-done g c = rw c.requires.unwritten (λ page judged whole shown asked.
+returns-in-LessChannel-clause-done g c = rw c.requires.ready.unwritten (λ page judged whole shown asked.
     let tables = c.args.records.now.tables in
     carries_other page judged (kept_of tables c.close_channel.new.live c.close_channel.new.held) c.args.loading.now.session c.args.reply.now.items c.close_channel.result
-    c.args.request.now _ c.in-LessChannel.is (λ no. no) asked.asks shown.loading (λ is. rw c.requires.empty (c.close_channel.ensures.done page tables judged shown.on is)))
+    c.args.request.now _ c.in-LessChannel.is (λ no. no) asked.asks shown.loading (λ is. rw c.requires.ready.empty (c.close_channel.ensures.done page tables judged shown.on is)))
 
 -- GET DATA
 pub returns-in-Get-clause-done : goal.returns-in-Get-clause-done
-returns-in-Get-clause-done g c = rw c.requires.unwritten (λ page judged whole shown asked.
+returns-in-Get-clause-done g c = rw c.requires.ready.unwritten (λ page judged whole shown asked.
     let all = c.args.held.now in
     carries_other page judged (kept_of c.args.records.now.tables c.args.live.now all) c.args.loading.now.session c.get_data.new.reply.items c.get_data.result
     c.args.request.now _ c.in-Get.is (λ no. no) asked.asks shown.loading
@@ -61,7 +61,7 @@ returns-in-Get-clause-done g c = rw c.requires.unwritten (λ page judged whole s
 
 -- INITIALIZE UPDATE
 pub returns-in-Initialize-clause-done : goal.returns-in-Initialize-clause-done
-returns-in-Initialize-clause-done g c = rw c.requires.unwritten (λ page judged whole shown asked.
+returns-in-Initialize-clause-done g c = rw c.requires.ready.unwritten (λ page judged whole shown asked.
     let tables = c.args.records.now.tables in
     let after = c.initialize_update.new.records.tables in
     let live = c.args.live.now in
@@ -73,38 +73,38 @@ returns-in-Initialize-clause-done g c = rw c.requires.unwritten (λ page judged 
     c.args.request.now _ c.in-Initialize.is (λ no. no) asked.asks
     (over_loading page tables after loading judged.at.volatile.load (files_free tables after c.initialize_update.ensures.files)
     (λ kept there. ap (λ (es : List (Option Entry)). domain_aid es (load_slot kept)) c.initialize_update.ensures.entries) shown.loading)
-    (λ is. offer_done page tables live all judged shown.on c.told-held c.args.received.now.channel c.args.received.now.selected c.requires.channel asked.on c.requires.selected
+    (λ is. offer_done page tables live all judged shown.on c.told-held c.args.received.now.channel c.args.received.now.selected c.requires.ready.channel asked.on c.requires.ready.selected
     c.from-at.result c.index-held-at-in-Initialize.result c.from-at.ensures now after body c.initialize_update.result is.form c.initialize_update.ensures.entries
     (λ acts. c.initialize_update.ensures.done page judged acts is)))
 
 -- EXTERNAL AUTHENTICATE
 pub returns-in-Authenticate-clause-done : goal.returns-in-Authenticate-clause-done
-returns-in-Authenticate-clause-done g c = rw c.requires.unwritten (λ page judged whole shown asked.
+returns-in-Authenticate-clause-done g c = rw c.requires.ready.unwritten (λ page judged whole shown asked.
     let tables = c.args.records.now.tables in
     let live = c.args.live.now in
     let all = c.args.held.now in
     let now = c.external_authenticate.new.held in
     carries_other page judged (kept_of tables live (slice_set all c.from-at.result now)) c.args.loading.now.session c.args.reply.now.items c.external_authenticate.result
     c.args.request.now _ c.in-Authenticate.is (λ no. no) asked.asks shown.loading
-    (λ is. rw c.requires.empty (answer_done page tables live all judged shown.on c.told-held c.args.received.now.channel c.args.received.now.selected c.requires.channel asked.on c.requires.selected
+    (λ is. rw c.requires.ready.empty (answer_done page tables live all judged shown.on c.told-held c.args.received.now.channel c.args.received.now.selected c.requires.ready.channel asked.on c.requires.ready.selected
     c.from-at.result c.index-held-at-in-Authenticate.result c.from-at.ensures now c.external_authenticate.result is.form (c.external_authenticate.ensures judged is))))
 
 -- GET STATUS
 pub get_status-requires-clause-in_order : goal.get_status-requires-clause-in_order
-get_status-requires-clause-in_order g c = subst IsInOrder (sym c.tables-in-List.ensures.tables) (in_order c.args.records.now.tables c.requires.cards)
+get_status-requires-clause-in_order g c = subst IsInOrder (sym c.tables-in-List.ensures.tables) (in_order c.args.records.now.tables c.requires.ready.cards)
 
 pub get_status-requires-clause-formed : goal.get_status-requires-clause-formed
 get_status-requires-clause-formed g c = subst IsWellFormed c.in-List.is c.requires.formed
 
 pub returns-in-List-clause-done : goal.returns-in-List-clause-done
-returns-in-List-clause-done g c = rw c.requires.unwritten (λ page judged whole shown asked.
+returns-in-List-clause-done g c = rw c.requires.ready.unwritten (λ page judged whole shown asked.
     let tables = c.args.records.now.tables in
     let live = c.args.live.now in
     let all = c.args.held.now in
     let body = c.get_status.new.reply.items in
     carries_other page judged (kept_of tables c.get_status.new.live all) c.args.loading.now.session body c.get_status.result
     c.args.request.now _ c.in-List.is (λ no. no) asked.asks shown.loading
-    (λ is. listing_done page tables live all judged shown.on c.told-held c.args.received.now.channel c.args.received.now.selected c.requires.channel asked.on c.requires.selected
+    (λ is. listing_done page tables live all judged shown.on c.told-held c.args.received.now.channel c.args.received.now.selected c.requires.ready.channel asked.on c.requires.ready.selected
     c.get_status.new.live body c.get_status.result (λ acts. (rw c.tables-in-List.ensures.tables at c.get_status.ensures.done) page judged acts shown.on.shows.says (record {
       on = asked.on;
       asks = is;
@@ -119,59 +119,59 @@ pub manage-requires-clause-changing : goal.manage-requires-clause-changing
 manage-requires-clause-changing g c = (0, omega arith, refl)
 
 pub returns-in-PutKey-clause-done : goal.returns-in-PutKey-clause-done
-returns-in-PutKey-clause-done g c = rw (c.requires.unwritten, c.in-PutKey.is) (c.manage.ensures.done _ _)
+returns-in-PutKey-clause-done g c = rw (c.requires.ready.unwritten, c.in-PutKey.is) (c.manage.ensures.done _ _)
 
 pub manage-requires-in-Store-clause-changing : goal.manage-requires-in-Store-clause-changing
 manage-requires-in-Store-clause-changing g c = (1, omega arith, refl)
 
 pub returns-in-Store-clause-done : goal.returns-in-Store-clause-done
-returns-in-Store-clause-done g c = rw (c.requires.unwritten, c.in-Store.is) (c.manage-in-Store.ensures.done _ _)
+returns-in-Store-clause-done g c = rw (c.requires.ready.unwritten, c.in-Store.is) (c.manage-in-Store.ensures.done _ _)
 
 pub manage-requires-in-DeleteKey-clause-changing : goal.manage-requires-in-DeleteKey-clause-changing
 manage-requires-in-DeleteKey-clause-changing g c = (2, omega arith, refl)
 
 pub returns-in-DeleteKey-clause-done : goal.returns-in-DeleteKey-clause-done
-returns-in-DeleteKey-clause-done g c = rw (c.requires.unwritten, c.in-DeleteKey.is) (c.manage-in-DeleteKey.ensures.done _ _)
+returns-in-DeleteKey-clause-done g c = rw (c.requires.ready.unwritten, c.in-DeleteKey.is) (c.manage-in-DeleteKey.ensures.done _ _)
 
 pub manage-requires-in-DeleteObject-clause-changing : goal.manage-requires-in-DeleteObject-clause-changing
 manage-requires-in-DeleteObject-clause-changing g c = (2, omega arith, refl)
 
 pub returns-in-DeleteObject-clause-done : goal.returns-in-DeleteObject-clause-done
-returns-in-DeleteObject-clause-done g c = rw (c.requires.unwritten, c.in-DeleteObject.is) (c.manage-in-DeleteObject.ensures.done _ _)
+returns-in-DeleteObject-clause-done g c = rw (c.requires.ready.unwritten, c.in-DeleteObject.is) (c.manage-in-DeleteObject.ensures.done _ _)
 
 pub manage-requires-in-Install-clause-changing : goal.manage-requires-in-Install-clause-changing
 manage-requires-in-Install-clause-changing g c = (3, omega arith, refl)
 
 pub returns-in-Install-clause-done : goal.returns-in-Install-clause-done
-returns-in-Install-clause-done g c = rw (c.requires.unwritten, c.in-Install.is) (c.manage-in-Install.ensures.done _ _)
+returns-in-Install-clause-done g c = rw (c.requires.ready.unwritten, c.in-Install.is) (c.manage-in-Install.ensures.done _ _)
 
 pub manage-requires-in-MakeSelectable-clause-changing : goal.manage-requires-in-MakeSelectable-clause-changing
 manage-requires-in-MakeSelectable-clause-changing g c = (3, omega arith, refl)
 
 pub returns-in-MakeSelectable-clause-done : goal.returns-in-MakeSelectable-clause-done
-returns-in-MakeSelectable-clause-done g c = rw (c.requires.unwritten, c.in-MakeSelectable.is) (c.manage-in-MakeSelectable.ensures.done _ _)
+returns-in-MakeSelectable-clause-done g c = rw (c.requires.ready.unwritten, c.in-MakeSelectable.is) (c.manage-in-MakeSelectable.ensures.done _ _)
 
 pub manage-requires-in-Extradite-clause-changing : goal.manage-requires-in-Extradite-clause-changing
 manage-requires-in-Extradite-clause-changing g c = (3, omega arith, refl)
 
 pub returns-in-Extradite-clause-done : goal.returns-in-Extradite-clause-done
-returns-in-Extradite-clause-done g c = rw (c.requires.unwritten, c.in-Extradite.is) (c.manage-in-Extradite.ensures.done _ _)
+returns-in-Extradite-clause-done g c = rw (c.requires.ready.unwritten, c.in-Extradite.is) (c.manage-in-Extradite.ensures.done _ _)
 
 pub manage-requires-in-CardStatus-clause-changing : goal.manage-requires-in-CardStatus-clause-changing
 manage-requires-in-CardStatus-clause-changing g c = (5, omega arith, refl)
 
 pub returns-in-CardStatus-clause-done : goal.returns-in-CardStatus-clause-done
-returns-in-CardStatus-clause-done g c = rw (c.requires.unwritten, c.in-CardStatus.is) (c.manage-in-CardStatus.ensures.done _ _)
+returns-in-CardStatus-clause-done g c = rw (c.requires.ready.unwritten, c.in-CardStatus.is) (c.manage-in-CardStatus.ensures.done _ _)
 
 pub manage-requires-in-EntryStatus-clause-changing : goal.manage-requires-in-EntryStatus-clause-changing
 manage-requires-in-EntryStatus-clause-changing g c = (5, omega arith, refl)
 
 pub returns-in-EntryStatus-clause-done : goal.returns-in-EntryStatus-clause-done
-returns-in-EntryStatus-clause-done g c = rw (c.requires.unwritten, c.in-EntryStatus.is) (c.manage-in-EntryStatus.ensures.done _ _)
+returns-in-EntryStatus-clause-done g c = rw (c.requires.ready.unwritten, c.in-EntryStatus.is) (c.manage-in-EntryStatus.ensures.done _ _)
 
 -- INSTALL [for load]
 pub begin_load-requires-clause-in_order : goal.begin_load-requires-clause-in_order
-begin_load-requires-clause-in_order g c = subst IsInOrder (sym c.tables-in-InstallLoad.ensures.tables) (in_order c.args.records.now.tables c.requires.cards)
+begin_load-requires-clause-in_order g c = subst IsInOrder (sym c.tables-in-InstallLoad.ensures.tables) (in_order c.args.records.now.tables c.requires.ready.cards)
 
 pub begin_load-requires-clause-formed : goal.begin_load-requires-clause-formed
 begin_load-requires-clause-formed g c = subst IsWellFormed c.in-InstallLoad.is c.requires.formed
@@ -181,8 +181,8 @@ returns-in-InstallLoad-clause-done g c = λ page judged whole shown asked.
     let tables = c.args.records.now.tables in
     let live = c.args.live.now in
     let begin = c.begin_load in
-    rw (begin.ensures.writes, c.requires.unwritten)
-    (loading_done page tables live c.args.held.now judged shown.on c.told-held c.args.received.now.channel c.args.received.now.selected c.requires.channel asked.on c.requires.selected
+    rw (begin.ensures.writes, c.requires.ready.unwritten)
+    (loading_done page tables live c.args.held.now judged shown.on c.told-held c.args.received.now.channel c.args.received.now.selected c.requires.ready.channel asked.on c.requires.ready.selected
     page tables begin.new.live c.args.loading.now.session begin.new.loading.session begin.new.reply.items begin.result
     (begin_left page tables live begin.new.live c.args.loading.now begin.new.loading begin.result begin.ensures.refused) shown.loading
     (λ acts. (rw c.tables-in-InstallLoad.ensures.tables at begin.ensures.done) page judged acts shown.on.shows.says shown.on.sound.fits.channels asked.on
@@ -201,9 +201,9 @@ pub returns-in-Load-clause-done : goal.returns-in-Load-clause-done
 returns-in-Load-clause-done g c = λ page judged whole shown asked.
     let live = c.args.live.now in
     let load = c.load in
-    loading_done page c.args.records.now.tables live c.args.held.now judged shown.on c.told-held c.args.received.now.channel c.args.received.now.selected c.requires.channel asked.on c.requires.selected
+    loading_done page c.args.records.now.tables live c.args.held.now judged shown.on c.told-held c.args.received.now.channel c.args.received.now.selected c.requires.ready.channel asked.on c.requires.ready.selected
     (loaded page load.new.loading.writes.items) load.new.records.tables load.new.live c.args.loading.now.session load.new.loading.session load.new.reply.items load.result
-    (load_left page c.args.records.now load.new.records live load.new.live c.args.loading.now load.new.loading load.result c.requires.unwritten load.ensures.refused) shown.loading
+    (load_left page c.args.records.now load.new.records live load.new.live c.args.loading.now load.new.loading load.result c.requires.ready.unwritten load.ensures.refused) shown.loading
     (λ acts. load.ensures.done page judged acts shown.on.shows.says shown.on.sound.fits.channels whole shown.on.sound shown.loading asked.on
     (subst (λ (r : Request). IsRequestOf r judged.command) c.in-Load.is asked.asks))
 

@@ -14,6 +14,7 @@ use Rattle.policy_rules.specs.declared.request.Request.{Request}
 use Rattle.card_core.specs.Serves.{IsAsked, IsPassed}
 use Rattle.policy_rules.specs.declared.live.TheConstants.{CHANNELS}
 use Rattle.card_core.specs.Offers.{secure_channel_for}
+use Rattle.card_core.specs.Ready.{IsReady}
 use Rattle.card_core.specs.SecureChannels.{IsInSession, RepresentsSecureChannel, without_offer_held}
 use Rattle.card_core.specs.declared.channel_session.ChannelSession.{ChannelSession}
 use Rattle.card_core.specs.declared.channel_session.ChannelSession.TheVariants as held
@@ -40,25 +41,29 @@ returns-in-Err-clause-done g c = λ page judged whole shown passed.
     let body = c.args.reply.now.items in
     let rule = c.in-Err.rule in
     let place = c.from-at.ensures ∙ at in
-    let low = low page tables live all judged stands c.told-held c.args.received.now.channel slot c.requires.channel at c.requires.selected in
-    let here = held_there page tables live all judged stands c.told-held c.args.received.now.channel slot c.requires.channel at c.requires.selected
+    let low = low page tables live all judged stands c.told-held c.args.received.now.channel slot c.requires.ready.channel at c.requires.ready.selected in
+    let here = held_there page tables live all judged stands c.told-held c.args.received.now.channel slot c.requires.ready.channel at c.requires.ready.selected
     c.from-at.result c.index-held-at.result c.from-at.ensures in
     let judges = c.in-Err.ensures.refused judged
     (subst (λ (h : ChannelSession). RepresentsSecureChannel h (secure_channel_for judged)) (sym here) (stands.shows.holds judged.channel low)) passed.is in
     let dropped = c.refuse.ensures.held
     ∙ ap without_offer_held (read_at all c.from-at.result judged.channel c.index-held-at-in-Err.result c.told-held low place) in
-    rw c.requires.unwritten (refused_carried page (record { tables = tables; live = live; held = all }) judged body rule c.args.received.now.channel c.from-at.result c.refuse.new.live c.refuse.new.held at place
+    rw c.requires.ready.unwritten (refused_carried page (record { tables = tables; live = live; held = all }) judged body rule c.args.received.now.channel c.from-at.result c.refuse.new.live c.refuse.new.held at place
     c.refuse.ensures.live dropped
     (refusal_carried page (record { tables = tables; live = live; held = all }) judged body (Err rule) rule refl
-    (record { held = c.told-held; channels = stands.sound.fits.channels }) low stands.shows judges c.requires.empty)
+    (record { held = c.told-held; channels = stands.sound.fits.channels }) low stands.shows judges c.requires.ready.empty)
     c.args.loading.now.session shown.loading)
 
 pub returns-in-Err-clause-kept : goal.returns-in-Err-clause-kept
 returns-in-Err-clause-kept g c = λ secured kinds.
-    session_kept c.args.held.now c.from-at.result c.args.received.now.channel c.refuse.new.held c.index-held-at-in-Err.result c.told-held c.requires.channel c.from-at.ensures
+    session_kept c.args.held.now c.from-at.result c.args.received.now.channel c.refuse.new.held c.index-held-at-in-Err.result c.told-held c.requires.ready.channel c.from-at.ensures
     c.refuse.ensures.held secured
 
 -- any other is done, or refused
+pub perform-served-requires-clause-ready : goal.perform-served-requires-clause-ready
+perform-served-requires-clause-ready g c =
+    subst (λ (ins : ℕ). IsReady ins c.args.records.now c.args.live.now c.args.held.now c.args.loading.now c.args.received.now c.args.reply.now.items) c.in-Ok.ensures.asks.form.0 c.requires.ready
+
 pub perform-served-requires-clause-formed : goal.perform-served-requires-clause-formed
 perform-served-requires-clause-formed g c = (apdu_of c.args.command.now, c.in-Ok.ensures.asks, c.requires.short)
 
@@ -73,7 +78,7 @@ returns-in-Err-served-clause-done g c = λ page judged whole stands passed.
     let four : length c.perform-served.new.held ≡ CHANNELS = search rules in
     let place = c.from-at.ensures ∙ at in
     let dropped = c.refuse-in-Err-served.ensures.held
-    ∙ ap without_offer_held (read_at all c.from-at.result judged.channel c.index-held-at-in-Err-served.result four (subst (λ (n : ℕ). n < CHANNELS) at c.requires.channel) place) in
+    ∙ ap without_offer_held (read_at all c.from-at.result judged.channel c.index-held-at-in-Err-served.result four (subst (λ (n : ℕ). n < CHANNELS) at c.requires.ready.channel) place) in
     (refused_carried (loaded page c.perform-served.new.loading.writes.items)
     (record { tables = c.perform-served.new.records.tables; live = c.perform-served.new.live; held = all })
     judged c.perform-served.new.reply.items c.in-Err-served.rule c.args.received.now.channel c.from-at.result c.refuse-in-Err-served.new.live c.refuse-in-Err-served.new.held at place
@@ -83,7 +88,7 @@ pub returns-in-Err-served-clause-kept : goal.returns-in-Err-served-clause-kept
 returns-in-Err-served-clause-kept g c = λ secured kinds.
     let same = c.in-Err-served.ensures.kept (subst (λ (ins : ℕ). (ins ≡ GET_DATA) ⊎ Contains managing ins) c.in-Ok.ensures.asks.form.0 kinds) in
     let four : length c.perform-served.new.held ≡ CHANNELS = search rules in
-    session_kept c.perform-served.new.held c.from-at.result c.args.received.now.channel c.refuse-in-Err-served.new.held c.index-held-at-in-Err-served.result four c.requires.channel c.from-at.ensures
+    session_kept c.perform-served.new.held c.from-at.result c.args.received.now.channel c.refuse-in-Err-served.new.held c.index-held-at-in-Err-served.result four c.requires.ready.channel c.from-at.ensures
     c.refuse-in-Err-served.ensures.held (subst (λ (h : List ChannelSession). IsInSession (slice_index_or h c.args.received.now.channel held.Nothing)) (sym same) secured) ∙ same
 
 pub returns-in_default-clause-done : goal.returns-in_default-clause-done

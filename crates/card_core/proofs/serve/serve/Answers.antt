@@ -42,13 +42,21 @@ pass-requires-clause-short g c = length-body (apdu_of c.in-Ok.received.command) 
 pub plain_body-requires-clause-short : goal.plain_body-requires-clause-short
 plain_body-requires-clause-short g c = length-body (apdu_of c.in-Ok.received.command) c.args.bytes.now c.in-Ok.ensures.spelled
 
-pub act-served-requires-clause-selected : goal.act-served-requires-clause-selected
-act-served-requires-clause-selected g c = rw c.in-Ok-pass.ensures.selected (rw c.take_place-place.ensures.forgotten c.in-Ok.ensures.selected)
-
-pub act-served-requires-clause-secured : goal.act-served-requires-clause-secured
-act-served-requires-clause-secured g c = λ managed.
+pub act-served-requires-clause-ready : goal.act-served-requires-clause-ready
+act-served-requires-clause-ready g c =
     let low = subst (λ (n : ℕ). n < CHANNELS) (sym c.in-Ok.ensures.channel) (channel_is_low c.in-Ok.received.command.class) in
-    subst IsInSession (sym (written_on c.args.held.now c.from-channel.result c.in-Ok.received.channel c.pass.new.held c.told-held low c.from-channel.ensures)) (c.in-Ok-pass.ensures.managed managed)
+    let there = written_on c.args.held.now c.from-channel.result c.in-Ok.received.channel c.pass.new.held c.told-held low c.from-channel.ensures in
+    record {
+      live = c.requires.live;
+      clean = c.requires.clean;
+      cards = c.requires.cards;
+      channel = low;
+      selected = rw c.in-Ok-pass.ensures.selected (rw c.take_place-place.ensures.forgotten c.in-Ok.ensures.selected);
+      domain = rw c.tables.ensures.tables at c.in-Ok.ensures.domain;
+      secured = λ managed. subst IsInSession (sym there) (c.in-Ok-pass.ensures.managed managed);
+      unwritten = c.requires.unwritten;
+      empty = c.requires.empty;
+    }
 
 pub act-served-requires-clause-passed : goal.act-served-requires-clause-passed
 act-served-requires-clause-passed g c =
