@@ -28,7 +28,8 @@ use Rattle.gp_tool.specs.RunsLines.{Memory, PlaysLine, RunsLines, no_memory, sta
 use Rattle.line_runs.specs.Outside.{bad_line}
 use Rattle.gp_tool.specs.Serve.{Standing}
 use Rattle.gp_tool.specs.Standing.{Held, Means}
-use Rattle.gp_tool.specs.Turn.{EndsWith, GoesOn, TakesLine, total}
+use Rattle.line_runs.specs.Turn.{total}
+use Rattle.gp_tool.specs.Turn.{EndsWith, GoesOn, TakesLine}
 use Rattle.gp_tool.specs.declared.ending.Ending.{Ending}
 use Rattle.gp_tool.specs.declared.ending.Ending.TheVariants.{Finished, Differs, BadLine, FlashFault, ReadFault, WriteFault, InputTooLong}
 use Rattle.gp_tool.specs.declared.verb.Verb.{Verb}

@@ -11,7 +11,8 @@ use Rattle.gp_tool.specs.RunsLines.{FailsLine, HasForm, Memory, PlaysLine}
 use Rattle.line_runs.specs.Outside.{bad_line}
 use Rattle.gp_tool.specs.Serve.{BreaksLine, RunsLine, Standing}
 use Rattle.gp_tool.specs.Standing.{Held, Means}
-use Rattle.gp_tool.specs.Turn.{BreaksNext, EndsWith, IsAtEnd, Refuses, TakesLine, TakesNext, ending_of}
+use Rattle.line_runs.specs.Turn.{IsAtEnd, TakesFew}
+use Rattle.gp_tool.specs.Turn.{BreaksNext, EndsWith, Refuses, TakesLine, ending_of}
 use Rattle.gp_tool.specs.declared.ending.Ending.{Ending}
 use Rattle.gp_tool.specs.declared.ending.Ending.TheVariants.{Finished, Differs, BadLine, FlashFault, ReadFault, WriteFault, InputTooLong}
 use Rattle.gp_tool.specs.declared.verb.Verb.{Verb}
@@ -19,7 +20,7 @@ use Rattle.gp_tool.specs.declared.verb.Verb.{Verb}
 -- a run ends with a bad line as its number was written
 pub refusal_ends : {F : Type 0} (verb : Verb) (device : Flash F) (reads writes : Type 0) (at at' : Standing F (Held verb)) (old : Reading) (before now : Outside) (ending : Ending)
     → at' ≡ at → ((memory : Memory verb) → Means verb at.held memory → reads → IsBad verb memory (room old) (ahead old before.source.left)) → Refuses writes (old.number + 1) before.sink.written now.sink.written ending
-    → TakesNext reads old before now → EndsWith verb device reads writes at at' old before now ending
+    → TakesFew reads old before now → EndsWith verb device reads writes at at' old before now ending
 refusal_ends verb device reads writes at at' old before now BadLine same bad refuses taken = (same, (bad, refuses, taken))
 refusal_ends verb device reads writes at at' old before now WriteFault same bad refuses taken = inr (same, (bad, refuses, taken))
 refusal_ends verb device reads writes at at' old before now Finished same bad refuses taken = absurd refuses

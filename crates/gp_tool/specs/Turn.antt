@@ -7,10 +7,10 @@ use Rattle.io_edge.specs.declared.line.TheConstants.{LINE_LIMIT}
 use Rattle.flash_core.specs.declared.flash.Flash.{Ghosts as Flash}
 use Rattle.gp_tool.specs.Effects.{Place}
 use Rattle.gp_tool.specs.Ends.{IsBad}
-use Rattle.line_runs.specs.Outside.{Outside}
+use Rattle.line_runs.specs.Outside.{Outside, bad_line}
 use Rattle.line_runs.specs.Taken.{HoldsNoLine, IsShortCut, TakesNoMore}
+use Rattle.line_runs.specs.Turn.{IsAtEnd, Silent, TakesFew, total}
 use Rattle.gp_tool.specs.RunsLines.{FailsLine, Memory, PlaysLine}
-use Rattle.line_runs.specs.Outside.{bad_line}
 use Rattle.gp_tool.specs.Serve.{BreaksLine, RunsLine, Standing, StandsAt}
 use Rattle.gp_tool.specs.Standing.{Held, Means}
 use Rattle.gp_tool.specs.declared.ending.Ending.{Ending}
@@ -43,18 +43,6 @@ pub record GoesOn {F : Type 0} (verb : Verb) (device : Flash F) (reads writes : 
       × (old.passed + length takes.line ≤ new.passed)
       × (writes → now.sink.written ≡ before.sink.written ++ concat takes.played.effect.texts)
 
--- how many bytes an input has of which so many were passed
-abbrev pub total : Reading → Outside → ℕ
-total old before = old.passed + length (ahead old before.source.left)
-
--- what was taken of what stood ahead
-abbrev pub TakesNext : Type 0 → Reading → Outside → Outside → Type 0
-TakesNext reads old before now = reads → TakesNoMore (total old before) (ahead old before.source.left) now.source.left
-
--- nothing more was written
-abbrev pub Silent : Type 0 → Outside → Outside → Type 0
-Silent writes before now = writes → now.sink.written ≡ before.sink.written
-
 -- what is written of a bad line, whole or up to a fault
 abbrev pub Refuses : Type 0 → ℕ → List ℕ → List ℕ → Ending → Type 0
 Refuses writes number old new BadLine = writes → new ≡ old ++ bad_line number
@@ -65,17 +53,12 @@ Refuses writes number old new ending = ⊥
 abbrev pub RefusesNext : (verb : Verb) → Type 0 → Type 0 → Held verb → Reading → Outside → Outside → Ending → Type 0
 RefusesNext verb reads writes held old before now ending =
     ((memory : Memory verb) → Means verb held memory → reads → IsBad verb memory (room old) (ahead old before.source.left)) × Refuses writes (old.number + 1) before.sink.written now.sink.written ending
-    × TakesNext reads old before now
+    × TakesFew reads old before now
 
 -- how a run ends at the end of its input, by whether a reply has differed
 abbrev pub ending_of : Bool → Ending
 ending_of false = Finished
 ending_of true = Differs
-
--- the input is at its end
-abbrev pub IsAtEnd : Type 0 → Type 0 → Reading → Outside → Outside → Type 0
-IsAtEnd reads writes old before now =
-    (reads → ahead old before.source.left ≡ []) × (reads → 0 < room old) × (reads → now.source.left ≡ []) × Silent writes before now
 
 -- The run ends with what is ahead.
 abbrev pub EndsWith : {F : Type 0} (verb : Verb) → Flash F → Type 0 → Type 0 → Standing F (Held verb) → Standing F (Held verb) → Reading → Outside → Outside → Ending → Type 0
@@ -83,12 +66,12 @@ EndsWith verb device reads writes at at' old before now Finished = (at' ≡ at) 
 EndsWith verb device reads writes at at' old before now Differs = (at' ≡ at) × (at.differs ≡ true) × IsAtEnd reads writes old before now
 EndsWith verb device reads writes at at' old before now BadLine = (at' ≡ at) × RefusesNext verb reads writes at.held old before now BadLine
 EndsWith verb device reads writes at at' old before now FlashFault =
-    Silent writes before now × TakesNext reads old before now
+    Silent writes before now × TakesFew reads old before now
     × ((place : Place (Memory verb)) → StandsAt (Means verb) device at place → BreaksNext verb device reads at at' place (room old) (ahead old before.source.left))
 EndsWith verb device reads writes at at' old before now ReadFault =
-    (at' ≡ at) × (reads → HoldsNoLine (ahead old before.source.left) now.source.left) × Silent writes before now × TakesNext reads old before now
+    (at' ≡ at) × (reads → HoldsNoLine (ahead old before.source.left) now.source.left) × Silent writes before now × TakesFew reads old before now
 EndsWith verb device reads writes at at' old before now InputTooLong =
-    (at' ≡ at) × (reads → IsShortCut (room old) (ahead old before.source.left)) × Silent writes before now × TakesNext reads old before now
+    (at' ≡ at) × (reads → IsShortCut (room old) (ahead old before.source.left)) × Silent writes before now × TakesFew reads old before now
 EndsWith verb device reads writes at at' old before now WriteFault =
     ((place : Place (Memory verb)) → StandsAt (Means verb) device at place
     → (after : List ℕ) × (takes : TakesLine verb device reads (old.number + 1) at at' place (room old) (ahead old before.source.left) after)
