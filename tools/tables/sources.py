@@ -135,8 +135,9 @@ for tags, sizes in re.findall(r"^        (0x.*) => (.*),$", is_object, re.M):
         object_sizes[f"{int(tag, 16):04X}"] = " to ".join(re.findall(r"\d+", sizes))
 
 # How the program ends: endings, cards that are not powered on, words; and the script that builds it.
-tool_text = "".join((TOOL / name).read_text() for name in ("ending.rt", "run_verb.rt", "top.rt", "desk_verb.rt", "cap_verb.rt"))
-ends = set(re.findall(r"=> (\d+),$", tool_text, re.M)) | set(re.findall(r"ExitCode::from\((\d+)\)", (TOOL / "program.rt").read_text()))
+tool_text = (CRATES / "line_runs/src/exit.rt").read_text()
+tool_text += "".join((TOOL / name).read_text() for name in ("run_verb.rt", "top.rt", "desk_verb.rt", "cap_verb.rt"))
+ends = set(re.findall(r"(?:=> |status_with\()(\d+)[,)]$", tool_text, re.M)) | set(re.findall(r"ExitCode::from\((\d+)\)", (TOOL / "program.rt").read_text()))
 no_binary = re.search(r"^readonly no_binary=(\d+)$", (TOP / "tools/prove").read_text(), re.M).group(1)
 
 # The limits.

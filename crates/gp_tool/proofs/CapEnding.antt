@@ -13,14 +13,14 @@ use Rattle.line_runs.specs.Ends.{EndsAt}
 use Rattle.line_runs.specs.Outside.{Outside, outside}
 use Rattle.line_runs.specs.declared.ending.LinesEnd.{LinesEnd}
 use Rattle.line_runs.specs.declared.ending.LinesEnd.TheVariants as lines
+use Rattle.line_runs.specs.Exit.{ending_of_lines, status_with}
 use Rattle.gp_tool.proofs.DeskEnding.{still_bad, still_cut, still_long, still_unread}
 use Rattle.gp_tool.specs.Around.{around}
-use Rattle.gp_tool.specs.Cap.{CapCourse, CapEndsAt, CapFaultless, ComesTo, Packs, WritesJoined, WritesPack, cap_status, pack_line}
+use Rattle.gp_tool.specs.Cap.{CapCourse, CapEndsAt, CapFaultless, ComesTo, Packs, WritesJoined, WritesPack, pack_line}
 use Rattle.gp_tool.specs.Ends.{EndCause}
 use Rattle.gp_tool.specs.Flush.{AfterFlush, IsFlushed}
-use Rattle.gp_tool.specs.LineEndings.{ending_of_lines}
-use Rattle.gp_tool.specs.declared.ending.Ending.{Ending}
-use Rattle.gp_tool.specs.declared.ending.Ending.TheVariants.{Finished, Differs, BadLine, FlashFault, ReadFault, WriteFault, InputTooLong}
+use Rattle.line_runs.specs.declared.exit.Ending.{Ending}
+use Rattle.line_runs.specs.declared.exit.Ending.TheVariants.{Finished, Differs, BadLine, Failed, ReadFault, WriteFault, InputTooLong}
 
 -- the lines of a CAP file that was read are those that its bytes come to
 pub packed : (cap : Cap) (aids : List (List ℕ)) (all : List ℕ) → cap.bytes.now ≡ all → IsCap cap aids → ComesTo all false (flat_map pack_line (pack_of cap aids))
@@ -56,7 +56,7 @@ module _ {reads : Type 0} (writes : Type 0) (old : Outside) (source : SourceStat
     λ told. (let part = wrote told in (part.0, part.1 ∙ ap (λ m. m ++ take part.0 text) (silent told))),
   ))
   finished_ends BadLine wrote = absurd wrote
-  finished_ends FlashFault wrote = absurd wrote
+  finished_ends Failed wrote = absurd wrote
   finished_ends ReadFault wrote = absurd wrote
   finished_ends InputTooLong wrote = absurd wrote
 
@@ -85,7 +85,7 @@ written_well bytes writes old new Finished wrote = (λ is. cc is, λ is. cc is)
 written_well bytes writes old new Differs wrote = (λ is. cc is, λ is. cc is)
 written_well bytes writes old new WriteFault wrote = (λ is. cc is, λ is. cc is)
 written_well bytes writes old new BadLine wrote = absurd wrote
-written_well bytes writes old new FlashFault wrote = absurd wrote
+written_well bytes writes old new Failed wrote = absurd wrote
 written_well bytes writes old new ReadFault wrote = absurd wrote
 written_well bytes writes old new InputTooLong wrote = absurd wrote
 
@@ -109,7 +109,7 @@ module _ {reads : Type 0} (writes : Type 0) (old : Outside) (source : SourceStat
   still_faultless Differs at = still_written true at
   still_faultless BadLine at = still_bad writes old source now later same course at
   still_faultless InputTooLong at = still_long writes old source now later same course at
-  still_faultless FlashFault at = absurd at
+  still_faultless Failed at = absurd at
   still_faultless ReadFault at = absurd at
   still_faultless WriteFault at = absurd at
 
@@ -122,7 +122,7 @@ module _ {reads : Type 0} (writes : Type 0) (old : Outside) (source : SourceStat
   cap_ends Differs result at after = flush_at Differs result at (λ it. it) after
   cap_ends BadLine result at after = flush_at BadLine result at (λ it. it) after
   cap_ends InputTooLong result at after = flush_at InputTooLong result at (λ it. it) after
-  cap_ends FlashFault result at after = absurd at
+  cap_ends Failed result at after = absurd at
   cap_ends ReadFault result at after = rw after.0 (still_unread writes old source now later same course at)
   cap_ends WriteFault result (inl cut) after = rw after.0 (inl (still_cut writes old source now later same course after.1 cut))
   cap_ends WriteFault result (inr (inl (refused, text, p, flushes, wrote))) after =
@@ -132,12 +132,12 @@ module _ {reads : Type 0} (writes : Type 0) (old : Outside) (source : SourceStat
 -- where nothing has failed and each line was good, all is done
 pub cap_done : {reads : Type 0} (writes : Type 0) (old new : Outside) (course : CapCourse reads old new) (result : Ending) (source source' sink sink' : ℕ)
     → CapEndsAt writes old new course result → EndCause result (around source sink 0) (around source' sink' 0) → (Rose source source' → ⊥) → (Rose sink sink' → ⊥)
-    → result ≢ BadLine → result ≢ InputTooLong → (cap_status result ≡ 0) ⊎ (cap_status result ≡ 11) ⊎ (cap_status result ≡ 7)
+    → result ≢ BadLine → result ≢ InputTooLong → (status_with 11 result ≡ 0) ⊎ (status_with 11 result ≡ 11) ⊎ (status_with 11 result ≡ 7)
 cap_done writes old new course Finished source source' sink sink' at cause unread unwritten good short = inl refl
 cap_done writes old new course Differs source source' sink sink' at cause unread unwritten good short = inr (inl refl)
 cap_done writes old new course BadLine source source' sink sink' at cause unread unwritten good short = absurd (good refl)
 cap_done writes old new course InputTooLong source source' sink sink' at cause unread unwritten good short = absurd (short refl)
-cap_done writes old new course FlashFault source source' sink sink' at cause unread unwritten good short = absurd at
+cap_done writes old new course Failed source source' sink sink' at cause unread unwritten good short = absurd at
 cap_done writes old new course ReadFault source source' sink sink' at cause unread unwritten good short = absurd (unread cause)
 cap_done writes old new course WriteFault source source' sink sink' at cause unread unwritten good short = absurd (unwritten cause.1)
 

@@ -8,16 +8,17 @@ use Rattle.io_edge.specs.declared.line.TheConstants.{INPUT_LIMIT, LINE_LIMIT}
 use Rattle.policy_rules.specs.State.{State}
 use Rattle.policy_rules.specs.Step.{Outcome}
 use Rattle.line_runs.proofs.ComeFirst.{lines_come, shrinks}
+use Rattle.line_runs.specs.Exit.{exit_status}
 use Rattle.gp_tool.specs.Around.{Around}
 use Rattle.gp_tool.specs.Effects.{Effect, Place}
-use Rattle.gp_tool.specs.Ends.{Ends, EndCause, IsBad, exit_status}
+use Rattle.gp_tool.specs.Ends.{Ends, EndCause, IsBad}
 use Rattle.line_runs.specs.Outside.{Outside}
 use Rattle.line_runs.specs.Taken.{room_ahead}
 use Rattle.gp_tool.specs.Going.{Reached}
 use Rattle.gp_tool.specs.RunsLines.{AreServable, HasForm, Memory, RunsLines, start}
 use Rattle.gp_tool.specs.Verbs.{IsDone}
-use Rattle.gp_tool.specs.declared.ending.Ending.{Ending}
-use Rattle.gp_tool.specs.declared.ending.Ending.TheVariants.{Finished, Differs, BadLine, FlashFault, ReadFault, WriteFault, InputTooLong}
+use Rattle.line_runs.specs.declared.exit.Ending.{Ending}
+use Rattle.line_runs.specs.declared.exit.Ending.TheVariants.{Finished, Differs, BadLine, Failed, ReadFault, WriteFault, InputTooLong}
 use Rattle.gp_tool.specs.declared.verb.Verb.{Verb}
 use Rattle.gp_tool.specs.declared.verb.Verb.TheVariants as verb
 
@@ -97,7 +98,7 @@ module _ (v : Verb) (reads writes : Type 0) (Rests : List Outcome → State → 
       let course = ends.course in
       let at = ends.ends in
       absurd (never_bad v before.source.left (start v first) course.last course.given course.effect course.ahead course.plays (course.reached told) good short (at.0 told))
-  is_done FlashFault cause ends told good short no_read no_write no_flash = absurd (no_flash cause.2)
+  is_done Failed cause ends told good short no_read no_write no_flash = absurd (no_flash cause.2)
   is_done ReadFault cause ends told good short no_read no_write no_flash = absurd (no_read cause)
   is_done WriteFault cause ends told good short no_read no_write no_flash = absurd (no_write cause.1)
   is_done InputTooLong cause ends told good short no_read no_write no_flash =

@@ -8,13 +8,13 @@ use Rattle.line_runs.specs.Outside.{Outside, outside}
 use Rattle.line_runs.specs.Taker.{Taker}
 use Rattle.line_runs.specs.declared.ending.LinesEnd.{LinesEnd}
 use Rattle.line_runs.specs.declared.ending.LinesEnd.TheVariants as lines
+use Rattle.line_runs.specs.Exit.{ending_of_lines, status_with}
 use Rattle.gp_tool.specs.Around.{around}
-use Rattle.gp_tool.specs.Desk.{DeskCourse, DeskEndsAt, DeskFaultless, desk_status}
+use Rattle.gp_tool.specs.Desk.{DeskCourse, DeskEndsAt, DeskFaultless}
 use Rattle.gp_tool.specs.Ends.{EndCause}
 use Rattle.gp_tool.specs.Flush.{AfterFlush, IsFlushed}
-use Rattle.gp_tool.specs.LineEndings.{ending_of_lines}
-use Rattle.gp_tool.specs.declared.ending.Ending.{Ending}
-use Rattle.gp_tool.specs.declared.ending.Ending.TheVariants.{Finished, Differs, BadLine, FlashFault, ReadFault, WriteFault, InputTooLong}
+use Rattle.line_runs.specs.declared.exit.Ending.{Ending}
+use Rattle.line_runs.specs.declared.exit.Ending.TheVariants.{Finished, Differs, BadLine, Failed, ReadFault, WriteFault, InputTooLong}
 
 -- at the end of the input the taker is left after the last line
 pub left_finished : {T : Type 0} {does : Taker T} {reads : Type 0} {first : T} (writes : Type 0) (old new : Outside)
@@ -88,9 +88,9 @@ module _ {reads : Type 0} (writes : Type 0) (old : Outside) (source : SourceStat
 pub desk_done : (end : LinesEnd) (differs : Bool) (result : Ending) (source source' sink sink' : ℕ)
     → EndCause result (around source sink 0) (around source' sink' 0) → (Rose source source' → ⊥) → (Rose sink sink' → ⊥)
     → (end ≡ lines.BadLine → ⊥) → (end ≡ lines.InputTooLong → ⊥) → (result ≡ ending_of_lines end differs) ⊎ (result ≡ WriteFault)
-    → (desk_status result ≡ 0) ⊎ (desk_status result ≡ 10)
-desk_done lines.Finished false result source source' sink sink' cause unread unwritten good short (inl is) = inl (ap desk_status is)
-desk_done lines.Finished true result source source' sink sink' cause unread unwritten good short (inl is) = inr (ap desk_status is)
+    → (status_with 10 result ≡ 0) ⊎ (status_with 10 result ≡ 10)
+desk_done lines.Finished false result source source' sink sink' cause unread unwritten good short (inl is) = inl (ap (status_with 10) is)
+desk_done lines.Finished true result source source' sink sink' cause unread unwritten good short (inl is) = inr (ap (status_with 10) is)
 desk_done lines.BadLine differs result source source' sink sink' cause unread unwritten good short (inl is) = absurd (good refl)
 desk_done lines.InputTooLong differs result source source' sink sink' cause unread unwritten good short (inl is) = absurd (short refl)
 desk_done lines.Failed differs result source source' sink sink' cause unread unwritten good short (inl is) =
@@ -114,6 +114,6 @@ flush_keeps writes BadLine result old new (inl done) = inl done.0
 flush_keeps writes BadLine result old new (inr refused) = inr refused.0
 flush_keeps writes InputTooLong result old new (inl done) = inl done.0
 flush_keeps writes InputTooLong result old new (inr refused) = inr refused.0
-flush_keeps writes FlashFault result old new done = inl done.0
+flush_keeps writes Failed result old new done = inl done.0
 flush_keeps writes ReadFault result old new done = inl done.0
 flush_keeps writes WriteFault result old new done = inl done.0

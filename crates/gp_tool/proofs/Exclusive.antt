@@ -15,8 +15,8 @@ use Rattle.line_runs.specs.Taken.{ComeFirst, IsRead, IsShortCut}
 use Rattle.gp_tool.specs.Going.{AreShort}
 use Rattle.gp_tool.specs.Laws.{EndsTold, IsFaultless}
 use Rattle.gp_tool.specs.RunsLines.{HasForm, Memory, PlaysLine, RunsLines, start}
-use Rattle.gp_tool.specs.declared.ending.Ending.{Ending}
-use Rattle.gp_tool.specs.declared.ending.Ending.TheVariants.{Finished, Differs, BadLine, FlashFault, ReadFault, WriteFault, InputTooLong}
+use Rattle.line_runs.specs.declared.exit.Ending.{Ending}
+use Rattle.line_runs.specs.declared.exit.Ending.TheVariants.{Finished, Differs, BadLine, Failed, ReadFault, WriteFault, InputTooLong}
 use Rattle.gp_tool.specs.declared.verb.Verb.{Verb}
 
 -- nothing stands ahead, and there is room
@@ -138,7 +138,7 @@ module _ (verb : Verb) where
   Own Differs memory room ahead differs = (differs ≡ true) × IsOver room ahead
   Own BadLine memory room ahead differs = IsBad verb memory room ahead
   Own InputTooLong memory room ahead differs = IsShortCut room ahead
-  Own FlashFault memory room ahead differs = ⊥
+  Own Failed memory room ahead differs = ⊥
   Own ReadFault memory room ahead differs = ⊥
   Own WriteFault memory room ahead differs = ⊥
 
@@ -147,7 +147,7 @@ module _ (verb : Verb) where
   own_halts Differs memory room ahead differs own = inr (inr own.1)
   own_halts BadLine memory room ahead differs own = inl own
   own_halts InputTooLong memory room ahead differs own = inr (inl own)
-  own_halts FlashFault memory room ahead differs own = absurd own
+  own_halts Failed memory room ahead differs own = absurd own
   own_halts ReadFault memory room ahead differs own = absurd own
   own_halts WriteFault memory room ahead differs own = absurd own
 
@@ -170,10 +170,10 @@ module _ (verb : Verb) where
   own_once InputTooLong Differs memory room ahead differs own again = absurd (cut_not_over room ahead own.0 own.1 again.1)
   own_once InputTooLong BadLine memory room ahead differs own again = absurd (bad_not_cut memory room ahead again own)
   own_once InputTooLong InputTooLong memory room ahead differs own again = refl
-  own_once FlashFault another memory room ahead differs own again = absurd own
+  own_once Failed another memory room ahead differs own again = absurd own
   own_once ReadFault another memory room ahead differs own again = absurd own
   own_once WriteFault another memory room ahead differs own again = absurd own
-  own_once ending FlashFault memory room ahead differs own again = absurd again
+  own_once ending Failed memory room ahead differs own again = absurd again
   own_once ending ReadFault memory room ahead differs own again = absurd again
   own_once ending WriteFault memory room ahead differs own again = absurd again
 
@@ -183,7 +183,7 @@ module _ (verb : Verb) where
   texts_at Finished given effect = effect.texts
   texts_at Differs given effect = effect.texts
   texts_at InputTooLong given effect = effect.texts
-  texts_at FlashFault given effect = effect.texts
+  texts_at Failed given effect = effect.texts
   texts_at ReadFault given effect = effect.texts
   texts_at WriteFault given effect = effect.texts
 
@@ -229,7 +229,7 @@ module _ (verb : Verb) where
         ended_by Differs new course (at.0, is_over old.source.left course.given course.ahead (at.1 tt)) (at.2 tt)
     ended BadLine new clean ends = (let at = ends.ends in ended_by BadLine new ends.course (at.0 tt) (at.1 tt))
     ended InputTooLong new clean ends = (let at = ends.ends in ended_by InputTooLong new ends.course (at.0 tt) (at.1 tt))
-    ended FlashFault new clean ends = absurd clean
+    ended Failed new clean ends = absurd clean
     ended ReadFault new clean ends = absurd clean
     ended WriteFault new clean ends = absurd clean
 

@@ -8,8 +8,8 @@ use Rattle.gp_tool.specs.Ends.{Course, Ends, EndsAt, EndsFaultless, Flushes, wit
 use Rattle.line_runs.specs.Outside.{CutsText, Outside, Wrote, outside}
 use Rattle.gp_tool.specs.Flush.{AfterFlush, IsFlushed}
 use Rattle.line_runs.specs.Outside.{bad_line}
-use Rattle.gp_tool.specs.declared.ending.Ending.{Ending}
-use Rattle.gp_tool.specs.declared.ending.Ending.TheVariants.{Finished, Differs, BadLine, FlashFault, ReadFault, WriteFault, InputTooLong}
+use Rattle.line_runs.specs.declared.exit.Ending.{Ending}
+use Rattle.line_runs.specs.declared.exit.Ending.TheVariants.{Finished, Differs, BadLine, Failed, ReadFault, WriteFault, InputTooLong}
 use Rattle.gp_tool.specs.declared.verb.Verb.{Verb}
 
 -- a sink was not flushed before
@@ -25,7 +25,7 @@ after_from writes Finished old mid new result same after = flushed_from writes F
 after_from writes Differs old mid new result same after = flushed_from writes Differs old mid new result same after
 after_from writes BadLine old mid new result same after = flushed_from writes BadLine old mid new result same after
 after_from writes InputTooLong old mid new result same after = flushed_from writes InputTooLong old mid new result same after
-after_from writes FlashFault old mid new result same after = (after.0, after.1 ∙ ap next_count same)
+after_from writes Failed old mid new result same after = (after.0, after.1 ∙ ap next_count same)
 after_from writes ReadFault old mid new result same after = (after.0, after.1 ∙ ap next_count same)
 after_from writes WriteFault old mid new result same after = (after.0, after.1 ∙ same)
 
@@ -50,7 +50,7 @@ module _ (verb : Verb) (reads writes : Type 0) (Rests : List Outcome → State �
     still_faultless Differs at = (at.0, at.1, still_wrote course.effect.texts at.2)
     still_faultless BadLine at = (at.0, still_wrote (with_bad_line course.given course.effect) at.1)
     still_faultless InputTooLong at = (at.0, still_wrote course.effect.texts at.1)
-    still_faultless FlashFault at = absurd at
+    still_faultless Failed at = absurd at
     still_faultless ReadFault at = absurd at
     still_faultless WriteFault at = absurd at
 
@@ -59,7 +59,7 @@ module _ (verb : Verb) (reads writes : Type 0) (Rests : List Outcome → State �
     faultless_at Differs at = at
     faultless_at BadLine at = at
     faultless_at InputTooLong at = at
-    faultless_at FlashFault at = absurd at
+    faultless_at Failed at = absurd at
     faultless_at ReadFault at = absurd at
     faultless_at WriteFault at = absurd at
 
@@ -73,15 +73,15 @@ module _ (verb : Verb) (reads writes : Type 0) (Rests : List Outcome → State �
     after_at Differs result after none at = flush_at Differs result at after
     after_at BadLine result after none at = flush_at BadLine result at after
     after_at InputTooLong result after none at = flush_at InputTooLong result at after
-    after_at FlashFault result after none at = rw after.0 (at.0, still_wrote course.effect.texts at.1)
+    after_at Failed result after none at = rw after.0 (at.0, still_wrote course.effect.texts at.1)
     after_at ReadFault result after none at = rw after.0 (at.0, still_wrote course.effect.texts at.1)
     after_at WriteFault result after none (inl (last, cut)) = rw after.0 (inl (last, still_cut last.before.texts last.text after.1 cut))
     after_at WriteFault result after none (inr (inl (bad, cut))) = rw after.0 (inr (inl (bad, still_cut course.effect.texts (bad_line (length course.given + 1)) after.1 cut)))
     after_at WriteFault result after none (inr (inr (other, at, once))) = rw after.0 (inr (inr (other, still_faultless other at, after.1 ∙ sym none ∙ once)))
 
   -- a run whose flush was refused rests where it rested before
-  rests_still : (ending result : Ending) → AfterFlush writes ending before.sink later result → result ≢ FlashFault → ending ≢ FlashFault
-  rests_still FlashFault result after other is = other after.0
+  rests_still : (ending result : Ending) → AfterFlush writes ending before.sink later result → result ≢ Failed → ending ≢ Failed
+  rests_still Failed result after other is = other after.0
   rests_still Finished result after other is = cc is
   rests_still Differs result after other is = cc is
   rests_still BadLine result after other is = cc is
@@ -107,6 +107,6 @@ flushed writes BadLine result before later (inl done) = rw done.0 done.1
 flushed writes BadLine result before later (inr fault) = rw fault.0 tt
 flushed writes InputTooLong result before later (inl done) = rw done.0 done.1
 flushed writes InputTooLong result before later (inr fault) = rw fault.0 tt
-flushed writes FlashFault result before later done = rw done.0 done.1
+flushed writes Failed result before later done = rw done.0 done.1
 flushed writes ReadFault result before later done = rw done.0 done.1
 flushed writes WriteFault result before later done = rw done.0 tt

@@ -4,8 +4,8 @@ use Rattle.flash_core.specs.declared.flash.Flash.{Ghosts as Flash}
 use Rattle.io_edge.specs.Streams.{SinkState}
 use Rattle.gp_tool.specs.Flush.{AfterFlush}
 use Rattle.gp_tool.specs.Formatted.{FormatEnds, IsFactoryCard}
-use Rattle.gp_tool.specs.declared.ending.Ending.{Ending}
-use Rattle.gp_tool.specs.declared.ending.Ending.TheVariants.{Finished, FlashFault}
+use Rattle.line_runs.specs.declared.exit.Ending.{Ending}
+use Rattle.line_runs.specs.declared.exit.Ending.TheVariants.{Finished, Failed}
 
 module _ {F : Type 0} (device : Flash F) (writes : Type 0) (flash : F) (old new : SinkState) (same : writes → new.written ≡ old.written) where
   -- the device is the factory card
@@ -14,5 +14,5 @@ module _ {F : Type 0} (device : Flash F) (writes : Type 0) (flash : F) (old new 
   format_done result (inr refused) card = subst (λ ending. FormatEnds device writes ending flash old new) (sym refused.0) (card, same, refused.1)
 
   -- the device failed
-  pub format_failed : (result : Ending) → AfterFlush writes FlashFault old new result → FormatEnds device writes result flash old new
+  pub format_failed : (result : Ending) → AfterFlush writes Failed old new result → FormatEnds device writes result flash old new
   format_failed result behind = subst (λ ending. FormatEnds device writes ending flash old new) (sym behind.0) same

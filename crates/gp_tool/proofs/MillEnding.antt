@@ -16,18 +16,19 @@ use Rattle.page_journal.specs.Moments.{Always, LeavesOnly}
 use Rattle.policy_rules.specs.State.{State}
 use Rattle.rec_store.proofs.OneRegistry.{one_registry}
 use Rattle.rec_store.specs.Reopens.{Reopens, ReopensAsOne, load_page, store_page}
+use Rattle.line_runs.specs.Exit.{exit_status}
 use Rattle.gp_tool.proofs.Powered.{cause_since, failed_since, run_since}
 use Rattle.gp_tool.specs.Around.{Around, around}
 use Rattle.gp_tool.specs.Device.{LeavesOneOf, LeftOneOf, refusal_status}
-use Rattle.gp_tool.specs.Ends.{EndCause, exit_status}
+use Rattle.gp_tool.specs.Ends.{EndCause}
 use Rattle.gp_tool.specs.Flush.{AfterFlush}
 use Rattle.gp_tool.specs.Formatted.{IsFactoryCard}
 use Rattle.gp_tool.specs.Mill.{IsCounterText, IsNotMilled, MillEnds, PlaysAll, PlaysSome, summary}
 use Rattle.gp_tool.specs.Milling.{Milled}
 use Rattle.gp_tool.specs.Verbs.{EndsMill, MillsCard}
 use Rattle.gp_tool.specs.declared.card_end.CardEnd as the_end
-use Rattle.gp_tool.specs.declared.ending.Ending.{Ending}
-use Rattle.gp_tool.specs.declared.ending.Ending.TheVariants.{Finished, Differs, BadLine, FlashFault, ReadFault, WriteFault, InputTooLong}
+use Rattle.line_runs.specs.declared.exit.Ending.{Ending}
+use Rattle.line_runs.specs.declared.exit.Ending.TheVariants.{Finished, Differs, BadLine, Failed, ReadFault, WriteFault, InputTooLong}
 use Rattle.gp_tool.specs.declared.tally.Tally.{Tally}
 use Rattle.gp_tool.specs.declared.workload.Workload.{Workload}
 
@@ -69,7 +70,7 @@ module _ {F : Type 0} (device : Flash F) (work : Workload) (made : F) (first : S
         subst Ended (sym behind.0) (text, plays, ((λ told. let some = part told in (some.0, same told ∙ some.1)), inl (behind.1 ∙ none)))
 
     -- nothing
-    pub mill_failed : PlaysSome device work made first new count → (writes → mid.written ≡ old.written) → (result : Ending) → AfterFlush writes FlashFault mid last result → Ended result
+    pub mill_failed : PlaysSome device work made first new count → (writes → mid.written ≡ old.written) → (result : Ending) → AfterFlush writes Failed mid last result → Ended result
     mill_failed plays silent result behind = subst Ended (sym behind.0) (plays, λ told. same told ∙ silent told)
 
 -- how a workload ends, since a moment before the card was powered on
@@ -105,7 +106,7 @@ module _ {F : Type 0} (device : Flash F) (made : F) (card : CardOver F) (first :
 
   pub mill_since : (writes : Type 0) (ending : Ending) (old last : SinkState) → MillEnds device writes work card.flash first ending new count old last
       → MillEnds device writes work made first ending new count old last
-  mill_since writes FlashFault old last ends = (some_since ends.0, ends.1)
+  mill_since writes Failed old last ends = (some_since ends.0, ends.1)
   mill_since writes Finished old last ends = (ends.0, all_since ends.0 ends.1, ends.2)
   mill_since writes Differs old last ends = (ends.0, all_since ends.0 ends.1, ends.2)
   mill_since writes BadLine old last ends = (ends.0, all_since ends.0 ends.1, ends.2)
@@ -153,7 +154,7 @@ pub mills_all : {F : Type 0} (device : Flash F) (writes : Type 0) (work : Worklo
 mills_all device writes work made first Finished new count old last before after ends cause no_sink no_device = refl
 mills_all device writes work made first Differs new count old last before after ends cause no_sink no_device = absurd ends.2
 mills_all device writes work made first BadLine new count old last before after ends cause no_sink no_device = absurd ends.2
-mills_all device writes work made first FlashFault new count old last before after ends cause no_sink no_device = absurd (no_device cause.2)
+mills_all device writes work made first Failed new count old last before after ends cause no_sink no_device = absurd (no_device cause.2)
 mills_all device writes work made first ReadFault new count old last before after ends cause no_sink no_device = absurd ends.2
 mills_all device writes work made first WriteFault new count old last before after ends cause no_sink no_device = absurd (no_sink cause.1)
 mills_all device writes work made first InputTooLong new count old last before after ends cause no_sink no_device = absurd ends.2

@@ -12,16 +12,16 @@ use Rattle.rec_store.specs.Reopens.{Keeps}
 use Rattle.scp03_card.specs.Offer.{counter_bytes}
 use Rattle.script_tool.specs.Host.{Host}
 use Rattle.script_tool.specs.Mill.{workload}
+use Rattle.line_runs.specs.Exit.{exit_status}
 use Rattle.gp_tool.proofs.RunsMore.{runs_once}
 use Rattle.gp_tool.specs.Around.{Around}
 use Rattle.gp_tool.specs.Effects.{Effect, Place}
-use Rattle.gp_tool.specs.Ends.{exit_status}
 use Rattle.gp_tool.specs.Laws.{OneMill}
 use Rattle.gp_tool.specs.Mill.{IsCounterText, MillEnds, PlaysAll, summary, tally_of}
 use Rattle.gp_tool.specs.RunsLines.{start}
 use Rattle.gp_tool.specs.Verbs.{MillsCard}
-use Rattle.gp_tool.specs.declared.ending.Ending.{Ending}
-use Rattle.gp_tool.specs.declared.ending.Ending.TheVariants.{Finished, Differs, BadLine, FlashFault, ReadFault, WriteFault, InputTooLong}
+use Rattle.line_runs.specs.declared.exit.Ending.{Ending}
+use Rattle.line_runs.specs.declared.exit.Ending.TheVariants.{Finished, Differs, BadLine, Failed, ReadFault, WriteFault, InputTooLong}
 use Rattle.gp_tool.specs.declared.verb.Verb.TheVariants.{Play}
 use Rattle.gp_tool.specs.declared.workload.Workload.{Workload}
 
@@ -30,7 +30,7 @@ finished : (ending : Ending) → 0 ≡ exit_status ending → ending ≡ Finishe
 finished Finished is = refl
 finished Differs is = absurd (omega (arith, is))
 finished BadLine is = absurd (omega (arith, is))
-finished FlashFault is = absurd (omega (arith, is))
+finished Failed is = absurd (omega (arith, is))
 finished ReadFault is = absurd (omega (arith, is))
 finished WriteFault is = absurd (omega (arith, is))
 finished InputTooLong is = absurd (omega (arith, is))

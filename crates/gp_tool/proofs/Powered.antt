@@ -23,8 +23,8 @@ use Rattle.gp_tool.specs.Ends.{EndCause}
 use Rattle.gp_tool.specs.RunsLines.{start}
 use Rattle.gp_tool.specs.Verbs.{Serves}
 use Rattle.gp_tool.specs.declared.verb.Verb.{Verb}
-use Rattle.gp_tool.specs.declared.ending.Ending.{Ending}
-use Rattle.gp_tool.specs.declared.ending.Ending.TheVariants.{Finished, Differs, BadLine, FlashFault, ReadFault, WriteFault, InputTooLong}
+use Rattle.line_runs.specs.declared.exit.Ending.{Ending}
+use Rattle.line_runs.specs.declared.exit.Ending.TheVariants.{Finished, Differs, BadLine, Failed, ReadFault, WriteFault, InputTooLong}
 
 -- the device's count was no greater before
 pub cause_since : (ending : Ending) (source sink before device : ℕ) (new : Around ℕ ℕ ℕ) → before ≤ device
@@ -32,7 +32,7 @@ pub cause_since : (ending : Ending) (source sink before device : ℕ) (new : Aro
 cause_since Finished source sink before device new less cause = cause
 cause_since Differs source sink before device new less cause = cause
 cause_since BadLine source sink before device new less cause = cause
-cause_since FlashFault source sink before device new less cause = (cause.0, cause.1, (let rose = cause.2 in omega (arith, rose, less)))
+cause_since Failed source sink before device new less cause = (cause.0, cause.1, (let rose = cause.2 in omega (arith, rose, less)))
 cause_since ReadFault source sink before device new less cause = cause
 cause_since WriteFault source sink before device new less cause = cause
 cause_since InputTooLong source sink before device new less cause = cause

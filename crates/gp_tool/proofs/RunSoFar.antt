@@ -30,8 +30,8 @@ use Rattle.gp_tool.specs.Serve.{Standing}
 use Rattle.gp_tool.specs.Standing.{Held, Means}
 use Rattle.line_runs.specs.Turn.{total}
 use Rattle.gp_tool.specs.Turn.{EndsWith, GoesOn, TakesLine}
-use Rattle.gp_tool.specs.declared.ending.Ending.{Ending}
-use Rattle.gp_tool.specs.declared.ending.Ending.TheVariants.{Finished, Differs, BadLine, FlashFault, ReadFault, WriteFault, InputTooLong}
+use Rattle.line_runs.specs.declared.exit.Ending.{Ending}
+use Rattle.line_runs.specs.declared.exit.Ending.TheVariants.{Finished, Differs, BadLine, Failed, ReadFault, WriteFault, InputTooLong}
 use Rattle.gp_tool.specs.declared.verb.Verb.{Verb}
 
 module _ {F : Type 0} (verb : Verb) (device : Flash F) (reads writes : Type 0) (first : State) (from : F) (before : Outside) where
@@ -249,7 +249,7 @@ module _ {F : Type 0} (verb : Verb) (device : Flash F) (reads writes : Type 0) (
       );
       rests = λ other. rested within same;
     }
-    going_ends within FlashFault (silent, taken, breaks) flushes =
+    going_ends within Failed (silent, taken, breaks) flushes =
         let next = breaks going.place going.stands in
         let b = next.breaks in
         record {

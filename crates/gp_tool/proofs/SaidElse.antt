@@ -4,8 +4,8 @@ use Rattle.policy_rules.specs.State.{State}
 use Rattle.policy_rules.specs.Step.{Outcome}
 use Rattle.gp_tool.specs.Ends.{Course, Ends, EndsAt}
 use Rattle.line_runs.specs.Outside.{Outside}
-use Rattle.gp_tool.specs.declared.ending.Ending.{Ending}
-use Rattle.gp_tool.specs.declared.ending.Ending.TheVariants.{Finished, Differs, BadLine, FlashFault, ReadFault, WriteFault, InputTooLong}
+use Rattle.line_runs.specs.declared.exit.Ending.{Ending}
+use Rattle.line_runs.specs.declared.exit.Ending.TheVariants.{Finished, Differs, BadLine, Failed, ReadFault, WriteFault, InputTooLong}
 use Rattle.gp_tool.specs.declared.verb.Verb.{Verb}
 
 module _ (verb : Verb) (reads writes : Type 0) (Rests Rests' : List Outcome → State → Type 0) (Fails Fails' : List Outcome → State → Outcome → Type 0)
@@ -20,7 +20,7 @@ module _ (verb : Verb) (reads writes : Type 0) (Rests Rests' : List Outcome → 
   at_else course ReadFault at = at
   at_else course InputTooLong at = at
   at_else course WriteFault at = at
-  at_else course FlashFault at =
+  at_else course Failed at =
       let next = at.0 in
       ((next.0, next.1, next.2, next.3, next.4, next.5, next.6, fails (course.effect.outcomes ++ next.3) next.4 next.5 next.7), at.1)
 

@@ -12,12 +12,13 @@ use Rattle.page_journal.specs.Moments.{Always, LeavesOnly}
 use Rattle.policy_rules.specs.State.{State}
 use Rattle.rec_store.specs.Reopens.{Reopens, ReopensAsOne}
 use Rattle.rec_store.proofs.Leaving.{joined, weaker}
+use Rattle.line_runs.specs.Exit.{exit_status}
 use Rattle.gp_tool.specs.Around.{Around}
-use Rattle.gp_tool.specs.Ends.{EndCause, exit_status}
+use Rattle.gp_tool.specs.Ends.{EndCause}
 use Rattle.gp_tool.specs.Flush.{AfterFlush}
 use Rattle.gp_tool.specs.Shown.{HasShown, IsFront, IsWhole, ShowEnds, WritesFront, WritesWhole}
-use Rattle.gp_tool.specs.declared.ending.Ending.{Ending}
-use Rattle.gp_tool.specs.declared.ending.Ending.TheVariants.{Finished, Differs, BadLine, FlashFault, ReadFault, WriteFault, InputTooLong}
+use Rattle.line_runs.specs.declared.exit.Ending.{Ending}
+use Rattle.line_runs.specs.declared.exit.Ending.TheVariants.{Finished, Differs, BadLine, Failed, ReadFault, WriteFault, InputTooLong}
 use Rattle.gp_tool.specs.declared.view.View.{View}
 use Rattle.gp_tool.specs.declared.view.View.TheVariants as view
 
@@ -45,7 +46,7 @@ module _ (view : View) (told writes : Type 0) (tells : told → writes) (registr
       )
 
   -- the device failed in the middle of it, or the sink
-  pub shown_failed : (result : Ending) → Behind FlashFault result → WritesFront view told registry old mid → ShowEnds view told registry result old new
+  pub shown_failed : (result : Ending) → Behind Failed result → WritesFront view told registry old mid → ShowEnds view told registry result old new
   shown_failed result behind (text, front, part) =
       subst (λ ending. ShowEnds view told registry ending old new) (sym behind.0) (text, front, λ t. let some = part t in (some.0, same (tells t) ∙ some.1))
 
@@ -89,7 +90,7 @@ pub shows_all : (view : View) (told : Type 0) (registry : Registry) (old new : S
 shows_all view told registry old new before after Finished ends cause no_sink no_device = refl
 shows_all view told registry old new before after Differs ends cause no_sink no_device = absurd ends.2
 shows_all view told registry old new before after BadLine ends cause no_sink no_device = absurd ends.2
-shows_all view told registry old new before after FlashFault ends cause no_sink no_device = absurd (no_device cause.2)
+shows_all view told registry old new before after Failed ends cause no_sink no_device = absurd (no_device cause.2)
 shows_all view told registry old new before after ReadFault ends cause no_sink no_device = absurd ends.2
 shows_all view told registry old new before after WriteFault ends cause no_sink no_device = absurd (no_sink cause.1)
 shows_all view told registry old new before after InputTooLong ends cause no_sink no_device = absurd ends.2

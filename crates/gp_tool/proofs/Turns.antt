@@ -4,6 +4,7 @@ use Rattle.flash_core.specs.declared.flash.Flash.{Ghosts as Flash}
 use Rattle.io_edge.specs.Lines.{Reading, GivesLine, ahead, room}
 use Rattle.io_edge.specs.declared.line.Line.{Line}
 use Rattle.io_edge.specs.declared.line.TheConstants.{LINE_LIMIT}
+use Rattle.line_runs.specs.Exit.{ending_of}
 use Rattle.gp_tool.specs.Effects.{Place}
 use Rattle.gp_tool.specs.Ends.{IsBad}
 use Rattle.line_runs.specs.Outside.{Outside}
@@ -12,9 +13,9 @@ use Rattle.line_runs.specs.Outside.{bad_line}
 use Rattle.gp_tool.specs.Serve.{BreaksLine, RunsLine, Standing}
 use Rattle.gp_tool.specs.Standing.{Held, Means}
 use Rattle.line_runs.specs.Turn.{IsAtEnd, TakesFew}
-use Rattle.gp_tool.specs.Turn.{BreaksNext, EndsWith, Refuses, TakesLine, ending_of}
-use Rattle.gp_tool.specs.declared.ending.Ending.{Ending}
-use Rattle.gp_tool.specs.declared.ending.Ending.TheVariants.{Finished, Differs, BadLine, FlashFault, ReadFault, WriteFault, InputTooLong}
+use Rattle.gp_tool.specs.Turn.{BreaksNext, EndsWith, Refuses, TakesLine}
+use Rattle.line_runs.specs.declared.exit.Ending.{Ending}
+use Rattle.line_runs.specs.declared.exit.Ending.TheVariants.{Finished, Differs, BadLine, Failed, ReadFault, WriteFault, InputTooLong}
 use Rattle.gp_tool.specs.declared.verb.Verb.{Verb}
 
 -- a run ends with a bad line as its number was written
@@ -25,7 +26,7 @@ refusal_ends verb device reads writes at at' old before now BadLine same bad ref
 refusal_ends verb device reads writes at at' old before now WriteFault same bad refuses taken = inr (same, (bad, refuses, taken))
 refusal_ends verb device reads writes at at' old before now Finished same bad refuses taken = absurd refuses
 refusal_ends verb device reads writes at at' old before now Differs same bad refuses taken = absurd refuses
-refusal_ends verb device reads writes at at' old before now FlashFault same bad refuses taken = absurd refuses
+refusal_ends verb device reads writes at at' old before now Failed same bad refuses taken = absurd refuses
 refusal_ends verb device reads writes at at' old before now ReadFault same bad refuses taken = absurd refuses
 refusal_ends verb device reads writes at at' old before now InputTooLong same bad refuses taken = absurd refuses
 
@@ -43,7 +44,7 @@ refuses_from writes number before mid now WriteFault same refuses =
     λ told. (let part = refuses told in (part.0, part.1 ∙ ap (λ w. w ++ take part.0 (bad_line number)) (same told)))
 refuses_from writes number before mid now Finished same refuses = absurd refuses
 refuses_from writes number before mid now Differs same refuses = absurd refuses
-refuses_from writes number before mid now FlashFault same refuses = absurd refuses
+refuses_from writes number before mid now Failed same refuses = absurd refuses
 refuses_from writes number before mid now ReadFault same refuses = absurd refuses
 refuses_from writes number before mid now InputTooLong same refuses = absurd refuses
 

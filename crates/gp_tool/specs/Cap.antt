@@ -13,15 +13,9 @@ use Rattle.line_runs.specs.Ends.{Course, EndsAt, IsCutOff}
 use Rattle.line_runs.specs.Outside.{Outside}
 use Rattle.line_runs.specs.Taken.{IsRead}
 use Rattle.line_runs.specs.declared.ending.LinesEnd.TheVariants as lines
-use Rattle.gp_tool.specs.Around.{around}
-use Rattle.gp_tool.specs.Ends.{EndCause, Flushes, exit_status}
-use Rattle.gp_tool.specs.declared.ending.Ending.{Ending}
-use Rattle.gp_tool.specs.declared.ending.Ending.TheVariants.{Finished, Differs, BadLine, ReadFault, WriteFault, InputTooLong}
-
--- the status where it ends so: 11 says that the bytes are no CAP file that can be packed
-abbrev pub cap_status : Ending → ℕ
-cap_status Differs = 11
-cap_status ending = exit_status ending
+use Rattle.gp_tool.specs.Cardless.{CardlessEnds}
+use Rattle.line_runs.specs.declared.exit.Ending.{Ending}
+use Rattle.line_runs.specs.declared.exit.Ending.TheVariants.{Finished, Differs, BadLine, ReadFault, WriteFault, InputTooLong}
 
 -- the line that is written of a command
 abbrev pub pack_line : Apdu → List ℕ
@@ -80,11 +74,6 @@ CapEndsAt writes old new course WriteFault =
     ⊎ ((other : Ending) × CapFaultless writes old new course other × (new.sink.flushes ≡ next_count old.sink.flushes))
 CapEndsAt writes old new course ending = CapFaultless writes old new course ending
 
--- The lines of a source were joined, up to an ending, which the status tells.
-pub record CapEnds (reads writes : Type 0) (status : ℕ) (old new : Outside) : Type 0 where
-  pub ending : Ending
-  pub status_is : status ≡ cap_status ending
-  pub cause : EndCause ending (around old.source.faults old.sink.faults 0) (around new.source.faults new.sink.faults 0)
-  pub flushes : Flushes writes ending old.sink new.sink
-  pub course : CapCourse reads old new
-  pub ends : CapEndsAt writes old new course ending
+-- The lines of a source were joined, up to an ending, which the status tells: 11 says that their bytes are no CAP file that can be packed.
+abbrev pub CapEnds : (reads writes : Type 0) → ℕ → Outside → Outside → Type 0
+CapEnds reads writes status old new = CardlessEnds 11 (CapEndsAt {reads = reads} writes old new) writes status old new

@@ -5,15 +5,9 @@ use Rattle.line_runs.specs.Ends.{Course, EndsAt, IsCutOff}
 use Rattle.line_runs.specs.Outside.{Outside}
 use Rattle.line_runs.specs.declared.ending.LinesEnd.TheVariants as lines
 use Rattle.receipt_desk.specs.Audit.{desk_taker, new_audit}
-use Rattle.gp_tool.specs.Around.{around}
-use Rattle.gp_tool.specs.Ends.{EndCause, Flushes, exit_status}
-use Rattle.gp_tool.specs.declared.ending.Ending.{Ending}
-use Rattle.gp_tool.specs.declared.ending.Ending.TheVariants.{Finished, Differs, BadLine, ReadFault, WriteFault, InputTooLong}
-
--- the status where it ends so: 10 says that some receipt did not fit
-abbrev pub desk_status : Ending → ℕ
-desk_status Differs = 10
-desk_status ending = exit_status ending
+use Rattle.gp_tool.specs.Cardless.{CardlessEnds}
+use Rattle.line_runs.specs.declared.exit.Ending.{Ending}
+use Rattle.line_runs.specs.declared.exit.Ending.TheVariants.{Finished, Differs, BadLine, ReadFault, WriteFault, InputTooLong}
 
 -- the course of the lines that a desk took, up to the end
 abbrev pub DeskCourse : Type 0 → (old new : Outside) → Type 0
@@ -36,11 +30,6 @@ DeskEndsAt writes old new course WriteFault =
     ⊎ ((other : Ending) × DeskFaultless writes old new course other × (new.sink.flushes ≡ next_count old.sink.flushes))
 DeskEndsAt writes old new course ending = DeskFaultless writes old new course ending
 
--- The lines of a source were taken for those of a desk, up to an ending, which the status tells.
-pub record DeskEnds (reads writes : Type 0) (status : ℕ) (old new : Outside) : Type 0 where
-  pub ending : Ending
-  pub status_is : status ≡ desk_status ending
-  pub cause : EndCause ending (around old.source.faults old.sink.faults 0) (around new.source.faults new.sink.faults 0)
-  pub flushes : Flushes writes ending old.sink new.sink
-  pub course : DeskCourse reads old new
-  pub ends : DeskEndsAt writes old new course ending
+-- The lines of a source were taken for those of a desk, up to an ending, which the status tells: 10 says that some receipt did not fit.
+abbrev pub DeskEnds : (reads writes : Type 0) → ℕ → Outside → Outside → Type 0
+DeskEnds reads writes status old new = CardlessEnds 10 (DeskEndsAt {reads = reads} writes old new) writes status old new

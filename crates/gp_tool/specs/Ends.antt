@@ -13,8 +13,8 @@ use Rattle.gp_tool.specs.Around.{Around}
 use Rattle.gp_tool.specs.Effects.{Effect, Place}
 use Rattle.gp_tool.specs.Flush.{IsHandedOn}
 use Rattle.gp_tool.specs.RunsLines.{FailsLine, HasForm, Memory, RunsLines, start}
-use Rattle.gp_tool.specs.declared.ending.Ending.{Ending}
-use Rattle.gp_tool.specs.declared.ending.Ending.TheVariants.{Finished, Differs, BadLine, FlashFault, ReadFault, WriteFault, InputTooLong}
+use Rattle.line_runs.specs.declared.exit.Ending.{Ending}
+use Rattle.line_runs.specs.declared.exit.Ending.TheVariants.{Finished, Differs, BadLine, Failed, ReadFault, WriteFault, InputTooLong}
 use Rattle.gp_tool.specs.declared.verb.Verb.{Verb}
 
 -- the next line is malformed, or too long
@@ -73,7 +73,7 @@ EndsFaultless verb reads writes first old new course ending = ⊥
 -- What holds after the course at each ending. At a refused write or flush the text of the last line given was
 -- refused, or that of a bad line after it, or the run had ended without a fault and its flush was refused.
 abbrev pub EndsAt : (verb : Verb) (reads writes : Type 0) → (List Outcome → State → Outcome → Type 0) → (first : State) (old new : Outside) → Course verb reads first old.source.left new.source.left → Ending → Type 0
-EndsAt verb reads writes Fails first old new course FlashFault =
+EndsAt verb reads writes Fails first old new course Failed =
     FailsNext verb reads (λ begun. Fails (course.effect.outcomes ++ begun)) course.last (room_ahead old.source.left course.ahead) course.ahead × Wrote writes course.effect.texts old new
 EndsAt verb reads writes Fails first old new course ReadFault = (reads → HoldsNoLine course.ahead new.source.left) × Wrote writes course.effect.texts old new
 EndsAt verb reads writes Fails first old new course WriteFault =
@@ -86,28 +86,18 @@ EndsAt verb reads writes Fails first old new course ending = EndsFaultless verb 
 pub record Ends (verb : Verb) (reads writes : Type 0) (Rests : List Outcome → State → Type 0) (Fails : List Outcome → State → Outcome → Type 0) (first : State) (ending : Ending) (old new : Outside) : Type 0 where
   pub course : Course verb reads first old.source.left new.source.left
   pub ends : EndsAt verb reads writes Fails first old new course ending
-  pub rests : ending ≢ FlashFault → Rests course.effect.outcomes course.last.state
+  pub rests : ending ≢ Failed → Rests course.effect.outcomes course.last.state
 
 -- What was done with the text at each ending. At a refused write `Ends` says it.
 abbrev pub Flushes : Type 0 → Ending → SinkState → SinkState → Type 0
-Flushes writes FlashFault old new = new.flushes ≡ next_count old.flushes
+Flushes writes Failed old new = new.flushes ≡ next_count old.flushes
 Flushes writes ReadFault old new = new.flushes ≡ next_count old.flushes
 Flushes writes WriteFault old new = Unit {0}
 Flushes writes ending old new = IsHandedOn writes old new
 
 -- Whose count has risen at an ending, or that those of source and sink are as they were. A flush that is refused after a failed device raises the sink's too.
 abbrev pub EndCause : Ending → Around ℕ ℕ ℕ → Around ℕ ℕ ℕ → Type 0
-EndCause FlashFault old new = (new.source ≡ old.source) × ((new.sink ≡ old.sink) ⊎ Rose old.sink new.sink) × Rose old.flash new.flash
+EndCause Failed old new = (new.source ≡ old.source) × ((new.sink ≡ old.sink) ⊎ Rose old.sink new.sink) × Rose old.flash new.flash
 EndCause ReadFault old new = Rose old.source new.source
 EndCause WriteFault old new = (new.source ≡ old.source) × Rose old.sink new.sink
 EndCause ending old new = (new.source ≡ old.source) × (new.sink ≡ old.sink)
-
--- the status of a program that ends so
-abbrev pub exit_status : Ending → ℕ
-exit_status Finished = 0
-exit_status Differs = 8
-exit_status BadLine = 2
-exit_status FlashFault = 3
-exit_status ReadFault = 5
-exit_status WriteFault = 6
-exit_status InputTooLong = 9

@@ -2,8 +2,8 @@
 use Rattle.std.specs.Prelude.{◌≡◌, ◌⊎◌, List, ℕ, ◌++◌, take}
 use Rattle.faults.specs.Faults.{next_count}
 use Rattle.io_edge.specs.Streams.{SinkState}
-use Rattle.gp_tool.specs.declared.ending.Ending.{Ending}
-use Rattle.gp_tool.specs.declared.ending.Ending.TheVariants.{Finished, FlashFault, ReadFault, WriteFault}
+use Rattle.line_runs.specs.declared.exit.Ending.{Ending}
+use Rattle.line_runs.specs.declared.exit.Ending.TheVariants.{Finished, Failed, ReadFault, WriteFault}
 
 -- A sink was flushed once, and all that was written is handed on.
 pub record IsHandedOn (writes : Type 0) (old new : SinkState) : Type 0 where
@@ -29,7 +29,7 @@ IsFlushed writes ending old new result =
 -- How a run ends after its last line, by how it came to it: no flush follows a refused write, and one that follows a
 -- refused read or a failed device changes no status.
 abbrev pub AfterFlush : Type 0 → Ending → SinkState → SinkState → Ending → Type 0
-AfterFlush writes FlashFault old new result = (result ≡ FlashFault) × (new.flushes ≡ next_count old.flushes)
+AfterFlush writes Failed old new result = (result ≡ Failed) × (new.flushes ≡ next_count old.flushes)
 AfterFlush writes ReadFault old new result = (result ≡ ReadFault) × (new.flushes ≡ next_count old.flushes)
 AfterFlush writes WriteFault old new result = (result ≡ WriteFault) × (new.flushes ≡ old.flushes)
 AfterFlush writes ending old new result = IsFlushed writes ending old new result

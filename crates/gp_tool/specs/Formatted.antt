@@ -6,8 +6,8 @@ use Rattle.flash_core.specs.declared.flash.Flash.{Ghosts as Flash}
 use Rattle.io_edge.specs.Streams.{SinkState}
 use Rattle.page_journal.specs.declared.pages.TheConstants.{GATE}
 use Rattle.rec_store.specs.Reopens.{Keeps}
-use Rattle.gp_tool.specs.declared.ending.Ending.{Ending}
-use Rattle.gp_tool.specs.declared.ending.Ending.TheVariants.{Finished, FlashFault, WriteFault}
+use Rattle.line_runs.specs.declared.exit.Ending.{Ending}
+use Rattle.line_runs.specs.declared.exit.Ending.TheVariants.{Finished, Failed, WriteFault}
 
 -- power lost leaves the card as it leaves the factory
 abbrev pub IsFactoryCard : {F : Type 0} → Flash F → F → Type 0
@@ -20,6 +20,6 @@ KeepsPastGate device old new = device.tells → (page : ℕ) → GATE < page →
 -- nothing is written, and the device is the factory card unless it failed
 abbrev pub FormatEnds : {F : Type 0} → Flash F → Type 0 → Ending → F → SinkState → SinkState → Type 0
 FormatEnds device writes Finished flash old new = IsFactoryCard device flash × (writes → new.written ≡ old.written)
-FormatEnds device writes FlashFault flash old new = writes → new.written ≡ old.written
+FormatEnds device writes Failed flash old new = writes → new.written ≡ old.written
 FormatEnds device writes WriteFault flash old new = IsFactoryCard device flash × (writes → new.written ≡ old.written) × (new.flushes ≡ next_count old.flushes)
 FormatEnds device writes ending flash old new = ⊥

@@ -11,8 +11,8 @@ use Rattle.gp_tool.specs.Ends.{Ends}
 use Rattle.line_runs.specs.Outside.{Outside}
 use Rattle.gp_tool.specs.RunsLines.{Memory, RunsLines, start}
 use Rattle.gp_tool.specs.Verbs.{MillsCard}
-use Rattle.gp_tool.specs.declared.ending.Ending.{Ending}
-use Rattle.gp_tool.specs.declared.ending.Ending.TheVariants.{FlashFault, ReadFault, WriteFault}
+use Rattle.line_runs.specs.declared.exit.Ending.{Ending}
+use Rattle.line_runs.specs.declared.exit.Ending.TheVariants.{Failed, ReadFault, WriteFault}
 use Rattle.gp_tool.specs.declared.verb.Verb.{Verb}
 use Rattle.gp_tool.specs.declared.workload.Workload.{Workload}
 
@@ -32,7 +32,7 @@ OneLast = OfLines (λ effect last other another. last ≡ another)
 
 -- nothing was refused by source, sink or device
 abbrev pub IsFaultless : Ending → Type 0
-IsFaultless FlashFault = ⊥
+IsFaultless Failed = ⊥
 IsFaultless ReadFault = ⊥
 IsFaultless WriteFault = ⊥
 IsFaultless ending = Unit {0}

@@ -1,5 +1,6 @@
 pub mod Around
 pub mod CardEnd
+pub mod Cardless
 pub mod Compare
 pub mod Counted
 pub mod Device
@@ -30,6 +31,5 @@ pub mod StepsCard
 pub mod Turn
 pub mod Verbs
 pub mod Words
-pub mod LineEndings
 pub mod Desk
 pub mod Cap

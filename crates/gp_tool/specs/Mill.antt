@@ -19,8 +19,8 @@ use Rattle.gp_tool.specs.Effects.{Effect, Place}
 use Rattle.gp_tool.specs.Flush.{WritesText}
 use Rattle.gp_tool.specs.Formatted.{IsFactoryCard}
 use Rattle.gp_tool.specs.RunsLines.{FailsLine, RunsLines, start}
-use Rattle.gp_tool.specs.declared.ending.Ending.{Ending}
-use Rattle.gp_tool.specs.declared.ending.Ending.TheVariants.{FlashFault}
+use Rattle.line_runs.specs.declared.exit.Ending.{Ending}
+use Rattle.line_runs.specs.declared.exit.Ending.TheVariants.{Failed}
 use Rattle.gp_tool.specs.declared.tally.Tally.{Tally}
 use Rattle.gp_tool.specs.declared.verb.Verb.TheVariants.{Play}
 use Rattle.gp_tool.specs.declared.workload.Workload.{Workload}
@@ -99,7 +99,7 @@ pub record PlaysSome {F : Type 0} (device : Flash F) (work : Workload) (made : F
 
 -- what was played and written at each ending
 abbrev pub MillEnds : {F : Type 0} → Flash F → Type 0 → Workload → F → State → Ending → F → ℕ → SinkState → SinkState → Type 0
-MillEnds device writes work made first FlashFault new count old new' = PlaysSome device work made first new count × (writes → new'.written ≡ old.written)
+MillEnds device writes work made first Failed new count old new' = PlaysSome device work made first new count × (writes → new'.written ≡ old.written)
 MillEnds device writes work made first ending new count old new' = (text : List ℕ) × PlaysAll device work made first new count text × WritesText writes text ending old new'
 
 -- The card was made, without a fault, and not powered on: the device failed then, or it does not tell what it holds. Power lost

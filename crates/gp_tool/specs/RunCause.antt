@@ -4,7 +4,7 @@ use Rattle.io_edge.specs.declared.sink.Sink.{Ghosts as Sink}
 use Rattle.io_edge.specs.declared.source.Source.{Ghosts as Source}
 use Rattle.gp_tool.specs.Around.{Around, around}
 use Rattle.gp_tool.specs.Ends.{EndCause}
-use Rattle.gp_tool.specs.declared.ending.Ending.{Ending}
+use Rattle.line_runs.specs.declared.exit.Ending.{Ending}
 
 abbrev pub RunCause : {S K F : Type 0} → Source S → Sink K → Flash F → Ending → Around S K F → Around S K F → Type 0
 RunCause source sink device ending old new =

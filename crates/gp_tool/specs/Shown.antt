@@ -11,8 +11,8 @@ use Rattle.page_journal.specs.Moments.{Always, LeavesOnly}
 use Rattle.rec_store.specs.Reopens.{Reopens}
 use Rattle.gp_tool.specs.Flush.{WritesText}
 use Rattle.gp_tool.specs.Show.{shown}
-use Rattle.gp_tool.specs.declared.ending.Ending.{Ending}
-use Rattle.gp_tool.specs.declared.ending.Ending.TheVariants.{Finished, FlashFault}
+use Rattle.line_runs.specs.declared.exit.Ending.{Ending}
+use Rattle.line_runs.specs.declared.exit.Ending.TheVariants.{Finished, Failed}
 use Rattle.gp_tool.specs.declared.view.View.{View}
 use Rattle.gp_tool.specs.declared.view.View.TheVariants as view
 
@@ -39,7 +39,7 @@ WritesFront view told registry old new =
 -- All was written, or a prefix of it where the device or the sink failed; `told` is a fact where both tell their content.
 abbrev pub ShowEnds : View → Type 0 → Registry → Ending → SinkState → SinkState → Type 0
 ShowEnds view told registry Finished old new = WritesWhole view told registry old new
-ShowEnds view told registry FlashFault old new = WritesFront view told registry old new
+ShowEnds view told registry Failed old new = WritesFront view told registry old new
 ShowEnds view told registry ending old new = (text : List ℕ) × IsFront view registry text × WritesText told text ending old new
 
 -- the device reopens as the registry, now and after power lost at any moment

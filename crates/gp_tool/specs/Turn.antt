@@ -13,8 +13,8 @@ use Rattle.line_runs.specs.Turn.{IsAtEnd, Silent, TakesFew, total}
 use Rattle.gp_tool.specs.RunsLines.{FailsLine, Memory, PlaysLine}
 use Rattle.gp_tool.specs.Serve.{BreaksLine, RunsLine, Standing, StandsAt}
 use Rattle.gp_tool.specs.Standing.{Held, Means}
-use Rattle.gp_tool.specs.declared.ending.Ending.{Ending}
-use Rattle.gp_tool.specs.declared.ending.Ending.TheVariants.{Finished, Differs, BadLine, FlashFault, ReadFault, WriteFault, InputTooLong}
+use Rattle.line_runs.specs.declared.exit.Ending.{Ending}
+use Rattle.line_runs.specs.declared.exit.Ending.TheVariants.{Finished, Differs, BadLine, Failed, ReadFault, WriteFault, InputTooLong}
 use Rattle.gp_tool.specs.declared.verb.Verb.{Verb}
 
 -- The next line of what is ahead, within the room, was played from a place.
@@ -55,17 +55,12 @@ RefusesNext verb reads writes held old before now ending =
     ((memory : Memory verb) → Means verb held memory → reads → IsBad verb memory (room old) (ahead old before.source.left)) × Refuses writes (old.number + 1) before.sink.written now.sink.written ending
     × TakesFew reads old before now
 
--- how a run ends at the end of its input, by whether a reply has differed
-abbrev pub ending_of : Bool → Ending
-ending_of false = Finished
-ending_of true = Differs
-
 -- The run ends with what is ahead.
 abbrev pub EndsWith : {F : Type 0} (verb : Verb) → Flash F → Type 0 → Type 0 → Standing F (Held verb) → Standing F (Held verb) → Reading → Outside → Outside → Ending → Type 0
 EndsWith verb device reads writes at at' old before now Finished = (at' ≡ at) × (at.differs ≡ false) × IsAtEnd reads writes old before now
 EndsWith verb device reads writes at at' old before now Differs = (at' ≡ at) × (at.differs ≡ true) × IsAtEnd reads writes old before now
 EndsWith verb device reads writes at at' old before now BadLine = (at' ≡ at) × RefusesNext verb reads writes at.held old before now BadLine
-EndsWith verb device reads writes at at' old before now FlashFault =
+EndsWith verb device reads writes at at' old before now Failed =
     Silent writes before now × TakesFew reads old before now
     × ((place : Place (Memory verb)) → StandsAt (Means verb) device at place → BreaksNext verb device reads at at' place (room old) (ahead old before.source.left))
 EndsWith verb device reads writes at at' old before now ReadFault =

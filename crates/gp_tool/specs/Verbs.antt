@@ -10,16 +10,17 @@ use Rattle.io_edge.specs.declared.sink.Sink.{Ghosts as Sink}
 use Rattle.io_edge.specs.declared.source.Source.{Ghosts as Source}
 use Rattle.policy_rules.specs.State.{State, powered_on}
 use Rattle.rec_store.specs.Reopens.{Reopens}
+use Rattle.line_runs.specs.Exit.{exit_status}
 use Rattle.gp_tool.specs.Around.{Around, around}
 use Rattle.gp_tool.specs.Device.{HasFailed, HasRun, HoldsCard, IsNotPowered}
-use Rattle.gp_tool.specs.Ends.{EndCause, Ends, Flushes, exit_status}
+use Rattle.gp_tool.specs.Ends.{EndCause, Ends, Flushes}
 use Rattle.line_runs.specs.Outside.{outside}
 use Rattle.gp_tool.specs.Formatted.{FormatEnds, IsFactoryCard, KeepsPastGate}
 use Rattle.gp_tool.specs.LinesApart.{RunsApart}
 use Rattle.gp_tool.specs.Mill.{IsNotMilled, MillEnds}
 use Rattle.gp_tool.specs.RunsLines.{AreServable, start}
 use Rattle.gp_tool.specs.Shown.{HasShown, ShowEnds}
-use Rattle.gp_tool.specs.declared.ending.Ending.{Ending}
+use Rattle.line_runs.specs.declared.exit.Ending.{Ending}
 use Rattle.gp_tool.specs.declared.workload.Workload.{Workload}
 use Rattle.gp_tool.specs.declared.verb.Verb.{Verb}
 use Rattle.gp_tool.specs.declared.verb.Verb.TheVariants.{Replay, Play}

@@ -5,7 +5,7 @@ use Rattle.faults.specs.Faults.{Rose}
 use Rattle.io_edge.specs.Streams.{SinkState}
 use Rattle.gp_tool.specs.Flush.{IsHandedOn, WritesText}
 use Rattle.gp_tool.specs.Mill.{NameWorkload}
-use Rattle.gp_tool.specs.declared.ending.Ending.TheVariants.{Finished, WriteFault}
+use Rattle.line_runs.specs.declared.exit.Ending.TheVariants.{Finished, WriteFault}
 use Rattle.gp_tool.specs.declared.task.Task.{Task}
 use Rattle.gp_tool.specs.declared.task.Task.TheVariants.{Format, Mill, Serve, Show, Desk, Cap}
 use Rattle.gp_tool.specs.declared.verb.Verb.TheVariants.{Run, Why, Replay, Play}

@@ -9,31 +9,20 @@ ghost use Rattle.faults.specs.Faults.{HasCause};
 ghost use Rattle.line_runs.specs.Ends.{IsGoodInput};
 ghost use Rattle.line_runs.specs.Outside.{IfFaultless, outside};
 ghost use Rattle.gp_tool.specs.Around.{around};
-ghost use Rattle.gp_tool.specs.Cap.{CapCourse, CapEnds, CapEndsAt, WritesJoined, cap_status, pack_line};
+ghost use Rattle.gp_tool.specs.Cap.{CapCourse, CapEnds, CapEndsAt, WritesJoined, pack_line};
 ghost use Rattle.gp_tool.specs.Ends.{EndCause};
-ghost use Rattle.gp_tool.specs.declared.ending.Ending.TheVariants.{BadLine, InputTooLong};
+ghost use Rattle.line_runs.specs.declared.exit.Ending.TheVariants.{BadLine, InputTooLong};
 
-use crate::ending::Ending;
 use crate::run::flush_at_end;
 use arrayvec::ArrayVec;
 use cap_pack::{Cap, CapStop, Joined};
 use io_edge::{Sink, Source, WriteFailed};
-use line_runs::{LinesEnd, take_lines};
+use line_runs::{Ending, LinesEnd, take_lines};
 use line_text::push_word;
 use std::alloc::Global;
 
 /// How many bytes of lines wait for one write, at most.
 const WAITING_LIMIT: usize = 4_096;
-
-// The status where packing ends so.
-fn status_of(ending: Ending) -> u8
-    ensures { result ≡ cap_status ending }
-{
-    match ending {
-        Ending::Differs => 11,
-        _ => ending.status(),
-    }
-}
 
 // Writes the lines of the commands, as many by one write as have room.
 fn write_commands<K: Sink>(cap: &Cap<'_>, sink: &mut K) -> Result<(), WriteFailed>
@@ -116,7 +105,7 @@ pub fn cap_verb<S: Source, K: Sink>(alloc: Global, source: &mut S, sink: &mut K)
     match Joined::new(alloc) {
         Ok(mut joined) => {
             let ending = pack(&mut joined, source, sink);
-            status_of(flush_at_end(ending, sink))
+            flush_at_end(ending, sink).status_with(11)
         }
         Err(_) => 7,
     }

@@ -4,23 +4,12 @@ ghost use Rattle.std.specs.Prelude.{◌≡◌, ◌⊎◌};
 ghost use Rattle.line_runs.specs.Ends.{IsGoodInput};
 ghost use Rattle.line_runs.specs.Outside.{IfFaultless, outside};
 ghost use Rattle.receipt_desk.specs.Audit.{desk_taker, new_audit};
-ghost use Rattle.gp_tool.specs.Desk.{DeskEnds, desk_status};
+ghost use Rattle.gp_tool.specs.Desk.{DeskEnds};
 
-use crate::ending::Ending;
 use crate::run::flush_at_end;
 use io_edge::{Sink, Source};
-use line_runs::take_lines;
+use line_runs::{Ending, take_lines};
 use receipt_desk::Audit;
-
-// The status where a desk ends so.
-fn status_of(ending: Ending) -> u8
-    ensures { result ≡ desk_status ending }
-{
-    match ending {
-        Ending::Differs => 10,
-        _ => ending.status(),
-    }
-}
 
 /// Takes the lines of the source for those of a desk, and answers the status.
 pub fn desk_verb<S: Source, K: Sink>(source: &mut S, sink: &mut K) -> u8
@@ -32,5 +21,5 @@ pub fn desk_verb<S: Source, K: Sink>(source: &mut S, sink: &mut K) -> u8
     let mut audit = Audit::new();
     let end = take_lines(&mut audit, source, sink);
     let ending = Ending::of_lines(end, audit.differs());
-    status_of(flush_at_end(ending, sink))
+    flush_at_end(ending, sink).status_with(10)
 }

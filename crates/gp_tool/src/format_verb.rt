@@ -5,11 +5,11 @@ ghost use Rattle.gp_tool.specs.Around.{around};
 ghost use Rattle.gp_tool.specs.Verbs.{EndsFormat};
 
 use crate::ended::Ended;
-use crate::ending::Ending;
 use crate::run::flush_at_end;
 use card_core::format;
 use flash_core::Flash;
 use io_edge::Sink;
+use line_runs::Ending;
 
 /// Makes the device the card as it leaves the factory, and writes nothing.
 pub fn format_verb<K: Sink, F: Flash>(sink: &mut K, mut flash: F) -> Ended<F>
@@ -18,7 +18,7 @@ pub fn format_verb<K: Sink, F: Flash>(sink: &mut K, mut flash: F) -> Ended<F>
 {
     let ending = match format(&mut flash) {
         Ok(()) => Ending::Finished,
-        Err(_) => Ending::FlashFault,
+        Err(_) => Ending::Failed,
     };
     Ended {
         status: flush_at_end(ending, sink).status(),

@@ -29,7 +29,6 @@ mod card_end;
 mod desk_verb;
 mod difference;
 mod ended;
-mod ending;
 mod form;
 mod format_verb;
 mod give;
@@ -59,8 +58,8 @@ mod workload;
 mod workspace;
 
 pub use ended::Ended;
-pub use ending::Ending;
 pub use laws::{host_and_card, lines_keep_trees, one_ending, one_mill, one_text};
+pub use line_runs::Ending;
 pub use literals::constants;
 pub use program::process;
 pub use serving::{Served, serve};

@@ -12,7 +12,6 @@ ghost use Rattle.gp_tool.specs.Verbs.{EndsMill, MillsCard};
 
 use crate::card_end::CardEnd;
 use crate::ended::Ended;
-use crate::ending::Ending;
 use crate::mill::mill_lines;
 use crate::run::flush_at_end;
 use crate::run_verb::refusal;
@@ -21,6 +20,7 @@ use crate::workload::Workload;
 use card_core::{Card, format};
 use flash_core::Flash;
 use io_edge::Sink;
+use line_runs::Ending;
 use std::alloc::Global;
 
 // Gives a card the lines of a workload, and writes their summary.
@@ -42,7 +42,7 @@ fn mill_card<K: Sink, F: Flash>(work: Workload, end: &mut CardEnd<F>, sink: &mut
                 Err(_) => Ending::WriteFault,
             }
         }
-        Err(_) => Ending::FlashFault,
+        Err(_) => Ending::Failed,
     };
     flush_at_end(ending, sink)
 }
@@ -99,7 +99,7 @@ pub fn mill_verb<K: Sink, F: Flash>(
     match format(&mut flash) {
         Ok(()) => mill_factory_card(alloc, work, sink, flash),
         Err(_) => Ended {
-            status: flush_at_end(Ending::FlashFault, sink).status(),
+            status: flush_at_end(Ending::Failed, sink).status(),
             done: 0,
             flash,
         },

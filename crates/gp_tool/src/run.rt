@@ -7,20 +7,19 @@ ghost use Rattle.gp_tool.specs.Around.{Around, around};
 ghost use Rattle.gp_tool.specs.Ends.{EndCause, Flushes};
 ghost use Rattle.line_runs.specs.Outside.{outside};
 ghost use Rattle.gp_tool.specs.Flush.{AfterFlush};
-ghost use Rattle.gp_tool.specs.declared.ending.Ending.TheVariants.{FlashFault};
+ghost use Rattle.line_runs.specs.declared.exit.Ending.TheVariants.{Failed};
 ghost use Rattle.gp_tool.specs.RunCause.{RunCause};
 ghost use Rattle.gp_tool.specs.Standing.{standing_in};
 ghost use Rattle.gp_tool.specs.Turn.{EndsWith, GoesOn, Refuses};
 ghost use Rattle.gp_tool.specs.Verbs.{RunEnds};
 
 use crate::card_end::CardEnd;
-use crate::ending::Ending;
 use crate::line::{LineEnd, serve_line};
 use crate::verb::Verb;
 use crate::workspace::Workspace;
 use flash_core::Flash;
 use io_edge::{LineStop, Lines, Sink, Source};
-use line_runs::write_bad_line;
+use line_runs::{Ending, write_bad_line};
 
 // Writes the number of a line that is malformed or too long.
 fn refuse_line<K: Sink>(number: u32, sink: &mut K) -> Ending
@@ -54,7 +53,7 @@ fn take_turn<S: Source, K: Sink, F: Flash>(
         (standing_in verb end.old space.old differs.old) (standing_in verb end.new space.new differs.new) lines.old
         (outside (S.state source.old) (K.state sink.old)) (outside (S.state source.new) (K.state sink.new))) }
     ensures live { IfNone result (end.new.card.live ≡ true) }
-    ensures ends_live { IfSome result (λ ending. ending ≢ FlashFault → end.new.card.live ≡ true) }
+    ensures ends_live { IfSome result (λ ending. ending ≢ Failed → end.new.card.live ≡ true) }
     ensures flushes { (K.state sink.new).flushes ≡ (K.state sink.old).flushes }
     ensures quiet { IfNone result (((S.state source.new).faults ≡ (S.state source.old).faults) × ((K.state sink.new).faults ≡ (K.state sink.old).faults)) }
     ensures later { F.faults end.old.card.flash ≤ F.faults end.new.card.flash }
@@ -66,7 +65,7 @@ fn take_turn<S: Source, K: Sink, F: Flash>(
             LineEnd::Done => None,
             LineEnd::NoForm => Some(refuse_line(line.number, sink)),
             LineEnd::WriteFault => Some(Ending::WriteFault),
-            LineEnd::FlashFault => Some(Ending::FlashFault),
+            LineEnd::FlashFault => Some(Ending::Failed),
         },
         Err(LineStop::End) => Some(Ending::at_end(*differs)),
         Err(LineStop::ReadFailed) => Some(Ending::ReadFault),
@@ -88,7 +87,7 @@ fn take_lines<S: Source, K: Sink, F: Flash>(
     ensures ends { (first : State) → CardRepresents F.Flash end.old.card first
         → RunEnds verb S.Source K.Sink F.Flash (CardRepresents F.Flash end.new.card) first result end.new.done
         (around source.old sink.old end.old.card.flash) (around source.new sink.new end.new.card.flash) }
-    ensures live { result ≢ FlashFault → end.new.card.live ≡ true }
+    ensures live { result ≢ Failed → end.new.card.live ≡ true }
     ensures later { F.faults end.old.card.flash ≤ F.faults end.new.card.flash }
     ensures cause { RunCause S.Source K.Sink F.Flash result (around source.old sink.old end.old.card.flash) (around source.new sink.new end.new.card.flash) }
 {
@@ -119,7 +118,7 @@ pub fn flush_at_end<K: Sink>(ending: Ending, sink: &mut K) -> Ending
 {
     match ending {
         Ending::WriteFault => ending,
-        Ending::ReadFault | Ending::FlashFault => {
+        Ending::ReadFault | Ending::Failed => {
             let _ = sink.flush();
             ending
         }
@@ -144,7 +143,7 @@ pub fn run<S: Source, K: Sink, F: Flash>(
     ensures ends { (first : State) → CardRepresents F.Flash end.old.card first
         → RunEnds verb S.Source K.Sink F.Flash (CardRepresents F.Flash end.new.card) first result end.new.done
         (around source.old sink.old end.old.card.flash) (around source.new sink.new end.new.card.flash) }
-    ensures live { result ≢ FlashFault → end.new.card.live ≡ true }
+    ensures live { result ≢ Failed → end.new.card.live ≡ true }
     ensures later { F.faults end.old.card.flash ≤ F.faults end.new.card.flash }
     ensures cause { RunCause S.Source K.Sink F.Flash result (around source.old sink.old end.old.card.flash) (around source.new sink.new end.new.card.flash) }
 {

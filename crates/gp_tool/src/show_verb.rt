@@ -14,7 +14,6 @@ ghost use Rattle.gp_tool.specs.Shown.{ShowEnds, WritesFront, WritesWhole};
 ghost use Rattle.gp_tool.specs.Verbs.{EndsShow};
 
 use crate::ended::Ended;
-use crate::ending::Ending;
 use crate::rights::write_rights;
 use crate::run::flush_at_end;
 use crate::run_verb::refusal;
@@ -23,6 +22,7 @@ use crate::view::View;
 use card_core::Card;
 use flash_core::Flash;
 use io_edge::Sink;
+use line_runs::Ending;
 use std::alloc::Global;
 
 // Writes what there is on a card.
@@ -69,7 +69,7 @@ fn show_card<K: Sink, F: Flash>(view: View, card: &mut Card<F>, sink: &mut K) ->
 {
     let ending = match write_view(view, card, sink) {
         Ok(()) => Ending::Finished,
-        Err(ShowFault::Flash) => Ending::FlashFault,
+        Err(ShowFault::Flash) => Ending::Failed,
         Err(ShowFault::Write) => Ending::WriteFault,
     };
     flush_at_end(ending, sink)

@@ -11,13 +11,14 @@ use Rattle.line_runs.specs.Ends.{AreTakable, EndCause, Faults, IsGoodInput, coun
 use Rattle.line_runs.specs.declared.ending.LinesEnd.{LinesEnd}
 use Rattle.line_runs.specs.declared.ending.LinesEnd.TheVariants as lines
 use Rattle.script_tool.specs.Workload.{SaysSome}
+use Rattle.line_runs.specs.Exit.{exit_status}
 use Rattle.host_tool.proofs.Reached.{Reached}
 use Rattle.host_tool.specs.Ends.{HasEnded, HasExchanged, HostCause, HostCourse, IsGoodScript, NoneRefused, Streams, Tells, flows}
 use Rattle.host_tool.specs.Flush.{HostFlushes}
-use Rattle.host_tool.specs.Status.{host_ending, host_status}
+use Rattle.host_tool.specs.Ending.{host_ending}
 use Rattle.host_tool.specs.Takes.{Hosting, host_taker}
-use Rattle.host_tool.specs.declared.ending.Ending.{Ending}
-use Rattle.host_tool.specs.declared.ending.Ending.TheVariants.{Finished, Differs, BadLine, NoAnswer, ReadFault, WriteFault, InputTooLong}
+use Rattle.line_runs.specs.declared.exit.Ending.{Ending}
+use Rattle.line_runs.specs.declared.exit.Ending.TheVariants.{Finished, Differs, BadLine, Failed, ReadFault, WriteFault, InputTooLong}
 use Rattle.host_tool.specs.declared.fault.LinkFault.{LinkFault}
 use Rattle.host_tool.specs.declared.fault.LinkFault.TheVariants as fault
 
@@ -38,8 +39,8 @@ module _ (tells : Tells) (old mid : Streams) (course : HostCourse tells.script o
   all_same n m spoke same =
       (let exchanged = spoke.1 in (ap (λ (f : Faults). f.source) same, exchanged.unread, exchanged.unwritten, ap (λ (f : Faults). f.sink) same))
 
-  no_answer : (n m : ℕ) → HasEnded tells old mid course NoAnswer
-      → EndCause lines.Failed (counted old.script.faults old.transcript.faults n) (counted mid.script.faults mid.transcript.faults m) → HostCause NoAnswer old mid
+  no_answer : (n m : ℕ) → HasEnded tells old mid course Failed
+      → EndCause lines.Failed (counted old.script.faults old.transcript.faults n) (counted mid.script.faults mid.transcript.faults m) → HostCause Failed old mid
   no_answer n m at cause =
       (let asked = at.0 in
       let vain = asked.vain in
@@ -88,8 +89,8 @@ module _ (writes : Type 0) (old : Streams) (script replies : SourceState) (comma
   flushed_cause InputTooLong result (a, b, c, d) (flushed, inr (is, rose)) = rw is (risen d rose)
   flushed_cause ReadFault result (a, b, c, d) (flushed, inl (is, handed)) = rw is (a, b, c, handed.quiet ∙ d)
   flushed_cause ReadFault result (a, b, c, d) (flushed, inr (is, rose)) = rw is (risen d rose)
-  flushed_cause NoAnswer result (a, b, c) (flushed, inl (is, handed)) = rw is (a, b, handed.quiet ∙ c)
-  flushed_cause NoAnswer result (a, b, c) (flushed, inr (is, rose)) = rw is (risen c rose)
+  flushed_cause Failed result (a, b, c) (flushed, inl (is, handed)) = rw is (a, b, handed.quiet ∙ c)
+  flushed_cause Failed result (a, b, c) (flushed, inr (is, rose)) = rw is (risen c rose)
 
 -- a flush keeps an ending, or makes it a write fault
 pub flush_keeps : (writes : Type 0) (ending result : Ending) (old new : SinkState) → HostFlushes writes ending old new result → (result ≡ ending) ⊎ (result ≡ WriteFault)
@@ -100,8 +101,8 @@ flush_keeps writes Differs result old new (flushed, inl done) = inl done.0
 flush_keeps writes Differs result old new (flushed, inr refused) = inr refused.0
 flush_keeps writes BadLine result old new (flushed, inl done) = inl done.0
 flush_keeps writes BadLine result old new (flushed, inr refused) = inr refused.0
-flush_keeps writes NoAnswer result old new (flushed, inl done) = inl done.0
-flush_keeps writes NoAnswer result old new (flushed, inr refused) = inr refused.0
+flush_keeps writes Failed result old new (flushed, inl done) = inl done.0
+flush_keeps writes Failed result old new (flushed, inr refused) = inr refused.0
 flush_keeps writes ReadFault result old new (flushed, inl done) = inl done.0
 flush_keeps writes ReadFault result old new (flushed, inr refused) = inr refused.0
 flush_keeps writes InputTooLong result old new (flushed, inl done) = inl done.0
@@ -134,10 +135,10 @@ good_result end differs why result bad long (inr is) = subst IsGood (sym is) tt
 
 -- where nothing has failed, the script was played to its end, or the card did not answer
 pub script_done : (result : Ending) (old new : Streams) → IsGood result → HostCause result old new → NoneRefused old new
-    → (host_status result ≡ 0) ⊎ (host_status result ≡ 8) ⊎ (host_status result ≡ 3)
+    → (exit_status result ≡ 0) ⊎ (exit_status result ≡ 8) ⊎ (exit_status result ≡ 3)
 script_done Finished old new good cause faultless = inl refl
 script_done Differs old new good cause faultless = inr (inl refl)
-script_done NoAnswer old new good cause faultless = inr (inr refl)
+script_done Failed old new good cause faultless = inr (inr refl)
 script_done BadLine old new good cause faultless = absurd good
 script_done InputTooLong old new good cause faultless = absurd good
 script_done ReadFault old new good cause faultless = absurd (faultless.script cause.0)

@@ -5,8 +5,8 @@ use Rattle.io_edge.specs.Streams.{SinkState, SourceState}
 use Rattle.host_tool.proofs.Reached.{Reached}
 use Rattle.host_tool.specs.Ends.{HasAsked, HasEnded, HasExchanged, HostCourse, HostEndsAt, Streams, Tells, WroteWith, flows}
 use Rattle.host_tool.specs.Flush.{HostFlushes, Flushed, HandedOn}
-use Rattle.host_tool.specs.declared.ending.Ending.{Ending}
-use Rattle.host_tool.specs.declared.ending.Ending.TheVariants.{Finished, Differs, BadLine, NoAnswer, ReadFault, WriteFault, InputTooLong}
+use Rattle.line_runs.specs.declared.exit.Ending.{Ending}
+use Rattle.line_runs.specs.declared.exit.Ending.TheVariants.{Finished, Differs, BadLine, Failed, ReadFault, WriteFault, InputTooLong}
 
 module _ (tells : Tells) (old : Streams) (script replies : SourceState) (commands now later : SinkState)
     (course : HostCourse tells.script old.script.left script.left) (none : now.flushes ≡ old.transcript.flushes) where
@@ -37,7 +37,7 @@ module _ (tells : Tells) (old : Streams) (script replies : SourceState) (command
     still Finished (is, read, spoke, wrote) = (is, read, spoke, still_wrote [] wrote)
     still Differs (is, read, spoke, wrote) = (is, read, spoke, still_wrote [] wrote)
     still BadLine (bad, spoke, wrote) = (bad, spoke, still_wrote _ wrote)
-    still NoAnswer (asked, wrote) = (still_asked asked, still_wrote _ wrote)
+    still Failed (asked, wrote) = (still_asked asked, still_wrote _ wrote)
     still ReadFault (holds, spoke, wrote) = (holds, spoke, still_wrote [] wrote)
     still InputTooLong (cut, spoke, wrote) = (cut, spoke, still_wrote [] wrote)
     still WriteFault none = absurd none
@@ -66,8 +66,8 @@ module _ (tells : Tells) (old : Streams) (script replies : SourceState) (command
   flushed_at Differs result at (flushed, inr refused) = rw refused.0 (refused_at flushed Differs at)
   flushed_at BadLine result at (flushed, inl (is, handed)) = rw is (handed_at flushed BadLine at handed)
   flushed_at BadLine result at (flushed, inr refused) = rw refused.0 (refused_at flushed BadLine at)
-  flushed_at NoAnswer result at (flushed, inl (is, handed)) = rw is (handed_at flushed NoAnswer at handed)
-  flushed_at NoAnswer result at (flushed, inr refused) = rw refused.0 (refused_at flushed NoAnswer at)
+  flushed_at Failed result at (flushed, inl (is, handed)) = rw is (handed_at flushed Failed at handed)
+  flushed_at Failed result at (flushed, inr refused) = rw refused.0 (refused_at flushed Failed at)
   flushed_at ReadFault result at (flushed, inl (is, handed)) = rw is (handed_at flushed ReadFault at handed)
   flushed_at ReadFault result at (flushed, inr refused) = rw refused.0 (refused_at flushed ReadFault at)
   flushed_at InputTooLong result at (flushed, inl (is, handed)) = rw is (handed_at flushed InputTooLong at handed)

@@ -16,6 +16,7 @@ use Rattle.line_runs.specs.declared.ending.LinesEnd.TheVariants as lines
 use Rattle.script_tool.specs.Host.{Host, first_host}
 use Rattle.script_tool.specs.HostLines.{HostAsks, HostPlays}
 use Rattle.script_tool.specs.Talk.{Event}
+use Rattle.line_runs.specs.Exit.{ending_of}
 use Rattle.host_tool.proofs.Course.{lines_played}
 use Rattle.host_tool.proofs.Sent.{exchanged_none}
 use Rattle.host_tool.specs.Conveyed.{Conveyed, Exchanged, InVain, Unanswered}
@@ -24,10 +25,10 @@ use Rattle.host_tool.specs.Exchange.{command_line, sent_by}
 use Rattle.host_tool.specs.Fault.{fault_text}
 use Rattle.host_tool.specs.Link.{Linked, sides_of}
 use Rattle.host_tool.specs.Played.{HostHasPlayed}
-use Rattle.host_tool.specs.Status.{at_end, at_failure, host_ending}
+use Rattle.host_tool.specs.Ending.{at_failure, host_ending}
 use Rattle.host_tool.specs.Takes.{FailsFrom, Hosting, Joins, HostStands, host_taker}
-use Rattle.host_tool.specs.declared.ending.Ending.{Ending}
-use Rattle.host_tool.specs.declared.ending.Ending.TheVariants.{Finished, Differs, BadLine, NoAnswer, ReadFault, WriteFault, InputTooLong}
+use Rattle.line_runs.specs.declared.exit.Ending.{Ending}
+use Rattle.line_runs.specs.declared.exit.Ending.TheVariants.{Finished, Differs, BadLine, Failed, ReadFault, WriteFault, InputTooLong}
 use Rattle.host_tool.specs.declared.fault.LinkFault.{LinkFault}
 use Rattle.host_tool.specs.declared.fault.LinkFault.TheVariants as fault
 
@@ -194,7 +195,7 @@ module _ {S K : Type 0} (source : Source S) (sink : Sink K) (reads writes : Type
 
       -- the text of the fault was written
       answered : (why : LinkFault) → WhereNone why → failed.text ≡ fault_text why → Wrote writes (course.texts ++ failed.text ∷ []) (script_side old) (script_side new)
-          → HasEnded tells old new host_course NoAnswer
+          → HasEnded tells old new host_course Failed
       answered why (asked, is) text wrote = (
         asked,
         subst (λ (t : List ℕ). WroteWith tells old new host_course (t ∷ [])) (text ∙ ap fault_text (sym is)) wrote,
@@ -232,7 +233,7 @@ module _ {S K : Type 0} (source : Source S) (sink : Sink K) (reads writes : Type
 
     -- the script was played to its end
     finished_at : (differs : Bool) → played.differs ≡ differs → (reads → IsRead old.script.left course.given course.ahead) → HasExchanged tells old new host_course
-        → WroteWith tells old new host_course [] → Reached tells old new host_course (at_end differs)
+        → WroteWith tells old new host_course [] → Reached tells old new host_course (ending_of differs)
     finished_at false is read spoke wrote = (is, read, spoke, wrote)
     finished_at true is read spoke wrote = (is, read, spoke, wrote)
 

@@ -9,15 +9,16 @@ use Rattle.line_runs.specs.Outside.{outside}
 use Rattle.line_runs.specs.declared.ending.LinesEnd.{LinesEnd}
 use Rattle.line_runs.specs.declared.ending.LinesEnd.TheVariants as lines
 use Rattle.script_tool.specs.Host.{first_host}
+use Rattle.line_runs.specs.Exit.{exit_status}
 use Rattle.host_tool.proofs.Causes.{flush_keeps, flushed_cause, good_result, reached_cause, script_done}
 use Rattle.host_tool.proofs.Flushed.{flushed_at}
 use Rattle.host_tool.proofs.Reached.{Reached, host_course, lines_ended}
 use Rattle.host_tool.specs.Ends.{HostCause, HostEnds, NoneRefused, Streams, Tells, before, flows, script_side, told}
 use Rattle.host_tool.specs.Flush.{HostFlushes}
 use Rattle.host_tool.specs.Link.{sides_of}
-use Rattle.host_tool.specs.Status.{host_ending, host_status}
+use Rattle.host_tool.specs.Ending.{host_ending}
 use Rattle.host_tool.specs.Takes.{Hosting, HostStands, host_taker}
-use Rattle.host_tool.specs.declared.ending.Ending.{Ending}
+use Rattle.line_runs.specs.declared.exit.Ending.{Ending}
 
 -- a write that was refused has raised the count
 write_rose : (end : LinesEnd) (a b n c d m : ℕ) → EndCause end (counted a b n) (counted c d m) → end ≡ lines.WriteFault → Rose b d
@@ -47,7 +48,7 @@ module _ {S K : Type 0} (source : Source S) (sink : Sink K) (reads writes : Type
       (reached_cause tells old (flows script (source.state last.link.replies) (sink.state last.link.commands) now)
       (host_course source sink reads writes old first last link_is stands alike script now ends.course) end last.differs last.link.why n m reached cause) after
 
-  pub host_ends : (status : ℕ) → status ≡ host_status result → HostEnds tells status old new
+  pub host_ends : (status : ℕ) → status ≡ exit_status result → HostEnds tells status old new
   host_ends status is = record {
     ending = result;
     status_is = is;
@@ -58,7 +59,7 @@ module _ {S K : Type 0} (source : Source S) (sink : Sink K) (reads writes : Type
         (host_ending end last.differs last.link.why) result reached after;
   }
 
-  pub host_done : (status : ℕ) → status ≡ host_status result → end ≢ lines.BadLine → end ≢ lines.InputTooLong → NoneRefused old new
+  pub host_done : (status : ℕ) → status ≡ exit_status result → end ≢ lines.BadLine → end ≢ lines.InputTooLong → NoneRefused old new
       → (status ≡ 0) ⊎ (status ≡ 8) ⊎ (status ≡ 3)
   host_done status is good short faultless =
       subst (λ (s : ℕ). (s ≡ 0) ⊎ (s ≡ 8) ⊎ (s ≡ 3)) (sym is)

@@ -12,13 +12,13 @@ use Rattle.script_tool.specs.Host.{Host, first_host}
 use Rattle.script_tool.specs.HostLines.{HostAsks, HostPlays, HostPlaysAll}
 use Rattle.script_tool.specs.Talk.{Event}
 use Rattle.script_tool.specs.Workload.{SaysSome}
+use Rattle.line_runs.specs.Exit.{exit_status}
 use Rattle.host_tool.specs.Conveyed.{CutShort, Exchanged, InVain, Sides}
 use Rattle.host_tool.specs.Exchange.{command_line, sent_by}
 use Rattle.host_tool.specs.Fault.{fault_text}
 use Rattle.host_tool.specs.Link.{sides, unread}
-use Rattle.host_tool.specs.Status.{host_status}
-use Rattle.host_tool.specs.declared.ending.Ending.{Ending}
-use Rattle.host_tool.specs.declared.ending.Ending.TheVariants.{Finished, Differs, BadLine, NoAnswer, ReadFault, WriteFault, InputTooLong}
+use Rattle.line_runs.specs.declared.exit.Ending.{Ending}
+use Rattle.line_runs.specs.declared.exit.Ending.TheVariants.{Finished, Differs, BadLine, Failed, ReadFault, WriteFault, InputTooLong}
 use Rattle.host_tool.specs.declared.fault.LinkFault.{LinkFault}
 
 -- the four streams
@@ -115,7 +115,7 @@ module _ (tells : Tells) (old new : Streams) (course : HostCourse tells.script o
   HasEnded Finished = (course.differs ≡ false) × (tells.script → IsRead old.script.left course.given course.ahead) × HasExchanged × WroteWith []
   HasEnded Differs = (course.differs ≡ true) × (tells.script → IsRead old.script.left course.given course.ahead) × HasExchanged × WroteWith []
   HasEnded BadLine = IsBad × HasExchanged × WroteWith (bad_line (length course.given + 1) ∷ [])
-  HasEnded NoAnswer = (asked : HasAsked) × WroteWith (fault_text asked.fault ∷ [])
+  HasEnded Failed = (asked : HasAsked) × WroteWith (fault_text asked.fault ∷ [])
   HasEnded ReadFault = (tells.script → HoldsNoLine course.ahead new.script.left) × HasExchanged × WroteWith []
   HasEnded InputTooLong = (tells.script → IsShortCut (room_ahead old.script.left course.ahead) course.ahead) × HasExchanged × WroteWith []
   HasEnded WriteFault = ⊥
@@ -140,7 +140,7 @@ HostCause WriteFault old new = Rose old.commands.faults new.commands.faults ⊎ 
 HostCause ReadFault old new =
     Rose old.script.faults new.script.faults × (new.replies.faults ≡ old.replies.faults) × (new.commands.faults ≡ old.commands.faults)
     × (new.transcript.faults ≡ old.transcript.faults)
-HostCause NoAnswer old new =
+HostCause Failed old new =
     (new.script.faults ≡ old.script.faults) × (new.commands.faults ≡ old.commands.faults) × (new.transcript.faults ≡ old.transcript.faults)
 HostCause ending old new =
     (new.script.faults ≡ old.script.faults) × (new.replies.faults ≡ old.replies.faults) × (new.commands.faults ≡ old.commands.faults)
@@ -149,7 +149,7 @@ HostCause ending old new =
 -- A script was played up to an ending, which the status tells.
 pub record HostEnds (tells : Tells) (status : ℕ) (old new : Streams) : Type 0 where
   pub ending : Ending
-  pub status_is : status ≡ host_status ending
+  pub status_is : status ≡ exit_status ending
   pub cause : HostCause ending old new
   pub course : HostCourse tells.script old.script.left new.script.left
   pub ends : HostEndsAt tells old new course ending

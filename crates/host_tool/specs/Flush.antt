@@ -2,8 +2,8 @@
 use Rattle.std.specs.Prelude.{◌≡◌, ◌⊎◌}
 use Rattle.faults.specs.Faults.{Rose, next_count}
 use Rattle.io_edge.specs.Streams.{SinkState}
-use Rattle.host_tool.specs.declared.ending.Ending.{Ending}
-use Rattle.host_tool.specs.declared.ending.Ending.TheVariants.{WriteFault}
+use Rattle.line_runs.specs.declared.exit.Ending.{Ending}
+use Rattle.line_runs.specs.declared.exit.Ending.TheVariants.{WriteFault}
 
 -- the sink was flushed once, and nothing was written
 pub record Flushed (writes : Type 0) (old new : SinkState) : Type 0 where

@@ -5,7 +5,7 @@ pub mod Asked
 pub mod Link
 pub mod Takes
 pub mod Played
-pub mod Status
+pub mod Ending
 pub mod Flush
 pub mod Ends
 pub mod Words

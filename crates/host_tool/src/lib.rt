@@ -19,7 +19,6 @@ mod script_host;
 mod top;
 
 pub use ended::Ended;
-pub use ending::Ending;
 pub use fault::LinkFault;
 pub use file_script::{FileScript, OpenFailed, ScriptFile};
 pub use line_link::LineLink;

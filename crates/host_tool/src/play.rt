@@ -5,10 +5,10 @@ ghost use Rattle.host_tool.specs.Ends.{IsOver, HostEnds, flows, told};
 ghost use Rattle.host_tool.specs.Flush.{HostFlushes};
 
 use crate::ended::Ended;
-use crate::ending::Ending;
+use crate::ending::ending_of;
 use crate::script_host::ScriptHost;
 use io_edge::{Sink, Source};
-use line_runs::take_lines;
+use line_runs::{Ending, take_lines};
 
 // Hands on what was written, unless a write was refused.
 fn flush_at_end<K: Sink>(ending: Ending, sink: &mut K) -> Ending
@@ -41,7 +41,7 @@ pub fn play_script<C: Source, S: Source, K: Sink, T: Sink>(
 {
     let mut host = ScriptHost::new(replies, commands);
     let end = take_lines(&mut host, script, transcript);
-    let ending = Ending::of_lines(end, host.differs(), host.why());
+    let ending = ending_of(end, host.differs(), host.why());
     let status = flush_at_end(ending, transcript).status();
     let (replies, commands) = host.into_streams();
     Ended {

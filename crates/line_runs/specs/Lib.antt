@@ -2,5 +2,6 @@ pub mod Outside
 pub mod Taken
 pub mod Taker
 pub mod Ends
+pub mod Exit
 pub mod Going
 pub mod Turn

@@ -13,7 +13,7 @@ returns-in-Ok-clause-ends g c other =
     c.pack-ending.ensures.flushes c.flush_at_end.ensures.ending in
     record {
       ending = c.flush_at_end.result;
-      status_is = c.status_of.ensures;
+      status_is = c.status_with.ensures;
       cause = c.flush_at_end.ensures.cause _ (S.state c.pack-ending.new.source).faults 0 c.pack-ending.ensures.cause;
       flushes = flushed K.tells c.pack-ending.result c.flush_at_end.result (K.state c.args.sink.now) (K.state c.flush_at_end.new.sink) after;
       course = packed.0;
@@ -34,7 +34,7 @@ returns-in-Ok-clause-complete g c told good unread unwritten =
     let after = after_from K.tells c.pack-ending.result (K.state c.args.sink.now) (K.state c.pack-ending.new.sink) new result
     c.pack-ending.ensures.flushes c.flush_at_end.ensures.ending in
     let old = outside (S.state c.args.source.now) (K.state c.args.sink.now) in
-    rw c.status_of.ensures (cap_done K.tells old (outside (S.state c.pack-ending.new.source) new) packed.0 result _ _ _ _
+    rw c.status_with.ensures (cap_done K.tells old (outside (S.state c.pack-ending.new.source) new) packed.0 result _ _ _ _
     (cap_ends K.tells old (S.state c.pack-ending.new.source) (K.state c.pack-ending.new.sink) new c.flush_at_end.ensures.same c.pack-ending.ensures.flushes packed.0
     c.pack-ending.result result packed.1 after)
     (c.flush_at_end.ensures.cause _ (S.state c.pack-ending.new.source).faults 0 c.pack-ending.ensures.cause) unread unwritten well.0 well.1)

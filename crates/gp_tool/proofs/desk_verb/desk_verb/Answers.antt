@@ -17,7 +17,7 @@ returns-clause-ends g c =
     c.take_lines-end.ensures.flushes c.flush_at_end.ensures.ending in
     record {
       ending = c.flush_at_end.result;
-      status_is = c.status_of.ensures;
+      status_is = c.status_with.ensures;
       cause = c.flush_at_end.ensures.cause _ (S.state c.take_lines-end.new.source).faults 0
           (rw ending (lines_cause end differs (S.state c.args.source.now).faults (S.state c.take_lines-end.new.source).faults
           (K.state c.args.sink.now).faults (K.state c.take_lines-end.new.sink).faults c.take_lines-end.ensures.cause));
@@ -36,5 +36,5 @@ unfolding returns-clause-ends
 returns-clause-complete g c told good unread unwritten =
     let ends = returns-clause-ends g c in
     let complete = (rw c.new-audit.ensures at c.take_lines-end.ensures.complete) told good in
-    rw (c.status_of.ensures) (desk_done c.take_lines-end.result c.differs.result c.flush_at_end.result _ _ _ _ ends.cause unread unwritten complete.0 complete.1
+    rw (c.status_with.ensures) (desk_done c.take_lines-end.result c.differs.result c.flush_at_end.result _ _ _ _ ends.cause unread unwritten complete.0 complete.1
     (rw c.of_lines-ending.ensures at (flush_keeps g.K.Sink.tells c.of_lines-ending.result c.flush_at_end.result _ _ c.flush_at_end.ensures.ending)))

@@ -1,10 +1,10 @@
 use Rattle.std.proofs.Common.{refl, ap, ◌∙◌, inl, inr}
+use Rattle.line_runs.specs.Exit.{exit_status}
 use Rattle.gp_tool.proofs.Flush.{flushed}
 use Rattle.gp_tool.proofs.FormatEnding.{format_failed}
 use Rattle.gp_tool.proofs.MillEnding.{mills_from}
 use Rattle.gp_tool.specs.Around.{around}
-use Rattle.gp_tool.specs.Ends.{exit_status}
-use Rattle.gp_tool.specs.declared.ending.Ending.TheVariants.{FlashFault}
+use Rattle.line_runs.specs.declared.exit.Ending.TheVariants.{Failed}
 use Rattle.gp_tool.proofs.mill_verb.mill_verb.Goals as goal
 
 pub returns-in-Ok-clause-mill : goal.returns-in-Ok-clause-mill
@@ -27,7 +27,7 @@ returns-in-Err-clause-mill g c other =
         ended = record {
           status_is = c.status.ensures;
           cause = end.ensures.cause faults 0 (F.faults c.format.new.flash) (refl, inl refl, c.in-Err.ensures.cause.failed);
-          flushes = flushed K.tells FlashFault end.result before (K.state end.new.sink) after;
+          flushes = flushed K.tells Failed end.result before (K.state end.new.sink) after;
         };
         past_gate = c.format.ensures.others;
         ends = format_failed F K.tells c.format.new.flash before (K.state end.new.sink) end.ensures.same end.result after;

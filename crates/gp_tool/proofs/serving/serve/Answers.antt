@@ -1,9 +1,9 @@
 use Rattle.std.proofs.Common.{ap, ◌∙◌}
 use Rattle.policy_rules.specs.State.{powered_on}
+use Rattle.line_runs.specs.Exit.{exit_status}
 use Rattle.gp_tool.proofs.Complete.{is_done}
 use Rattle.gp_tool.proofs.LinesAreRuns.{lines_keep_trees}
 use Rattle.gp_tool.proofs.Statuses.{never_others}
-use Rattle.gp_tool.specs.Ends.{exit_status}
 use Rattle.gp_tool.specs.RunsLines.{start}
 use Rattle.gp_tool.proofs.serving.serve.Goals as goal
 

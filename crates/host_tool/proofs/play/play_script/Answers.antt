@@ -4,8 +4,8 @@ use Rattle.host_tool.proofs.WholeRuns.{host_done, host_ends}
 use Rattle.host_tool.specs.Ends.{HostEnds, NoneRefused, flows, told}
 use Rattle.host_tool.specs.Flush.{HostFlushes}
 use Rattle.host_tool.specs.Link.{Linked, sides_of}
-use Rattle.host_tool.specs.Status.{host_ending}
-use Rattle.host_tool.specs.declared.ending.Ending.{Ending}
+use Rattle.host_tool.specs.Ending.{host_ending}
+use Rattle.line_runs.specs.declared.exit.Ending.{Ending}
 use Rattle.host_tool.proofs.play.play_script.Goals as goal
 
 pub returns-clause-ends : goal.returns-clause-ends
@@ -27,7 +27,7 @@ returns-clause-ends g c =
     c.new-host.ensures.differs (g.C.Source.state c.take_lines-end.new.source) (g.T.Sink.state c.take_lines-end.new.sink) (g.T.Sink.state c.flush_at_end.new.sink)
     c.take_lines-end.ensures.flushes c.take_lines-end.result c.take_lines-end.ensures.ends _ _ c.take_lines-end.ensures.cause c.flush_at_end.result
     (subst (λ (e : Ending). HostFlushes g.T.Sink.tells e (g.T.Sink.state c.take_lines-end.new.sink) (g.T.Sink.state c.flush_at_end.new.sink) c.flush_at_end.result)
-    (c.of_lines-ending.ensures ∙ (λ i. host_ending c.take_lines-end.result (c.differs.ensures i) (c.why.ensures i))) c.flush_at_end.ensures)
+    (c.ending_of-ending.ensures ∙ (λ i. host_ending c.take_lines-end.result (c.differs.ensures i) (c.why.ensures i))) c.flush_at_end.ensures)
     c.status-status.result c.status-status.ensures)
 
 pub returns-clause-complete : goal.returns-clause-complete
@@ -45,7 +45,7 @@ returns-clause-complete g c told good faultless =
     c.new-host.ensures.differs (g.C.Source.state c.take_lines-end.new.source) (g.T.Sink.state c.take_lines-end.new.sink) (g.T.Sink.state c.flush_at_end.new.sink)
     c.take_lines-end.ensures.flushes c.take_lines-end.result c.take_lines-end.ensures.ends _ _ c.take_lines-end.ensures.cause c.flush_at_end.result
     (subst (λ (e : Ending). HostFlushes g.T.Sink.tells e (g.T.Sink.state c.take_lines-end.new.sink) (g.T.Sink.state c.flush_at_end.new.sink) c.flush_at_end.result)
-    (c.of_lines-ending.ensures ∙ (λ i. host_ending c.take_lines-end.result (c.differs.ensures i) (c.why.ensures i))) c.flush_at_end.ensures)
+    (c.ending_of-ending.ensures ∙ (λ i. host_ending c.take_lines-end.result (c.differs.ensures i) (c.why.ensures i))) c.flush_at_end.ensures)
     c.status-status.result c.status-status.ensures complete.0 complete.1
     (subst
     (λ (p : g.row.S.Denot × g.row.K.Denot).
