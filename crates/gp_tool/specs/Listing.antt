@@ -6,8 +6,10 @@ use Rattle.std.specs.Option.{option_map}
 use Rattle.std.specs.Ordering.{is_lt}
 use Rattle.std.specs.declared.cmp.Ordering.{Ordering}
 use Rattle.card_types.specs.AidOrder.{aid_order}
-use Rattle.card_types.specs.Represents.{used}
+use Rattle.card_types.specs.Registry.{Registry}
+use Rattle.card_types.specs.Represents.{Represents, used}
 use Rattle.card_types.specs.declared.tables.LoadFile.{LoadFile}
+use Rattle.card_types.specs.declared.tables.Tables.{Tables}
 
 -- past the last one, if there is one
 abbrev pub is_past_last : {X : Type 0} → (X → X → Ordering) → Option X → X → Bool
@@ -26,6 +28,10 @@ is_next_file last file = comes_past (λ (f : LoadFile). f.aid) (λ _. true) aid_
 abbrev pub Writes : {T E : Type 0} → Type 0 → List ℕ → List ℕ → List ℕ → Result T E → Type 0
 Writes tells old new text result =
     MatchResult result (λ _. tells → new ≡ old ++ text) (λ _. tells → (n : ℕ) × (new ≡ old ++ take n text))
+
+-- what the registry of some tables has was written so
+abbrev pub WritesOf : {T E : Type 0} → (Registry → List ℕ) → Type 0 → Tables → List ℕ → List ℕ → Result T E → Type 0
+WritesOf text tells tables old new result = (page : ℕ → List ℕ) (said : Registry) → Represents page tables said → Writes tells old new (text said) result
 
 -- `So` holds of the text of the things in slots that are listed: in ascending order, the line of each by what the
 -- registry has of it.

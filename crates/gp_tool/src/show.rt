@@ -3,18 +3,16 @@
 //! The line of the card comes first, then a line each for its entries, Executable Load Files, keys, sequence counters and data
 //! objects, in ascending order of their names. No bytes of keys are shown.
 
-ghost use Rattle.std.specs.Prelude.{◌≡◌, ◌≤◌, ◌++◌, ℕ, List, take, true, OnOk, OnErr, IfErr};
+ghost use Rattle.std.specs.Prelude.{◌≡◌, ◌≤◌, ◌++◌, ℕ, take, true, OnOk, OnErr, IfErr};
 ghost use Rattle.std.specs.List.{flat_map};
 ghost use Rattle.card_core.specs.Card.{CardRepresents};
 ghost use Rattle.card_types.specs.InOrder.{IsInOrder};
-ghost use Rattle.card_types.specs.Registry.{Registry};
-ghost use Rattle.card_types.specs.Represents.{Represents};
 ghost use Rattle.faults.specs.Faults.{HasCause};
 ghost use Rattle.page_journal.specs.Moments.{LeavesOnly};
 ghost use Rattle.policy_rules.specs.State.{State};
 ghost use Rattle.rec_store.specs.Reopens.{Reopens};
 ghost use Rattle.gp_tool.specs.declared.show.fault.ShowFault.TheVariants.{Write};
-ghost use Rattle.gp_tool.specs.Listing.{Writes};
+ghost use Rattle.gp_tool.specs.Listing.{Writes, WritesOf};
 ghost use Rattle.gp_tool.specs.Show.{card_line, counter_line, entry_line, key_line, object_line, ShowCause, shown};
 
 mod counters;
@@ -57,8 +55,8 @@ fn show_life<K: Sink>(life: CardLife, sink: &mut K) -> Result<(), WriteFailed>
 // Writes the lines that stand before those of Executable Load Files.
 fn show_front<K: Sink>(tables: &Tables, sink: &mut K) -> Result<(), WriteFailed>
     requires in_order { IsInOrder tables.now }
-    ensures written { (page : ℕ → List ℕ) (said : Registry) → Represents page tables.now said
-        → Writes K.tells (K.state sink.old).written (K.state sink.new).written (card_line said.life ++ flat_map entry_line said.entries) result }
+    ensures written { WritesOf (λ said. card_line said.life ++ flat_map entry_line said.entries) K.tells tables.now
+        (K.state sink.old).written (K.state sink.new).written result }
     ensures flushes { (K.state sink.new).flushes ≡ (K.state sink.old).flushes }
     ensures cause { HasCause (K.state sink.old).faults (K.state sink.new).faults result }
 {
@@ -69,9 +67,8 @@ fn show_front<K: Sink>(tables: &Tables, sink: &mut K) -> Result<(), WriteFailed>
 // Writes the lines of what domains own: keys, sequence counters and data objects.
 fn show_owned<K: Sink>(tables: &Tables, sink: &mut K) -> Result<(), WriteFailed>
     requires in_order { IsInOrder tables.now }
-    ensures written { (page : ℕ → List ℕ) (said : Registry) → Represents page tables.now said
-        → Writes K.tells (K.state sink.old).written (K.state sink.new).written
-        (flat_map key_line said.keys ++ (flat_map counter_line said.counters ++ flat_map object_line said.objects)) result }
+    ensures written { WritesOf (λ said. flat_map key_line said.keys ++ (flat_map counter_line said.counters ++ flat_map object_line said.objects))
+        K.tells tables.now (K.state sink.old).written (K.state sink.new).written result }
     ensures flushes { (K.state sink.new).flushes ≡ (K.state sink.old).flushes }
     ensures cause { HasCause (K.state sink.old).faults (K.state sink.new).faults result }
 {
@@ -82,8 +79,8 @@ fn show_owned<K: Sink>(tables: &Tables, sink: &mut K) -> Result<(), WriteFailed>
 // Writes the lines of sequence counters and data objects.
 fn show_data<K: Sink>(tables: &Tables, sink: &mut K) -> Result<(), WriteFailed>
     requires in_order { IsInOrder tables.now }
-    ensures written { (page : ℕ → List ℕ) (said : Registry) → Represents page tables.now said
-        → Writes K.tells (K.state sink.old).written (K.state sink.new).written (flat_map counter_line said.counters ++ flat_map object_line said.objects) result }
+    ensures written { WritesOf (λ said. flat_map counter_line said.counters ++ flat_map object_line said.objects) K.tells tables.now
+        (K.state sink.old).written (K.state sink.new).written result }
     ensures flushes { (K.state sink.new).flushes ≡ (K.state sink.old).flushes }
     ensures cause { HasCause (K.state sink.old).faults (K.state sink.new).faults result }
 {

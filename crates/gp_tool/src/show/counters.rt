@@ -1,15 +1,15 @@
 //! The lines of sequence counters.
 
-ghost use Rattle.std.specs.Prelude.{◌≡◌, ◌≤◌, ℕ, List};
+ghost use Rattle.std.specs.Prelude.{◌≡◌, ◌≤◌};
 ghost use Rattle.std.specs.List.{flat_map};
 ghost use Rattle.card_types.proofs.KeyNames.{counter_order_total};
 ghost use Rattle.card_types.specs.Ascending.{counter_order};
 ghost use Rattle.card_types.specs.InOrder.{IsInOrder};
-ghost use Rattle.card_types.specs.Registry.{Counter, Registry};
-ghost use Rattle.card_types.specs.Represents.{Represents, counter_of, keeps_counter};
+ghost use Rattle.card_types.specs.Registry.{Counter};
+ghost use Rattle.card_types.specs.Represents.{counter_of, keeps_counter};
 ghost use Rattle.card_types.specs.declared.limits.TheConstants.{COUNTER_LIMIT};
 ghost use Rattle.faults.specs.Faults.{HasCause};
-ghost use Rattle.gp_tool.specs.Listing.{Writes};
+ghost use Rattle.gp_tool.specs.Listing.{WritesOf};
 ghost use Rattle.gp_tool.specs.Show.{counter_line};
 
 use crate::show::line::LINE_ROOM;
@@ -71,8 +71,7 @@ impl TextListing<KeyRec> for ListedCounters<'_> {
 /// Writes the lines of the sequence counters.
 pub fn show_counters<K: Sink>(tables: &Tables, sink: &mut K) -> Result<(), WriteFailed>
     requires in_order { IsInOrder tables.now }
-    ensures written { (page : ℕ → List ℕ) (said : Registry) → Represents page tables.now said
-        → Writes K.tells (K.state sink.old).written (K.state sink.new).written (flat_map counter_line said.counters) result }
+    ensures written { WritesOf (λ said. flat_map counter_line said.counters) K.tells tables.now (K.state sink.old).written (K.state sink.new).written result }
     ensures flushes { (K.state sink.new).flushes ≡ (K.state sink.old).flushes }
     ensures cause { HasCause (K.state sink.old).faults (K.state sink.new).faults result }
 {

@@ -1,16 +1,16 @@
 //! The lines of entries.
 
-ghost use Rattle.std.specs.Prelude.{◌≡◌, ◌≤◌, ◌++◌, ℕ, List, [], true};
+ghost use Rattle.std.specs.Prelude.{◌≡◌, ◌≤◌, ◌++◌, [], true};
 ghost use Rattle.std.specs.List.{flat_map};
 ghost use Rattle.std.specs.Ordering.{on};
 ghost use Rattle.std.proofs.lemmas.Cmp.{nat_list_cmp_total, on_total};
 ghost use Rattle.arrayvec.specs.ArrayVec.{array_vec_len};
 ghost use Rattle.card_types.specs.AidOrder.{aid_order};
 ghost use Rattle.card_types.specs.InOrder.{IsInOrder};
-ghost use Rattle.card_types.specs.Registry.{Entry as NamedEntry, Registry};
-ghost use Rattle.card_types.specs.Represents.{Represents, entry_of};
+ghost use Rattle.card_types.specs.Registry.{Entry as NamedEntry};
+ghost use Rattle.card_types.specs.Represents.{entry_of};
 ghost use Rattle.faults.specs.Faults.{HasCause};
-ghost use Rattle.gp_tool.specs.Listing.{Writes};
+ghost use Rattle.gp_tool.specs.Listing.{WritesOf};
 ghost use Rattle.gp_tool.specs.Show.{entry_kind, entry_line, entry_names, entry_state};
 
 use crate::show::line::LINE_ROOM;
@@ -22,16 +22,11 @@ use card_types::{Entry, Privileges, Tables};
 use io_edge::{Sink, WriteFailed};
 use line_text::{push_hex, push_word};
 
-/// The entries, in ascending order of their AIDs.
-#[derive(Drop)]
-pub struct ListedEntries<'a> {
-    pub tables: &'a Tables,
-}
-
-impl Listing<Entry> for ListedEntries<'_> {
+// The entries, in ascending order of their AIDs.
+impl Listing<Entry> for Tables {
     ghost Named = { NamedEntry };
 
-    ghost named = { λ entries entry. entry_of entries.tables.now.entries.items entries.tables.now.files.items entry };
+    ghost named = { λ tables entry. entry_of tables.entries.items tables.files.items entry };
 
     ghost listed = { λ _ _. true };
 
@@ -48,14 +43,14 @@ impl Listing<Entry> for ListedEntries<'_> {
     ghost total = { on_total (λ (entry : NamedEntry). entry.aid) nat_list_cmp_total };
 }
 
-impl TextListing<Entry> for ListedEntries<'_> {
-    ghost text = { λ entries entry. entry_line (entry_of entries.tables.now.entries.items entries.tables.now.files.items entry) };
+impl TextListing<Entry> for Tables {
+    ghost text = { λ tables entry. entry_line (entry_of tables.entries.items tables.files.items entry) };
 
     ghost can_spell = { λ _ _. Unit {0} };
 
     fn spell(&self, thing: &Entry, line: &mut ArrayVec<u8, LINE_ROOM>) {
         push_kind(thing, line);
-        push_names(self.tables, thing, line);
+        push_names(self, thing, line);
         push_state(thing, line);
         push_word(b"\n", line);
     }
@@ -106,10 +101,9 @@ fn push_state(entry: &Entry, line: &mut ArrayVec<u8, LINE_ROOM>)
 /// Writes the lines of the entries.
 pub fn show_entries<K: Sink>(tables: &Tables, sink: &mut K) -> Result<(), WriteFailed>
     requires in_order { IsInOrder tables.now }
-    ensures written { (page : ℕ → List ℕ) (said : Registry) → Represents page tables.now said
-        → Writes K.tells (K.state sink.old).written (K.state sink.new).written (flat_map entry_line said.entries) result }
+    ensures written { WritesOf (λ said. flat_map entry_line said.entries) K.tells tables.now (K.state sink.old).written (K.state sink.new).written result }
     ensures flushes { (K.state sink.new).flushes ≡ (K.state sink.old).flushes }
     ensures cause { HasCause (K.state sink.old).faults (K.state sink.new).faults result }
 {
-    write_lines(&ListedEntries { tables }, &tables.entries, sink)
+    write_lines(tables, &tables.entries, sink)
 }

@@ -1,14 +1,14 @@
 //! The lines of keys.
 
-ghost use Rattle.std.specs.Prelude.{◌≡◌, ℕ, List, true};
+ghost use Rattle.std.specs.Prelude.{◌≡◌, true};
 ghost use Rattle.std.specs.List.{flat_map};
 ghost use Rattle.card_types.proofs.KeyNames.{key_order_total};
 ghost use Rattle.card_types.specs.Ascending.{key_order};
 ghost use Rattle.card_types.specs.InOrder.{IsInOrder};
-ghost use Rattle.card_types.specs.Registry.{Key, Registry};
-ghost use Rattle.card_types.specs.Represents.{Represents, key_of};
+ghost use Rattle.card_types.specs.Registry.{Key};
+ghost use Rattle.card_types.specs.Represents.{key_of};
 ghost use Rattle.faults.specs.Faults.{HasCause};
-ghost use Rattle.gp_tool.specs.Listing.{Writes};
+ghost use Rattle.gp_tool.specs.Listing.{WritesOf};
 ghost use Rattle.gp_tool.specs.Show.{key_line};
 
 use crate::show::line::LINE_ROOM;
@@ -19,16 +19,11 @@ use card_types::{KeyRec, Tables};
 use io_edge::{Sink, WriteFailed};
 use line_text::{push_decimal, push_hex, push_word};
 
-/// The keys, by their owners' AIDs, their key version numbers and their key identifiers.
-#[derive(Drop)]
-pub struct ListedKeys<'a> {
-    pub tables: &'a Tables,
-}
-
-impl Listing<KeyRec> for ListedKeys<'_> {
+// The keys, by their owners' AIDs, their key version numbers and their key identifiers.
+impl Listing<KeyRec> for Tables {
     ghost Named = { Key };
 
-    ghost named = { λ keys key. key_of keys.tables.now.entries.items key };
+    ghost named = { λ tables key. key_of tables.entries.items key };
 
     ghost listed = { λ _ _. true };
 
@@ -43,7 +38,7 @@ impl Listing<KeyRec> for ListedKeys<'_> {
             .version
             .cmp(&b.version)
             .then(a.identifier.cmp(&b.identifier));
-        owners_cmp(&self.tables.entries, a.owner, b.owner)
+        owners_cmp(&self.entries, a.owner, b.owner)
             .then(by_number)
             .is_lt()
     }
@@ -51,14 +46,14 @@ impl Listing<KeyRec> for ListedKeys<'_> {
     ghost total = { key_order_total };
 }
 
-impl TextListing<KeyRec> for ListedKeys<'_> {
-    ghost text = { λ keys key. key_line (key_of keys.tables.now.entries.items key) };
+impl TextListing<KeyRec> for Tables {
+    ghost text = { λ tables key. key_line (key_of tables.entries.items key) };
 
     ghost can_spell = { λ _ _. Unit {0} };
 
     fn spell(&self, thing: &KeyRec, line: &mut ArrayVec<u8, LINE_ROOM>) {
         push_word(b"key ", line);
-        push_hex(aid_of_domain(&self.tables.entries, thing.owner), line);
+        push_hex(aid_of_domain(&self.entries, thing.owner), line);
         push_word(b" ", line);
         push_hex(&[thing.version], line);
         push_word(b" ", line);
@@ -72,10 +67,9 @@ impl TextListing<KeyRec> for ListedKeys<'_> {
 /// Writes the lines of the keys.
 pub fn show_keys<K: Sink>(tables: &Tables, sink: &mut K) -> Result<(), WriteFailed>
     requires in_order { IsInOrder tables.now }
-    ensures written { (page : ℕ → List ℕ) (said : Registry) → Represents page tables.now said
-        → Writes K.tells (K.state sink.old).written (K.state sink.new).written (flat_map key_line said.keys) result }
+    ensures written { WritesOf (λ said. flat_map key_line said.keys) K.tells tables.now (K.state sink.old).written (K.state sink.new).written result }
     ensures flushes { (K.state sink.new).flushes ≡ (K.state sink.old).flushes }
     ensures cause { HasCause (K.state sink.old).faults (K.state sink.new).faults result }
 {
-    write_lines(&ListedKeys { tables }, &tables.keys, sink)
+    write_lines(tables, &tables.keys, sink)
 }

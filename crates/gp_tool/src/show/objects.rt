@@ -1,14 +1,14 @@
 //! The lines of data objects.
 
-ghost use Rattle.std.specs.Prelude.{◌≡◌, ℕ, List, true};
+ghost use Rattle.std.specs.Prelude.{◌≡◌, true};
 ghost use Rattle.std.specs.List.{flat_map};
 ghost use Rattle.card_types.proofs.ObjectNames.{object_order_total};
 ghost use Rattle.card_types.specs.Ascending.{object_order};
 ghost use Rattle.card_types.specs.InOrder.{IsInOrder};
-ghost use Rattle.card_types.specs.Registry.{Object as NamedObject, Registry};
-ghost use Rattle.card_types.specs.Represents.{Represents, object_of};
+ghost use Rattle.card_types.specs.Registry.{Object as NamedObject};
+ghost use Rattle.card_types.specs.Represents.{object_of};
 ghost use Rattle.faults.specs.Faults.{HasCause};
-ghost use Rattle.gp_tool.specs.Listing.{Writes};
+ghost use Rattle.gp_tool.specs.Listing.{WritesOf};
 ghost use Rattle.gp_tool.specs.Show.{object_line};
 
 use crate::show::line::LINE_ROOM;
@@ -19,16 +19,11 @@ use card_types::{Object, Tables};
 use io_edge::{Sink, WriteFailed};
 use line_text::{push_hex, push_word};
 
-/// The data objects, by their owners' AIDs and their tags.
-#[derive(Drop)]
-pub struct ListedObjects<'a> {
-    pub tables: &'a Tables,
-}
-
-impl Listing<Object> for ListedObjects<'_> {
+// The data objects, by their owners' AIDs and their tags.
+impl Listing<Object> for Tables {
     ghost Named = { NamedObject };
 
-    ghost named = { λ objects object. object_of objects.tables.now.entries.items object };
+    ghost named = { λ tables object. object_of tables.entries.items object };
 
     ghost listed = { λ _ _. true };
 
@@ -39,7 +34,7 @@ impl Listing<Object> for ListedObjects<'_> {
     }
 
     fn is_below(&self, a: &Object, b: &Object) -> bool {
-        owners_cmp(&self.tables.entries, a.owner, b.owner)
+        owners_cmp(&self.entries, a.owner, b.owner)
             .then(a.tag.cmp(&b.tag))
             .is_lt()
     }
@@ -47,14 +42,14 @@ impl Listing<Object> for ListedObjects<'_> {
     ghost total = { object_order_total };
 }
 
-impl TextListing<Object> for ListedObjects<'_> {
-    ghost text = { λ objects object. object_line (object_of objects.tables.now.entries.items object) };
+impl TextListing<Object> for Tables {
+    ghost text = { λ tables object. object_line (object_of tables.entries.items object) };
 
     ghost can_spell = { λ _ _. Unit {0} };
 
     fn spell(&self, thing: &Object, line: &mut ArrayVec<u8, LINE_ROOM>) {
         push_word(b"object ", line);
-        push_hex(aid_of_domain(&self.tables.entries, thing.owner), line);
+        push_hex(aid_of_domain(&self.entries, thing.owner), line);
         push_word(b" ", line);
         push_hex(&thing.tag.to_be_bytes(), line);
         push_word(b" ", line);
@@ -66,10 +61,9 @@ impl TextListing<Object> for ListedObjects<'_> {
 /// Writes the lines of the data objects.
 pub fn show_objects<K: Sink>(tables: &Tables, sink: &mut K) -> Result<(), WriteFailed>
     requires in_order { IsInOrder tables.now }
-    ensures written { (page : ℕ → List ℕ) (said : Registry) → Represents page tables.now said
-        → Writes K.tells (K.state sink.old).written (K.state sink.new).written (flat_map object_line said.objects) result }
+    ensures written { WritesOf (λ said. flat_map object_line said.objects) K.tells tables.now (K.state sink.old).written (K.state sink.new).written result }
     ensures flushes { (K.state sink.new).flushes ≡ (K.state sink.old).flushes }
     ensures cause { HasCause (K.state sink.old).faults (K.state sink.new).faults result }
 {
-    write_lines(&ListedObjects { tables }, &tables.objects, sink)
+    write_lines(tables, &tables.objects, sink)
 }
