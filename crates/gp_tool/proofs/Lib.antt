@@ -20,6 +20,7 @@ pub mod MillEnding
 pub mod MilledLines
 pub mod One
 pub mod OneMill
+pub mod OneTask
 pub mod Spaces
 pub mod Spelled
 pub mod Moments

@@ -28,6 +28,7 @@ pub mod Show
 pub mod Shown
 pub mod Standing
 pub mod StepsCard
+pub mod Tasks
 pub mod Turn
 pub mod Verbs
 pub mod Words

@@ -1,22 +1,14 @@
 //! The top call.
 
-ghost use Rattle.std.specs.Prelude.{◌≡◌, ◌≢◌, ◌⊎◌, ◌≤◌, ◌++◌, [], ℕ, take, OnOk, OnErr};
-ghost use Rattle.faults.specs.Faults.{HasCause, Rose};
-ghost use Rattle.cap_pack.specs.Input.{joining, limited};
-ghost use Rattle.line_runs.specs.Ends.{IsGoodInput};
-ghost use Rattle.line_runs.specs.Outside.{IfFaultless, outside};
-ghost use Rattle.receipt_desk.specs.Audit.{desk_taker, new_audit};
+ghost use Rattle.std.specs.Prelude.{◌≡◌, ◌≢◌, ◌⊎◌, ◌≤◌, ◌++◌, ℕ, take, OnOk, OnErr};
+ghost use Rattle.faults.specs.Faults.{HasCause};
 ghost use Rattle.gp_tool.specs.Around.{around};
-ghost use Rattle.gp_tool.specs.Cap.{CapEnds};
-ghost use Rattle.gp_tool.specs.Desk.{DeskEnds};
 ghost use Rattle.gp_tool.specs.Device.{HoldsCard};
 ghost use Rattle.gp_tool.specs.Flush.{FlushesLast, IsHandedOn};
-ghost use Rattle.gp_tool.specs.Formatted.{IsFactoryCard};
-ghost use Rattle.gp_tool.specs.Verbs.{Completes, EndsFormat, EndsMill, EndsRun, EndsShow};
+ghost use Rattle.gp_tool.specs.Tasks.{LacksMemory, NeedsCard, TaskCompletes, TaskEnds};
 ghost use Rattle.gp_tool.specs.Words.{AreOf, EndsInUsage, HaveForm, usage_line};
-ghost use Rattle.gp_tool.specs.declared.task.Task.TheVariants.{Format, Mill, Serve, Show, Desk, Cap};
-ghost use Rattle.gp_tool.specs.declared.verb.Verb.{Verb};
-ghost use Rattle.gp_tool.specs.declared.view.View.{View};
+ghost use Rattle.gp_tool.specs.declared.task.Task.{Task};
+ghost use Rattle.gp_tool.specs.declared.task.Task.TheVariants.{Mill};
 ghost use Rattle.gp_tool.specs.declared.workload.Workload.{Workload};
 
 use crate::cap_verb::cap_verb;
@@ -56,6 +48,40 @@ fn refuse_words<K: Sink>(sink: &mut K) -> u8
     }
 }
 
+// Does a task.
+fn do_task<S: Source, K: Sink, F: Flash>(
+    alloc: Global,
+    task: Task,
+    source: &mut S,
+    sink: &mut K,
+    flash: F,
+) -> Ended<F>
+    requires few { (work : Workload) → task ≡ Mill work → work.rounds ≤ 10_000 }
+    ensures ends { TaskEnds S.Source K.Sink F.Flash task result.status result.done (around source.old sink.old flash) (around source.new sink.new result.flash) }
+    ensures memory { result.status ≡ 7
+        → LacksMemory S.Source K.Sink F.Flash task result.done (around source.old sink.old flash) (around source.new sink.new result.flash) }
+    ensures no_card { NeedsCard task → F.tells → (HoldsCard F.Flash flash → ⊥) → (result.status ≡ 3) ⊎ (result.status ≡ 4) ⊎ (result.status ≡ 7) }
+    ensures complete { TaskCompletes S.Source K.Sink F.Flash task result.status (around source.old sink.old flash) (around source.new sink.new result.flash) }
+    ensures later { F.faults flash ≤ F.faults result.flash }
+{
+    match task {
+        Task::Format => format_verb(sink, flash),
+        Task::Serve(verb) => run_verb(alloc, verb, source, sink, flash),
+        Task::Mill(work) => mill_verb(alloc, work, sink, flash),
+        Task::Show(view) => show_verb(alloc, view, sink, flash),
+        Task::Desk => Ended {
+            status: desk_verb(source, sink),
+            done: 0,
+            flash,
+        },
+        Task::Cap => Ended {
+            status: cap_verb(alloc, source, sink),
+            done: 0,
+            flash,
+        },
+    }
+}
+
 /// Does what the words say, and answers the status of the program, how many commands the card has answered, and the device.
 ///
 /// 0: all was done, and the input of `run`, `why`, `replay` or `play` was read to its end. 1: malformed words. 2: a line that is malformed or too long. 3: the device
@@ -73,63 +99,22 @@ pub fn gp<S: Source, K: Sink, F: Flash>(
     ensures usage { (HaveForm words.now → ⊥)
         → EndsInUsage K.tells result.status (K.state sink.old) (K.state sink.new) × (source.new ≡ source.old) × (result.done ≡ 0) × (result.flash ≡ flash) }
 
-    // Want of memory for the card: nothing is read or written, and no call is made on the device, but by `mill`.
-    ensures memory { HaveForm words.now → ((work : Workload) → AreOf (Mill work) words.now → ⊥) → result.status ≡ 7 → (source.new ≡ source.old) × (sink.new ≡ sink.old) × (result.flash ≡ flash) × (result.done ≡ 0) }
+    // They are those of a task: what was read, written and handed on, what the device holds, and which ending the status tells. `run`, `why`, `replay`,
+    // `play`, `show` and `access` may also not have powered the card on, and `mill` not have made it. `show`, `access` and `format` process no command.
+    ensures ends { (task : Task) → AreOf task words.now
+        → TaskEnds S.Source K.Sink F.Flash task result.status result.done (around source.old sink.old flash) (around source.new sink.new result.flash) }
 
-    // `run`, `why`, `replay` and `play`: the card was not powered on, and nothing is read or written. Or the status is that of an ending, which says what
-    // was read, written and handed on, and what the device holds.
-    ensures run { (verb : Verb) → AreOf (Serve verb) words.now → result.status ≢ 7 → EndsRun verb S.Source K.Sink F.Flash result.status result.done
-        (around source.old sink.old flash) (around source.new sink.new result.flash) }
-
-    // `format`: nothing is read or written, no command is processed, and the device is the card as it leaves the factory
-    // unless it failed. Also then no page past the gate has changed.
-    ensures format { AreOf Format words.now
-        → (source.new ≡ source.old) × EndsFormat K.Sink F.Flash result.status result.done (around tt sink.old flash) (around tt sink.new result.flash) }
-
-    // `show` and `access`: nothing is read, and no command is processed. The card was not powered on, and nothing is written. Or the
-    // status is that of an ending, which says what was written and handed on, and the device keeps its registry.
-    ensures show { (view : View) → AreOf (Show view) words.now → result.status ≢ 7
-        → (source.new ≡ source.old) × EndsShow view K.Sink F.Flash result.status result.done (around tt sink.old flash) (around tt sink.new result.flash) }
-
-    // `mill`: nothing is read. The device could not be made the factory card, or that was not powered on. Or a workload was
-    // played on it, and the status is that of an ending, which says what was written and handed on, and what the device holds.
-    ensures mill { (work : Workload) → AreOf (Mill work) words.now → result.status ≢ 7
-        → (source.new ≡ source.old) × EndsMill work K.Sink F.Flash result.status result.done (around tt sink.old flash) (around tt sink.new result.flash) }
-
-    // Want of memory for the card then: nothing is read or written, and the device is the factory card.
-    ensures mill_memory { (work : Workload) → AreOf (Mill work) words.now → result.status ≡ 7
-        → (source.new ≡ source.old) × (sink.new ≡ sink.old) × (result.done ≡ 0) × IsFactoryCard F.Flash result.flash }
+    // Want of memory: nothing is read or written, and the device is the one given, or by `mill` the factory card.
+    ensures memory { (task : Task) → AreOf task words.now → result.status ≡ 7
+        → LacksMemory S.Source K.Sink F.Flash task result.done (around source.old sink.old flash) (around source.new sink.new result.flash) }
 
     // Where the device holds no card, `run`, `why`, `replay`, `play`, `show` and `access` answer 4, but for want of memory and a device that failed.
-    ensures no_card { F.tells → ((verb : Verb) × AreOf (Serve verb) words.now) ⊎ ((view : View) × AreOf (Show view) words.now) → (HoldsCard F.Flash flash → ⊥)
+    ensures no_card { (task : Task) → AreOf task words.now → NeedsCard task → F.tells → (HoldsCard F.Flash flash → ⊥)
         → (result.status ≡ 3) ⊎ (result.status ≡ 4) ⊎ (result.status ≡ 7) }
 
-    // `run`, `why`, `replay` and `play`: where each line has a form, the input is short enough and nothing fails, all is
-    // done, or memory for the card was wanting.
-    ensures complete { (verb : Verb) → AreOf (Serve verb) words.now
-        → Completes verb S.Source K.Sink F.Flash result.status (around source.old sink.old flash) (around source.new sink.new result.flash) }
-    ensures show_complete { (view : View) → AreOf (Show view) words.now → F.tells → HoldsCard F.Flash flash
-        → (Rose (K.state sink.old).faults (K.state sink.new).faults → ⊥) → (Rose (F.faults flash) (F.faults result.flash) → ⊥)
-        → (result.status ≡ 0) ⊎ (result.status ≡ 7) }
-    ensures mill_complete { (work : Workload) → AreOf (Mill work) words.now → F.tells
-        → (Rose (K.state sink.old).faults (K.state sink.new).faults → ⊥) → (Rose (F.faults flash) (F.faults result.flash) → ⊥)
-        → (result.status ≡ 0) ⊎ (result.status ≡ 7) }
-
-    // `desk`: no call is made on the device. The lines of the source were taken for those of a desk, and the status is that of an ending, which
-    // says what was read, written and handed on.
-    ensures desk { AreOf Desk words.now → (result.flash ≡ flash) × (result.done ≡ 0)
-        × DeskEnds S.tells K.tells result.status (outside (S.state source.old) (K.state sink.old)) (outside (S.state source.new) (K.state sink.new)) }
-    ensures desk_complete { AreOf Desk words.now → S.tells → IsGoodInput desk_taker new_audit (S.state source.old).left
-        → IfFaultless (outside (S.state source.old) (K.state sink.old)) (outside (S.state source.new) (K.state sink.new))
-        ((result.status ≡ 0) ⊎ (result.status ≡ 10)) }
-
-    // `cap`: no call is made on the device. The lines of the source were joined and packed, and the status is that of an ending, which says
-    // what was read, written and handed on.
-    ensures cap { AreOf Cap words.now → result.status ≢ 7 → (result.flash ≡ flash) × (result.done ≡ 0)
-        × CapEnds S.tells K.tells result.status (outside (S.state source.old) (K.state sink.old)) (outside (S.state source.new) (K.state sink.new)) }
-    ensures cap_complete { AreOf Cap words.now → S.tells → IsGoodInput joining (limited []) (S.state source.old).left
-        → IfFaultless (outside (S.state source.old) (K.state sink.old)) (outside (S.state source.new) (K.state sink.new))
-        ((result.status ≡ 0) ⊎ (result.status ≡ 11) ⊎ (result.status ≡ 7)) }
+    // Where each line has a form, the input is short enough and nothing fails, all is done, or memory was wanting.
+    ensures complete { (task : Task) → AreOf task words.now
+        → TaskCompletes S.Source K.Sink F.Flash task result.status (around source.old sink.old flash) (around source.new sink.new result.flash) }
     ensures later { F.faults flash ≤ F.faults result.flash }
 {
     match read_task(words) {
@@ -138,19 +123,6 @@ pub fn gp<S: Source, K: Sink, F: Flash>(
             done: 0,
             flash,
         },
-        Some(Task::Format) => format_verb(sink, flash),
-        Some(Task::Serve(verb)) => run_verb(alloc, verb, source, sink, flash),
-        Some(Task::Mill(work)) => mill_verb(alloc, work, sink, flash),
-        Some(Task::Show(view)) => show_verb(alloc, view, sink, flash),
-        Some(Task::Desk) => Ended {
-            status: desk_verb(source, sink),
-            done: 0,
-            flash,
-        },
-        Some(Task::Cap) => Ended {
-            status: cap_verb(alloc, source, sink),
-            done: 0,
-            flash,
-        },
+        Some(task) => do_task(alloc, task, source, sink, flash),
     }
 }
