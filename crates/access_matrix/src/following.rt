@@ -10,62 +10,13 @@ ghost use Rattle.access_matrix.specs.Next.{HasDomain, HasEntry, HasFile, HasThin
 
 use bitflags::Flags;
 use card_types::{
-    Aid, Entry, Found, LoadFile, Privileges, Search, Tables, Wants, first_that, least,
+    Aid, Entry, Following, Found, Privileges, Search, Tables, Wants, first_that, least,
 };
 
-// Things with an AID past the given one, if one is given, by their AIDs.
-#[derive(Drop)]
-struct Past<'a> {
-    after: Option<&'a Aid>,
-}
-
-impl Past<'_> {
-    fn has(&self, aid: &Aid) -> bool
-        ensures { result ≡ is_above (option_copied self.now.after) aid.now }
-    {
-        match self.after {
-            Some(after) => after.is_below(aid),
-            None => true,
-        }
-    }
-}
-
-impl Search<Entry> for Past<'_> {
-    ghost fits = { λ past entry. is_above (option_copied past.after) entry.aid };
-
-    ghost order = { λ _ a b. aid_order a.aid b.aid };
-
-    fn fits(&self, thing: &Entry) -> bool {
-        self.has(&thing.aid)
-    }
-
-    fn is_below(&self, a: &Entry, b: &Entry) -> bool {
-        a.aid.is_below(&b.aid)
-    }
-
-    ghost total = { λ _. on_total (λ entry. entry.aid) nat_list_cmp_total };
-}
-
-impl Search<LoadFile> for Past<'_> {
-    ghost fits = { λ past file. is_above (option_copied past.after) file.aid };
-
-    ghost order = { λ _ a b. aid_order a.aid b.aid };
-
-    fn fits(&self, thing: &LoadFile) -> bool {
-        self.has(&thing.aid)
-    }
-
-    fn is_below(&self, a: &LoadFile, b: &LoadFile) -> bool {
-        a.aid.is_below(&b.aid)
-    }
-
-    ghost total = { λ _. on_total (λ file. file.aid) nat_list_cmp_total };
-}
-
-// Security domains among them.
+// Security domains with an AID above the given one, if one is given.
 #[derive(Drop)]
 struct DomainsPast<'a> {
-    past: Past<'a>,
+    past: Following<'a>,
 }
 
 impl Search<Entry> for DomainsPast<'_> {
@@ -117,7 +68,7 @@ pub fn next_domain(tables: &Tables, after: Option<&Aid>) -> Option<u8>
     ensures none { IfNone result (NoneNext (HasDomain tables.now) aid_order (option_copied after.entry)) }
 {
     let domains = DomainsPast {
-        past: Past { after },
+        past: Following { after },
     };
     match least(&tables.entries, &domains) {
         Some(found) => Some(found.slot),
@@ -131,7 +82,7 @@ pub fn next_entry(tables: &Tables, after: Option<&Aid>) -> Option<u8>
     ensures some { IfSome result (IsNext (HasEntry tables.now) aid_order (option_copied after.entry)) }
     ensures none { IfNone result (NoneNext (HasEntry tables.now) aid_order (option_copied after.entry)) }
 {
-    match least(&tables.entries, &Past { after }) {
+    match least(&tables.entries, &Following { after }) {
         Some(found) => Some(found.slot),
         None => None,
     }
@@ -143,7 +94,7 @@ pub fn next_file(tables: &Tables, after: Option<&Aid>) -> Option<u8>
     ensures some { IfSome result (IsNext (HasFile tables.now) aid_order (option_copied after.entry)) }
     ensures none { IfNone result (NoneNext (HasFile tables.now) aid_order (option_copied after.entry)) }
 {
-    match least(&tables.files, &Past { after }) {
+    match least(&tables.files, &Following { after }) {
         Some(found) => Some(found.slot),
         None => None,
     }
@@ -155,9 +106,9 @@ pub fn next_thing(tables: &Tables, after: Option<&Aid>) -> Option<Found>
     ensures some { IfSome result (IsNext (HasThing tables.now) aid_order (option_copied after.entry)) }
     ensures none { IfNone result (NoneNext (HasThing tables.now) aid_order (option_copied after.entry)) }
 {
-    let past = Past { after };
-    let entry = least(&tables.entries, &past);
-    let file = least(&tables.files, &past);
+    let following = Following { after };
+    let entry = least(&tables.entries, &following);
+    let file = least(&tables.files, &following);
     match (entry, file) {
         (Some(entry), Some(file)) => {
             if file.thing.aid.is_below(&entry.thing.aid) {

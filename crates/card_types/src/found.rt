@@ -81,14 +81,15 @@ pub fn find(tables: &Tables, aid: &Aid) -> Option<Found>
     }
 }
 
-// Things with an AID above the given one, if one is given, by their AIDs.
+/// Things with an AID above the given one, if one is given, by their AIDs.
 #[derive(Drop)]
-struct Following<'a> {
-    after: Option<&'a Aid>,
+pub struct Following<'a> {
+    pub after: Option<&'a Aid>,
 }
 
 impl Following<'_> {
-    fn has(&self, aid: &Aid) -> bool
+    /// Whether a thing with this AID is one of them.
+    pub fn has(&self, aid: &Aid) -> bool
         ensures { result ≡ is_above (option_copied self.now.after) aid.now }
     {
         match self.after {

@@ -21,7 +21,7 @@ pub use factory::{
     FACTORY_FILE, FACTORY_KEY, FACTORY_MODULE, FACTORY_VERSION, ISSUER, factory_file, factory_key,
     issuer_domain,
 };
-pub use found::{Found, Kind, find, next_after};
+pub use found::{Following, Found, Kind, find, next_after};
 pub use key_set::{KeySet, find_key, set_of, set_with};
 pub use laws::{additions_keep_order, changes_keep_order, moves_keep_order, removals_keep_order};
 pub use level::Level;
