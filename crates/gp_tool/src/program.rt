@@ -7,7 +7,7 @@ ghost use Rattle.gp_tool.specs.Words.{HaveForm};
 
 use crate::top::gp;
 use flash_core::FileFlash;
-use io_edge::{NoWords, StdSink, StdSource, words_of};
+use io_edge::{NoWords, StdSink, StdSource, process_words};
 use std::env::Args;
 use std::fs::{File, Files};
 use std::io::{self, ErrorKind, Input, Print};
@@ -32,7 +32,7 @@ pub fn process<R: Files<File = File> + Input + Print + AllocGlobal>(
     ensures memory { IfErr args (λ error. error_kind error ≡ ErrorKind.OutOfMemory → exit_status result ≡ 7) }
     ensures no_text { IfErr args (λ error. error_kind error ≢ ErrorKind.OutOfMemory → exit_status result ≡ 1) }
 {
-    match words_of(rt.alloc(), args) {
+    match process_words(rt.alloc(), args) {
         Ok(words) => ExitCode::from(carry_out(rt, &words)),
         Err(NoWords::NoMemory) => ExitCode::from(7),
         Err(NoWords::NoText) => ExitCode::from(1),

@@ -7,7 +7,7 @@ ghost use Rattle.host_tool.specs.Words.{IsOneWord};
 
 use crate::file_script::FileScript;
 use crate::top::gp_host;
-use io_edge::{NoWords, StdSink, StdSource, words_of};
+use io_edge::{NoWords, StdSink, StdSource, process_words};
 use std::env::Args;
 use std::fs::{File, Files};
 use std::io::{self, ErrorKind, Input, Print, Write};
@@ -39,7 +39,7 @@ pub fn process<R: Files<File = File> + Input + Print + AllocGlobal, W: Write + D
     ensures memory { IfErr args (λ error. error_kind error ≡ ErrorKind.OutOfMemory → exit_status result ≡ 7) }
     ensures no_text { IfErr args (λ error. error_kind error ≢ ErrorKind.OutOfMemory → exit_status result ≡ 1) }
 {
-    match words_of(rt.alloc(), args) {
+    match process_words(rt.alloc(), args) {
         Ok(words) => ExitCode::from(carry_out(rt, errors, &words)),
         Err(NoWords::NoMemory) => ExitCode::from(7),
         Err(NoWords::NoText) => ExitCode::from(1),

@@ -31,4 +31,4 @@ pub use memory_source::{MemSource, SliceSource};
 pub use sink::{Sink, WriteFailed};
 pub use source::{ReadFailed, Source};
 pub use standard::{StdSink, StdSource};
-pub use words::{NoWords, words_of};
+pub use words::{NoWords, process_words};

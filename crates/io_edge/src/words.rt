@@ -18,7 +18,7 @@ pub enum NoWords {
 }
 
 /// The words after the program's name.
-pub fn words_of(alloc: Global, args: io::Result<Args>) -> Result<Vec<String>, NoWords>
+pub fn process_words(alloc: Global, args: io::Result<Args>) -> Result<Vec<String>, NoWords>
     ensures memory { IfErr args (λ error. error_kind error ≡ ErrorKind.OutOfMemory → result ≡ Err NoMemory) }
     ensures no_text { IfErr args (λ error. error_kind error ≢ ErrorKind.OutOfMemory → result ≡ Err NoText) }
 {
