@@ -143,7 +143,7 @@ same_set("the verdicts", DESK, first_words(DESK, "verdict", "what is wrong"), sa
 stops = {span.rstrip(" N") for row in tables(DESK, "line", "what is wrong") for span in re.findall("`([^`]*)`", row[0])}
 same_set("the stops", DESK, stops, {text.strip() for text in re.findall(r'codes "([^"]*)"', Path("crates/cap_pack/specs/Said.antt").read_text())})
 ended = [row[0] for row in tables(DESK, "status", "when", "what has been written")]
-differing = {re.search(r"Differs => (\d+)", (code.TOOL / name).read_text()).group(1) for name in ("desk_verb.rt", "cap_verb.rt")}
+differing = {re.search(r"status_with\((\d+)\)", (code.TOOL / name).read_text()).group(1) for name in ("desk_verb.rt", "cap_verb.rt")}
 same_set("the statuses of desk and cap", DESK, set(ended), {"0", "2", "5", "6", "7", "9"} | differing)
 
 # The pages of a card: the load pages are the last ones, and POLICY says how many there are.
