@@ -22,7 +22,7 @@ NAMES = {
 # What these numbers say besides, or where a name is tied to its number.
 OTHERS = {
     ("flash_core/src/literals.rt", "608"): "the tie",
-    ("policy_rules/specs/GetStatus.antt", "239"): "part_limit, which the standard leaves open",
+    ("policy_machine/specs/GetStatus.antt", "239"): "part_limit, which the standard leaves open",
     ("scp03_host/src/wrap.rt", "239"): "the room of a command that is enciphered",
     ("scp03_host/specs/Wrapped.antt", "239"): "the same, defined",
     ("script_tool/src/aes_session.rt", "239"): "the same, over keys of each length",

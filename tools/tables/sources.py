@@ -5,6 +5,7 @@ from pathlib import Path
 
 TOP = Path(__file__).resolve().parent.parent.parent
 CRATES = TOP / "crates"
+MACHINE = CRATES / "policy_machine"
 RULES = CRATES / "policy_rules"
 TYPES = CRATES / "card_types"
 TOOL = CRATES / "gp_tool/src"
@@ -32,8 +33,8 @@ def constant(path, name):
 
 
 # The rules: what the code calls them and answers, and what the definitions say.
-source = text_of(RULES / "src", "*.rt")
-specs = text_of(RULES / "specs", "*.antt")
+source = text_of(MACHINE / "src", "*.rt")
+specs = text_of(MACHINE / "specs", "*.antt")
 enums = "".join(re.findall(r"^pub enum Rule[A-Z]+ \{(.*?)^\}", source, re.M | re.S))
 variants = re.findall(r"^    (\w+),$", enums, re.M)
 names = pairs(r'::(\w+)\)? => "(\w+)",$', source)
@@ -81,8 +82,8 @@ def orders(titles):
 
 
 # The instruction bytes, and the instructions of each class.
-instructions = pairs(r"^pub const (\w+): u8 = 0x(\w\w);$", (RULES / "src/instruction.rt").read_text())
-lists_of_class = re.findall(r"^const (\w+): \[u8; \d\] = \[([^]]*)\];$", (RULES / "src/class.rt").read_text(), re.M)
+instructions = pairs(r"^pub const (\w+): u8 = 0x(\w\w);$", (MACHINE / "src/instruction.rt").read_text())
+lists_of_class = re.findall(r"^const (\w+): \[u8; \d\] = \[([^]]*)\];$", (MACHINE / "src/class.rt").read_text(), re.M)
 of_class = {name: re.findall(r"\w+", body) for name, body in lists_of_class}
 
 

@@ -6,34 +6,34 @@ use Rattle.card_types.specs.AidOrder.{same_aid}
 use Rattle.card_types.specs.Registry.{Counter, Entry, Key, LoadFile, Object, Registry, file_named}
 use Rattle.card_types.specs.declared.card_life.CardLife.{CardLife}
 use Rattle.card_types.specs.declared.limits.TheConstants.{FILES}
-use Rattle.policy_rules.specs.Admission.{Admitted}
-use Rattle.policy_rules.specs.Charge.{IsAtOrAbove, IsInCharge}
-use Rattle.policy_rules.specs.CommandForm.{FailsFirst}
-use Rattle.policy_rules.specs.DeleteObject.{DeletingFails, DeletionAsked, HasOthers, IsInUse, managed_delete_object}
-use Rattle.policy_rules.specs.EntryStatus.{SettingStatusFails, managed_entry_status}
-use Rattle.policy_rules.specs.declared.entry_status.RuleSS.{RuleSS}
-use Rattle.policy_rules.specs.declared.entry_status.RuleSS.TheVariants.{SS1, SS2, SS3, SS4}
-use Rattle.policy_rules.specs.Extradition.{ExtraditingFails, managed_extradition}
-use Rattle.policy_rules.specs.FirstFailing.{IsFirst}
-use Rattle.policy_rules.specs.InitializeUpdate.{InitializeUpdateFails, initialize_update, offer_rules}
-use Rattle.policy_rules.specs.KeySets.{OwnsSets}
-use Rattle.policy_rules.specs.InstallApplication.{InstallAsked, InstallingFails, managed_install}
-use Rattle.policy_rules.specs.InstallFields.{InstallData}
-use Rattle.policy_rules.specs.InstallLoad.{InstallingLoadFails, LoadData, judged_install_load}
-use Rattle.policy_rules.specs.ManagedForm.{CommandAsks, JudgedForm, JudgedFails, command_form}
-use Rattle.policy_rules.specs.declared.delete_object.RuleDO.{RuleDO}
-use Rattle.policy_rules.specs.declared.delete_object.RuleDO.TheVariants.{DO1, DO2, DO3, DO4}
-use Rattle.policy_rules.specs.declared.extradition.RuleEX.{RuleEX}
-use Rattle.policy_rules.specs.declared.extradition.RuleEX.TheVariants.{EX1, EX2, EX3, EX4, EX5, EX6, EX7}
-use Rattle.policy_rules.specs.declared.install_application.RuleII.{RuleII}
-use Rattle.policy_rules.specs.declared.install_application.RuleII.TheVariants.{II1, II2, II3, II4, II5, II6, II7}
-use Rattle.policy_rules.specs.declared.install_load.RuleIL.{RuleIL}
-use Rattle.policy_rules.specs.declared.install_load.RuleIL.TheVariants.{IL1, IL2, IL3, IL4, IL5, IL6, IL7}
-use Rattle.policy_rules.specs.Delegation.{IsNearestHolder}
-use Rattle.policy_rules.specs.declared.delegation.RuleRC.TheVariants.{RC1}
-use Rattle.policy_rules.specs.declared.delegation.RuleTK.TheVariants.{TK3}
-use Rattle.policy_rules.specs.declared.rule.Rule.{Rule}
-use Rattle.policy_rules.specs.declared.rule.Rule.TheVariants.{RC, TK}
+use Rattle.policy_machine.specs.Admission.{Admitted}
+use Rattle.policy_machine.specs.Charge.{IsAtOrAbove, IsInCharge}
+use Rattle.policy_machine.specs.CommandForm.{FailsFirst}
+use Rattle.policy_machine.specs.DeleteObject.{DeletingFails, DeletionAsked, HasOthers, IsInUse, managed_delete_object}
+use Rattle.policy_machine.specs.EntryStatus.{SettingStatusFails, managed_entry_status}
+use Rattle.policy_machine.specs.declared.entry_status.RuleSS.{RuleSS}
+use Rattle.policy_machine.specs.declared.entry_status.RuleSS.TheVariants.{SS1, SS2, SS3, SS4}
+use Rattle.policy_machine.specs.Extradition.{ExtraditingFails, managed_extradition}
+use Rattle.policy_machine.specs.FirstFailing.{IsFirst}
+use Rattle.policy_machine.specs.InitializeUpdate.{InitializeUpdateFails, initialize_update, offer_rules}
+use Rattle.policy_machine.specs.KeySets.{OwnsSets}
+use Rattle.policy_machine.specs.InstallApplication.{InstallAsked, InstallingFails, managed_install}
+use Rattle.policy_machine.specs.InstallFields.{InstallData}
+use Rattle.policy_machine.specs.InstallLoad.{InstallingLoadFails, LoadData, judged_install_load}
+use Rattle.policy_machine.specs.ManagedForm.{CommandAsks, JudgedForm, JudgedFails, command_form}
+use Rattle.policy_machine.specs.declared.delete_object.RuleDO.{RuleDO}
+use Rattle.policy_machine.specs.declared.delete_object.RuleDO.TheVariants.{DO1, DO2, DO3, DO4}
+use Rattle.policy_machine.specs.declared.extradition.RuleEX.{RuleEX}
+use Rattle.policy_machine.specs.declared.extradition.RuleEX.TheVariants.{EX1, EX2, EX3, EX4, EX5, EX6, EX7}
+use Rattle.policy_machine.specs.declared.install_application.RuleII.{RuleII}
+use Rattle.policy_machine.specs.declared.install_application.RuleII.TheVariants.{II1, II2, II3, II4, II5, II6, II7}
+use Rattle.policy_machine.specs.declared.install_load.RuleIL.{RuleIL}
+use Rattle.policy_machine.specs.declared.install_load.RuleIL.TheVariants.{IL1, IL2, IL3, IL4, IL5, IL6, IL7}
+use Rattle.policy_machine.specs.Delegation.{IsNearestHolder}
+use Rattle.policy_machine.specs.declared.delegation.RuleRC.TheVariants.{RC1}
+use Rattle.policy_machine.specs.declared.delegation.RuleTK.TheVariants.{TK3}
+use Rattle.policy_machine.specs.declared.rule.Rule.{Rule}
+use Rattle.policy_machine.specs.declared.rule.Rule.TheVariants.{RC, TK}
 use Rattle.access_matrix.specs.Commands.{HasFront, HasP2, IsCommandOf, IsFreeAid, IsTokenFor, form_of, judged_as, numbered_aid, p1_of}
 use Rattle.access_matrix.specs.Deeds.{IsThing}
 use Rattle.access_matrix.specs.May.{May, initialize}

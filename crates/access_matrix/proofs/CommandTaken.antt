@@ -14,9 +14,9 @@ use Rattle.card_types.specs.Well.{IsDomainNamed, IsWellEntry, IsWellFile, Well}
 use Rattle.card_types.specs.declared.factory.TheConstants.{FACTORY_FILE, FACTORY_MODULE}
 use Rattle.card_types.specs.declared.privileges.Privileges.{Privileges}
 use Rattle.cmac_kdf.proofs.CmacLemmas.{cmac_is_block}
-use Rattle.policy_rules.proofs.Judging.{IsListed}
-use Rattle.policy_rules.specs.Commands.{TakesCommand}
-use Rattle.policy_rules.specs.ExternalAuthenticate.{rules_before_form}
+use Rattle.policy_machine.proofs.Judging.{IsListed}
+use Rattle.policy_machine.specs.Commands.{TakesCommand}
+use Rattle.policy_machine.specs.ExternalAuthenticate.{rules_before_form}
 use Rattle.tokens_receipts.specs.Token.{signed_by_token}
 use Rattle.access_matrix.specs.Commands.{IsCommandOf, IsFreeAid, IsTokenFor, end_of, form_of, judged_as, module_for, p1_of, privileges_for}
 use Rattle.access_matrix.specs.Deeds.{IsThere, IsThing}

@@ -8,16 +8,17 @@ use Rattle.card_types.specs.Aid.{IsAid}
 use Rattle.card_types.specs.LifeMark.{life_mark_code}
 use Rattle.card_types.specs.Privileges.{ArePrivilegeBytes, delegated_management}
 use Rattle.card_types.specs.Registry.{Entry, Registry, entry_named}
-use Rattle.policy_rules.specs.CommandForm.{FailsFirst}
-use Rattle.policy_rules.specs.DeleteKey.{DeleteParameters}
-use Rattle.policy_rules.specs.DeleteObject.{IsDelegated, managed_delete_object}
+use Rattle.policy_machine.specs.CommandForm.{FailsFirst}
+use Rattle.policy_machine.specs.DeleteKey.{DeleteParameters}
+use Rattle.policy_machine.specs.DeleteObject.{IsDelegated, managed_delete_object}
+use Rattle.policy_machine.specs.Delegation.{Approval, Holds}
+use Rattle.policy_machine.specs.EntryStatus.{managed_entry_status}
+use Rattle.policy_machine.specs.Extradition.{managed_extradition}
+use Rattle.policy_machine.specs.InstallApplication.{managed_install}
+use Rattle.policy_machine.specs.InstallFields.{approval_in}
+use Rattle.policy_machine.specs.InstallLoad.{install_load, load_approval}
+use Rattle.policy_machine.specs.ManagedForm.{command_form}
 use Rattle.policy_rules.specs.DeleteObjectRequests.{IsDeletionRequest}
-use Rattle.policy_rules.specs.Delegation.{Approval, Holds}
-use Rattle.policy_rules.specs.EntryStatus.{managed_entry_status}
-use Rattle.policy_rules.specs.Extradition.{managed_extradition}
-use Rattle.policy_rules.specs.InstallApplication.{managed_install}
-use Rattle.policy_rules.specs.InstallFields.{approval_in}
-use Rattle.policy_rules.specs.InstallLoad.{install_load, load_approval}
 use Rattle.policy_rules.specs.declared.entry_status.EntryStatusRequest.{EntryStatusRequest}
 use Rattle.policy_rules.specs.declared.extradition.ExtraditionRequest.{ExtraditionRequest}
 use Rattle.policy_rules.specs.declared.install_application.InstallRequest.{InstallRequest}
@@ -26,7 +27,6 @@ use Rattle.policy_rules.specs.ExtraditionRequests.{IsExtraditionRequest}
 use Rattle.policy_rules.specs.HoldersFound.{approval_of}
 use Rattle.policy_rules.specs.InstallApplicationRequests.{IsInstallRequest}
 use Rattle.policy_rules.specs.InstallLoadRequests.{IsLoadInstallRequest, NamesDomain}
-use Rattle.policy_rules.specs.ManagedForm.{command_form}
 use Rattle.policy_rules.specs.SetStatusRequests.{IsEntryStatusRequest}
 use Rattle.policy_rules.specs.declared.delegation.Signed.{Signed}
 use Rattle.policy_rules.specs.declared.delete_object.DeletionRequest.{DeletionRequest}

@@ -6,8 +6,8 @@ use Rattle.std.proofs.lemmas.Bool.{cases_order}
 use Rattle.apdu_core.specs.Apdu.{Apdu}
 use Rattle.card_types.specs.LifeMark.{life_mark_code}
 use Rattle.card_types.specs.Registry.{Entry, Key, Registry, entry_named}
-use Rattle.policy_rules.proofs.Approved.{one_holder}
-use Rattle.policy_rules.specs.CommandForm.{FailsFirst}
+use Rattle.policy_machine.proofs.Approved.{one_holder}
+use Rattle.policy_machine.specs.CommandForm.{FailsFirst}
 use Rattle.tokens_receipts.specs.Receipt.{with_length}
 use Rattle.tokens_receipts.specs.Token.{token}
 use Rattle.access_matrix.specs.Commands.{HasFront, HasP2, IsCommandOf, IsFreeAid, IsTokenFor, end_of, form_of, judged_as, module_for, numbered_aid, p1_of, privileges_for, turned}

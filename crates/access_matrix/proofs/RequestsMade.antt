@@ -11,11 +11,11 @@ use Rattle.card_types.proofs.Members.{contains_first}
 use Rattle.card_types.specs.Aid.{IsAid}
 use Rattle.card_types.specs.Privileges.{ArePrivilegeBytes}
 use Rattle.card_types.specs.declared.privileges.Privileges.{Privileges}
-use Rattle.policy_rules.specs.DeleteObject.{AsksToDelete, DeletionAsked, IsTokenField}
-use Rattle.policy_rules.specs.Extradition.{AsksToExtradite}
-use Rattle.policy_rules.specs.InstallApplication.{AreInstallParameters, AsksToInstall}
-use Rattle.policy_rules.specs.InstallFields.{AreLengthFields, InstallData}
-use Rattle.policy_rules.specs.InstallLoad.{AsksToLoad, LoadData}
+use Rattle.policy_machine.specs.DeleteObject.{AsksToDelete, DeletionAsked, IsTokenField}
+use Rattle.policy_machine.specs.Extradition.{AsksToExtradite}
+use Rattle.policy_machine.specs.InstallApplication.{AreInstallParameters, AsksToInstall}
+use Rattle.policy_machine.specs.InstallFields.{AreLengthFields, InstallData}
+use Rattle.policy_machine.specs.InstallLoad.{AsksToLoad, LoadData}
 use Rattle.tokens_receipts.specs.Receipt.{with_length}
 use Rattle.tokens_receipts.specs.Token.{object_named_by, token_element, token_field}
 

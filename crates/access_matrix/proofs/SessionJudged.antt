@@ -3,11 +3,11 @@ use Rattle.std.proofs.Common.{◌≡◌, ◌≢◌, ◌⊎◌, inl, inr, ℕ, �
 use Rattle.std.specs.Prelude.{if◌then◌else◌}
 use Rattle.apdu_core.specs.Apdu.{Apdu, Short}
 use Rattle.card_types.specs.Registry.{Registry}
-use Rattle.policy_rules.specs.Admission.{admitted_as, class_passed, message_joined}
-use Rattle.policy_rules.specs.OwnRules.{AlikeAreJudgedAlike, AreAlike, OpenedAreJudged, selections}
-use Rattle.policy_rules.specs.Classes.{IsKnown}
-use Rattle.policy_rules.specs.Volatile.{Volatile, without_load}
-use Rattle.policy_rules.specs.declared.instruction.TheConstants.{EXTERNAL_AUTHENTICATE, LOAD, PUT_KEY}
+use Rattle.policy_machine.specs.Admission.{admitted_as, class_passed, message_joined}
+use Rattle.policy_machine.specs.OwnRules.{AlikeAreJudgedAlike, AreAlike, OpenedAreJudged, selections}
+use Rattle.policy_machine.specs.Classes.{IsKnown}
+use Rattle.policy_machine.specs.Volatile.{Volatile, without_load}
+use Rattle.policy_machine.specs.declared.instruction.TheConstants.{EXTERNAL_AUTHENTICATE, LOAD, PUT_KEY}
 use Rattle.scp03_card.specs.Opens.{Opens, accepting}
 use Rattle.scp03_card.specs.Session.{Session}
 use Rattle.access_matrix.specs.Accepted.{AcceptsAsJudged, in_session}

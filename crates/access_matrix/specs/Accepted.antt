@@ -3,11 +3,11 @@ use Rattle.std.specs.Prelude.{◌≡◌, ◌≢◌, ◌↔◌, ℕ, List, None}
 use Rattle.apdu_core.specs.Apdu.{Apdu, Short}
 use Rattle.card_types.specs.Registry.{Registry}
 use Rattle.card_types.specs.declared.card_life.CardLife.TheVariants.{Terminated}
-use Rattle.policy_rules.specs.CommandForm.{FailsFirst}
-use Rattle.policy_rules.specs.Sound.{IsSound}
-use Rattle.policy_rules.specs.State.{State}
-use Rattle.policy_rules.specs.Step.{Outcome, Step}
-use Rattle.policy_rules.specs.Volatile.{Secured, with_secure_channel}
+use Rattle.policy_machine.specs.CommandForm.{FailsFirst}
+use Rattle.policy_machine.specs.Sound.{IsSound}
+use Rattle.policy_machine.specs.State.{State}
+use Rattle.policy_machine.specs.Step.{Outcome, Step}
+use Rattle.policy_machine.specs.Volatile.{Secured, with_secure_channel}
 use Rattle.scp03_card.specs.Opens.{Opens}
 use Rattle.scp03_card.specs.Session.{Session}
 use Rattle.access_matrix.specs.Commands.{IsCommandOf, form_of}

@@ -8,14 +8,14 @@ use Rattle.card_types.specs.LifeMark.{life_mark_code}
 use Rattle.card_types.specs.Registry.{Key, Registry, entry_named}
 use Rattle.card_types.specs.declared.factory.TheConstants.{FACTORY_FILE, FACTORY_MODULE}
 use Rattle.card_types.specs.declared.life.LifeMark.{LifeMark}
-use Rattle.policy_rules.specs.CommandForm.{CommandForm}
-use Rattle.policy_rules.specs.Delegation.{IsVerifier, NoVerifier}
-use Rattle.policy_rules.specs.DeleteObject.{managed_delete_object}
-use Rattle.policy_rules.specs.EntryStatus.{managed_entry_status}
-use Rattle.policy_rules.specs.Extradition.{managed_extradition}
-use Rattle.policy_rules.specs.InstallApplication.{managed_install}
-use Rattle.policy_rules.specs.InstallLoad.{install_load, judged_install_load}
-use Rattle.policy_rules.specs.ManagedForm.{JudgedForm, command_form}
+use Rattle.policy_machine.specs.CommandForm.{CommandForm}
+use Rattle.policy_machine.specs.Delegation.{IsVerifier, NoVerifier}
+use Rattle.policy_machine.specs.DeleteObject.{managed_delete_object}
+use Rattle.policy_machine.specs.EntryStatus.{managed_entry_status}
+use Rattle.policy_machine.specs.Extradition.{managed_extradition}
+use Rattle.policy_machine.specs.InstallApplication.{managed_install}
+use Rattle.policy_machine.specs.InstallLoad.{install_load, judged_install_load}
+use Rattle.policy_machine.specs.ManagedForm.{JudgedForm, command_form}
 use Rattle.tokens_receipts.specs.Receipt.{with_length}
 use Rattle.tokens_receipts.specs.Token.{object_named_by, token, token_element, token_field}
 use Rattle.access_matrix.specs.Deeds.{IsThing}

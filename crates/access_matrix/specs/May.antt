@@ -4,9 +4,9 @@ use Rattle.std.specs.Prelude.{◌≡◌, ◌≢◌, ℕ, List, None, MatchOption
 use Rattle.apdu_core.specs.Apdu.{Apdu}
 use Rattle.card_types.specs.Registry.{Registry}
 use Rattle.card_types.specs.declared.card_life.CardLife.TheVariants.{Terminated}
-use Rattle.policy_rules.specs.CommandForm.{FailsFirst}
-use Rattle.policy_rules.specs.InitializeUpdate.{initialize_update}
-use Rattle.policy_rules.specs.Select.{least_fitting}
+use Rattle.policy_machine.specs.CommandForm.{FailsFirst}
+use Rattle.policy_machine.specs.InitializeUpdate.{initialize_update}
+use Rattle.policy_machine.specs.Select.{least_fitting}
 use Rattle.access_matrix.specs.Commands.{IsCommandOf, form_of}
 use Rattle.access_matrix.specs.There.{judged_there, plain}
 use Rattle.access_matrix.specs.declared.deed.Deed.{Deed}

@@ -6,7 +6,7 @@ use Rattle.card_types.specs.Represents.{Represents}
 use Rattle.card_types.specs.Slots.{held}
 use Rattle.card_types.specs.Well.{Well}
 use Rattle.card_types.specs.declared.tables.Tables.{Tables}
-use Rattle.policy_rules.specs.CommandForm.{FailsFirst}
+use Rattle.policy_machine.specs.CommandForm.{FailsFirst}
 use Rattle.access_matrix.specs.Commands.{IsCommandOf, form_of}
 use Rattle.access_matrix.specs.There.{judged_there}
 use Rattle.access_matrix.specs.declared.deed.Deed.{Deed}

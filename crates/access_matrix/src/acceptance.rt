@@ -7,8 +7,8 @@ ghost use Rattle.access_matrix.specs.There.{judged_there};
 ghost use Rattle.card_types.specs.InOrder.{IsInOrder};
 ghost use Rattle.card_types.specs.Registry.{Registry};
 ghost use Rattle.card_types.specs.Represents.{Represents, domain_aid};
-ghost use Rattle.policy_rules.specs.CommandForm.{FailsFirst};
-ghost use Rattle.policy_rules.specs.InitializeUpdate.{initialize_update};
+ghost use Rattle.policy_machine.specs.CommandForm.{FailsFirst};
+ghost use Rattle.policy_machine.specs.InitializeUpdate.{initialize_update};
 ghost use Rattle.policy_rules.specs.LiveEnds.{first_live, live_with_channel};
 
 use crate::slots::entry_aid;

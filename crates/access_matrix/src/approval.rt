@@ -5,10 +5,10 @@ ghost use Rattle.access_matrix.specs.Commands.{IsTokenFor};
 ghost use Rattle.card_types.specs.InOrder.{IsInOrder};
 ghost use Rattle.card_types.specs.Privileges.{delegated_management};
 ghost use Rattle.card_types.specs.Well.{IsKeyLength};
-ghost use Rattle.policy_rules.specs.Admission.{Admitted};
-ghost use Rattle.policy_rules.specs.Delegation.{Holds};
-ghost use Rattle.policy_rules.specs.DeleteObject.{IsDelegated};
-ghost use Rattle.policy_rules.specs.Management.{acting};
+ghost use Rattle.policy_machine.specs.Admission.{Admitted};
+ghost use Rattle.policy_machine.specs.Delegation.{Holds};
+ghost use Rattle.policy_machine.specs.DeleteObject.{IsDelegated};
+ghost use Rattle.policy_machine.specs.Management.{acting};
 ghost use Rattle.policy_rules.specs.Requests.{ActsIn};
 ghost use Rattle.tokens_receipts.specs.Token as approved;
 

@@ -4,18 +4,18 @@ use Rattle.std.specs.Prelude.{Contains, MatchOption, not, if◌then◌else◌, �
 use Rattle.apdu_core.specs.Apdu.{Apdu}
 use Rattle.card_types.specs.declared.card_life.CardLife.TheVariants.{Terminated}
 use Rattle.cmac_kdf.specs.Blocks.{IsBytes}
-use Rattle.policy_rules.specs.Admission.{Admits, Admitted, admitted_as, class_passed, message_joined}
-use Rattle.policy_rules.specs.Classes.{IsKnown, channel_of, class_of, instructions_of, is_protected, protects}
-use Rattle.policy_rules.specs.Sound.{IsSound}
-use Rattle.policy_rules.specs.State.{State}
-use Rattle.policy_rules.specs.Volatile.{Channel, Secured, Volatile, channel_at, channel_with, secure_channel_of, selected_on, session_in, session_on, without_load}
-use Rattle.policy_rules.specs.declared.class.Class.{Class}
-use Rattle.policy_rules.specs.declared.class.Class.TheVariants.{Interindustry, Plain, Secure}
-use Rattle.policy_rules.specs.declared.instruction.TheConstants.{EXTERNAL_AUTHENTICATE, LOAD}
-use Rattle.policy_rules.proofs.OpenedJudged.{admits}
-use Rattle.policy_rules.proofs.Passing.{admitted_selected, channel_is_low, class_fits, either, passed_session}
-use Rattle.policy_rules.proofs.SecureChannelSet.{within}
-use Rattle.policy_rules.proofs.SetChannel.{set_same}
+use Rattle.policy_machine.specs.Admission.{Admits, Admitted, admitted_as, class_passed, message_joined}
+use Rattle.policy_machine.specs.Classes.{IsKnown, channel_of, class_of, instructions_of, is_protected, protects}
+use Rattle.policy_machine.specs.Sound.{IsSound}
+use Rattle.policy_machine.specs.State.{State}
+use Rattle.policy_machine.specs.Volatile.{Channel, Secured, Volatile, channel_at, channel_with, secure_channel_of, selected_on, session_in, session_on, without_load}
+use Rattle.policy_machine.specs.declared.class.Class.{Class}
+use Rattle.policy_machine.specs.declared.class.Class.TheVariants.{Interindustry, Plain, Secure}
+use Rattle.policy_machine.specs.declared.instruction.TheConstants.{EXTERNAL_AUTHENTICATE, LOAD}
+use Rattle.policy_machine.proofs.OpenedJudged.{admits}
+use Rattle.policy_machine.proofs.Passing.{admitted_selected, channel_is_low, class_fits, either, passed_session}
+use Rattle.policy_machine.proofs.SecureChannelSet.{within}
+use Rattle.policy_machine.proofs.SetChannel.{set_same}
 use Rattle.scp03_card.specs.Session.{Session}
 use Rattle.scp03_host.specs.Wrapped.{having_sent, wrapped}
 use Rattle.scp03_host.proofs.AgreementLemmas.{accepting_is, opens_sent}

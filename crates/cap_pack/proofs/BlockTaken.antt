@@ -8,23 +8,23 @@ use Rattle.card_types.specs.Registry.{Entry, LoadFile, Registry, entry_named}
 use Rattle.card_types.specs.RegistryChange.{IsFileAdded}
 use Rattle.card_types.specs.Well.{pages_of}
 use Rattle.card_types.specs.declared.limits.TheConstants.{LOAD_PAGES}
-use Rattle.policy_rules.specs.Admission.{Admitted}
-use Rattle.policy_rules.specs.Charge.{HoldsPrivilege, IsAtOrAbove}
-use Rattle.policy_rules.specs.Classes.{channel_of}
-use Rattle.policy_rules.specs.Commands.{HasEffect, Judges, TakesCommand}
-use Rattle.policy_rules.specs.Delegation.{Holds}
-use Rattle.policy_rules.specs.FirstFailing.{IsFirst}
-use Rattle.policy_rules.specs.Load.{EndsLoad, IsLoadOn, LoadEffect, LoadFails, LoadParameters, LoadingFails, block_of, load_rules}
-use Rattle.policy_rules.specs.Load.{loading as load_form}
-use Rattle.policy_rules.specs.LoadBlocks.{BringsBytes, HasNoLength, HasNoRoom, HasOtherCount, HasOtherHash, pages_used, with_block}
-use Rattle.policy_rules.specs.Management.{acting}
-use Rattle.policy_rules.specs.State.{Effect, State}
-use Rattle.policy_rules.specs.Volatile.{LoadSession, with_load, without_load}
-use Rattle.policy_rules.specs.declared.load.RuleLO.{RuleLO}
-use Rattle.policy_rules.specs.declared.load.RuleLO.TheVariants.{LO1, LO2, LO3, LO4, LO5, LO6, LO7, LO8}
-use Rattle.policy_rules.proofs.Judging.{does_so, judged}
-use Rattle.policy_rules.proofs.LoadBlocksBrought.{one_brought}
-use Rattle.policy_rules.proofs.LoadNamed.{of_load}
+use Rattle.policy_machine.specs.Admission.{Admitted}
+use Rattle.policy_machine.specs.Charge.{HoldsPrivilege, IsAtOrAbove}
+use Rattle.policy_machine.specs.Classes.{channel_of}
+use Rattle.policy_machine.specs.Commands.{HasEffect, Judges, TakesCommand}
+use Rattle.policy_machine.specs.Delegation.{Holds}
+use Rattle.policy_machine.specs.FirstFailing.{IsFirst}
+use Rattle.policy_machine.specs.Load.{EndsLoad, IsLoadOn, LoadEffect, LoadFails, LoadParameters, LoadingFails, block_of, load_rules}
+use Rattle.policy_machine.specs.Load.{loading as load_form}
+use Rattle.policy_machine.specs.LoadBlocks.{BringsBytes, HasNoLength, HasNoRoom, HasOtherCount, HasOtherHash, pages_used, with_block}
+use Rattle.policy_machine.specs.Management.{acting}
+use Rattle.policy_machine.specs.State.{Effect, State}
+use Rattle.policy_machine.specs.Volatile.{LoadSession, with_load, without_load}
+use Rattle.policy_machine.specs.declared.load.RuleLO.{RuleLO}
+use Rattle.policy_machine.specs.declared.load.RuleLO.TheVariants.{LO1, LO2, LO3, LO4, LO5, LO6, LO7, LO8}
+use Rattle.policy_machine.proofs.Judging.{does_so, judged}
+use Rattle.policy_machine.proofs.LoadBlocksBrought.{one_brought}
+use Rattle.policy_machine.proofs.LoadOfChannel.{of_load}
 use Rattle.scp03_card.specs.Session.{Session}
 use Rattle.script_tool.specs.Load.{loading}
 use Rattle.sha2.specs.Sha256.{sha256}

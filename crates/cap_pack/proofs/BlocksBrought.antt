@@ -4,7 +4,7 @@ use Rattle.std.proofs.Math.Seq.{drop-append-add, take-append-add}
 use Rattle.std.proofs.lemmas.List.{append-nil, length-drop, nil_from_length, take-append-drop}
 use Rattle.bertlv.specs.Length.{LengthBytes}
 use Rattle.cmac_kdf.specs.Blocks.{IsBytes}
-use Rattle.policy_rules.specs.LoadBlocks.{BringsBytes}
+use Rattle.policy_machine.specs.LoadBlocks.{BringsBytes}
 use Rattle.script_tool.specs.Load.{block_element, length_field}
 use Rattle.script_tool.specs.Loading.{block_count}
 use Rattle.cap_pack.proofs.Octets.{bytes_joined, bytes_more, no_bytes}

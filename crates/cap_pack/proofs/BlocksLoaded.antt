@@ -1,7 +1,7 @@
 -- All blocks that are left are taken.
 use Rattle.std.proofs.Common.{ℕ, zero, suc, ◌+◌, ◌<◌, ◌≤◌, ◌==◌, List, ◌++◌, length, drop, true, Option, Some, refl, arith}
 use Rattle.std.proofs.lemmas.Bool.{ne_eqb}
-use Rattle.policy_rules.specs.State.{State}
+use Rattle.policy_machine.specs.State.{State}
 use Rattle.scp03_card.specs.Session.{Session}
 use Rattle.script_tool.specs.Load.{load_blocks}
 use Rattle.cap_pack.proofs.BlockTaken.{ends_there, more_comes}

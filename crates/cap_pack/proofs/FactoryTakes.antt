@@ -8,8 +8,8 @@ use Rattle.card_types.specs.Ascending.{IsAscending}
 use Rattle.card_types.specs.ChangeLaws.{IsFreeAid}
 use Rattle.card_types.specs.Factory.{factory_registry}
 use Rattle.card_types.specs.declared.factory.TheConstants.{FACTORY_FILE, ISSUER}
-use Rattle.policy_rules.specs.Sound.{IsSound, IsWellChannel, IsWellOffer}
-use Rattle.policy_rules.specs.Volatile.{channel_at}
+use Rattle.policy_machine.specs.Sound.{IsSound, IsWellChannel, IsWellOffer}
+use Rattle.policy_machine.specs.Volatile.{channel_at}
 use Rattle.scp03_card.specs.Session.{Session}
 use Rattle.cap_pack.specs.FactoryLoads.{FactoryMayLoad, factory_in_session}
 

@@ -10,22 +10,22 @@ use Rattle.card_types.specs.Privileges.{authorized_management, delegated_managem
 use Rattle.card_types.specs.Registry.{Entry, entry_named}
 use Rattle.card_types.specs.declared.limits.TheConstants.{FILES}
 use Rattle.cmac_kdf.specs.Blocks.{IsBytes}
-use Rattle.policy_rules.specs.Admission.{Admitted}
-use Rattle.policy_rules.specs.Charge.{HoldsPrivilege}
-use Rattle.policy_rules.specs.Classes.{channel_of}
-use Rattle.policy_rules.specs.Commands.{HasEffect, Judges, TakesCommand}
-use Rattle.policy_rules.specs.Delegation.{Holds}
-use Rattle.policy_rules.specs.FirstFailing.{IsFirst}
-use Rattle.policy_rules.specs.InstallLoad.{AsksToLoad, InstallingLoadFails, LoadData, install_load, judged_install_load, load_begun}
-use Rattle.policy_rules.specs.Management.{acting}
-use Rattle.policy_rules.specs.State.{Effect, State}
-use Rattle.policy_rules.specs.Volatile.{load_without_channel, selected_on, with_load}
-use Rattle.policy_rules.specs.declared.install_load.RuleIL.{RuleIL}
-use Rattle.policy_rules.specs.declared.install_load.RuleIL.TheVariants.{IL1, IL2, IL3, IL4, IL5, IL6, IL7}
-use Rattle.policy_rules.proofs.FirstLike.{none_first}
-use Rattle.policy_rules.proofs.InstallLoadLaws.{load_install_judgeable, load_install_judged}
-use Rattle.policy_rules.proofs.Judging.{does_so}
-use Rattle.policy_rules.proofs.ManagedJudging.{approval_decides}
+use Rattle.policy_machine.specs.Admission.{Admitted}
+use Rattle.policy_machine.specs.Charge.{HoldsPrivilege}
+use Rattle.policy_machine.specs.Classes.{channel_of}
+use Rattle.policy_machine.specs.Commands.{HasEffect, Judges, TakesCommand}
+use Rattle.policy_machine.specs.Delegation.{Holds}
+use Rattle.policy_machine.specs.FirstFailing.{IsFirst}
+use Rattle.policy_machine.specs.InstallLoad.{AsksToLoad, InstallingLoadFails, LoadData, install_load, judged_install_load, load_begun}
+use Rattle.policy_machine.specs.Management.{acting}
+use Rattle.policy_machine.specs.State.{Effect, State}
+use Rattle.policy_machine.specs.Volatile.{load_without_channel, selected_on, with_load}
+use Rattle.policy_machine.specs.declared.install_load.RuleIL.{RuleIL}
+use Rattle.policy_machine.specs.declared.install_load.RuleIL.TheVariants.{IL1, IL2, IL3, IL4, IL5, IL6, IL7}
+use Rattle.policy_machine.proofs.FirstLike.{none_first}
+use Rattle.policy_machine.proofs.InstallLoadLaws.{load_install_judgeable, load_install_judged}
+use Rattle.policy_machine.proofs.Judging.{does_so}
+use Rattle.policy_machine.proofs.ManagedJudging.{approval_decides}
 use Rattle.scp03_card.specs.Session.{Session}
 use Rattle.scp03_host.specs.Wrapped.{having_sent}
 use Rattle.script_tool.specs.Load.{block_element}

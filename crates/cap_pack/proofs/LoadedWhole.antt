@@ -10,13 +10,13 @@ use Rattle.card_types.specs.Registry.{Entry, Registry, entry_named}
 use Rattle.card_types.specs.Well.{IsWellEntry, Well}
 use Rattle.card_types.specs.declared.card_life.CardLife.{CardLife}
 use Rattle.card_types.specs.declared.card_life.CardLife.TheVariants.{Locked}
-use Rattle.policy_rules.specs.Charge.{HoldsPrivilege, is_privileged}
-use Rattle.policy_rules.specs.Classes.{channel_of}
-use Rattle.policy_rules.specs.Select.{is_card_locked}
-use Rattle.policy_rules.specs.State.{State}
-use Rattle.policy_rules.specs.Step.{Outcome}
-use Rattle.policy_rules.specs.Volatile.{LoadSession, load_without_channel, selected_on, session_on}
-use Rattle.policy_rules.proofs.OneOutcome.{one_run}
+use Rattle.policy_machine.specs.Charge.{HoldsPrivilege, is_privileged}
+use Rattle.policy_machine.specs.Classes.{channel_of}
+use Rattle.policy_machine.specs.Select.{is_card_locked}
+use Rattle.policy_machine.specs.State.{State}
+use Rattle.policy_machine.specs.Step.{Outcome}
+use Rattle.policy_machine.specs.Volatile.{LoadSession, load_without_channel, selected_on, session_on}
+use Rattle.policy_machine.proofs.OneOutcome.{one_run}
 use Rattle.scp03_card.specs.Session.{Session}
 use Rattle.script_tool.specs.Load.{block_element, load_blocks}
 use Rattle.script_tool.specs.Loading.{block_count}

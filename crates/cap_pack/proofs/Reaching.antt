@@ -6,15 +6,15 @@ use Rattle.card_types.specs.Privileges.{authorized_management, delegated_managem
 use Rattle.card_types.specs.Registry.{LoadFile, Registry, entry_named}
 use Rattle.card_types.specs.RegistryChange.{IsFileAdded}
 use Rattle.card_types.specs.declared.card_life.CardLife.TheVariants.{Terminated}
-use Rattle.policy_rules.specs.Charge.{HoldsPrivilege}
-use Rattle.policy_rules.specs.Classes.{channel_of}
-use Rattle.policy_rules.specs.Commands.{HasEffect, Judges}
-use Rattle.policy_rules.specs.Run.{Run}
-use Rattle.policy_rules.specs.Select.{is_card_locked}
-use Rattle.policy_rules.specs.State.{Effect, State}
-use Rattle.policy_rules.specs.Step.{Outcome, Step, accepted}
-use Rattle.policy_rules.specs.Volatile.{session_on}
-use Rattle.policy_rules.proofs.KeepsSound.{steps_keep_sound}
+use Rattle.policy_machine.specs.Charge.{HoldsPrivilege}
+use Rattle.policy_machine.specs.Classes.{channel_of}
+use Rattle.policy_machine.specs.Commands.{HasEffect, Judges}
+use Rattle.policy_machine.specs.Run.{Run}
+use Rattle.policy_machine.specs.Select.{is_card_locked}
+use Rattle.policy_machine.specs.State.{Effect, State}
+use Rattle.policy_machine.specs.Step.{Outcome, Step, accepted}
+use Rattle.policy_machine.specs.Volatile.{session_on}
+use Rattle.policy_machine.proofs.KeepsSound.{steps_keep_sound}
 use Rattle.scp03_card.specs.Protected.{protected}
 use Rattle.scp03_card.specs.Session.{Session}
 use Rattle.scp03_host.specs.Wrapped.{having_sent, wrapped}

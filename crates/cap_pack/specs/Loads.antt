@@ -10,14 +10,14 @@ use Rattle.card_types.specs.Well.{pages_of}
 use Rattle.card_types.specs.declared.card_life.CardLife.TheVariants.{Locked, Terminated}
 use Rattle.card_types.specs.declared.limits.TheConstants.{FILES, FILE_LIMIT, LOAD_PAGES}
 use Rattle.cmac_kdf.specs.Blocks.{IsBytes}
-use Rattle.policy_rules.specs.Charge.{HoldsPrivilege}
-use Rattle.policy_rules.specs.LoadBlocks.{pages_used}
-use Rattle.policy_rules.specs.Run.{Input, Run}
-use Rattle.policy_rules.specs.Run as run
-use Rattle.policy_rules.specs.Sound.{IsSound}
-use Rattle.policy_rules.specs.State.{State}
-use Rattle.policy_rules.specs.Step.{Outcome}
-use Rattle.policy_rules.specs.Volatile.{selected_on, session_on}
+use Rattle.policy_machine.specs.Charge.{HoldsPrivilege}
+use Rattle.policy_machine.specs.LoadBlocks.{pages_used}
+use Rattle.policy_machine.specs.Run.{Input, Run}
+use Rattle.policy_machine.specs.Run as run
+use Rattle.policy_machine.specs.Sound.{IsSound}
+use Rattle.policy_machine.specs.State.{State}
+use Rattle.policy_machine.specs.Step.{Outcome}
+use Rattle.policy_machine.specs.Volatile.{selected_on, session_on}
 use Rattle.scp03_card.specs.Protected.{protected}
 use Rattle.scp03_card.specs.Session.{Session}
 use Rattle.scp03_host.specs.Wrapped.{having_sent, wrapped}

@@ -5,22 +5,22 @@ use Rattle.std.specs.Prelude.{slice_index_or, slice_set}
 use Rattle.std.proofs.lemmas.List.{get_or_default}
 use Rattle.apdu_core.specs.declared.reply.Status.{Status}
 use Rattle.card_types.specs.declared.tables.Tables.{Tables}
-use Rattle.policy_rules.specs.Admission.{Admitted}
-use Rattle.policy_rules.specs.Commands.{TakesCommand}
-use Rattle.policy_rules.specs.ExternalAuthenticate.{external_authenticate}
-use Rattle.policy_rules.specs.InitializeUpdate.{initialize_update}
-use Rattle.policy_rules.specs.Step.{refusal_leaves}
-use Rattle.policy_rules.proofs.Judging.{does_so}
+use Rattle.policy_machine.specs.Admission.{Admitted}
+use Rattle.policy_machine.specs.Commands.{TakesCommand}
+use Rattle.policy_machine.specs.ExternalAuthenticate.{external_authenticate}
+use Rattle.policy_machine.specs.InitializeUpdate.{initialize_update}
+use Rattle.policy_machine.specs.Step.{refusal_leaves}
+use Rattle.policy_machine.proofs.Judging.{does_so}
 use Rattle.std.proofs.Common.{inl}
 use Rattle.std.proofs.lemmas.List.{get_or-set_same, length-set, set-set}
+use Rattle.policy_machine.proofs.SetChannel.{set_other, set_same}
+use Rattle.policy_machine.specs.GetStatus.{channel_at_place, with_place}
+use Rattle.policy_machine.specs.Volatile.{Channel, Volatile, channel_at, secure_channel_of}
+use Rattle.policy_machine.specs.declared.channels.TheConstants.{CHANNELS}
+use Rattle.policy_machine.specs.declared.rule.Rule.{Rule}
 use Rattle.policy_rules.proofs.Selected.{selected_acts}
-use Rattle.policy_rules.proofs.SetChannel.{set_other, set_same}
-use Rattle.policy_rules.specs.GetStatus.{channel_at_place, with_place}
-use Rattle.policy_rules.specs.Volatile.{Channel, Volatile, channel_at, secure_channel_of}
 use Rattle.policy_rules.specs.Requests.{ActsIn, IsRequestOf}
 use Rattle.policy_rules.specs.declared.live.Live.{Live}
-use Rattle.policy_rules.specs.declared.live.TheConstants.{CHANNELS}
-use Rattle.policy_rules.specs.declared.rule.Rule.{Rule}
 use Rattle.card_core.specs.SecureChannels.{RepresentsChannels, RepresentsSecureChannel, held_on, without_offer_held}
 use Rattle.card_core.specs.Kept.{Kept, KeptRepresents, RepresentsSoundly}
 use Rattle.card_core.specs.Lists.{IsSameButPlace, Lists}

@@ -7,19 +7,19 @@ use Rattle.card_types.proofs.Domains.{domain_aid_is}
 use Rattle.card_types.specs.Registry.{Entry as NamedEntry, entry_named, is_domain}
 use Rattle.card_types.specs.Represents.{entry_of}
 use Rattle.card_types.specs.declared.tables.Tables.{Tables}
-use Rattle.policy_rules.proofs.Passing.{channel_is_low}
-use Rattle.policy_rules.proofs.OneOutcome.{of_one}
+use Rattle.policy_machine.proofs.Passing.{channel_is_low}
+use Rattle.policy_machine.proofs.OneOutcome.{of_one}
+use Rattle.policy_machine.specs.Admission.{GeneralFails, IsToApplication, Of, command_rules, general_rules}
+use Rattle.policy_machine.specs.Classes.{IsKnown, channel_of, class_of}
+use Rattle.policy_machine.specs.FirstFailing.{IsFirst}
+use Rattle.policy_machine.specs.State.{State}
+use Rattle.policy_machine.specs.Volatile.{channel_at, selected_on}
+use Rattle.policy_machine.specs.declared.class.Class.{Class}
+use Rattle.policy_machine.specs.declared.instruction.TheConstants.{SELECT, MANAGE_CHANNEL}
+use Rattle.policy_machine.specs.declared.rule.RuleG.TheVariants.{G1, G2, G3, G4}
 use Rattle.policy_rules.proofs.Selected.{selected_entry}
-use Rattle.policy_rules.specs.Admission.{GeneralFails, IsToApplication, Of, command_rules, general_rules}
-use Rattle.policy_rules.specs.Classes.{IsKnown, channel_of, class_of}
-use Rattle.policy_rules.specs.FirstFailing.{IsFirst}
 use Rattle.policy_rules.specs.Requests.{RepresentsState}
-use Rattle.policy_rules.specs.State.{State}
-use Rattle.policy_rules.specs.Volatile.{channel_at, selected_on}
-use Rattle.policy_rules.specs.declared.class.Class.{Class}
-use Rattle.policy_rules.specs.declared.instruction.TheConstants.{SELECT, MANAGE_CHANNEL}
 use Rattle.policy_rules.specs.declared.live.Live.{Live}
-use Rattle.policy_rules.specs.declared.rule.RuleG.TheVariants.{G1, G2, G3, G4}
 use Rattle.card_core.specs.Domains.{is_domain_in}
 use Rattle.card_core.proofs.ChannelChanges.{none_selected, some_selected}
 

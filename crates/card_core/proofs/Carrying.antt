@@ -3,14 +3,14 @@ use Rattle.std.proofs.Common.{◌≡◌, ℕ, ◌<◌, List, [], Bool, true, fal
 use Rattle.std.specs.Prelude.{if◌then◌else◌, slice_index_or, slice_set}
 use Rattle.std.specs.Result.{IsErrAnd}
 use Rattle.apdu_core.specs.declared.reply.Status.{Status}
-use Rattle.policy_rules.specs.Admission.{Admitted}
-use Rattle.policy_rules.specs.Commands.{Judges}
+use Rattle.policy_machine.specs.Admission.{Admitted}
+use Rattle.policy_machine.specs.Commands.{Judges}
+use Rattle.policy_machine.specs.Step.{keeps_load, refusal_leaves}
+use Rattle.policy_machine.specs.Volatile.{Volatile, with_offer_dropped, without_load}
+use Rattle.policy_machine.specs.declared.channels.TheConstants.{CHANNELS}
+use Rattle.policy_machine.specs.declared.rule.Rule.{Rule}
 use Rattle.policy_rules.specs.LiveEnds.{live_without_load}
-use Rattle.policy_rules.specs.Step.{keeps_load, refusal_leaves}
-use Rattle.policy_rules.specs.Volatile.{Volatile, with_offer_dropped, without_load}
 use Rattle.policy_rules.specs.declared.live.Live.{Live}
-use Rattle.policy_rules.specs.declared.live.TheConstants.{CHANNELS}
-use Rattle.policy_rules.specs.declared.rule.Rule.{Rule}
 use Rattle.card_core.specs.SecureChannels.{without_offer_held}
 use Rattle.card_core.specs.Kept.{Kept, KeptRepresents}
 use Rattle.card_core.specs.Serves.{CarriesOut, CarriesOutBut, LoadsBy, live_refused, refused_at}

@@ -14,21 +14,21 @@ use Rattle.card_types.specs.declared.factory.TheConstants.{ISSUER}
 use Rattle.card_types.specs.declared.tables.Entry.{Entry}
 use Rattle.card_types.specs.declared.tables.TheConstants.{ISSUER_SLOT}
 use Rattle.card_types.specs.declared.tables.Tables.{Tables}
-use Rattle.policy_rules.proofs.SetChannel.{lowest_is_closed}
-use Rattle.policy_rules.specs.Admission.{channel_passed, without_place, session_passed}
-use Rattle.policy_rules.specs.Classes.{channel_of}
+use Rattle.policy_machine.proofs.SetChannel.{lowest_is_closed}
+use Rattle.policy_machine.specs.Admission.{channel_passed, without_place, session_passed}
+use Rattle.policy_machine.specs.Classes.{channel_of}
+use Rattle.policy_machine.specs.ManageChannel.{lowest_closed}
+use Rattle.policy_machine.specs.Sound.{IsSound, IsWellLoad}
+use Rattle.policy_machine.specs.State.{State}
+use Rattle.policy_machine.specs.Volatile.{Channel, LoadSession, Nothing, Offered, Secured, SecureChannel, Volatile, channel_at, fresh, load_without_channel, place_in, secure_channel_of, channel_with, with_channel, with_offer_dropped, with_secure_channel, without_load, without_offer}
+use Rattle.policy_machine.specs.declared.instruction.TheConstants.{LOAD}
+use Rattle.policy_machine.specs.declared.channels.TheConstants.{CHANNELS}
 use Rattle.policy_rules.specs.LiveEnds.{kept_of_others, live_with_channel, live_without_load, live_without_place}
-use Rattle.policy_rules.specs.ManageChannel.{lowest_closed}
 use Rattle.policy_rules.specs.KeptPlaces.{place_of}
 use Rattle.policy_rules.specs.Requests.{IsLoadNamed, IsSelectedIn, RepresentsState}
-use Rattle.policy_rules.specs.Sound.{IsSound, IsWellLoad}
-use Rattle.policy_rules.specs.State.{State}
-use Rattle.policy_rules.specs.Volatile.{Channel, LoadSession, Nothing, Offered, Secured, SecureChannel, Volatile, channel_at, fresh, load_without_channel, place_in, secure_channel_of, channel_with, with_channel, with_offer_dropped, with_secure_channel, without_load, without_offer}
-use Rattle.policy_rules.specs.declared.instruction.TheConstants.{LOAD}
 use Rattle.policy_rules.specs.declared.live.Live.{Live}
 use Rattle.policy_rules.specs.declared.live.LoadName.{LoadName}
 use Rattle.policy_rules.specs.declared.live.Place.{Place as KeptPlace}
-use Rattle.policy_rules.specs.declared.live.TheConstants.{CHANNELS}
 use Rattle.card_core.specs.SecureChannels.{RepresentsSecureChannel, held_passed, without_offer_held}
 use Rattle.card_core.specs.Kept.{Kept, KeptRepresents}
 use Rattle.card_core.specs.Manages.{KeepsAid, KeepsSelected}

@@ -13,22 +13,22 @@ use Rattle.load_session.specs.declared.session.LoadSession.{LoadSession}
 use Rattle.scp03_card.specs.Opens.{Opens, accepting}
 use Rattle.scp03_card.specs.Protected.{protected}
 use Rattle.scp03_card.specs.Session.{Session}
-use Rattle.policy_rules.proofs.Passing.{channel_is_low}
-use Rattle.policy_rules.specs.Admission.{Admitted, GeneralFails, admitted_as, class_passed, command_rules, in_plain}
-use Rattle.policy_rules.specs.Classes.{IsKnown, IsPlainManagement, channel_of, class_of, is_protected, managing}
-use Rattle.policy_rules.specs.FirstFailing.{IsFirst}
+use Rattle.policy_machine.proofs.Passing.{channel_is_low}
+use Rattle.policy_machine.specs.Admission.{Admitted, GeneralFails, admitted_as, class_passed, command_rules, in_plain}
+use Rattle.policy_machine.specs.Classes.{IsKnown, IsPlainManagement, channel_of, class_of, is_protected, managing}
+use Rattle.policy_machine.specs.FirstFailing.{IsFirst}
+use Rattle.policy_machine.specs.State.{State}
+use Rattle.policy_machine.specs.Step.{sent}
+use Rattle.policy_machine.specs.Volatile.{Secured, SecureChannel, channel_at, secure_channel_of}
+use Rattle.policy_machine.specs.declared.instruction.TheConstants.{EXTERNAL_AUTHENTICATE, GET_DATA, GET_STATUS}
+use Rattle.policy_machine.specs.declared.channels.TheConstants.{CHANNELS}
+use Rattle.policy_machine.specs.declared.rule.Rule.{Rule}
+use Rattle.policy_machine.specs.declared.rule.Rule.TheVariants.{G}
+use Rattle.policy_machine.specs.declared.rule.RuleG.{RuleG}
+use Rattle.policy_machine.specs.declared.rule.RuleG.TheVariants.{G5, G6}
 use Rattle.policy_rules.specs.LiveEnds.{live_without_load, live_without_place}
-use Rattle.policy_rules.specs.State.{State}
-use Rattle.policy_rules.specs.Step.{sent}
-use Rattle.policy_rules.specs.Volatile.{Secured, SecureChannel, channel_at, secure_channel_of}
-use Rattle.policy_rules.specs.declared.instruction.TheConstants.{EXTERNAL_AUTHENTICATE, GET_DATA, GET_STATUS}
 use Rattle.policy_rules.specs.declared.live.Live.{Live}
 use Rattle.policy_rules.specs.declared.live.Place.{Place}
-use Rattle.policy_rules.specs.declared.live.TheConstants.{CHANNELS}
-use Rattle.policy_rules.specs.declared.rule.Rule.{Rule}
-use Rattle.policy_rules.specs.declared.rule.Rule.TheVariants.{G}
-use Rattle.policy_rules.specs.declared.rule.RuleG.{RuleG}
-use Rattle.policy_rules.specs.declared.rule.RuleG.TheVariants.{G5, G6}
 use Rattle.card_core.proofs.LoadsKept.{admitted_loading}
 use Rattle.card_core.proofs.Passed.{goes_on, holds_passed, managed_served, opened_so, opened_stands, over_served, passed_held, place_told, plain_stands, read_at, refused_served, session_of, written_at}
 use Rattle.card_core.proofs.Serving.{admits_opened, admits_plain, carried_out, protected_one}

@@ -16,10 +16,10 @@ use Rattle.card_types.specs.declared.tables.KeyRec.{KeyRec}
 use Rattle.key_rules.specs.PutFails.{has_version}
 use Rattle.key_rules.specs.Staying.{is_of, staying}
 use Rattle.key_sets.specs.Puts.{Deletes}
-use Rattle.policy_rules.proofs.DeleteKeyKeeps.{without_version, without_version_ascending, without_version_well}
-use Rattle.policy_rules.proofs.Filtered.{filter_same, there_any}
+use Rattle.policy_machine.proofs.DeleteKeyKeeps.{without_version, without_version_ascending, without_version_well}
+use Rattle.policy_machine.proofs.Filtered.{filter_same, there_any}
+use Rattle.policy_machine.specs.KeyVersions.{counters_but, keys_but}
 use Rattle.policy_rules.proofs.KeysByName.{counters_staying, keys_staying}
-use Rattle.policy_rules.specs.KeyVersions.{counters_but, keys_but}
 use Rattle.rec_store.specs.Contents.{Contents}
 use Rattle.rec_store.specs.Keeper.{SameElse}
 use Rattle.card_core.proofs.KeysSaid.{changed_cards, keys_said}

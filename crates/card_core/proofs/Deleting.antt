@@ -20,8 +20,8 @@ use Rattle.card_types.specs.declared.tables.KeyRec.{KeyRec}
 use Rattle.card_types.specs.declared.tables.LoadFile.{LoadFile}
 use Rattle.card_types.specs.declared.tables.Tables.{Tables}
 use Rattle.card_types.specs.declared.tables.TheConstants.{ISSUER_SLOT}
+use Rattle.policy_machine.specs.Admission.{Admitted}
 use Rattle.policy_rules.proofs.ReceipterKept.{receipter_has_others}
-use Rattle.policy_rules.specs.Admission.{Admitted}
 use Rattle.policy_rules.specs.DeleteObjectFound.{IsAlone, IsRemovable, IsToGoIn, IsUnselected}
 use Rattle.policy_rules.specs.HoldersFound.{IsReceipterIn, MayReceipt}
 use Rattle.policy_rules.specs.Requests.{ActsIn}

@@ -5,8 +5,8 @@ use Rattle.card_types.specs.Found.{aid_of}
 use Rattle.card_types.specs.Represents.{entry_of, file_aid}
 use Rattle.card_types.specs.declared.found.Found.TheVariants.{File}
 use Rattle.card_types.specs.declared.tables.Tables.{Tables}
-use Rattle.policy_rules.specs.Admission.{Admitted}
-use Rattle.policy_rules.specs.InstallApplication.{entry_made}
+use Rattle.policy_machine.specs.Admission.{Admitted}
+use Rattle.policy_machine.specs.InstallApplication.{entry_made}
 use Rattle.policy_rules.specs.InstallApplicationRequests.{IsInstallOf}
 use Rattle.policy_rules.specs.Requests.{ActsIn}
 use Rattle.policy_rules.specs.declared.install_application.InstallRequest.{InstallRequest}

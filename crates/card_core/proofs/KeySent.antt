@@ -4,7 +4,7 @@ use Rattle.std.proofs.lemmas.List.{length-take-le, take-append-drop}
 use Rattle.card_types.specs.Well.{IsKeyLength}
 use Rattle.cmac_kdf.specs.Blocks.{IsBytes, zero_block}
 use Rattle.cmac_kdf.specs.Cbc.{cbc}
-use Rattle.policy_rules.specs.PutKey.{IsKeySent, SentKey, sealed_size}
+use Rattle.policy_machine.specs.PutKey.{IsKeySent, SentKey, sealed_size}
 
 -- a key has no more bytes than its blocks
 within_blocks : (size : ℕ) → IsKeyLength size → size ≤ sealed_size size

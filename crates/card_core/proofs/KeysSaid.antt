@@ -7,7 +7,7 @@ use Rattle.card_types.specs.Registry.{Counter, Key, Registry}
 use Rattle.card_types.specs.Represents.{Represents, counter_of, keeps_counter, key_of, used}
 use Rattle.card_types.specs.Well.{Well}
 use Rattle.card_types.specs.declared.tables.Object.{Object}
-use Rattle.policy_rules.specs.KeyVersions.{with_keys}
+use Rattle.policy_machine.specs.KeyVersions.{with_keys}
 use Rattle.rec_store.specs.Contents.{Contents}
 use Rattle.rec_store.specs.Keeper.{SameElse}
 use Rattle.card_core.proofs.Cards.{cards_after}

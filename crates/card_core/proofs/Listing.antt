@@ -14,8 +14,8 @@ use Rattle.card_types.specs.declared.limits.TheConstants.{DOMAIN_KEYS}
 use Rattle.card_types.specs.declared.tables.Entry.{Entry}
 use Rattle.card_types.specs.declared.tables.KeyRec.{KeyRec}
 use Rattle.card_types.specs.declared.tables.Tables.{Tables}
+use Rattle.policy_machine.specs.GetData.{IsKeyInformation, key_information}
 use Rattle.policy_rules.proofs.OwnKeys.{IsAfter, keys_are, keys_from_next, keys_from_none, next_named, none_named, own_past}
-use Rattle.policy_rules.specs.GetData.{IsKeyInformation, key_information}
 use Rattle.policy_rules.specs.KeyOrder.{follows, is_past, name_order}
 use Rattle.policy_rules.specs.declared.key_order.KeyName.{KeyName}
 

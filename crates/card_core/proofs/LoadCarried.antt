@@ -7,13 +7,13 @@ use Rattle.load_session.specs.Loaded.{loaded}
 use Rattle.load_session.specs.declared.session.LoadSession.{LoadSession}
 use Rattle.rec_store.specs.Contents.{Contents}
 use Rattle.card_core.specs.declared.loading.Loading.{Loading}
-use Rattle.policy_rules.proofs.OneOutcome.{does_one}
-use Rattle.policy_rules.specs.Admission.{Admitted}
-use Rattle.policy_rules.specs.State.{Effect}
-use Rattle.policy_rules.specs.Volatile.{Channel, secure_channel_of}
+use Rattle.policy_machine.proofs.OneOutcome.{does_one}
+use Rattle.policy_machine.specs.Admission.{Admitted}
+use Rattle.policy_machine.specs.State.{Effect}
+use Rattle.policy_machine.specs.Volatile.{Channel, secure_channel_of}
+use Rattle.policy_machine.specs.declared.channels.TheConstants.{CHANNELS}
+use Rattle.policy_machine.specs.declared.rule.Rule.{Rule}
 use Rattle.policy_rules.specs.declared.live.Live.{Live}
-use Rattle.policy_rules.specs.declared.live.TheConstants.{CHANNELS}
-use Rattle.policy_rules.specs.declared.rule.Rule.{Rule}
 use Rattle.card_core.proofs.Carrying.{refusal_shows}
 use Rattle.card_core.proofs.ChannelChanges.{HasFour}
 use Rattle.card_core.specs.Kept.{KeptRepresents, RepresentsSoundly, kept_of}

@@ -17,11 +17,11 @@ use Rattle.load_session.specs.Session.{IsBlockTaken, RepresentsAfter, Represents
 use Rattle.load_session.specs.declared.block.Taken.{Taken}
 use Rattle.load_session.specs.declared.load_write.LoadWrite.{LoadWrite}
 use Rattle.load_session.specs.declared.session.LoadSession.{LoadSession as Kept}
-use Rattle.policy_rules.proofs.LoadBlocksBrought.{some_announced}
-use Rattle.policy_rules.specs.LoadBlocks.{Block, BringsBytes, with_block}
+use Rattle.policy_machine.proofs.LoadBlocksBrought.{some_announced}
+use Rattle.policy_machine.specs.LoadBlocks.{Block, BringsBytes, with_block}
+use Rattle.policy_machine.specs.Sound.{IsWellLoad}
+use Rattle.policy_machine.specs.Volatile.{LoadSession}
 use Rattle.policy_rules.specs.Requests.{IsLoadNamed}
-use Rattle.policy_rules.specs.Sound.{IsWellLoad}
-use Rattle.policy_rules.specs.Volatile.{LoadSession}
 use Rattle.policy_rules.specs.declared.live.Live.{Live}
 use Rattle.policy_rules.specs.declared.live.LoadName.{LoadName}
 use Rattle.policy_rules.specs.declared.load.LoadRequest.{LoadRequest}

@@ -10,21 +10,21 @@ use Rattle.load_session.specs.declared.block.BlockStop.{BlockStop}
 use Rattle.load_session.specs.declared.block.BlockStop.TheVariants.{FirstBlock, NoRoom, Count, Hash}
 use Rattle.load_session.specs.declared.block.Taken.{Taken}
 use Rattle.load_session.specs.declared.session.LoadSession.{LoadSession as Kept}
+use Rattle.policy_machine.specs.Admission.{Admitted}
+use Rattle.policy_machine.specs.FirstFailing.{IsFirst}
+use Rattle.policy_machine.specs.Load.{LoadFails, LoadParameters, block_of, front_rules, last_rules, load_rules}
+use Rattle.policy_machine.specs.LoadBlocks.{Block, HasNoRoom, HasOtherCount, HasOtherHash}
+use Rattle.policy_machine.specs.Sound.{IsSound}
+use Rattle.policy_machine.specs.declared.rule.Rule.{Rule}
+use Rattle.policy_machine.specs.declared.rule.Rule.TheVariants.{LO}
 use Rattle.policy_rules.proofs.LoadJudging.{count_refuses, hash_refuses, last_decides, length_refuses, more_passes, room_refuses}
 use Rattle.policy_rules.proofs.LoadNamed.{IsNamedOn, named_on_channel}
-use Rattle.policy_rules.specs.Admission.{Admitted}
-use Rattle.policy_rules.specs.FirstFailing.{IsFirst}
-use Rattle.policy_rules.specs.Load.{LoadFails, LoadParameters, block_of, front_rules, last_rules, load_rules}
-use Rattle.policy_rules.specs.LoadBlocks.{Block, HasNoRoom, HasOtherCount, HasOtherHash}
 use Rattle.policy_rules.specs.LoadFound.{IsForLast}
 use Rattle.policy_rules.specs.LoadRequests.{IsLoadOf}
 use Rattle.policy_rules.specs.Requests.{ActsIn, IsLoadNamed, RepresentsState}
-use Rattle.policy_rules.specs.Sound.{IsSound}
 use Rattle.policy_rules.specs.declared.live.Live.{Live}
 use Rattle.policy_rules.specs.declared.live.LoadName.{LoadName}
 use Rattle.policy_rules.specs.declared.load.LoadRequest.{LoadRequest}
-use Rattle.policy_rules.specs.declared.rule.Rule.{Rule}
-use Rattle.policy_rules.specs.declared.rule.Rule.TheVariants.{LO}
 use Rattle.card_core.specs.Loading.{RepresentsLoading}
 use Rattle.card_core.specs.Loads.{IsForBlock, block_in, block_rule}
 

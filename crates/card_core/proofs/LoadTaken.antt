@@ -16,23 +16,23 @@ use Rattle.load_session.specs.Session.{IsBlockTaken, RepresentsLoad}
 use Rattle.load_session.specs.declared.block.Taken.{Taken}
 use Rattle.load_session.specs.declared.load_write.LoadWrite.{LoadWrite}
 use Rattle.load_session.specs.declared.session.LoadSession.{LoadSession as Kept}
-use Rattle.policy_rules.proofs.Judging.{IsListed, does_so, judged}
+use Rattle.policy_machine.proofs.Judging.{IsListed, does_so, judged}
+use Rattle.policy_machine.specs.Admission.{Admitted}
+use Rattle.policy_machine.specs.Commands.{HasEffect, TakesCommand}
+use Rattle.policy_machine.specs.Delegation.{Holds, IsAnswered, unconfirmed}
+use Rattle.policy_machine.specs.FirstFailing.{IsFirst}
+use Rattle.policy_machine.specs.Load.{EndsLoad, GoesOn, LoadFails, block_of, file_of_load, load_rules, loading}
+use Rattle.policy_machine.specs.LoadBlocks.{Block, BringsBytes, with_block}
+use Rattle.policy_machine.specs.State.{Effect, State}
+use Rattle.policy_machine.specs.Volatile.{LoadSession, Volatile, load_without_channel, without_load}
+use Rattle.policy_machine.specs.declared.rule.Rule.{Rule}
 use Rattle.policy_rules.proofs.LoadNamed.{counted_named}
-use Rattle.policy_rules.specs.Admission.{Admitted}
-use Rattle.policy_rules.specs.Commands.{HasEffect, TakesCommand}
-use Rattle.policy_rules.specs.Delegation.{Holds, IsAnswered, unconfirmed}
-use Rattle.policy_rules.specs.FirstFailing.{IsFirst}
 use Rattle.policy_rules.specs.HoldersFound.{FindsConfirmer}
 use Rattle.policy_rules.specs.LiveEnds.{live_with_block, live_without_load}
-use Rattle.policy_rules.specs.Load.{EndsLoad, GoesOn, LoadFails, block_of, file_of_load, load_rules, loading}
-use Rattle.policy_rules.specs.LoadBlocks.{Block, BringsBytes, with_block}
 use Rattle.policy_rules.specs.Requests.{ActsIn, IsLoadNamed, RepresentsState}
-use Rattle.policy_rules.specs.State.{Effect, State}
-use Rattle.policy_rules.specs.Volatile.{LoadSession, Volatile, load_without_channel, without_load}
 use Rattle.policy_rules.specs.declared.live.Live.{Live}
 use Rattle.policy_rules.specs.declared.live.LoadName.{LoadName}
 use Rattle.policy_rules.specs.declared.load.LoadRequest.{LoadRequest}
-use Rattle.policy_rules.specs.declared.rule.Rule.{Rule}
 use Rattle.rec_store.specs.Reopens.{IsFree}
 use Rattle.card_core.proofs.Answered.{aids_selected}
 use Rattle.card_core.proofs.ChannelChanges.{load_left, says_kept}

@@ -17,28 +17,28 @@ use Rattle.rec_store.specs.Reopens.{AreSpare, IsFree, IsSpare}
 use Rattle.std.proofs.lemmas.List.Elements.{All-contains}
 use Rattle.load_session.specs.Session.{load_slot}
 use Rattle.load_session.specs.declared.session.LoadSession.{LoadSession as Kept}
-use Rattle.policy_rules.proofs.LoadsLeft.{loads_left}
-use Rattle.policy_rules.specs.Admission.{Admitted, admitted_as, class_passed, message_joined, session_passed}
-use Rattle.policy_rules.specs.Classes.{channel_of}
+use Rattle.policy_machine.proofs.LoadsLeft.{loads_left}
+use Rattle.policy_machine.specs.Admission.{Admitted, admitted_as, class_passed, message_joined, session_passed}
+use Rattle.policy_machine.specs.Classes.{channel_of}
+use Rattle.policy_machine.specs.Sound.{IsSound, IsWellLoad}
+use Rattle.policy_machine.specs.State.{State}
+use Rattle.policy_machine.specs.Step.{keeps_load, refusal_leaves}
+use Rattle.policy_machine.specs.Volatile.{LoadSession, Volatile, load_without_channel, with_offer_dropped, without_load}
+use Rattle.policy_machine.specs.declared.instruction.TheConstants.{INSTALL, LOAD}
+use Rattle.policy_machine.specs.declared.rule.Rule.{Rule}
 use Rattle.policy_rules.specs.Requests.{IsLoadNamed, IsRequestOf, RepresentsState}
-use Rattle.policy_rules.specs.Sound.{IsSound, IsWellLoad}
-use Rattle.policy_rules.specs.State.{State}
-use Rattle.policy_rules.specs.Step.{keeps_load, refusal_leaves}
-use Rattle.policy_rules.specs.Volatile.{LoadSession, Volatile, load_without_channel, with_offer_dropped, without_load}
-use Rattle.policy_rules.specs.declared.instruction.TheConstants.{INSTALL, LOAD}
 use Rattle.policy_rules.specs.declared.live.Live.{Live}
 use Rattle.policy_rules.specs.declared.live.LoadName.{LoadName}
 use Rattle.policy_rules.specs.declared.request.Request.{Request}
 use Rattle.policy_rules.specs.declared.request.Request.TheVariants.{Select, MoreChannel, LessChannel, Get, Initialize, Authenticate, PutKey, Store, DeleteKey, DeleteObject, Install, MakeSelectable, Extradite, InstallLoad, CardStatus, EntryStatus, Load, List as ListStatus}
-use Rattle.policy_rules.specs.declared.rule.Rule.{Rule}
 use Rattle.scp03_card.specs.Session.{Session}
 use Rattle.card_core.specs.Loading.{AreFree, RepresentsLoading}
 use Rattle.card_core.specs.Loads.{LoadsAs}
-use Rattle.policy_rules.specs.Commands.{Judges}
+use Rattle.policy_machine.specs.Commands.{Judges}
 use Rattle.std.specs.Result.{IsErrAnd}
 use Rattle.card_core.specs.Manages.{KeepsAid, KeepsFree, KeepsSelected}
 use Rattle.card_core.specs.Serves.{AsksForLoad, LoadsBy}
-use Rattle.policy_rules.proofs.Lawful.{IsLoading, LoadStays}
+use Rattle.policy_machine.proofs.Lawful.{IsLoading, LoadStays}
 
 module _ (page : ℕ → List ℕ) (tables : Tables) (loading : Option Kept) where
   -- the load session of a channel has ended

@@ -5,18 +5,18 @@ use Rattle.apdu_core.specs.declared.reply.Status.{Status}
 use Rattle.card_types.specs.Registry.{Registry}
 use Rattle.card_types.specs.Represents.{Represents}
 use Rattle.card_types.specs.declared.tables.Tables.{Tables}
-use Rattle.policy_rules.proofs.Judging.{IsListed, does_so, judged}
-use Rattle.policy_rules.proofs.ManagedLawful.{replied}
-use Rattle.policy_rules.specs.Admission.{Admitted}
-use Rattle.policy_rules.specs.CommandForm.{CommandForm}
-use Rattle.policy_rules.specs.Commands.{Judges, TakesCommand}
-use Rattle.policy_rules.specs.Delegation.{IsAnswered, unconfirmed}
-use Rattle.policy_rules.specs.ExternalAuthenticate.{rules_before_form}
-use Rattle.policy_rules.specs.FirstFailing.{IsFirst}
+use Rattle.policy_machine.proofs.Judging.{IsListed, does_so, judged}
+use Rattle.policy_machine.proofs.ManagedLawful.{replied}
+use Rattle.policy_machine.specs.Admission.{Admitted}
+use Rattle.policy_machine.specs.CommandForm.{CommandForm}
+use Rattle.policy_machine.specs.Commands.{Judges, TakesCommand}
+use Rattle.policy_machine.specs.Delegation.{IsAnswered, unconfirmed}
+use Rattle.policy_machine.specs.ExternalAuthenticate.{rules_before_form}
+use Rattle.policy_machine.specs.FirstFailing.{IsFirst}
+use Rattle.policy_machine.specs.ManagedForm.{CommandAsks, ManagedForm, command_form}
+use Rattle.policy_machine.specs.declared.rule.Rule.{Rule}
 use Rattle.policy_rules.specs.HoldersFound.{FindsConfirmer}
-use Rattle.policy_rules.specs.ManagedForm.{CommandAsks, ManagedForm, command_form}
 use Rattle.policy_rules.specs.Requests.{ActsIn}
-use Rattle.policy_rules.specs.declared.rule.Rule.{Rule}
 use Rattle.card_core.proofs.Cards.{in_order}
 use Rattle.card_core.proofs.Confirming.{answered_so, finds_receipter}
 use Rattle.card_core.specs.Confirms.{AnswersFor, Confirms, KeepsReceipts, leaves}

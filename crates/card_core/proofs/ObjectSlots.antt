@@ -15,8 +15,8 @@ use Rattle.card_types.specs.Slots.{held}
 use Rattle.card_types.specs.declared.limits.TheConstants.{OBJECTS}
 use Rattle.card_types.specs.declared.tables.Object.{Object}
 use Rattle.key_rules.proofs.Stays.{any_used}
-use Rattle.policy_rules.proofs.NewTags.{count_if, first_new, with_tag}
-use Rattle.policy_rules.specs.ObjectsFound.{has_object_in, has_tag_in, is_tagged_in, new_tags}
+use Rattle.policy_machine.proofs.NewTags.{count_if, first_new, with_tag}
+use Rattle.policy_machine.specs.ObjectsFound.{has_object_in, has_tag_in, is_tagged_in, new_tags}
 use Rattle.card_core.specs.ObjectsPut.{IsSlotFor, object_with}
 
 -- where no slot has one, there is none

@@ -7,13 +7,13 @@ use Rattle.card_core.specs.Offers.{OffersAs}
 use Rattle.card_core.specs.declared.channel_session.ChannelSession.{ChannelSession}
 use Rattle.card_types.specs.Registry.{Counter, Object, Registry, object_named}
 use Rattle.card_types.specs.declared.tables.Tables.{Tables}
-use Rattle.policy_rules.specs.Admission.{Admitted}
-use Rattle.policy_rules.specs.Commands.{Judges}
-use Rattle.policy_rules.specs.GetData.{HasData, IsDataObject}
-use Rattle.policy_rules.specs.InitializeUpdate.{AsksForSet, diversification_of, offer_body}
-use Rattle.policy_rules.specs.KeySets.{UsesSet}
-use Rattle.policy_rules.specs.Management.{acting}
-use Rattle.policy_rules.specs.declared.rule.Rule.{Rule}
+use Rattle.policy_machine.specs.Admission.{Admitted}
+use Rattle.policy_machine.specs.Commands.{Judges}
+use Rattle.policy_machine.specs.GetData.{HasData, IsDataObject}
+use Rattle.policy_machine.specs.InitializeUpdate.{AsksForSet, diversification_of, offer_body}
+use Rattle.policy_machine.specs.KeySets.{UsesSet}
+use Rattle.policy_machine.specs.Management.{acting}
+use Rattle.policy_machine.specs.declared.rule.Rule.{Rule}
 use Rattle.scp03_card.specs.Kept.{KeptOffer, RepresentsOffer}
 use Rattle.scp03_card.specs.Offer.{Offer, card_cryptogram, counter_bytes, offered}
 

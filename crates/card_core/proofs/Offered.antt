@@ -1,7 +1,7 @@
 -- The offer that a channel holds.
 use Rattle.std.proofs.Common.{◌≡◌, None, Some, refl}
-use Rattle.policy_rules.specs.Admission.{Admitted}
-use Rattle.policy_rules.specs.Volatile.{Nothing, Offered, Secured, SecureChannel, offer_in, offer_on}
+use Rattle.policy_machine.specs.Admission.{Admitted}
+use Rattle.policy_machine.specs.Volatile.{Nothing, Offered, Secured, SecureChannel, offer_in, offer_on}
 use Rattle.scp03_card.specs.Kept.{KeptOffer, RepresentsOffer}
 use Rattle.scp03_card.specs.Offer.{Offer}
 use Rattle.card_core.specs.SecureChannels.{RepresentsSecureChannel, IsOffered}

@@ -9,8 +9,8 @@ use Rattle.card_types.specs.declared.tables.Tables.{Tables}
 use Rattle.flash_core.specs.declared.flash.Flash.{Ghosts as Flash}
 use Rattle.page_journal.specs.Journal.{stored}
 use Rattle.page_journal.specs.Moments.{LeavesOnly}
+use Rattle.policy_machine.specs.State.{State, powered_on}
 use Rattle.policy_rules.specs.LiveEnds.{first_live}
-use Rattle.policy_rules.specs.State.{State, powered_on}
 use Rattle.policy_rules.specs.declared.live.Live.{Live}
 use Rattle.rec_store.proofs.OneRegistry.{said_once}
 use Rattle.rec_store.proofs.Reopening.{has_pages, spare_same}

@@ -8,27 +8,27 @@ use Rattle.card_types.specs.declared.card_life.CardLife.{CardLife}
 use Rattle.card_types.specs.declared.tables.Tables.{Tables}
 use Rattle.scp03_card.specs.Opens.{Gives, IsAuthentic, Opens, accepting, field_of}
 use Rattle.scp03_card.specs.Session.{Session}
-use Rattle.policy_rules.proofs.Passing.{admitted_fits, channel_is_low, class_fits, passed_session}
-use Rattle.policy_rules.proofs.SecureChannelSet.{unloaded}
-use Rattle.policy_rules.specs.Admission.{GeneralFails, IsTaken, admitted_as, class_passed, command_rules, without_place, session_for}
-use Rattle.policy_rules.specs.Classes.{IsKnown, IsPlainManagement, channel_of, class_of, is_protected, protects}
-use Rattle.policy_rules.specs.FirstFailing.{IsFirst}
+use Rattle.policy_machine.proofs.Passing.{admitted_fits, channel_is_low, class_fits, passed_session}
+use Rattle.policy_machine.proofs.SecureChannelSet.{unloaded}
+use Rattle.policy_machine.specs.Admission.{GeneralFails, IsTaken, admitted_as, class_passed, command_rules, without_place, session_for}
+use Rattle.policy_machine.specs.Classes.{IsKnown, IsPlainManagement, channel_of, class_of, is_protected, protects}
+use Rattle.policy_machine.specs.FirstFailing.{IsFirst}
 use Rattle.policy_rules.specs.LiveEnds.{live_without_load, live_without_place}
 use Rattle.policy_rules.specs.KeptPlaces.{place_of}
 use Rattle.policy_rules.specs.GetStatusRequests.{IsPlaceBefore}
 use Rattle.policy_rules.specs.declared.live.Place.{Place}
 use Rattle.std.specs.Option.{option_map}
-use Rattle.policy_rules.specs.Rules.{status_of}
-use Rattle.policy_rules.specs.Sound.{IsSound}
-use Rattle.policy_rules.specs.State.{State}
-use Rattle.policy_rules.specs.Volatile.{LoadSession, Nothing, Secured, Volatile, channel_at, place_in, session_in, secure_channel_of, with_secure_channel, without_load, without_session}
-use Rattle.policy_rules.specs.declared.class.Class.{Class}
-use Rattle.policy_rules.specs.declared.instruction.TheConstants.{EXTERNAL_AUTHENTICATE, LOAD}
+use Rattle.policy_machine.specs.Rules.{status_of}
+use Rattle.policy_machine.specs.Sound.{IsSound}
+use Rattle.policy_machine.specs.State.{State}
+use Rattle.policy_machine.specs.Volatile.{LoadSession, Nothing, Secured, Volatile, channel_at, place_in, session_in, secure_channel_of, with_secure_channel, without_load, without_session}
+use Rattle.policy_machine.specs.declared.class.Class.{Class}
+use Rattle.policy_machine.specs.declared.instruction.TheConstants.{EXTERNAL_AUTHENTICATE, LOAD}
+use Rattle.policy_machine.specs.declared.channels.TheConstants.{CHANNELS}
+use Rattle.policy_machine.specs.declared.rule.Rule.TheVariants.{G}
+use Rattle.policy_machine.specs.declared.rule.RuleG.{RuleG}
+use Rattle.policy_machine.specs.declared.rule.RuleG.TheVariants.{G1, G2, G3, G4, G5, G6, G7, G8}
 use Rattle.policy_rules.specs.declared.live.Live.{Live}
-use Rattle.policy_rules.specs.declared.live.TheConstants.{CHANNELS}
-use Rattle.policy_rules.specs.declared.rule.Rule.TheVariants.{G}
-use Rattle.policy_rules.specs.declared.rule.RuleG.{RuleG}
-use Rattle.policy_rules.specs.declared.rule.RuleG.TheVariants.{G1, G2, G3, G4, G5, G6, G7, G8}
 use Rattle.card_core.specs.SecureChannels.{RepresentsSecureChannel, IsInSession, held_passed, without_offer_held}
 use Rattle.card_core.specs.Kept.{KeptRepresents, RepresentsSoundly}
 use Rattle.card_core.specs.Secured.{OpensAs}

@@ -8,14 +8,14 @@ use Rattle.card_types.specs.Represents.{Represents as SaysRegistry}
 use Rattle.card_types.specs.Well.{Well}
 use Rattle.card_types.specs.declared.tables.Entry.{Entry}
 use Rattle.card_types.specs.declared.tables.Tables.{Tables}
-use Rattle.policy_rules.proofs.KeepsSound.{starts_sound}
+use Rattle.policy_machine.proofs.KeepsSound.{starts_sound}
+use Rattle.policy_machine.specs.State.{powered_on}
+use Rattle.policy_machine.specs.Volatile.{channel_at, first_volatile, place_in, secure_channel_of}
+use Rattle.policy_machine.specs.declared.channels.TheConstants.{CHANNELS}
 use Rattle.policy_rules.specs.LiveEnds.{first_live}
 use Rattle.policy_rules.specs.KeptPlaces.{place_of}
 use Rattle.policy_rules.specs.Requests.{IsSelectedIn, RepresentsState}
-use Rattle.policy_rules.specs.State.{powered_on}
-use Rattle.policy_rules.specs.Volatile.{channel_at, first_volatile, place_in, secure_channel_of}
 use Rattle.policy_rules.specs.declared.live.Live.{Live}
-use Rattle.policy_rules.specs.declared.live.TheConstants.{CHANNELS}
 use Rattle.card_core.specs.SecureChannels.{RepresentsSecureChannel}
 use Rattle.card_core.specs.Kept.{RepresentsSoundly}
 use Rattle.card_core.specs.declared.channel_session.ChannelSession.{ChannelSession}

@@ -2,12 +2,12 @@
 use Rattle.std.proofs.Common.{◌≡◌, ◌⊎◌, inl, inr, ℕ, ◌≤◌, Bool, true, false, List, [], ◌∷◌, length, refl, ap, sym, subst, ◌∙◌, arith}
 use Rattle.std.specs.Prelude.{◌↔◌, IsTrue, MatchOption}
 use Rattle.std.proofs.lemmas.List.Elements.{All-cons, All-head, All-nil, All-tail}
-use Rattle.policy_rules.proofs.PutKeyKeeps.{HaveLengths}
-use Rattle.policy_rules.specs.Admission.{Admitted}
+use Rattle.policy_machine.proofs.PutKeyKeeps.{HaveLengths}
+use Rattle.policy_machine.specs.Admission.{Admitted}
+use Rattle.policy_machine.proofs.PutKeyOnce.{one_sent, opened_once, put_fails}
+use Rattle.policy_machine.specs.PutKey.{AreKeysSent, ChecksFit, HasFieldLengths, IsNewVersion, PutKeyParameters, SaysChecks, SentKey, key_count, AreOpened}
+use Rattle.policy_machine.specs.Volatile.{Nothing, Offered, Secured, SecureChannel, session_in, session_on}
 use Rattle.policy_rules.specs.Requests.{IsRequestOf, IsWellFormed, sent_key, sent_keys}
-use Rattle.policy_rules.proofs.PutKeyOnce.{one_sent, opened_once, put_fails}
-use Rattle.policy_rules.specs.PutKey.{AreKeysSent, ChecksFit, HasFieldLengths, IsNewVersion, PutKeyParameters, SaysChecks, SentKey, key_count, AreOpened}
-use Rattle.policy_rules.specs.Volatile.{Nothing, Offered, Secured, SecureChannel, session_in, session_on}
 use Rattle.policy_rules.specs.declared.put_key.PutKeys.{PutKeys}
 use Rattle.policy_rules.specs.declared.put_key.PutKeys.TheVariants.{One, Three}
 use Rattle.policy_rules.specs.declared.put_key.SealedKey.{SealedKey}
@@ -17,7 +17,7 @@ use Rattle.scp03_card.specs.Session.{Session}
 use Rattle.card_core.specs.SecureChannels.{RepresentsSecureChannel}
 use Rattle.card_core.specs.Offers.{secure_channel_for}
 use Rattle.card_core.specs.declared.channel_session.ChannelSession.TheVariants as held
-use Rattle.policy_rules.specs.declared.put_key.RulePK.TheVariants.{PK3}
+use Rattle.policy_machine.specs.declared.put_key.RulePK.TheVariants.{PK3}
 
 -- what is so of the fields of a token or receipt key, and of a key set
 pub record IsFormedOne (replaced version : ℕ) (sent : SealedKey) : Type 0 where

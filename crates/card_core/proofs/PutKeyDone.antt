@@ -13,13 +13,13 @@ use Rattle.key_rules.specs.PutFails.{NoneHolds, PutFails}
 use Rattle.key_sets.specs.Puts.{Puts}
 use Rattle.key_rules.specs.declared.refusal.PutRefusal.TheVariants.{Unknown, Taken, Full}
 use Rattle.card_core.proofs.Managing.{replied_managed}
+use Rattle.policy_machine.proofs.PutKeyKeeps.{AreOfVersion, HaveLengths}
+use Rattle.policy_machine.specs.Admission.{Admitted}
+use Rattle.policy_machine.specs.Arranged.{IsArranged}
+use Rattle.policy_machine.specs.Commands.{Judges}
+use Rattle.policy_machine.specs.PutKey.{AreKeysPut, AreOpened, ChecksFit, SentKey, check_value, counters_from, keys_from, managed_put_key}
+use Rattle.policy_machine.specs.KeyVersions.{counters_but, keys_but, with_keys}
 use Rattle.policy_rules.proofs.PutKeyJudging.{none_holds}
-use Rattle.policy_rules.proofs.PutKeyKeeps.{AreOfVersion, HaveLengths}
-use Rattle.policy_rules.specs.Admission.{Admitted}
-use Rattle.policy_rules.specs.Arranged.{IsArranged}
-use Rattle.policy_rules.specs.Commands.{Judges}
-use Rattle.policy_rules.specs.PutKey.{AreKeysPut, AreOpened, ChecksFit, SentKey, check_value, counters_from, keys_from, managed_put_key}
-use Rattle.policy_rules.specs.KeyVersions.{counters_but, keys_but, with_keys}
 use Rattle.policy_rules.specs.Requests.{ActsIn, IsRequestOf, sent_keys}
 use Rattle.policy_rules.specs.declared.put_key.PutKeys.{PutKeys}
 use Rattle.policy_rules.specs.declared.request.Request.TheVariants.{PutKey}

@@ -22,14 +22,14 @@ use Rattle.key_rules.specs.PutFails.{NoneHolds, PutFails}
 use Rattle.key_rules.specs.Staying.{staying}
 use Rattle.key_sets.specs.Puts.{Puts, new_key}
 use Rattle.key_rules.specs.declared.refusal.PutRefusal.TheVariants.{Taken, Full}
-use Rattle.policy_rules.proofs.Filtered.{filter_same}
+use Rattle.policy_machine.proofs.Filtered.{filter_same}
+use Rattle.policy_machine.proofs.KeysArranged.{counters_arranged, keys_arranged}
+use Rattle.policy_machine.proofs.PutKeyKeeps.{AreOfVersion, HaveLengths, new_keys_ascending, new_keys_well}
+use Rattle.policy_machine.specs.Arranged.{IsArranged}
+use Rattle.policy_machine.specs.KeyVersions.{counters_but, has_key_version, keys_but, with_keys}
+use Rattle.policy_machine.specs.PutKey.{counters_from, keys_from}
 use Rattle.policy_rules.proofs.KeyCounts.{own_count, stay_count}
-use Rattle.policy_rules.proofs.KeysArranged.{counters_arranged, keys_arranged}
 use Rattle.policy_rules.proofs.KeysByName.{counters_staying, has_version_by_name, keys_staying}
-use Rattle.policy_rules.proofs.PutKeyKeeps.{AreOfVersion, HaveLengths, new_keys_ascending, new_keys_well}
-use Rattle.policy_rules.specs.Arranged.{IsArranged}
-use Rattle.policy_rules.specs.KeyVersions.{counters_but, has_key_version, keys_but, with_keys}
-use Rattle.policy_rules.specs.PutKey.{counters_from, keys_from}
 use Rattle.card_core.specs.Domains.{is_domain_in}
 use Rattle.card_types.specs.declared.tables.Object.{Object}
 use Rattle.card_core.proofs.Cards.{cards_after}

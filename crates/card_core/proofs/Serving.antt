@@ -10,26 +10,26 @@ use Rattle.card_types.proofs.Members.{contains_cases}
 use Rattle.card_types.specs.declared.card_life.CardLife.TheVariants.{Terminated}
 use Rattle.scp03_card.specs.Opens.{Gives, IsAuthentic, Opens, accepting, field_of}
 use Rattle.scp03_card.specs.Session.{Session}
-use Rattle.policy_rules.proofs.KeepsSound.{steps_keep_sound}
-use Rattle.policy_rules.proofs.OneOutcome.{of_one}
-use Rattle.policy_rules.proofs.Opened.{managed_protected}
-use Rattle.policy_rules.specs.Admission.{Admits, Admitted, GeneralFails, InSession, GeneralRefusalLeaves, Of, admitted_as, command_rules, general_rules, session_for}
-use Rattle.policy_rules.specs.Classes.{IsKnown, IsPlainGetData, IsPlainManagement, class_of, instructions_of, is_protected, is_secure, managing, protects}
-use Rattle.policy_rules.specs.FirstFailing.{IsFirst}
-use Rattle.policy_rules.specs.Commands.{IsBuilt}
-use Rattle.policy_rules.proofs.FirstUnique.{behind}
-use Rattle.policy_rules.specs.Rules.{status_of}
-use Rattle.policy_rules.specs.Sound.{IsSound}
-use Rattle.policy_rules.specs.State.{State}
-use Rattle.policy_rules.specs.Step.{refusal_leaves, sent}
-use Rattle.policy_rules.specs.Volatile.{Volatile}
-use Rattle.policy_rules.specs.declared.class.Class.{Class}
-use Rattle.policy_rules.specs.declared.class.Class.TheVariants.{Interindustry, Plain, Secure}
-use Rattle.policy_rules.specs.declared.instruction.TheConstants.{GET_DATA, EXTERNAL_AUTHENTICATE}
-use Rattle.policy_rules.specs.declared.rule.Rule.{Rule}
-use Rattle.policy_rules.specs.declared.rule.Rule.TheVariants.{G}
-use Rattle.policy_rules.specs.declared.rule.RuleG.{RuleG}
-use Rattle.policy_rules.specs.declared.rule.RuleG.TheVariants.{G5, G6, G7, G8}
+use Rattle.policy_machine.proofs.KeepsSound.{steps_keep_sound}
+use Rattle.policy_machine.proofs.OneOutcome.{of_one}
+use Rattle.policy_machine.proofs.Opened.{managed_protected}
+use Rattle.policy_machine.specs.Admission.{Admits, Admitted, GeneralFails, InSession, GeneralRefusalLeaves, Of, admitted_as, command_rules, general_rules, session_for}
+use Rattle.policy_machine.specs.Classes.{IsKnown, IsPlainGetData, IsPlainManagement, class_of, instructions_of, is_protected, is_secure, managing, protects}
+use Rattle.policy_machine.specs.FirstFailing.{IsFirst}
+use Rattle.policy_machine.specs.Commands.{IsBuilt}
+use Rattle.policy_machine.proofs.FirstUnique.{behind}
+use Rattle.policy_machine.specs.Rules.{status_of}
+use Rattle.policy_machine.specs.Sound.{IsSound}
+use Rattle.policy_machine.specs.State.{State}
+use Rattle.policy_machine.specs.Step.{refusal_leaves, sent}
+use Rattle.policy_machine.specs.Volatile.{Volatile}
+use Rattle.policy_machine.specs.declared.class.Class.{Class}
+use Rattle.policy_machine.specs.declared.class.Class.TheVariants.{Interindustry, Plain, Secure}
+use Rattle.policy_machine.specs.declared.instruction.TheConstants.{GET_DATA, EXTERNAL_AUTHENTICATE}
+use Rattle.policy_machine.specs.declared.rule.Rule.{Rule}
+use Rattle.policy_machine.specs.declared.rule.Rule.TheVariants.{G}
+use Rattle.policy_machine.specs.declared.rule.RuleG.{RuleG}
+use Rattle.policy_machine.specs.declared.rule.RuleG.TheVariants.{G5, G6, G7, G8}
 use Rattle.card_core.specs.Kept.{Kept, KeptRepresents}
 use Rattle.card_core.specs.Loading.{RepresentsLoading}
 use Rattle.load_session.specs.declared.session.LoadSession.{LoadSession}

@@ -12,10 +12,10 @@ use Rattle.card_types.specs.Slots.{held}
 use Rattle.card_types.specs.Well.{IsDomainNamed, Well}
 use Rattle.card_types.specs.declared.tables.Entry.{Entry}
 use Rattle.card_types.specs.declared.tables.Tables.{Tables}
-use Rattle.policy_rules.specs.Admission.{Admitted}
+use Rattle.policy_machine.specs.Admission.{Admitted}
+use Rattle.policy_machine.specs.State.{State}
+use Rattle.policy_machine.specs.Volatile.{LoadSession, fresh}
 use Rattle.policy_rules.specs.Requests.{ActsIn, IsLoadNamed}
-use Rattle.policy_rules.specs.State.{State}
-use Rattle.policy_rules.specs.Volatile.{LoadSession, fresh}
 use Rattle.policy_rules.specs.declared.live.LoadName.{LoadName}
 use Rattle.card_core.specs.Domains.{is_domain_held, is_domain_in}
 

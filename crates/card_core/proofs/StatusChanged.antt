@@ -19,8 +19,8 @@ use Rattle.card_types.specs.declared.tables.Tables.{Tables}
 use Rattle.domain_tree.proofs.AboveNamed.{above_in_slots, above_named}
 use Rattle.domain_tree.specs.Above.{Above}
 use Rattle.domain_tree.specs.AboveLaws.{IsAboveIn, IsTreeOf}
-use Rattle.policy_rules.specs.Admission.{Admitted}
-use Rattle.policy_rules.specs.EntryStatus.{IsEntryStep, OneIsSet, TreeIsSet}
+use Rattle.policy_machine.specs.Admission.{Admitted}
+use Rattle.policy_machine.specs.EntryStatus.{IsEntryStep, OneIsSet, TreeIsSet}
 use Rattle.policy_rules.specs.SetStatusRequests.{IsChangeFor, slot_of}
 use Rattle.policy_rules.specs.declared.entry_status.StatusChange.{StatusChange}
 use Rattle.policy_rules.specs.declared.entry_status.StatusChange.TheVariants.{One, Tree}

@@ -2,22 +2,22 @@
 use Rattle.std.proofs.Common.{◌≡◌, ℕ, ◌<◌, ◌≤◌, List, [], ◌∷◌, Option, None, Some, length, inl, inr, refl, sym, subst, ◌∙◌}
 use Rattle.apdu_core.specs.declared.reply.Status.{Status}
 use Rattle.card_types.specs.declared.tables.Tables.{Tables}
-use Rattle.policy_rules.proofs.Judging.{does_so, judged}
-use Rattle.policy_rules.specs.Admission.{Admitted}
-use Rattle.policy_rules.specs.Commands.{HasEffect, Judges}
-use Rattle.policy_rules.specs.FirstFailing.{IsFirst}
-use Rattle.policy_rules.specs.GetStatus.{GetStatusFails, IsLeftAt, Thing, get_status, get_status_rules, last_aid, part_limit, place_behind, with_place}
+use Rattle.policy_machine.proofs.Judging.{does_so, judged}
+use Rattle.policy_machine.specs.Admission.{Admitted}
+use Rattle.policy_machine.specs.Commands.{HasEffect, Judges}
+use Rattle.policy_machine.specs.FirstFailing.{IsFirst}
+use Rattle.policy_machine.specs.GetStatus.{GetStatusFails, IsLeftAt, Thing, get_status, get_status_rules, last_aid, part_limit, place_behind, with_place}
+use Rattle.policy_machine.specs.State.{Effect}
+use Rattle.policy_machine.specs.Volatile.{Volatile}
+use Rattle.policy_machine.specs.declared.channels.TheConstants.{CHANNELS}
+use Rattle.policy_machine.specs.declared.rule.Rule.{Rule}
 use Rattle.policy_rules.specs.KeptPlaces.{place_of}
 use Rattle.policy_rules.specs.LiveEnds.{live_with_place}
 use Rattle.policy_rules.specs.Requests.{ActsIn, IsRequestOf, RepresentsState}
-use Rattle.policy_rules.specs.State.{Effect}
-use Rattle.policy_rules.specs.Volatile.{Volatile}
 use Rattle.policy_rules.specs.declared.get_status.ListRequest.{ListRequest}
 use Rattle.policy_rules.specs.declared.live.Live.{Live}
 use Rattle.policy_rules.specs.declared.live.Place.{Place}
-use Rattle.policy_rules.specs.declared.live.TheConstants.{CHANNELS}
 use Rattle.policy_rules.specs.declared.request.Request.TheVariants.{List as ListStatus}
-use Rattle.policy_rules.specs.declared.rule.Rule.{Rule}
 use Rattle.card_core.proofs.PlaceSet.{placed_shows}
 use Rattle.card_core.specs.Lists.{IsShown}
 use Rattle.card_core.specs.ShownParts.{EndsAt, IsPart}

@@ -5,10 +5,10 @@ use Rattle.card_types.specs.Found.{aid_of}
 use Rattle.card_types.specs.Registry.{Registry}
 use Rattle.card_types.specs.declared.found.Found.{Found}
 use Rattle.card_types.specs.declared.tables.Tables.{Tables}
+use Rattle.policy_machine.specs.Admission.{Admitted}
+use Rattle.policy_machine.specs.GetStatus.{AreTemplates, BeginsAbove, IsTemplate, Thing, aid_in, last_aid, part_limit}
 use Rattle.policy_rules.proofs.GetStatusListed.{aid_named}
 use Rattle.policy_rules.proofs.GetStatusWhole.{IsShownTo, all_shown, last_of, more_shown, next_left, none_shown}
-use Rattle.policy_rules.specs.Admission.{Admitted}
-use Rattle.policy_rules.specs.GetStatus.{AreTemplates, BeginsAbove, IsTemplate, Thing, aid_in, last_aid, part_limit}
 use Rattle.policy_rules.specs.Requests.{ActsIn}
 use Rattle.policy_rules.specs.GetStatusRequests.{IsFirstShown, IsListOf, IsNextListed, IsThingAt, NoneListed}
 use Rattle.policy_rules.specs.declared.get_status.ListRequest.{ListRequest}

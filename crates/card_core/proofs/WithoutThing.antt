@@ -10,8 +10,8 @@ use Rattle.card_types.specs.AidOrder.{same_aid}
 use Rattle.card_types.specs.Registry.{Counter, Entry, Key, LoadFile, Object, Registry, entry_named, file_named, is_domain}
 use Rattle.card_types.specs.RegistryChange.{without_applications, without_entry, without_file}
 use Rattle.card_types.specs.Well.{IsDomainNamed, IsWellCounter, IsWellEntry, IsWellFile, IsWellKey, IsWellObject, Well}
-use Rattle.policy_rules.proofs.ObjectStored.{keeps_all}
-use Rattle.policy_rules.specs.DeleteObject.{without_thing}
+use Rattle.policy_machine.proofs.ObjectStored.{keeps_all}
+use Rattle.policy_machine.specs.DeleteObject.{without_thing}
 
 -- a list without what none of it is
 without_none : {X : Type 0} (name : X → List ℕ) (aid : List ℕ) (xs : List X) → ((x : X) → Contains xs x → name x ≢ aid) → filter (λ x. not (same_aid (name x) aid)) xs ≡ xs

@@ -6,10 +6,10 @@ use Rattle.card_types.specs.Registry.{Registry}
 use Rattle.card_types.specs.declared.tables.Tables.{Tables}
 use Rattle.flash_core.specs.declared.flash.Flash.{Ghosts as Flash}
 use Rattle.page_journal.specs.Moments.{LeavesOnly}
-use Rattle.policy_rules.specs.State.{State}
-use Rattle.policy_rules.specs.Step.{Outcome}
+use Rattle.policy_machine.specs.State.{State}
+use Rattle.policy_machine.specs.Step.{Outcome}
+use Rattle.policy_machine.specs.declared.rule.Rule.{Rule}
 use Rattle.policy_rules.specs.declared.live.Live.{Live}
-use Rattle.policy_rules.specs.declared.rule.Rule.{Rule}
 use Rattle.rec_store.specs.Reopens.{Keeps, ReopensEither, load_page}
 use Rattle.card_core.specs.Kept.{Kept, RepresentsSoundly}
 use Rattle.card_core.specs.Loading.{RepresentsLoading}

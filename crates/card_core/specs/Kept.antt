@@ -2,12 +2,12 @@
 use Rattle.std.specs.Prelude.{◌≡◌, ℕ, List, length}
 use Rattle.card_check.specs.IsCard.{HasPages, IsCard}
 use Rattle.card_types.specs.declared.tables.Tables.{Tables}
-use Rattle.policy_rules.specs.Admission.{Admitted}
+use Rattle.policy_machine.specs.Admission.{Admitted}
+use Rattle.policy_machine.specs.Sound.{IsSound}
+use Rattle.policy_machine.specs.State.{State}
+use Rattle.policy_machine.specs.declared.channels.TheConstants.{CHANNELS}
 use Rattle.policy_rules.specs.Requests.{RepresentsState}
-use Rattle.policy_rules.specs.Sound.{IsSound}
-use Rattle.policy_rules.specs.State.{State}
 use Rattle.policy_rules.specs.declared.live.Live.{Live}
-use Rattle.policy_rules.specs.declared.live.TheConstants.{CHANNELS}
 use Rattle.card_core.specs.SecureChannels.{RepresentsChannels}
 use Rattle.card_core.specs.declared.channel_session.ChannelSession.{ChannelSession}
 

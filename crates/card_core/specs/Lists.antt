@@ -3,14 +3,14 @@
 use Rattle.std.specs.Prelude.{◌≡◌, ◌⊎◌, ℕ, List, [], Result, Ok, Err, None, Some}
 use Rattle.apdu_core.specs.declared.reply.Status.{Status}
 use Rattle.card_types.specs.declared.tables.Tables.{Tables}
-use Rattle.policy_rules.specs.Admission.{Admitted}
-use Rattle.policy_rules.specs.Commands.{HasEffect, Judges}
-use Rattle.policy_rules.specs.GetStatus.{with_place}
+use Rattle.policy_machine.specs.Admission.{Admitted}
+use Rattle.policy_machine.specs.Commands.{HasEffect, Judges}
+use Rattle.policy_machine.specs.GetStatus.{with_place}
+use Rattle.policy_machine.specs.State.{Effect}
+use Rattle.policy_machine.specs.Volatile.{Place, Volatile}
+use Rattle.policy_machine.specs.declared.rule.Rule.{Rule}
 use Rattle.policy_rules.specs.Requests.{RepresentsState}
-use Rattle.policy_rules.specs.State.{Effect}
-use Rattle.policy_rules.specs.Volatile.{Place, Volatile}
 use Rattle.policy_rules.specs.declared.live.Live.{Live}
-use Rattle.policy_rules.specs.declared.rule.Rule.{Rule}
 
 -- the volatile state is the same, or has a place on the channel
 abbrev pub IsSameButPlace : Volatile → ℕ → Volatile → Type 0

@@ -5,7 +5,7 @@ use Rattle.card_types.specs.RegistryChange.{IsFileAdded}
 use Rattle.card_types.specs.Represents.{domain_aid, file_of}
 use Rattle.card_types.specs.declared.tables.LoadFile.{LoadFile}
 use Rattle.card_types.specs.declared.tables.Tables.{Tables}
-use Rattle.policy_rules.specs.Admission.{Admitted}
+use Rattle.policy_machine.specs.Admission.{Admitted}
 use Rattle.policy_rules.specs.HoldersFound.{IsReceipterIn}
 use Rattle.policy_rules.specs.Requests.{ActsIn}
 use Rattle.card_core.specs.Confirms.{AnswersFor}

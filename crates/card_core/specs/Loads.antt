@@ -4,24 +4,24 @@ use Rattle.apdu_core.specs.declared.reply.Status.{Status}
 use Rattle.card_check.specs.IsCard.{HasPages}
 use Rattle.card_types.specs.declared.tables.Tables.{Tables}
 use Rattle.load_session.specs.declared.session.LoadSession.{LoadSession}
-use Rattle.policy_rules.specs.Admission.{Admitted}
-use Rattle.policy_rules.specs.Commands.{HasEffect, Judges}
+use Rattle.policy_machine.specs.Admission.{Admitted}
+use Rattle.policy_machine.specs.Commands.{HasEffect, Judges}
 use Rattle.load_session.specs.declared.block.BlockStop.{BlockStop}
 use Rattle.load_session.specs.declared.block.BlockStop.TheVariants.{FirstBlock, NoRoom, Count, Hash}
-use Rattle.policy_rules.specs.FirstFailing.{IsFirst}
-use Rattle.policy_rules.specs.Load.{LoadFails, front_rules}
-use Rattle.policy_rules.specs.LoadBlocks.{Block}
+use Rattle.policy_machine.specs.FirstFailing.{IsFirst}
+use Rattle.policy_machine.specs.Load.{LoadFails, front_rules}
+use Rattle.policy_machine.specs.LoadBlocks.{Block}
+use Rattle.policy_machine.specs.declared.load.RuleLO.{RuleLO}
+use Rattle.policy_machine.specs.declared.load.RuleLO.TheVariants.{LO3, LO4, LO5, LO6}
+use Rattle.policy_machine.specs.Sound.{IsSound}
+use Rattle.policy_machine.specs.State.{Effect, State}
+use Rattle.policy_machine.specs.declared.rule.Rule.{Rule}
 use Rattle.policy_rules.specs.LoadFound.{IsForLoad}
 use Rattle.policy_rules.specs.LoadRequests.{IsLoadOf}
 use Rattle.policy_rules.specs.Requests.{ActsIn, ForActingLive, RepresentsState}
 use Rattle.policy_rules.specs.declared.live.LoadName.{LoadName}
 use Rattle.policy_rules.specs.declared.load.LoadRequest.{LoadRequest}
-use Rattle.policy_rules.specs.declared.load.RuleLO.{RuleLO}
-use Rattle.policy_rules.specs.declared.load.RuleLO.TheVariants.{LO3, LO4, LO5, LO6}
-use Rattle.policy_rules.specs.Sound.{IsSound}
-use Rattle.policy_rules.specs.State.{Effect, State}
 use Rattle.policy_rules.specs.declared.live.Live.{Live}
-use Rattle.policy_rules.specs.declared.rule.Rule.{Rule}
 use Rattle.card_core.specs.Loading.{RepresentsLoading}
 
 -- no rule refused the command, it did what it does, and what is kept shows the state that it leaves

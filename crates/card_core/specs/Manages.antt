@@ -6,12 +6,12 @@ use Rattle.card_types.specs.Represents.{Represents}
 use Rattle.card_types.specs.Slots.{held}
 use Rattle.card_types.specs.declared.tables.Entry.{Entry}
 use Rattle.card_types.specs.declared.tables.Tables.{Tables}
-use Rattle.policy_rules.specs.Admission.{Admitted}
-use Rattle.policy_rules.specs.Commands.{HasEffect, Judges}
-use Rattle.policy_rules.specs.State.{Effect}
+use Rattle.policy_machine.specs.Admission.{Admitted}
+use Rattle.policy_machine.specs.Commands.{HasEffect, Judges}
+use Rattle.policy_machine.specs.State.{Effect}
+use Rattle.policy_machine.specs.declared.channels.TheConstants.{CHANNELS}
+use Rattle.policy_machine.specs.declared.rule.Rule.{Rule}
 use Rattle.policy_rules.specs.declared.live.Live.{Live}
-use Rattle.policy_rules.specs.declared.live.TheConstants.{CHANNELS}
-use Rattle.policy_rules.specs.declared.rule.Rule.{Rule}
 use Rattle.rec_store.specs.Reopens.{IsFree}
 
 -- the slot holds an entry with the AID that it had

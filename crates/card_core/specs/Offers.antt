@@ -9,12 +9,12 @@ use Rattle.card_types.specs.declared.level.Level.{Level}
 use Rattle.card_types.specs.declared.tables.Tables.{Tables}
 use Rattle.scp03_card.specs.Offer.{Offer}
 use Rattle.scp03_card.specs.Session.{answered}
-use Rattle.policy_rules.specs.Admission.{Admitted}
-use Rattle.policy_rules.specs.Commands.{Judges}
-use Rattle.policy_rules.specs.ExternalAuthenticate.{Answers}
-use Rattle.policy_rules.specs.InitializeUpdate.{AsksForSet, IsOfferOf, offer_body}
-use Rattle.policy_rules.specs.Volatile.{Offered, Secured, SecureChannel, channel_at, secure_channel_of}
-use Rattle.policy_rules.specs.declared.rule.Rule.{Rule}
+use Rattle.policy_machine.specs.Admission.{Admitted}
+use Rattle.policy_machine.specs.Commands.{Judges}
+use Rattle.policy_machine.specs.ExternalAuthenticate.{Answers}
+use Rattle.policy_machine.specs.InitializeUpdate.{AsksForSet, IsOfferOf, offer_body}
+use Rattle.policy_machine.specs.Volatile.{Offered, Secured, SecureChannel, channel_at, secure_channel_of}
+use Rattle.policy_machine.specs.declared.rule.Rule.{Rule}
 use Rattle.card_core.specs.SecureChannels.{RepresentsSecureChannel, without_offer_held}
 use Rattle.card_core.specs.declared.channel_session.ChannelSession.{ChannelSession}
 

@@ -5,17 +5,17 @@ use Rattle.apdu_core.specs.Apdu.{Apdu, Short, apdu_of}
 use Rattle.apdu_core.specs.Reply.{status_bytes}
 use Rattle.card_types.specs.declared.tables.Tables.{Tables}
 use Rattle.load_session.specs.declared.session.LoadSession.{LoadSession}
-use Rattle.policy_rules.specs.Admission.{Admits, GeneralFails, admitted_as, command_rules}
-use Rattle.policy_rules.specs.Classes.{channel_of}
-use Rattle.policy_rules.specs.FirstFailing.{IsFirst}
+use Rattle.policy_machine.specs.Admission.{Admits, GeneralFails, admitted_as, command_rules}
+use Rattle.policy_machine.specs.Classes.{channel_of}
+use Rattle.policy_machine.specs.FirstFailing.{IsFirst}
+use Rattle.policy_machine.specs.Rules.{status_of}
+use Rattle.policy_machine.specs.State.{State}
+use Rattle.policy_machine.specs.Volatile.{Secured}
+use Rattle.policy_machine.specs.declared.channels.TheConstants.{CHANNELS}
+use Rattle.policy_machine.specs.declared.rule.Rule.TheVariants.{G}
+use Rattle.policy_machine.specs.declared.rule.RuleG.{RuleG}
 use Rattle.policy_rules.specs.LiveEnds.{live_without_place}
-use Rattle.policy_rules.specs.Rules.{status_of}
-use Rattle.policy_rules.specs.State.{State}
-use Rattle.policy_rules.specs.Volatile.{Secured}
 use Rattle.policy_rules.specs.declared.live.Live.{Live}
-use Rattle.policy_rules.specs.declared.live.TheConstants.{CHANNELS}
-use Rattle.policy_rules.specs.declared.rule.Rule.TheVariants.{G}
-use Rattle.policy_rules.specs.declared.rule.RuleG.{RuleG}
 use Rattle.scp03_card.specs.Session.{Session}
 use Rattle.card_core.specs.Kept.{Kept, RepresentsSoundly, kept_of}
 use Rattle.card_core.specs.Loading.{RepresentsLoading}

@@ -1,9 +1,9 @@
 -- For the code inside. What stands when a command's own rules are to be judged.
 use Rattle.std.specs.Prelude.{◌≡◌, ◌≢◌, ◌<◌, ℕ, List, [], None, Some, Contains, slice_index_or, true}
-use Rattle.policy_rules.specs.Classes.{managing}
-use Rattle.policy_rules.specs.declared.instruction.TheConstants.{MANAGE_CHANNEL, SELECT}
+use Rattle.policy_machine.specs.Classes.{managing}
+use Rattle.policy_machine.specs.declared.instruction.TheConstants.{MANAGE_CHANNEL, SELECT}
+use Rattle.policy_machine.specs.declared.channels.TheConstants.{CHANNELS}
 use Rattle.policy_rules.specs.declared.live.Live.{Live}
-use Rattle.policy_rules.specs.declared.live.TheConstants.{CHANNELS}
 use Rattle.rec_store.specs.Contents.{Contents}
 use Rattle.card_core.specs.Domains.{is_domain_in}
 use Rattle.card_core.specs.Kept.{AreCards}

@@ -1,8 +1,8 @@
 -- What the code holds on a channel, and what it stands for (GlobalPlatform Amendment D, chapter 5).
 use Rattle.std.specs.Prelude.{ℕ, ◌<◌, List, Bool, true, false, slice_index_or}
 use Rattle.scp03_card.specs.Kept.{RepresentsSession, RepresentsOffer}
-use Rattle.policy_rules.specs.Volatile.{Nothing, Offered, Secured, SecureChannel, Volatile, channel_at, secure_channel_of}
-use Rattle.policy_rules.specs.declared.live.TheConstants.{CHANNELS}
+use Rattle.policy_machine.specs.Volatile.{Nothing, Offered, Secured, SecureChannel, Volatile, channel_at, secure_channel_of}
+use Rattle.policy_machine.specs.declared.channels.TheConstants.{CHANNELS}
 use Rattle.card_core.specs.declared.channel_session.ChannelSession.{ChannelSession}
 use Rattle.card_core.specs.declared.channel_session.ChannelSession.TheVariants as held
 

@@ -3,25 +3,25 @@ use Rattle.std.specs.Prelude.{◌≡◌, ℕ, List, [], false, Result, Ok, Err, 
 use Rattle.apdu_core.specs.Apdu.{Apdu}
 use Rattle.apdu_core.specs.declared.reply.Status.{Status}
 use Rattle.card_check.specs.IsCard.{HasPages}
-use Rattle.policy_rules.specs.Admission.{Admitted}
+use Rattle.policy_machine.specs.Admission.{Admitted}
 use Rattle.card_types.specs.declared.card_life.CardLife.{CardLife}
 use Rattle.card_types.specs.declared.card_life.CardLife.TheVariants.{Terminated}
 use Rattle.card_types.specs.declared.tables.Tables.{Tables}
-use Rattle.policy_rules.specs.Classes.{is_secure}
-use Rattle.policy_rules.specs.Commands.{HasEffect, Judges}
-use Rattle.policy_rules.specs.Rules.{status_of}
-use Rattle.policy_rules.specs.State.{Effect, State}
+use Rattle.policy_machine.specs.Classes.{is_secure}
+use Rattle.policy_machine.specs.Commands.{HasEffect, Judges}
+use Rattle.policy_machine.specs.Rules.{status_of}
+use Rattle.policy_machine.specs.State.{Effect, State}
+use Rattle.policy_machine.specs.Step.{Step, keeps_load, refusal_leaves}
+use Rattle.policy_machine.specs.declared.class.Class.{Class}
+use Rattle.policy_machine.specs.declared.instruction.TheConstants.{GET_DATA, GET_STATUS, LOAD}
+use Rattle.policy_machine.specs.declared.rule.Rule.{Rule}
 use Rattle.policy_rules.specs.LiveEnds.{live_without_load}
 use Rattle.policy_rules.specs.GetStatusRequests.{IsPlaceBefore}
 use Rattle.policy_rules.specs.declared.live.Place.{Place}
-use Rattle.policy_rules.specs.Step.{Step, keeps_load, refusal_leaves}
-use Rattle.policy_rules.specs.declared.class.Class.{Class}
-use Rattle.policy_rules.specs.declared.instruction.TheConstants.{GET_DATA, GET_STATUS, LOAD}
 use Rattle.policy_rules.specs.declared.live.Live.{Live}
 use Rattle.policy_rules.specs.Requests.{IsRequestOf, form_in}
 use Rattle.policy_rules.specs.declared.request.Request.{Request}
 use Rattle.policy_rules.specs.declared.request.Request.TheVariants.{InstallLoad, Load}
-use Rattle.policy_rules.specs.declared.rule.Rule.{Rule}
 use Rattle.card_core.specs.SecureChannels.{held_on, without_offer_held}
 use Rattle.card_core.specs.Kept.{Kept, KeptRepresents}
 use Rattle.card_core.specs.Loading.{RepresentsAll, RepresentsLoading, with_due}

@@ -1,7 +1,7 @@
 -- For the code inside. The part of a listing that was shown.
 use Rattle.std.specs.Prelude.{◌≡◌, ℕ, List, [], ◌∷◌, ◌++◌, Option, None, Some}
-use Rattle.policy_rules.specs.Admission.{Admitted}
-use Rattle.policy_rules.specs.GetStatus.{AreTemplates, IsFullFor, IsListing, Thing, last_aid}
+use Rattle.policy_machine.specs.Admission.{Admitted}
+use Rattle.policy_machine.specs.GetStatus.{AreTemplates, IsFullFor, IsListing, Thing, last_aid}
 
 -- where things are left this is the last AID shown, and there is none where nothing is left
 abbrev pub EndsAt : Option (List ℕ) → List Thing → List Thing → Type 0

@@ -4,11 +4,11 @@ ghost use Rattle.std.specs.Prelude.{◌≡◌, ◌≢◌, ◌↔◌, IsTrue, fal
 ghost use Rattle.apdu_core.specs.Apdu.{Short, apdu_of};
 ghost use Rattle.card_core.specs.Domains.{is_domain_in};
 ghost use Rattle.card_core.specs.Serves.{IsTerminatedFor};
-ghost use Rattle.policy_rules.specs.Admission.{GeneralFails, GeneralRefusalLeaves, command_rules, general_rules};
-ghost use Rattle.policy_rules.specs.Classes.{IsKnown, channel_of as channel_of_byte, class_of};
-ghost use Rattle.policy_rules.specs.FirstFailing.{IsFirst};
+ghost use Rattle.policy_machine.specs.Admission.{GeneralFails, GeneralRefusalLeaves, command_rules, general_rules};
+ghost use Rattle.policy_machine.specs.Classes.{IsKnown, channel_of as channel_of_byte, class_of};
+ghost use Rattle.policy_machine.specs.FirstFailing.{IsFirst};
+ghost use Rattle.policy_machine.specs.State.{State};
 ghost use Rattle.policy_rules.specs.Requests.{RepresentsState};
-ghost use Rattle.policy_rules.specs.State.{State};
 
 use apdu_core::Command;
 use bitflags::Flags;

@@ -4,7 +4,7 @@ ghost use Rattle.std.specs.Prelude.{◌≡◌, ℕ, ◌+◌, ◌≤◌, ◌↔�
 ghost use Rattle.apdu_core.specs.Apdu.{apdu_of};
 ghost use Rattle.arrayvec.specs.ArrayVec.{array_vec_len};
 ghost use Rattle.card_types.specs.Well.{IsKeyLength};
-ghost use Rattle.policy_rules.specs.PutKey.{IsKeySent, check_value, sealed_size};
+ghost use Rattle.policy_machine.specs.PutKey.{IsKeySent, check_value, sealed_size};
 ghost use Rattle.policy_rules.specs.Requests.{sent_key};
 ghost use Rattle.scp03_card.specs.Kept.{RepresentsSession};
 ghost use Rattle.scp03_card.specs.Opens.{Gives, IsAuthentic, Opens, accepting, field_of};

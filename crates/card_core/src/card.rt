@@ -11,11 +11,11 @@ ghost use Rattle.card_types.specs.InOrder.{IsInOrder};
 ghost use Rattle.card_types.specs.Registry.{Registry};
 ghost use Rattle.faults.specs.Faults.{HasCause};
 ghost use Rattle.page_journal.specs.Moments.{Always, LeavesOnly};
-ghost use Rattle.policy_rules.specs.Changes.{Changes, OpensInSession};
-ghost use Rattle.policy_rules.specs.Receipts.{CountsReceipts};
-ghost use Rattle.policy_rules.specs.RunsApart.{KeepsTrees};
-ghost use Rattle.policy_rules.specs.State.{State, powered_on};
-ghost use Rattle.policy_rules.specs.Step.{Outcome, Step};
+ghost use Rattle.policy_machine.specs.Changes.{Changes, OpensInSession};
+ghost use Rattle.policy_machine.specs.Receipts.{CountsReceipts};
+ghost use Rattle.policy_machine.specs.RunsApart.{KeepsTrees};
+ghost use Rattle.policy_machine.specs.State.{State, powered_on};
+ghost use Rattle.policy_machine.specs.Step.{Outcome, Step};
 ghost use Rattle.rec_store.specs.Contents.{IsUnwritten};
 ghost use Rattle.rec_store.specs.Reopens.{IsAtRest, Reopens, ReopensAsOne};
 

@@ -10,7 +10,7 @@ ghost use Rattle.card_types.specs.Slots.{held};
 ghost use Rattle.faults.specs.Faults.{HasCause};
 ghost use Rattle.page_journal.specs.Moments.{LeavesOnly};
 ghost use Rattle.page_journal.specs.Pages.{IsLoadPage};
-ghost use Rattle.policy_rules.specs.State.{State};
+ghost use Rattle.policy_machine.specs.State.{State};
 ghost use Rattle.rec_store.specs.Reopens.{Reopens, load_page};
 ghost use Rattle.sha2.specs.Hashers.{Holds256};
 ghost use Rattle.sha2.specs.Sha256.{sha256};

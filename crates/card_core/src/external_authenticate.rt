@@ -3,12 +3,12 @@
 ghost use Rattle.std.specs.Prelude.{◌≡◌, IfErr, OnOk};
 ghost use Rattle.card_core.specs.SecureChannels.{IsOffered};
 ghost use Rattle.card_core.specs.Offers.{AnswersAs, HoldsFor};
-ghost use Rattle.policy_rules.specs.Admission.{Admitted};
+ghost use Rattle.policy_machine.specs.Admission.{Admitted};
+ghost use Rattle.policy_machine.specs.declared.external_authenticate.RuleEA.TheVariants.{EA1};
+ghost use Rattle.policy_machine.specs.declared.instruction.TheConstants.{EXTERNAL_AUTHENTICATE};
+ghost use Rattle.policy_machine.specs.declared.rule.Rule.TheVariants.{EA};
 ghost use Rattle.policy_rules.specs.Requests.{IsRequestOf, IsWellFormed};
-ghost use Rattle.policy_rules.specs.declared.external_authenticate.RuleEA.TheVariants.{EA1};
-ghost use Rattle.policy_rules.specs.declared.instruction.TheConstants.{EXTERNAL_AUTHENTICATE};
 ghost use Rattle.policy_rules.specs.declared.request.Request.TheVariants.{Authenticate};
-ghost use Rattle.policy_rules.specs.declared.rule.Rule.TheVariants.{EA};
 
 use crate::channel_session::ChannelSession;
 use apdu_core::Status;

@@ -2,9 +2,9 @@
 
 ghost use Rattle.std.specs.Prelude.{◌≡◌, ◌≤◌, None, Some, true, IfErr, IfOk, IfSome, OnOk, length};
 ghost use Rattle.card_core.specs.Kept.{AreCards};
+ghost use Rattle.policy_machine.specs.ManagedForm.{JudgedFirst};
+ghost use Rattle.policy_machine.specs.JudgedForms.{IsJudgeable};
 ghost use Rattle.policy_rules.specs.HoldersFound.{FindsConfirmer, MayReceipt};
-ghost use Rattle.policy_rules.specs.ManagedForm.{JudgedFirst};
-ghost use Rattle.policy_rules.specs.RequestJudged.{IsJudgeable};
 ghost use Rattle.policy_rules.specs.Requests.{ForActing};
 
 use flash_core::Flash;

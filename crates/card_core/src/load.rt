@@ -8,11 +8,11 @@ ghost use Rattle.card_core.specs.Loads.{ForBlock, ForLoading, HoldsLoad, LoadsAs
 ghost use Rattle.card_types.specs.InOrder.{IsInOrder};
 ghost use Rattle.card_types.specs.Privileges.{delegated_management};
 ghost use Rattle.load_session.specs.Session.{IsBlockTaken};
-ghost use Rattle.policy_rules.specs.Admission.{Admitted};
-ghost use Rattle.policy_rules.specs.Delegation.{Holds};
-ghost use Rattle.policy_rules.specs.FirstFailing.{IsFirst};
+ghost use Rattle.policy_machine.specs.Admission.{Admitted};
+ghost use Rattle.policy_machine.specs.Delegation.{Holds};
+ghost use Rattle.policy_machine.specs.FirstFailing.{IsFirst};
+ghost use Rattle.policy_machine.specs.Load.{LoadFails, load_rules};
 ghost use Rattle.policy_rules.specs.HoldersFound.{FindsConfirmer, MayReceipt};
-ghost use Rattle.policy_rules.specs.Load.{LoadFails, load_rules};
 ghost use Rattle.policy_rules.specs.Requests.{ActsIn, IsRequestOf, IsWellFormed};
 ghost use Rattle.policy_rules.specs.declared.request.Request.TheVariants.{Load};
 ghost use Rattle.rec_store.specs.StoredTables.{AreRoomy};

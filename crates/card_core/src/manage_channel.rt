@@ -5,7 +5,7 @@ ghost use Rattle.card_core.specs.Kept.{ForShown, RepresentsSoundly, kept_of};
 ghost use Rattle.card_core.specs.Serves.{CarriesOutBut};
 ghost use Rattle.card_types.specs.Layout.{HasLayout};
 ghost use Rattle.card_types.specs.declared.tables.Tables.{Tables};
-ghost use Rattle.policy_rules.specs.Admission.{Admitted};
+ghost use Rattle.policy_machine.specs.Admission.{Admitted};
 ghost use Rattle.policy_rules.specs.Requests.{IsRequestOf};
 ghost use Rattle.policy_rules.specs.declared.request.Request.TheVariants.{MoreChannel, LessChannel};
 ghost use Rattle.scp03_card.specs.declared.close.TheConstants.{DATA_LIMIT};

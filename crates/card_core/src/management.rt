@@ -7,9 +7,9 @@ ghost use Rattle.card_core.specs.Kept.{AreCards, kept_of};
 ghost use Rattle.card_core.specs.SecureChannels.{IsInSession, held_on};
 ghost use Rattle.card_core.specs.Serves.{AsksForLoad, CarriesOn, ForAsked};
 ghost use Rattle.load_session.specs.declared.session.LoadSession.{LoadSession};
-ghost use Rattle.policy_rules.specs.Classes.{changing, managing};
+ghost use Rattle.policy_machine.specs.Classes.{changing, managing};
+ghost use Rattle.policy_machine.specs.declared.instruction.TheConstants.{MANAGE_CHANNEL, SELECT};
 ghost use Rattle.policy_rules.specs.Requests.{IsWellFormed, form_in};
-ghost use Rattle.policy_rules.specs.declared.instruction.TheConstants.{MANAGE_CHANNEL, SELECT};
 ghost use Rattle.policy_rules.specs.declared.live.Place.{Place};
 ghost use Rattle.scp03_card.specs.declared.close.TheConstants.{DATA_LIMIT};
 

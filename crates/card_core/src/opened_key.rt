@@ -3,7 +3,7 @@
 ghost use Rattle.std.specs.Prelude.{◌≡◌, ◌≤◌, ◌↔◌, IsTrue, length, take};
 ghost use Rattle.cmac_kdf.specs.Blocks.{IsBytes};
 ghost use Rattle.card_types.specs.Well.{IsKeyLength};
-ghost use Rattle.policy_rules.specs.PutKey.{IsKeySent, check_value, sealed_size};
+ghost use Rattle.policy_machine.specs.PutKey.{IsKeySent, check_value, sealed_size};
 ghost use Rattle.policy_rules.specs.Requests.{sent_key};
 
 use aes_block::{BlockKey, SealingAes128, SealingAes192, SealingAes256};

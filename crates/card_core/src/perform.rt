@@ -6,9 +6,9 @@ ghost use Rattle.card_core.specs.Loading.{AreFree, RepresentsSome, with_due};
 ghost use Rattle.card_core.specs.Ready.{IsReady};
 ghost use Rattle.card_core.specs.SecureChannels.{IsOffered, held_on};
 ghost use Rattle.card_core.specs.Serves.{CarriesOn, ForAsked};
-ghost use Rattle.policy_rules.specs.Classes.{changing, managing};
+ghost use Rattle.policy_machine.specs.Classes.{changing, managing};
+ghost use Rattle.policy_machine.specs.declared.instruction.TheConstants.{EXTERNAL_AUTHENTICATE, GET_DATA, INITIALIZE_UPDATE};
 ghost use Rattle.policy_rules.specs.Requests.{IsWellFormed, form_in};
-ghost use Rattle.policy_rules.specs.declared.instruction.TheConstants.{EXTERNAL_AUTHENTICATE, GET_DATA, INITIALIZE_UPDATE};
 ghost use Rattle.scp03_card.specs.declared.close.TheConstants.{DATA_LIMIT};
 
 use crate::admit::Received;

@@ -4,10 +4,10 @@ ghost use Rattle.std.specs.Prelude.{◌≡◌, IfErr, IfOk, OnOk, Some};
 ghost use Rattle.apdu_core.specs.Apdu.{apdu_of};
 ghost use Rattle.card_core.specs.Offers.{HoldsFor};
 ghost use Rattle.card_core.specs.SecureChannels.{IsOffered};
-ghost use Rattle.policy_rules.specs.Admission.{Admitted};
-ghost use Rattle.policy_rules.specs.Commands.{IsBuilt, Judges};
+ghost use Rattle.policy_machine.specs.Admission.{Admitted};
+ghost use Rattle.policy_machine.specs.Commands.{IsBuilt, Judges};
+ghost use Rattle.policy_machine.specs.declared.instruction.TheConstants.{EXTERNAL_AUTHENTICATE};
 ghost use Rattle.policy_rules.specs.Requests.{IsRequestOf};
-ghost use Rattle.policy_rules.specs.declared.instruction.TheConstants.{EXTERNAL_AUTHENTICATE};
 
 use crate::channel_session::ChannelSession;
 use crate::external_authenticate::judge_offer;

@@ -5,8 +5,8 @@ ghost use Rattle.card_types.specs.InOrder.{IsInOrder};
 ghost use Rattle.card_core.specs.Kept.{ForShown, kept_of};
 ghost use Rattle.card_core.specs.SecureChannels.{held_on};
 ghost use Rattle.card_core.specs.Serves.{CarriesOutBut};
+ghost use Rattle.policy_machine.specs.Select.{IsControlInformation, selected_status as status_by};
 ghost use Rattle.policy_rules.specs.Requests.{IsRequestOf};
-ghost use Rattle.policy_rules.specs.Select.{IsControlInformation, selected_status as status_by};
 ghost use Rattle.policy_rules.specs.declared.request.Request.TheVariants.{Select};
 ghost use Rattle.scp03_card.specs.declared.close.TheConstants.{DATA_LIMIT};
 

@@ -9,7 +9,7 @@ ghost use Rattle.card_types.specs.LifeMark.{life_mark_code};
 ghost use Rattle.card_types.specs.Registry.{Registry};
 ghost use Rattle.card_types.specs.Represents.{domain_aid, entry_of, file_aid, file_of};
 ghost use Rattle.card_types.specs.declared.factory.TheConstants.{ISSUER};
-ghost use Rattle.policy_rules.specs.GetStatus.{AFile, AnEntry, IsTemplate, Thing, module_parts, status_parts};
+ghost use Rattle.policy_machine.specs.GetStatus.{AFile, AnEntry, IsTemplate, Thing, module_parts, status_parts};
 ghost use Rattle.policy_rules.specs.GetStatusRequests.{IsThingAt};
 
 use arrayvec::ArrayVec;

@@ -3,9 +3,9 @@ use Rattle.std.proofs.Common.{◌≡◌, ◌≤◌, ℕ, Bool, true, false, List
 use Rattle.card_core.specs.Card.{CardRepresents, LeavesEither}
 use Rattle.flash_core.specs.declared.flash.Flash.{Ghosts as Flash}
 use Rattle.flash_core.specs.declared.page.Page.{Page}
-use Rattle.policy_rules.specs.Run.{Command, Input, Reset, Run}
-use Rattle.policy_rules.specs.State.{State, powered_on}
-use Rattle.policy_rules.specs.Step.{Outcome, Step}
+use Rattle.policy_machine.specs.Run.{Command, Input, Reset, Run}
+use Rattle.policy_machine.specs.State.{State, powered_on}
+use Rattle.policy_machine.specs.Step.{Outcome, Step}
 use Rattle.gp_tool.proofs.Counting.{count_further, few_none}
 use Rattle.gp_tool.proofs.Moments.{among_first, among_more, joins, left_now, nothing_done, one_of_two, run_ends}
 use Rattle.gp_tool.specs.CardEnd.{Comes, Counting, HasCome, HasStopped}

@@ -5,8 +5,8 @@ use Rattle.faults.specs.Faults.{Rose}
 use Rattle.io_edge.proofs.Cuts.{lines_ahead}
 use Rattle.io_edge.specs.Lines.{IsNextLine, IsCut}
 use Rattle.io_edge.specs.declared.line.TheConstants.{INPUT_LIMIT, LINE_LIMIT}
-use Rattle.policy_rules.specs.State.{State}
-use Rattle.policy_rules.specs.Step.{Outcome}
+use Rattle.policy_machine.specs.State.{State}
+use Rattle.policy_machine.specs.Step.{Outcome}
 use Rattle.line_runs.proofs.ComeFirst.{lines_come, shrinks}
 use Rattle.line_runs.specs.Exit.{exit_status}
 use Rattle.gp_tool.specs.Around.{Around}

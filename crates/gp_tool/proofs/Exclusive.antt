@@ -4,7 +4,7 @@ use Rattle.std.specs.List.{concat}
 use Rattle.io_edge.proofs.NextLine.{line_not_cut, one_cut, one_line}
 use Rattle.io_edge.specs.Lines.{IsCut, IsNextLine}
 use Rattle.io_edge.specs.declared.line.TheConstants.{INPUT_LIMIT, LINE_LIMIT}
-use Rattle.policy_rules.specs.State.{State}
+use Rattle.policy_machine.specs.State.{State}
 use Rattle.line_runs.proofs.ComeFirst.{room_further, room_left, room_whole}
 use Rattle.gp_tool.proofs.One.{line_once, plays_form}
 use Rattle.gp_tool.proofs.RunsMore.{runs_once}

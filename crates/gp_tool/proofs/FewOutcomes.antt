@@ -1,8 +1,8 @@
 -- How many commands lines make.
 use Rattle.std.proofs.Common.{◌≡◌, ◌≤◌, ℕ, ◌+◌, ◌*◌, List, [], ◌∷◌, ◌++◌, length, ap, ◌∙◌, inl, inr, arith, length-append}
-use Rattle.policy_rules.specs.Run.{Command, Input, Reset as PowerOff, Run}
-use Rattle.policy_rules.specs.State.{State, powered_on}
-use Rattle.policy_rules.specs.Step.{Outcome}
+use Rattle.policy_machine.specs.Run.{Command, Input, Reset as PowerOff, Run}
+use Rattle.policy_machine.specs.State.{State, powered_on}
+use Rattle.policy_machine.specs.Step.{Outcome}
 use Rattle.script_tool.proofs.FewCommands.{few_commands}
 use Rattle.script_tool.specs.Count.{command_count}
 use Rattle.script_tool.specs.Host.{Host}

@@ -2,8 +2,8 @@
 use Rattle.std.proofs.Common.{◌≡◌, ◌≢◌, ℕ, ◌+◌, List, length, sym, ap, ◌∙◌, inl, inr}
 use Rattle.faults.specs.Faults.{next_count}
 use Rattle.io_edge.specs.Streams.{SinkState, SourceState}
-use Rattle.policy_rules.specs.State.{State}
-use Rattle.policy_rules.specs.Step.{Outcome}
+use Rattle.policy_machine.specs.State.{State}
+use Rattle.policy_machine.specs.Step.{Outcome}
 use Rattle.gp_tool.specs.Ends.{Course, Ends, EndsAt, EndsFaultless, Flushes, with_bad_line}
 use Rattle.line_runs.specs.Outside.{CutsText, Outside, Wrote, outside}
 use Rattle.gp_tool.specs.Flush.{AfterFlush, IsFlushed}

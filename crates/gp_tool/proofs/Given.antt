@@ -5,7 +5,7 @@ use Rattle.std.proofs.lemmas.List.{append-nil}
 use Rattle.std.specs.List.{concat}
 use Rattle.flash_core.specs.declared.flash.Flash.{Ghosts as Flash}
 use Rattle.flash_core.specs.declared.page.Page.{Page}
-use Rattle.policy_rules.specs.Step.{Outcome}
+use Rattle.policy_machine.specs.Step.{Outcome}
 use Rattle.gp_tool.proofs.Counting.{few_none}
 use Rattle.gp_tool.proofs.Moments.{nothing_done}
 use Rattle.gp_tool.specs.Counted.{CountsOn}

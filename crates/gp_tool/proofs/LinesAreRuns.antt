@@ -1,11 +1,11 @@
 -- What lines make of a card is a run of the policy machine.
 use Rattle.std.proofs.Common.{◌≡◌, inl, inr, ℕ, ◌+◌, List, [], ◌∷◌, ◌++◌, ap, sym, subst}
-use Rattle.policy_rules.proofs.NumbersRisen.{numbers_rise_in_runs}
-use Rattle.policy_rules.proofs.TreesStayInRuns.{trees_stay_in_runs}
-use Rattle.policy_rules.specs.Run as input
-use Rattle.policy_rules.specs.Run.{Input, Run}
-use Rattle.policy_rules.specs.State.{State, powered_on}
-use Rattle.policy_rules.specs.Step.{Outcome}
+use Rattle.policy_machine.proofs.NumbersRisen.{numbers_rise_in_runs}
+use Rattle.policy_machine.proofs.TreesStayInRuns.{trees_stay_in_runs}
+use Rattle.policy_machine.specs.Run as input
+use Rattle.policy_machine.specs.Run.{Input, Run}
+use Rattle.policy_machine.specs.State.{State, powered_on}
+use Rattle.policy_machine.specs.Step.{Outcome}
 use Rattle.script_tool.specs.Talk.{Answered, Event, Reset}
 use Rattle.gp_tool.specs.Effects.{Effect, Place}
 use Rattle.gp_tool.specs.LinesApart.{LinesKeepTrees}

@@ -13,7 +13,7 @@ use Rattle.flash_core.specs.declared.flash.Flash.{Ghosts as Flash}
 use Rattle.io_edge.specs.Streams.{SinkState}
 use Rattle.io_edge.specs.declared.sink.Sink.{Ghosts as Sink}
 use Rattle.page_journal.specs.Moments.{Always, LeavesOnly}
-use Rattle.policy_rules.specs.State.{State}
+use Rattle.policy_machine.specs.State.{State}
 use Rattle.rec_store.proofs.OneRegistry.{one_registry}
 use Rattle.rec_store.specs.Reopens.{Reopens, ReopensAsOne, load_page, store_page}
 use Rattle.line_runs.specs.Exit.{exit_status}

@@ -5,8 +5,8 @@ use Rattle.std.proofs.lemmas.List.{append-nil}
 use Rattle.card_core.specs.Card.{CardRepresents}
 use Rattle.flash_core.specs.declared.flash.Flash.{Ghosts as Flash}
 use Rattle.io_edge.specs.declared.line.TheConstants.{LINE_LIMIT}
-use Rattle.policy_rules.specs.State.{State}
-use Rattle.policy_rules.specs.Step.{Outcome}
+use Rattle.policy_machine.specs.State.{State}
+use Rattle.policy_machine.specs.Step.{Outcome}
 use Rattle.rand_chacha.specs.ChaCha.{ChaCha}
 use Rattle.script_tool.specs.Host.{first_host}
 use Rattle.script_tool.proofs.WorkloadLines.{workload_lines}

@@ -9,9 +9,9 @@ use Rattle.card_types.specs.Registry.{Registry}
 use Rattle.flash_core.specs.declared.flash.Flash.{Ghosts as Flash}
 use Rattle.flash_core.specs.declared.page.Page.{Page}
 use Rattle.page_journal.specs.Moments.{LeavesOnly}
-use Rattle.policy_rules.specs.Run.{Command, Input, Reset, Run}
-use Rattle.policy_rules.specs.State.{State, powered_on}
-use Rattle.policy_rules.specs.Step.{Outcome}
+use Rattle.policy_machine.specs.Run.{Command, Input, Reset, Run}
+use Rattle.policy_machine.specs.State.{State, powered_on}
+use Rattle.policy_machine.specs.Step.{Outcome}
 use Rattle.rec_store.proofs.Leaving.{joined, unmoved, weaker}
 use Rattle.rec_store.specs.Reopens.{Reopens, ReopensAsOne}
 use Rattle.gp_tool.specs.Device.{HasFailed, HasRun, LeavesOneOf, LeftOneOf, registries}

@@ -2,10 +2,10 @@
 use Rattle.std.proofs.Common.{◌≡◌, ℕ, Bool, true, false, List, refl, sym, ap, subst, ◌∙◌, inl, inr}
 use Rattle.std.specs.Prelude.{Contains, map}
 use Rattle.card_types.proofs.Members.{contains_first}
-use Rattle.policy_rules.proofs.OneOutcome.{one_run}
-use Rattle.policy_rules.specs.Run.{Input, Run}
-use Rattle.policy_rules.specs.State.{State}
-use Rattle.policy_rules.specs.Step.{Outcome}
+use Rattle.policy_machine.proofs.OneOutcome.{one_run}
+use Rattle.policy_machine.specs.Run.{Input, Run}
+use Rattle.policy_machine.specs.State.{State}
+use Rattle.policy_machine.specs.Step.{Outcome}
 use Rattle.gp_tool.proofs.Moments.{run_ends}
 use Rattle.gp_tool.proofs.Scripts.{answers_end, script_once}
 use Rattle.gp_tool.proofs.Spelled.{spells_once, no_card_wants, wants_once}

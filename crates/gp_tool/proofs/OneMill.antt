@@ -6,8 +6,8 @@ use Rattle.card_types.specs.declared.factory.TheConstants.{ISSUER}
 use Rattle.flash_core.specs.declared.flash.Flash.{Ghosts as Flash}
 use Rattle.hex.specs.Hex.{encode_lower}
 use Rattle.io_edge.specs.declared.sink.Sink.{Ghosts as Sink}
-use Rattle.policy_rules.proofs.OneSet.{counter_one}
-use Rattle.policy_rules.specs.State.{State, powered_on}
+use Rattle.policy_machine.proofs.OneSet.{counter_one}
+use Rattle.policy_machine.specs.State.{State, powered_on}
 use Rattle.rec_store.specs.Reopens.{Keeps}
 use Rattle.scp03_card.specs.Offer.{counter_bytes}
 use Rattle.script_tool.specs.Host.{Host}

@@ -6,7 +6,7 @@ use Rattle.std.specs.List.{concat}
 use Rattle.card_core.specs.Card.{CardOver}
 use Rattle.flash_core.specs.declared.flash.Flash.{Ghosts as Flash}
 use Rattle.flash_core.specs.declared.page.Page.{Page}
-use Rattle.policy_rules.specs.Step.{Outcome}
+use Rattle.policy_machine.specs.Step.{Outcome}
 use Rattle.gp_tool.proofs.Moments.{nothing_done}
 use Rattle.gp_tool.proofs.Spelled.{not_for_card}
 use Rattle.gp_tool.specs.Compare.{ComparesLine, IsMet, KeepsLine, keeping}

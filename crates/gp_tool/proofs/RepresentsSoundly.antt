@@ -6,7 +6,7 @@ use Rattle.card_types.specs.declared.tables.Tables.{Tables}
 use Rattle.flash_core.specs.declared.flash.Flash.{Ghosts as Flash}
 use Rattle.flash_core.specs.declared.page.Page.{Page}
 use Rattle.page_journal.specs.Moments.{LeavesOnly}
-use Rattle.policy_rules.specs.State.{State}
+use Rattle.policy_machine.specs.State.{State}
 use Rattle.rec_store.proofs.Leaving.{unmoved}
 use Rattle.rec_store.specs.Reopens.{Reopens, load_page}
 

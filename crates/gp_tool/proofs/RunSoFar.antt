@@ -8,8 +8,8 @@ use Rattle.card_core.specs.Card.{CardOver, CardRepresents}
 use Rattle.flash_core.specs.declared.flash.Flash.{Ghosts as Flash}
 use Rattle.io_edge.specs.Lines.{IsNextLine, IsWithin, Reading, ahead, room}
 use Rattle.io_edge.specs.declared.line.TheConstants.{INPUT_LIMIT, LINE_LIMIT}
-use Rattle.policy_rules.specs.State.{State}
-use Rattle.policy_rules.specs.Step.{Outcome}
+use Rattle.policy_machine.specs.State.{State}
+use Rattle.policy_machine.specs.Step.{Outcome}
 use Rattle.line_runs.proofs.ComeFirst.{come_more, lines_come}
 use Rattle.line_runs.proofs.Course.{all_written, concat_more, short_more}
 use Rattle.line_runs.proofs.Passed.{taken_all}

@@ -5,7 +5,7 @@ use Rattle.std.proofs.Math.Bool.{or-false, or_assoc}
 use Rattle.std.proofs.lemmas.List.{append-nil}
 use Rattle.card_types.proofs.Members.{contains_first}
 use Rattle.flash_core.specs.declared.flash.Flash.{Ghosts as Flash}
-use Rattle.policy_rules.specs.Step.{Outcome}
+use Rattle.policy_machine.specs.Step.{Outcome}
 use Rattle.gp_tool.proofs.Moments.{among_first, among_more, joins}
 use Rattle.gp_tool.proofs.One.{Same, line_ends, line_once}
 use Rattle.gp_tool.specs.Device.{LeavesOneOf, registries}

@@ -1,7 +1,7 @@
 -- What is said of the device at a run's ending may be replaced.
 use Rattle.std.proofs.Common.{List, ◌++◌}
-use Rattle.policy_rules.specs.State.{State}
-use Rattle.policy_rules.specs.Step.{Outcome}
+use Rattle.policy_machine.specs.State.{State}
+use Rattle.policy_machine.specs.Step.{Outcome}
 use Rattle.gp_tool.specs.Ends.{Course, Ends, EndsAt}
 use Rattle.line_runs.specs.Outside.{Outside}
 use Rattle.line_runs.specs.declared.exit.Ending.{Ending}

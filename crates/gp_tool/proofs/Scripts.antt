@@ -3,10 +3,10 @@ use Rattle.std.proofs.Common.{◌≡◌, ℕ, List, [], ◌∷◌, refl, sym, ap
 use Rattle.std.specs.Prelude.{Contains, map}
 use Rattle.card_types.proofs.Members.{contains_first, contains_later}
 use Rattle.card_types.specs.Registry.{Registry}
-use Rattle.policy_rules.proofs.OneOutcome.{one_outcome}
-use Rattle.policy_rules.specs.Run.{Run}
-use Rattle.policy_rules.specs.State.{State, powered_on}
-use Rattle.policy_rules.specs.Step.{Outcome}
+use Rattle.policy_machine.proofs.OneOutcome.{one_outcome}
+use Rattle.policy_machine.specs.Run.{Run}
+use Rattle.policy_machine.specs.State.{State, powered_on}
+use Rattle.policy_machine.specs.Step.{Outcome}
 use Rattle.script_tool.proofs.OneLine.{one_line}
 use Rattle.script_tool.proofs.OneTalk.{one_talk}
 use Rattle.script_tool.specs.Host.{Host}

@@ -4,7 +4,7 @@ use Rattle.std.specs.Prelude.{Ok, codes}
 use Rattle.std.proofs.lemmas.List.Elements.{All-head, All-tail}
 use Rattle.hex.proofs.HexLemmas.{decode_of-ok, decode_of-same}
 use Rattle.hex.specs.Hex.{decode_of, is_hex_digit}
-use Rattle.policy_rules.specs.Run.{Command, Input}
+use Rattle.policy_machine.specs.Run.{Command, Input}
 use Rattle.script_tool.specs.Line.{IsBlank, IsComment}
 use Rattle.gp_tool.specs.Form.{IsHex, SpellsInputs}
 use Rattle.gp_tool.specs.Replay.{Wants}

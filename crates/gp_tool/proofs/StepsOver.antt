@@ -2,8 +2,8 @@
 use Rattle.std.proofs.Common.{◌≡◌, ℕ, true, false, List, [], ◌∷◌, ◌++◌, length, refl, sym, ap, subst, arith, length-append}
 use Rattle.std.specs.Prelude.{map, Result, Ok, Err, OnOk}
 use Rattle.flash_core.specs.declared.flash.Flash.{Ghosts as Flash}
-use Rattle.policy_rules.specs.Run.{Command, Input, Reset, Run}
-use Rattle.policy_rules.specs.State.{State}
+use Rattle.policy_machine.specs.Run.{Command, Input, Reset, Run}
+use Rattle.policy_machine.specs.State.{State}
 use Rattle.script_tool.specs.Host.{Host}
 use Rattle.script_tool.specs.Link.{given_in}
 use Rattle.script_tool.specs.Play.{playing}

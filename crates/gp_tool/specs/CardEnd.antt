@@ -3,9 +3,9 @@
 use Rattle.std.specs.Prelude.{◌≡◌, ℕ, Bool, true, false, List, [], ◌∷◌, ◌++◌, length}
 use Rattle.card_core.specs.Card.{CardOver, CardRepresents}
 use Rattle.flash_core.specs.declared.flash.Flash.{Ghosts as Flash}
-use Rattle.policy_rules.specs.Run.{Command, Input, Run}
-use Rattle.policy_rules.specs.State.{State}
-use Rattle.policy_rules.specs.Step.{Outcome, Step}
+use Rattle.policy_machine.specs.Run.{Command, Input, Run}
+use Rattle.policy_machine.specs.State.{State}
+use Rattle.policy_machine.specs.Step.{Outcome, Step}
 use Rattle.gp_tool.specs.Counted.{CountsOn}
 use Rattle.gp_tool.specs.Device.{LeavesOneOf, LeftOneOf, registries}
 

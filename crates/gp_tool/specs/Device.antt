@@ -6,8 +6,8 @@ use Rattle.card_types.specs.Registry.{Registry}
 use Rattle.faults.specs.Faults.{Rose}
 use Rattle.flash_core.specs.declared.flash.Flash.{Ghosts as Flash}
 use Rattle.page_journal.specs.Moments.{Always, LeavesOnly}
-use Rattle.policy_rules.specs.State.{State}
-use Rattle.policy_rules.specs.Step.{Outcome}
+use Rattle.policy_machine.specs.State.{State}
+use Rattle.policy_machine.specs.Step.{Outcome}
 use Rattle.rec_store.specs.Contents.{IsNoCard}
 use Rattle.rec_store.specs.Reopens.{Keeps, Reopens, ReopensAsOne}
 

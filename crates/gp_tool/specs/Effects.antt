@@ -1,7 +1,7 @@
 -- A run between two lines, and what comes of lines.
 use Rattle.std.specs.Prelude.{ℕ, Bool, false, ◌||◌, List, [], ◌++◌}
-use Rattle.policy_rules.specs.State.{State}
-use Rattle.policy_rules.specs.Step.{Outcome}
+use Rattle.policy_machine.specs.State.{State}
+use Rattle.policy_machine.specs.Step.{Outcome}
 
 -- Between two lines: what a verb keeps of the lines before, and the state of the card.
 pub record Place (Memory : Type 0) : Type 0 where

@@ -7,8 +7,8 @@ use Rattle.io_edge.specs.Streams.{SinkState}
 use Rattle.io_edge.specs.declared.line.TheConstants.{INPUT_LIMIT, LINE_LIMIT}
 use Rattle.line_runs.specs.Outside.{CutsText, Outside, Wrote, bad_line}
 use Rattle.line_runs.specs.Taken.{ComeFirst, HoldsNoLine, IsBadLine, IsRead, IsShortCut, TakesNoMore, room_ahead}
-use Rattle.policy_rules.specs.State.{State}
-use Rattle.policy_rules.specs.Step.{Outcome}
+use Rattle.policy_machine.specs.State.{State}
+use Rattle.policy_machine.specs.Step.{Outcome}
 use Rattle.gp_tool.specs.Around.{Around}
 use Rattle.gp_tool.specs.Effects.{Effect, Place}
 use Rattle.gp_tool.specs.Flush.{IsHandedOn}

@@ -1,9 +1,9 @@
 -- The forms of a line, and what a card is given by it.
 use Rattle.std.specs.Prelude.{◌≡◌, ◌⊎◌, ℕ, ◌<◌, List, [], ◌∷◌, length, codes, Ok}
 use Rattle.hex.specs.Hex.{decode_of}
-use Rattle.policy_rules.specs.Run.{Input, Command, Reset}
-use Rattle.policy_rules.specs.State.{State}
-use Rattle.policy_rules.specs.Step.{Outcome, Step}
+use Rattle.policy_machine.specs.Run.{Input, Command, Reset}
+use Rattle.policy_machine.specs.State.{State}
+use Rattle.policy_machine.specs.Step.{Outcome, Step}
 use Rattle.script_tool.specs.Line.{IsBlank, IsComment}
 use Rattle.gp_tool.specs.Effects.{Place}
 

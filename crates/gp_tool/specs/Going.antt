@@ -4,7 +4,7 @@ use Rattle.std.specs.List.{AllByRecursion, concat}
 use Rattle.flash_core.specs.declared.flash.Flash.{Ghosts as Flash}
 use Rattle.io_edge.specs.Lines.{Reading, ahead}
 use Rattle.io_edge.specs.declared.line.TheConstants.{INPUT_LIMIT, LINE_LIMIT}
-use Rattle.policy_rules.specs.State.{State}
+use Rattle.policy_machine.specs.State.{State}
 use Rattle.gp_tool.specs.Counted.{counted}
 use Rattle.gp_tool.specs.Device.{LeavesOneOf, registries}
 use Rattle.gp_tool.specs.Effects.{Effect, Place}

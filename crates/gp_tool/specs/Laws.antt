@@ -3,7 +3,7 @@ use Rattle.std.specs.Prelude.{◌≡◌, ◌++◌, ℕ, List}
 use Rattle.card_types.specs.Registry.{Registry}
 use Rattle.flash_core.specs.declared.flash.Flash.{Ghosts as Flash}
 use Rattle.io_edge.specs.declared.sink.Sink.{Ghosts as Sink}
-use Rattle.policy_rules.specs.State.{State}
+use Rattle.policy_machine.specs.State.{State}
 use Rattle.rec_store.specs.Reopens.{Keeps}
 use Rattle.gp_tool.specs.Around.{Around}
 use Rattle.gp_tool.specs.Effects.{Effect, Place}

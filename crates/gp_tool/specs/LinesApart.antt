@@ -1,13 +1,13 @@
 -- Providers apart, over the lines that a run gives to a card.
 use Rattle.std.specs.Prelude.{ℕ, List}
 use Rattle.card_types.specs.Well.{IsDomainNamed}
-use Rattle.policy_rules.specs.Receipts.{AllCountReceipts}
-use Rattle.policy_rules.specs.Run.{Input, Run}
-use Rattle.policy_rules.specs.RunsApart.{AllNewIsBrought, EachSpares, StaysThrough}
-use Rattle.policy_rules.specs.Sound.{IsSound}
-use Rattle.policy_rules.specs.State.{State}
-use Rattle.policy_rules.specs.Step.{Outcome}
-use Rattle.policy_rules.specs.Trees.{TreeStays}
+use Rattle.policy_machine.specs.Receipts.{AllCountReceipts}
+use Rattle.policy_machine.specs.Run.{Input, Run}
+use Rattle.policy_machine.specs.RunsApart.{AllNewIsBrought, EachSpares, StaysThrough}
+use Rattle.policy_machine.specs.Sound.{IsSound}
+use Rattle.policy_machine.specs.State.{State}
+use Rattle.policy_machine.specs.Step.{Outcome}
+use Rattle.policy_machine.specs.Trees.{TreeStays}
 use Rattle.gp_tool.specs.Effects.{Effect, Place}
 use Rattle.gp_tool.specs.RunsLines.{Memory, RunsLines}
 use Rattle.gp_tool.specs.declared.verb.Verb.{Verb}

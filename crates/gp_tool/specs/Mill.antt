@@ -9,9 +9,9 @@ use Rattle.card_types.specs.declared.factory.TheConstants.{ISSUER}
 use Rattle.faults.specs.Faults.{Rose}
 use Rattle.flash_core.specs.declared.flash.Flash.{Ghosts as Flash}
 use Rattle.io_edge.specs.Streams.{SinkState}
-use Rattle.policy_rules.specs.GetData.{IsSequenceCounter}
-use Rattle.policy_rules.specs.State.{State}
-use Rattle.policy_rules.specs.Step.{Outcome}
+use Rattle.policy_machine.specs.GetData.{IsSequenceCounter}
+use Rattle.policy_machine.specs.State.{State}
+use Rattle.policy_machine.specs.Step.{Outcome}
 use Rattle.script_tool.specs.Host.{Host}
 use Rattle.script_tool.specs.Mill.{workload}
 use Rattle.gp_tool.specs.Device.{HasFailed, HasRun, LeavesOneOf, LeftOneOf}

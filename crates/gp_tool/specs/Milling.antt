@@ -2,7 +2,7 @@
 use Rattle.std.specs.Prelude.{◌≡◌, ℕ, Bool, false, List, ◌++◌, length}
 use Rattle.card_core.specs.Card.{CardRepresents}
 use Rattle.flash_core.specs.declared.flash.Flash.{Ghosts as Flash}
-use Rattle.policy_rules.specs.State.{State}
+use Rattle.policy_machine.specs.State.{State}
 use Rattle.script_tool.specs.Host.{Host}
 use Rattle.script_tool.specs.Kept.{RepresentsHost}
 use Rattle.script_tool.specs.Mill.{workload}

@@ -1,6 +1,6 @@
 -- For the code inside. What the code's form of a line stands for.
 use Rattle.std.specs.Prelude.{ℕ, ◌≤◌, List, [], ◌∷◌, take}
-use Rattle.policy_rules.specs.Run.{Input, Command, Reset}
+use Rattle.policy_machine.specs.Run.{Input, Command, Reset}
 use Rattle.gp_tool.specs.declared.form.Form.{Form}
 use Rattle.gp_tool.specs.declared.form.TheConstants.{COMMAND_LIMIT}
 use Rattle.gp_tool.specs.declared.form.Form.TheVariants as form

@@ -1,8 +1,8 @@
 -- Lines of the verb `replay`: the reply to a command is kept, and compared with the one that a line after it wants.
 use Rattle.std.specs.Prelude.{◌≡◌, ◌≢◌, ◌⊎◌, ℕ, ◌≤◌, true, false, List, [], ◌∷◌, ◌++◌, length, None, Ok, Option, Some, codes, decimal}
 use Rattle.hex.specs.Hex.{decode_of, encode_lower}
-use Rattle.policy_rules.specs.Run.{Input, Run}
-use Rattle.policy_rules.specs.Step.{Outcome}
+use Rattle.policy_machine.specs.Run.{Input, Run}
+use Rattle.policy_machine.specs.Step.{Outcome}
 use Rattle.gp_tool.specs.Effects.{Effect, Place, nothing}
 use Rattle.gp_tool.specs.Form.{IsForCard, SpellsInputs}
 use Rattle.script_tool.specs.Line.{IsBlank}

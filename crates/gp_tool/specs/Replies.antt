@@ -1,10 +1,10 @@
 -- Lines of the verbs `run` and `why`: the reply to each command is written.
 use Rattle.std.specs.Prelude.{◌≡◌, ℕ, Bool, true, false, List, [], ◌∷◌, ◌++◌, None, Option, Some, codes, map}
 use Rattle.hex.specs.Hex.{encode_lower}
-use Rattle.policy_rules.specs.Rules.{name_of}
-use Rattle.policy_rules.specs.Run.{Input, Run}
-use Rattle.policy_rules.specs.Step.{Outcome}
-use Rattle.policy_rules.specs.declared.rule.Rule.{Rule}
+use Rattle.policy_machine.specs.Rules.{name_of}
+use Rattle.policy_machine.specs.Run.{Input, Run}
+use Rattle.policy_machine.specs.Step.{Outcome}
+use Rattle.policy_machine.specs.declared.rule.Rule.{Rule}
 use Rattle.gp_tool.specs.Effects.{Effect, Place}
 use Rattle.gp_tool.specs.Form.{SpellsInputs}
 

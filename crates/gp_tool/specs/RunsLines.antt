@@ -1,8 +1,8 @@
 -- What lines do to a card, by the verb, and the texts that they write.
 use Rattle.std.specs.Prelude.{◌≡◌, ℕ, ◌+◌, ◌≤◌, true, false, List, [], ◌∷◌, length, None}
 use Rattle.io_edge.specs.declared.line.TheConstants.{LINE_LIMIT}
-use Rattle.policy_rules.specs.State.{State}
-use Rattle.policy_rules.specs.Step.{Outcome}
+use Rattle.policy_machine.specs.State.{State}
+use Rattle.policy_machine.specs.Step.{Outcome}
 use Rattle.script_tool.specs.Host.{Host, first_host}
 use Rattle.gp_tool.specs.Effects.{Effect, Place, joined, nothing}
 use Rattle.gp_tool.specs.Form.{FailsCommand, IsForCard}

@@ -1,7 +1,7 @@
 -- Lines of the verb `play`: what a host sends by a line, what the card answers, and what is printed.
 use Rattle.std.specs.Prelude.{◌≡◌, ℕ, Bool, List, [], ◌∷◌, ◌++◌}
-use Rattle.policy_rules.specs.State.{State, powered_on}
-use Rattle.policy_rules.specs.Step.{Outcome, Step}
+use Rattle.policy_machine.specs.State.{State, powered_on}
+use Rattle.policy_machine.specs.Step.{Outcome, Step}
 use Rattle.script_tool.specs.Host.{Host}
 use Rattle.script_tool.specs.HostLines.{is_difference}
 use Rattle.script_tool.specs.Line.{SaysLine}

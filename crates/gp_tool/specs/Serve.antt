@@ -4,8 +4,8 @@ use Rattle.std.specs.List.{concat}
 use Rattle.card_core.specs.Card.{CardOver, CardRepresents}
 use Rattle.faults.specs.Faults.{Rose}
 use Rattle.flash_core.specs.declared.flash.Flash.{Ghosts as Flash}
-use Rattle.policy_rules.specs.State.{State}
-use Rattle.policy_rules.specs.Step.{Outcome}
+use Rattle.policy_machine.specs.State.{State}
+use Rattle.policy_machine.specs.Step.{Outcome}
 use Rattle.gp_tool.specs.Counted.{CountsOn}
 use Rattle.gp_tool.specs.Device.{LeavesOneOf, LeftOneOf, registries}
 use Rattle.gp_tool.specs.Effects.{Effect, Place}

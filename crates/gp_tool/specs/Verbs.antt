@@ -8,7 +8,7 @@ use Rattle.flash_core.specs.declared.flash.Flash.{Ghosts as Flash}
 use Rattle.io_edge.specs.declared.line.TheConstants.{INPUT_LIMIT}
 use Rattle.io_edge.specs.declared.sink.Sink.{Ghosts as Sink}
 use Rattle.io_edge.specs.declared.source.Source.{Ghosts as Source}
-use Rattle.policy_rules.specs.State.{State, powered_on}
+use Rattle.policy_machine.specs.State.{State, powered_on}
 use Rattle.rec_store.specs.Reopens.{Reopens}
 use Rattle.line_runs.specs.Exit.{exit_status}
 use Rattle.gp_tool.specs.Around.{Around, around}

@@ -3,7 +3,7 @@
 ghost use Rattle.std.specs.Prelude.{◌≡◌, ◌≤◌, ◌<◌, ◌+◌, ◌^◌, IfOk, OnOk, OnErr, true, false};
 ghost use Rattle.card_core.specs.Card.{CardRepresents};
 ghost use Rattle.faults.specs.Faults.{Rose};
-ghost use Rattle.policy_rules.specs.State.{State};
+ghost use Rattle.policy_machine.specs.State.{State};
 ghost use Rattle.script_tool.specs.Host.{Host};
 ghost use Rattle.script_tool.specs.Kept.{RepresentsHost};
 ghost use Rattle.gp_tool.specs.Effects.{Place};

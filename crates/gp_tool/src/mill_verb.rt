@@ -3,7 +3,7 @@
 ghost use Rattle.std.specs.Prelude.{◌≡◌, ◌≢◌, ◌≤◌, ◌⊎◌, true};
 ghost use Rattle.card_core.specs.Card.{CardRepresents};
 ghost use Rattle.faults.specs.Faults.{Rose};
-ghost use Rattle.policy_rules.specs.State.{State};
+ghost use Rattle.policy_machine.specs.State.{State};
 ghost use Rattle.gp_tool.specs.Around.{around};
 ghost use Rattle.gp_tool.specs.Ends.{EndCause, Flushes};
 ghost use Rattle.gp_tool.specs.Formatted.{IsFactoryCard};

@@ -2,7 +2,7 @@
 
 ghost use Rattle.std.specs.Prelude.{◌≡◌, ◌≢◌, ◌≤◌, ℕ, None, true, IfNone, IfSome};
 ghost use Rattle.card_core.specs.Card.{CardRepresents};
-ghost use Rattle.policy_rules.specs.State.{State};
+ghost use Rattle.policy_machine.specs.State.{State};
 ghost use Rattle.gp_tool.specs.Around.{Around, around};
 ghost use Rattle.gp_tool.specs.Ends.{EndCause, Flushes};
 ghost use Rattle.line_runs.specs.Outside.{outside};

@@ -2,7 +2,7 @@
 
 ghost use Rattle.std.specs.Prelude.{◌≡◌, ◌≢◌, ◌≤◌, true};
 ghost use Rattle.card_core.specs.Card.{CardRepresents};
-ghost use Rattle.policy_rules.specs.State.{State, powered_on};
+ghost use Rattle.policy_machine.specs.State.{State, powered_on};
 ghost use Rattle.gp_tool.specs.Around.{around};
 ghost use Rattle.gp_tool.specs.Verbs.{IsDone, IsGoodInput, NoFault, Serves};
 

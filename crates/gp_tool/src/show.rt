@@ -9,7 +9,7 @@ ghost use Rattle.card_core.specs.Card.{CardRepresents};
 ghost use Rattle.card_types.specs.InOrder.{IsInOrder};
 ghost use Rattle.faults.specs.Faults.{HasCause};
 ghost use Rattle.page_journal.specs.Moments.{LeavesOnly};
-ghost use Rattle.policy_rules.specs.State.{State};
+ghost use Rattle.policy_machine.specs.State.{State};
 ghost use Rattle.rec_store.specs.Reopens.{Reopens};
 ghost use Rattle.gp_tool.specs.declared.show.fault.ShowFault.TheVariants.{Write};
 ghost use Rattle.gp_tool.specs.Listing.{Writes, WritesOf};

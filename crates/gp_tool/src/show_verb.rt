@@ -4,7 +4,7 @@ ghost use Rattle.std.specs.Prelude.{◌≡◌, ◌≢◌, ◌⊎◌, ◌≤◌, 
 ghost use Rattle.card_core.specs.Card.{CardRepresents};
 ghost use Rattle.faults.specs.Faults.{Rose};
 ghost use Rattle.page_journal.specs.Moments.{LeavesOnly};
-ghost use Rattle.policy_rules.specs.State.{State};
+ghost use Rattle.policy_machine.specs.State.{State};
 ghost use Rattle.rec_store.specs.Reopens.{Reopens};
 ghost use Rattle.gp_tool.specs.Around.{around};
 ghost use Rattle.gp_tool.specs.Device.{HoldsCard};

@@ -2,7 +2,7 @@
 
 ghost use Rattle.std.specs.Prelude.{◌≤◌, ℕ, List, IfNone, IfSome, drop, length};
 ghost use Rattle.bertlv.specs.Refusal.{AfterLength};
-ghost use Rattle.policy_rules.specs.LoadBlocks.{Announces};
+ghost use Rattle.policy_machine.specs.LoadBlocks.{Announces};
 
 /// Why a block is not taken.
 #[derive(Clone, Copy, Debug, PartialEq, Eq)]

@@ -2,7 +2,7 @@
 
 ghost use Rattle.std.specs.Prelude.{◌≡◌, ◌↔◌, ◌⊎◌, ◌++◌, ℕ, [], List, IsTrue, length};
 ghost use Rattle.load_session.specs.Hash.{IsFed};
-ghost use Rattle.policy_rules.specs.LoadBlocks.{HaveHash};
+ghost use Rattle.policy_machine.specs.LoadBlocks.{HaveHash};
 ghost use Rattle.sha1.specs.Sha1.{Holds, sha1};
 ghost use Rattle.sha2.specs.Hashers.{Holds256};
 ghost use Rattle.sha2.specs.Sha256.{sha256};

@@ -8,7 +8,7 @@ ghost use Rattle.load_session.specs.Judging.{BlockPasses, ForEachSaid, StopsBloc
 ghost use Rattle.load_session.specs.Paged.{size_of};
 ghost use Rattle.load_session.specs.Pages.{pages_in};
 ghost use Rattle.load_session.specs.Session.{IsBlockTaken};
-ghost use Rattle.policy_rules.specs.LoadBlocks.{BringsBytes};
+ghost use Rattle.policy_machine.specs.LoadBlocks.{BringsBytes};
 ghost use Rattle.rec_store.specs.StoredTables.{AreRoomy};
 
 use crate::block::{BlockStop, Taken, first_block};

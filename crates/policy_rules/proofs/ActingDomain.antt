@@ -7,11 +7,11 @@ use Rattle.card_types.specs.Registry as registry
 use Rattle.card_types.specs.Represents.{entry_of}
 use Rattle.card_types.specs.declared.factory.TheConstants.{ISSUER}
 use Rattle.card_types.specs.declared.tables.Tables.{Tables}
-use Rattle.policy_rules.specs.Admission.{Admitted}
-use Rattle.policy_rules.specs.Management.{ManagementFails, acting}
+use Rattle.policy_machine.specs.Admission.{Admitted}
+use Rattle.policy_machine.specs.Management.{ManagementFails, acting}
+use Rattle.policy_machine.specs.Select.{is_card_locked}
+use Rattle.policy_machine.specs.declared.management.RuleM.TheVariants.{M1, M2, M3}
 use Rattle.policy_rules.specs.Requests.{ActsIn}
-use Rattle.policy_rules.specs.Select.{is_card_locked}
-use Rattle.policy_rules.specs.declared.management.RuleM.TheVariants.{M1, M2, M3}
 
 module _ (page : ℕ → List ℕ) (tables : Tables) (domain : ℕ) (admitted : Admitted) (acts : ActsIn page tables domain admitted) where
   pub acting_aid : acting admitted ≡ acts.entry.aid

@@ -21,11 +21,12 @@ use Rattle.domain_tree.proofs.AboveNamed.{slot_above}
 use Rattle.domain_tree.specs.Above.{Above}
 use Rattle.domain_tree.specs.AboveLaws.{IsAboveIn}
 use Rattle.domain_tree.specs.Holders.{entry_has}
-use Rattle.policy_rules.specs.Charge.{IsAtOrAbove, IsFileInCharge, IsInCharge, is_privileged}
-use Rattle.policy_rules.specs.Extradition.{domain_of_thing, entry_domain, file_domain}
+use Rattle.policy_machine.specs.Charge.{IsAtOrAbove, IsFileInCharge, IsInCharge, is_privileged}
+use Rattle.policy_machine.specs.Extradition.{domain_of_thing, entry_domain, file_domain}
+use Rattle.policy_machine.proofs.FileApart.{file_apart}
 use Rattle.policy_rules.proofs.InstallApplicationJudging.{entry_no_file}
 use Rattle.policy_rules.proofs.NearestHolder.{privilege_named}
-use Rattle.policy_rules.proofs.ThingsFound.{IsEntryAt, above_by_aids, above_by_slots, entry_at, file_apart}
+use Rattle.policy_rules.proofs.ThingsFound.{IsEntryAt, above_by_aids, above_by_slots, entry_at}
 
 -- an entry that is a domain holds the privilege that makes it one
 domain_privilege : (o : Option registry.Entry) → is_privileged security_domain o ≡ true → MatchOption o ⊥ (λ entry. is_domain entry ≡ true)

@@ -8,10 +8,10 @@ use Rattle.card_types.specs.Slots.{held}
 use Rattle.card_types.specs.Well.{Well}
 use Rattle.card_types.specs.declared.tables.Entry.{Entry}
 use Rattle.card_types.specs.declared.tables.Tables.{Tables}
-use Rattle.policy_rules.specs.Admission.{Admitted}
+use Rattle.policy_machine.specs.Admission.{Admitted}
+use Rattle.policy_machine.specs.GetData.{AsksFor, HasData, key_information, tag_of}
+use Rattle.policy_machine.specs.Volatile.{selected_on}
 use Rattle.policy_rules.specs.Found.{IsFor}
-use Rattle.policy_rules.specs.GetData.{AsksFor, HasData, key_information, tag_of}
-use Rattle.policy_rules.specs.Volatile.{selected_on}
 use Rattle.policy_rules.specs.declared.get_data.Datum.{Datum}
 use Rattle.policy_rules.specs.declared.get_data.Datum.TheVariants.{Keys, Counter, Object}
 use Rattle.policy_rules.proofs.OwnKeys.{keys_are, keys_from_next, next_named}

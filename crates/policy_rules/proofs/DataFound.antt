@@ -17,9 +17,9 @@ use Rattle.card_types.specs.declared.tables.KeyRec.{KeyRec}
 use Rattle.card_types.specs.declared.tables.Object.{Object}
 use Rattle.card_types.specs.declared.tables.Tables.{Tables}
 use Rattle.scp03_card.specs.Offer.{counter_bytes}
-use Rattle.policy_rules.specs.GetData.{HasData, IsDataObject, IsSequenceCounter}
+use Rattle.policy_machine.specs.GetData.{HasData, IsDataObject, IsSequenceCounter}
+use Rattle.policy_machine.specs.KeySets.{UsesCounter}
 use Rattle.policy_rules.specs.KeyOrder.{follows}
-use Rattle.policy_rules.specs.KeySets.{UsesCounter}
 use Rattle.policy_rules.proofs.OwnKeys.{keys_are, keys_from_none, none_named}
 
 -- each tag that a data object may have is one

@@ -14,11 +14,11 @@ use Rattle.card_types.specs.Slots.{held}
 use Rattle.card_types.specs.Well.{IsRoot}
 use Rattle.card_types.specs.declared.tables.KeyRec.{KeyRec}
 use Rattle.card_types.specs.declared.tables.Tables.{Tables}
-use Rattle.policy_rules.specs.Admission.{Admitted}
-use Rattle.policy_rules.specs.DeleteKey.{IsLastSet}
+use Rattle.policy_machine.specs.Admission.{Admitted}
+use Rattle.policy_machine.specs.DeleteKey.{IsLastSet}
+use Rattle.policy_machine.specs.KeyVersions.{counters_but, is_counter_numbered}
+use Rattle.policy_machine.specs.Management.{acting}
 use Rattle.policy_rules.specs.KeyOrder.{holds_counter_but, keeps_counter_of}
-use Rattle.policy_rules.specs.KeyVersions.{counters_but, is_counter_numbered}
-use Rattle.policy_rules.specs.Management.{acting}
 use Rattle.policy_rules.specs.Requests.{ActsIn}
 use Rattle.policy_rules.proofs.AnySlot.{passing_slot, slot_passes}
 use Rattle.policy_rules.proofs.OwnKeys.{own_is}

@@ -14,17 +14,17 @@ use Rattle.card_types.specs.declared.found.Found.TheVariants as found
 use Rattle.card_types.specs.declared.tables.Entry.{Entry}
 use Rattle.card_types.specs.declared.tables.Tables.{Tables}
 use Rattle.domain_tree.specs.Above.{Above}
-use Rattle.policy_rules.specs.Admission.{Admitted}
-use Rattle.policy_rules.specs.Charge.{IsFileInCharge, IsInCharge}
-use Rattle.policy_rules.specs.DeleteObject.{ComesFrom, DeletingFails, IsInUse, IsToGo}
+use Rattle.policy_machine.specs.Admission.{Admitted}
+use Rattle.policy_machine.specs.Charge.{IsFileInCharge, IsInCharge}
+use Rattle.policy_machine.specs.DeleteObject.{ComesFrom, DeletingFails, IsInUse, IsToGo}
+use Rattle.policy_machine.specs.Management.{acting}
+use Rattle.policy_machine.specs.declared.delete_object.RuleDO.TheVariants.{DO1, DO2, DO4}
+use Rattle.policy_machine.specs.declared.channels.TheConstants.{CHANNELS}
 use Rattle.policy_rules.specs.DeleteObjectFound.{IsFrom, IsInUseIn}
 use Rattle.policy_rules.specs.DeleteObjectRequests.{IsDeletionOf}
-use Rattle.policy_rules.specs.Management.{acting}
 use Rattle.policy_rules.specs.Requests.{ActsIn, RepresentsState}
 use Rattle.policy_rules.specs.declared.delete_object.DeletionRequest.{DeletionRequest}
-use Rattle.policy_rules.specs.declared.delete_object.RuleDO.TheVariants.{DO1, DO2, DO4}
 use Rattle.policy_rules.specs.declared.live.Live.{Live}
-use Rattle.policy_rules.specs.declared.live.TheConstants.{CHANNELS}
 use Rattle.policy_rules.proofs.ChargeNamed.{above_alike}
 use Rattle.policy_rules.proofs.DeleteObjectNames.{entry_no_source, file_alone, file_unloaded, file_unselected, from_named, from_slots, loaded_named, others_named, selected_named}
 use Rattle.policy_rules.proofs.DeleteObjectSlots.{from_used}

@@ -23,16 +23,16 @@ use Rattle.card_types.specs.declared.found.Found.TheVariants as found
 use Rattle.card_types.specs.declared.tables.Entry.{Entry}
 use Rattle.card_types.specs.declared.tables.LoadFile.{LoadFile}
 use Rattle.card_types.specs.declared.tables.Tables.{Tables}
+use Rattle.policy_machine.proofs.FileApart.{file_apart}
+use Rattle.policy_machine.specs.DeleteObject.{ComesFrom, HasOthers, IsLoadedInto, IsSelected}
+use Rattle.policy_machine.specs.Volatile.{Channel, LoadSession, Volatile, channel_at}
+use Rattle.policy_machine.specs.declared.channels.TheConstants.{CHANNELS}
 use Rattle.policy_rules.proofs.DeleteObjectSlots.{from_at}
 use Rattle.policy_rules.proofs.InstallApplicationJudging.{entry_no_file}
-use Rattle.policy_rules.proofs.ThingsFound.{file_apart}
-use Rattle.policy_rules.specs.DeleteObject.{ComesFrom, HasOthers, IsLoadedInto, IsSelected}
 use Rattle.policy_rules.specs.DeleteObjectFound.{HasOthersIn, HasSelected, IsFrom, IsLoadDomain}
 use Rattle.policy_rules.specs.Requests.{IsLoadNamed, IsSelectedIn}
-use Rattle.policy_rules.specs.Volatile.{Channel, LoadSession, Volatile, channel_at}
 use Rattle.policy_rules.specs.declared.live.Live.{Live}
 use Rattle.policy_rules.specs.declared.live.LoadName.{LoadName}
-use Rattle.policy_rules.specs.declared.live.TheConstants.{CHANNELS}
 
 -- a channel past the last one is none
 pub channel_within : (volatile : Volatile) → length volatile.channels ≡ CHANNELS → (number : ℕ) (P : Channel → Type 0)

@@ -11,10 +11,10 @@ use Rattle.card_types.specs.InOrder.{IsInOrder}
 use Rattle.card_types.specs.Slots.{held}
 use Rattle.card_types.specs.declared.tables.Entry.{Entry}
 use Rattle.card_types.specs.declared.tables.Tables.{Tables}
+use Rattle.policy_machine.specs.declared.channels.TheConstants.{CHANNELS}
 use Rattle.policy_rules.proofs.AnySlot.{passing_slot, slot_passes}
 use Rattle.policy_rules.specs.DeleteObjectFound.{HasOthersIn, HasSelected, IsFrom, comes_from_slot, has_slot, is_file_of, is_other_of}
 use Rattle.policy_rules.specs.declared.live.Live.{Live}
-use Rattle.policy_rules.specs.declared.live.TheConstants.{CHANNELS}
 
 -- what holds unless a test tells the contrary
 pub unless : {P Q : Type 0} (is : Bool) → IsTrue is ↔ P → ((P → ⊥) → Q) → (IsTrue is) ⊎ Q

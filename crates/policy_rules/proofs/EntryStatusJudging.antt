@@ -16,23 +16,23 @@ use Rattle.card_types.specs.declared.found.Found.TheVariants as found
 use Rattle.card_types.specs.declared.life.LifeMark.{LifeMark}
 use Rattle.card_types.specs.declared.tables.Entry.{Entry}
 use Rattle.card_types.specs.declared.tables.Tables.{Tables}
-use Rattle.policy_rules.specs.Admission.{Admitted}
-use Rattle.policy_rules.specs.EntryStatus.{IsEntryStep, Marks, SettingStatusFails, managed_entry_status}
-use Rattle.policy_rules.specs.Management.{ManagementFails}
+use Rattle.policy_machine.specs.Admission.{Admitted}
+use Rattle.policy_machine.specs.EntryStatus.{IsEntryStep, Marks, SettingStatusFails, managed_entry_status}
+use Rattle.policy_machine.specs.Management.{ManagementFails}
+use Rattle.policy_machine.specs.declared.entry_status.RuleSS.{RuleSS}
+use Rattle.policy_machine.specs.declared.entry_status.RuleSS.TheVariants.{SS1, SS2, SS3, SS4}
+use Rattle.policy_machine.specs.declared.management.RuleM.TheVariants.{M2, M3}
+use Rattle.policy_machine.specs.declared.rule.Rule.TheVariants.{SS}
+use Rattle.policy_machine.specs.CommandForm.{FailsFirst}
 use Rattle.policy_rules.specs.Requests.{ActsIn}
 use Rattle.policy_rules.specs.SetStatusRequests.{IsChangeFor, IsEntryStatusOf, IsSlotStep, MaySet, TellsCard}
 use Rattle.policy_rules.specs.declared.entry_status.EntryStatusRequest.{EntryStatusRequest}
-use Rattle.policy_rules.specs.declared.entry_status.RuleSS.{RuleSS}
-use Rattle.policy_rules.specs.declared.entry_status.RuleSS.TheVariants.{SS1, SS2, SS3, SS4}
 use Rattle.policy_rules.specs.declared.entry_status.StatusChange.TheVariants.{One, Tree}
-use Rattle.policy_rules.specs.declared.management.RuleM.TheVariants.{M2, M3}
-use Rattle.policy_rules.specs.declared.rule.Rule.TheVariants.{SS}
 use Rattle.policy_rules.proofs.ThingsFound.{IsEntryAt, entry_at, named_as}
-use Rattle.policy_rules.specs.CommandForm.{FailsFirst}
 use Rattle.card_types.specs.Aid.{IsAid}
-use Rattle.policy_rules.proofs.EntryStatusLaws.{entry_status_judgeable}
-use Rattle.policy_rules.proofs.ManagedJudging.{two_pass, own_refuses, approval_decides}
-use Rattle.policy_rules.specs.ManagedForm.{OwnFirst, command_form}
+use Rattle.policy_machine.proofs.EntryStatusLaws.{entry_status_judgeable}
+use Rattle.policy_machine.proofs.ManagedJudging.{two_pass, own_refuses, approval_decides}
+use Rattle.policy_machine.specs.ManagedForm.{OwnFirst, command_form}
 
 -- its own rules after those of management
 pub own_status_first : (admitted : Admitted) → IsAid admitted.command.body → (ManagementFails admitted M2 → ⊥) × (ManagementFails admitted M3 → ⊥)

@@ -17,18 +17,18 @@ use Rattle.card_types.specs.declared.privileges.Privileges.{Privileges}
 use Rattle.card_types.specs.declared.tables.Entry.{Entry}
 use Rattle.card_types.specs.declared.tables.Tables.{Tables}
 use Rattle.domain_tree.specs.Holders.{entry_has}
-use Rattle.policy_rules.specs.Admission.{Admitted}
-use Rattle.policy_rules.specs.Charge.{IsAtOrAbove}
-use Rattle.policy_rules.specs.Delegation.{Holds, IsVerifier}
-use Rattle.policy_rules.specs.Extradition.{ExtraditingFails, IsOutOfReach, IsUnapprovable, is_personalized}
+use Rattle.policy_machine.specs.Admission.{Admitted}
+use Rattle.policy_machine.specs.Charge.{IsAtOrAbove}
+use Rattle.policy_machine.specs.Delegation.{Holds, IsVerifier}
+use Rattle.policy_machine.specs.Extradition.{ExtraditingFails, IsOutOfReach, IsUnapprovable, is_personalized}
+use Rattle.policy_machine.specs.InstallFields.{InstallData}
+use Rattle.policy_machine.specs.Management.{acting}
+use Rattle.policy_machine.specs.declared.extradition.RuleEX.{RuleEX}
+use Rattle.policy_machine.specs.declared.extradition.RuleEX.TheVariants.{EX2, EX3, EX5}
+use Rattle.policy_machine.proofs.Approved.{one_holder}
 use Rattle.policy_rules.specs.ExtraditionRequests.{IsExtraditionOf}
-use Rattle.policy_rules.specs.InstallFields.{InstallData}
-use Rattle.policy_rules.specs.Management.{acting}
 use Rattle.policy_rules.specs.Requests.{ActsIn}
 use Rattle.policy_rules.specs.declared.extradition.ExtraditionRequest.{ExtraditionRequest}
-use Rattle.policy_rules.specs.declared.extradition.RuleEX.{RuleEX}
-use Rattle.policy_rules.specs.declared.extradition.RuleEX.TheVariants.{EX2, EX3, EX5}
-use Rattle.policy_rules.proofs.Approved.{one_holder}
 use Rattle.policy_rules.proofs.InstallApplicationJudging.{holds_named}
 use Rattle.policy_rules.proofs.ThingsFound.{entry_at, named_as}
 

@@ -2,19 +2,19 @@
 use Rattle.std.proofs.Common.{◌≡◌, inl, inr, ℕ, List, ◌∷◌, Option, None, Some, refl, ap, sym, subst, ◌∙◌, arith}
 use Rattle.std.specs.Prelude.{MatchOption}
 use Rattle.bertlv.specs.Spelling.{Element}
-use Rattle.policy_rules.specs.Admission.{Admitted}
-use Rattle.policy_rules.specs.FirstFailing.{IsFirst}
-use Rattle.policy_rules.specs.GetStatus.{BeginsAbove, GetStatusFails, IsListed, IsPlaceOf, IsSearch, ListingFails, get_status_rules, place_before, tag_list}
-use Rattle.policy_rules.specs.Management.{ManagementFails, acting}
+use Rattle.policy_machine.specs.Admission.{Admitted}
+use Rattle.policy_machine.specs.FirstFailing.{IsFirst}
+use Rattle.policy_machine.specs.GetStatus.{BeginsAbove, GetStatusFails, IsListed, IsPlaceOf, IsSearch, ListingFails, get_status_rules, place_before, tag_list}
+use Rattle.policy_machine.specs.Management.{ManagementFails, acting}
+use Rattle.policy_machine.specs.Volatile.{Place}
+use Rattle.policy_machine.specs.declared.get_status.RuleGS.TheVariants.{GS1, GS2}
+use Rattle.policy_machine.specs.declared.management.RuleM.TheVariants.{M2}
+use Rattle.policy_machine.specs.declared.rule.Rule.TheVariants.{GS, M}
 use Rattle.policy_rules.specs.GetStatusRequests.{IsListOf, IsNextListed, NoneListed}
-use Rattle.policy_rules.specs.Volatile.{Place}
 use Rattle.policy_rules.specs.declared.get_status.ListRequest.{ListRequest}
-use Rattle.policy_rules.specs.declared.get_status.RuleGS.TheVariants.{GS1, GS2}
-use Rattle.policy_rules.specs.declared.management.RuleM.TheVariants.{M2}
-use Rattle.policy_rules.specs.declared.rule.Rule.TheVariants.{GS, M}
 use Rattle.card_types.specs.declared.found.Found.{Found}
 use Rattle.card_types.specs.declared.tables.Tables.{Tables}
-use Rattle.policy_rules.proofs.StoreDataElements.{one_list}
+use Rattle.policy_machine.proofs.StoreDataElements.{one_list}
 
 -- a data field has one partial AID
 pub one_search : (body a b : List ℕ) → IsSearch body a → IsSearch body b → a ≡ b

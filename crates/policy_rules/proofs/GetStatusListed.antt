@@ -24,9 +24,9 @@ use Rattle.card_types.specs.declared.limits.TheConstants.{ENTRIES}
 use Rattle.card_types.specs.declared.tables.Entry.{Entry}
 use Rattle.card_types.specs.declared.tables.LoadFile.{LoadFile}
 use Rattle.card_types.specs.declared.tables.Tables.{Tables}
-use Rattle.policy_rules.specs.Admission.{Admitted}
-use Rattle.policy_rules.specs.GetStatus.{AFile, AnEntry, IsIn, IsListed, IsListedBy, Sees, Thing, aid_in}
-use Rattle.policy_rules.specs.Management.{acting}
+use Rattle.policy_machine.specs.Admission.{Admitted}
+use Rattle.policy_machine.specs.GetStatus.{AFile, AnEntry, IsIn, IsListed, IsListedBy, Sees, Thing, aid_in}
+use Rattle.policy_machine.specs.Management.{acting}
 use Rattle.policy_rules.specs.Requests.{ActsIn}
 use Rattle.policy_rules.specs.GetStatusRequests.{IsListedAs, IsListedAt, IsNextListed, IsThingAt, NoneListed, found_in, lower_of}
 

@@ -20,8 +20,8 @@ use Rattle.card_types.specs.Well.{IsDomainNamed, IsWellEntry, IsWellFile, LeadsT
 use Rattle.card_types.specs.declared.factory.TheConstants.{ISSUER}
 use Rattle.domain_tree.proofs.Paths.{root_alone}
 use Rattle.domain_tree.specs.Above.{Above}
-use Rattle.policy_rules.specs.Charge.{IsAtOrAbove, is_privileged}
-use Rattle.policy_rules.specs.GetStatus.{AFile, AnEntry, IsIn, IsListed, IsListedBy, Sees, Thing, aid_in, global_registry}
+use Rattle.policy_machine.specs.Charge.{IsAtOrAbove, is_privileged}
+use Rattle.policy_machine.specs.GetStatus.{AFile, AnEntry, IsIn, IsListed, IsListedBy, Sees, Thing, aid_in, global_registry}
 
 -- it is so or it is not
 abbrev Decided : Type 0 → Type 0

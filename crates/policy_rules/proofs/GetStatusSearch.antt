@@ -2,8 +2,8 @@
 use Rattle.std.proofs.Common.{◌≡◌, ◌⊎◌, inl, inr, ℕ, ◌<◌, ◌≤◌, List, [], ◌∷◌, ◌++◌, length, Option, None, Some, ap, subst, arith}
 use Rattle.std.proofs.lemmas.List.{nil_from_length}
 use Rattle.bertlv.specs.Spelling.{AreElements, BeginsWith, Element, Spelling}
-use Rattle.policy_rules.specs.GetStatus.{IsSearch, tag_list}
-use Rattle.policy_rules.proofs.StoreDataElements.{elements_behind}
+use Rattle.policy_machine.specs.GetStatus.{IsSearch, tag_list}
+use Rattle.policy_machine.proofs.StoreDataElements.{elements_behind}
 
 abbrev spelled_as : ℕ → List ℕ → Element
 spelled_as tag value = record { tag = tag; value = value }

@@ -15,9 +15,9 @@ use Rattle.card_types.specs.Found.{IsAbove}
 use Rattle.card_types.specs.Well.{Well}
 use Rattle.card_types.specs.declared.found.Found.{Found}
 use Rattle.card_types.specs.declared.tables.Tables.{Tables}
-use Rattle.policy_rules.specs.Admission.{Admitted}
-use Rattle.policy_rules.specs.GetStatus.{BeginsAbove, IsListed, IsListing, IsSearch, IsToBeShown, Thing, aid_in, last_aid}
-use Rattle.policy_rules.specs.Management.{acting}
+use Rattle.policy_machine.specs.Admission.{Admitted}
+use Rattle.policy_machine.specs.GetStatus.{BeginsAbove, IsListed, IsListing, IsSearch, IsToBeShown, Thing, aid_in, last_aid}
+use Rattle.policy_machine.specs.Management.{acting}
 use Rattle.policy_rules.specs.GetStatusRequests.{IsNextListed, NoneListed}
 use Rattle.policy_rules.proofs.GetStatusJudging.{one_beginning, one_search}
 use Rattle.policy_rules.proofs.GetStatusListing.{first_of_sorted, listed_in_order, sorted_none, sorted_one}

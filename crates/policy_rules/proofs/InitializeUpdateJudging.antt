@@ -18,16 +18,16 @@ use Rattle.card_types.specs.declared.limits.TheConstants.{COUNTER_LIMIT}
 use Rattle.card_types.specs.declared.tables.Entry.{Entry}
 use Rattle.card_types.specs.declared.tables.KeyRec.{KeyRec}
 use Rattle.card_types.specs.declared.tables.Tables.{Tables}
-use Rattle.policy_rules.specs.Admission.{Admitted}
-use Rattle.policy_rules.specs.FirstFailing.{IsFirst}
-use Rattle.policy_rules.specs.InitializeUpdate.{AsksForSet, InitializeUpdateFails, offer_rules}
-use Rattle.policy_rules.specs.KeySets.{UsesSet, set_counter}
-use Rattle.policy_rules.specs.Management.{acting}
-use Rattle.policy_rules.specs.Select.{is_card_locked}
-use Rattle.policy_rules.specs.declared.initialize_update.RuleIU.TheVariants.{IU1, IU2, IU3}
-use Rattle.policy_rules.specs.declared.management.RuleM.TheVariants.{M2}
-use Rattle.policy_rules.specs.declared.rule.Rule.{Rule}
-use Rattle.policy_rules.specs.declared.rule.Rule.TheVariants.{M, IU}
+use Rattle.policy_machine.specs.Admission.{Admitted}
+use Rattle.policy_machine.specs.FirstFailing.{IsFirst}
+use Rattle.policy_machine.specs.InitializeUpdate.{AsksForSet, InitializeUpdateFails, offer_rules}
+use Rattle.policy_machine.specs.KeySets.{UsesSet, set_counter}
+use Rattle.policy_machine.specs.Management.{acting}
+use Rattle.policy_machine.specs.Select.{is_card_locked}
+use Rattle.policy_machine.specs.declared.initialize_update.RuleIU.TheVariants.{IU1, IU2, IU3}
+use Rattle.policy_machine.specs.declared.management.RuleM.TheVariants.{M2}
+use Rattle.policy_machine.specs.declared.rule.Rule.{Rule}
+use Rattle.policy_machine.specs.declared.rule.Rule.TheVariants.{M, IU}
 use Rattle.policy_rules.proofs.SessionSets.{owns_once}
 
 both_true : (a b : Bool) → (a && b) ≡ true → (a ≡ true) × (b ≡ true)

@@ -30,19 +30,19 @@ use Rattle.card_types.specs.declared.tables.Tables.{Tables}
 use Rattle.domain_tree.proofs.AboveNamed.{above_in_slots, above_named}
 use Rattle.domain_tree.specs.Above.{Above}
 use Rattle.domain_tree.specs.Holders.{entry_has}
-use Rattle.policy_rules.proofs.Filtered.{any_there, there_any}
+use Rattle.policy_machine.proofs.Filtered.{any_there, there_any}
+use Rattle.policy_machine.specs.Admission.{Admitted}
+use Rattle.policy_machine.specs.Charge.{IsFileInCharge, is_privileged}
+use Rattle.policy_machine.specs.Delegation.{Holds}
+use Rattle.policy_machine.specs.InstallApplication.{InstallingFails, IsTakenAid, guarded_privileges}
+use Rattle.policy_machine.specs.Management.{acting}
+use Rattle.policy_machine.specs.Volatile.{LoadSession}
+use Rattle.policy_machine.specs.declared.install_application.RuleII.{RuleII}
+use Rattle.policy_machine.specs.declared.install_application.RuleII.TheVariants.{II2, II3, II4, II6, II7}
 use Rattle.policy_rules.proofs.NearestHolder.{privilege_named}
-use Rattle.policy_rules.specs.Admission.{Admitted}
-use Rattle.policy_rules.specs.Charge.{IsFileInCharge, is_privileged}
-use Rattle.policy_rules.specs.Delegation.{Holds}
-use Rattle.policy_rules.specs.InstallApplication.{InstallingFails, IsTakenAid, guarded_privileges}
 use Rattle.policy_rules.specs.InstallApplicationRequests.{IsInstallOf, IsOutOfCharge, exceeds_by, is_loaded_as}
-use Rattle.policy_rules.specs.Management.{acting}
 use Rattle.policy_rules.specs.Requests.{ActsIn, IsLoadNamed}
-use Rattle.policy_rules.specs.Volatile.{LoadSession}
 use Rattle.policy_rules.specs.declared.install_application.InstallRequest.{InstallRequest}
-use Rattle.policy_rules.specs.declared.install_application.RuleII.{RuleII}
-use Rattle.policy_rules.specs.declared.install_application.RuleII.TheVariants.{II2, II3, II4, II6, II7}
 use Rattle.policy_rules.specs.declared.install_application.TheConstants.{GUARDED}
 use Rattle.policy_rules.specs.declared.live.LoadName.{LoadName}
 

@@ -12,16 +12,16 @@ use Rattle.card_types.specs.declared.found.Found.TheVariants as found
 use Rattle.card_types.specs.declared.limits.TheConstants.{FILES}
 use Rattle.card_types.specs.declared.tables.Entry.{Entry}
 use Rattle.card_types.specs.declared.tables.Tables.{Tables}
-use Rattle.policy_rules.specs.Admission.{Admitted}
-use Rattle.policy_rules.specs.Charge.{IsAtOrAbove}
-use Rattle.policy_rules.specs.InstallLoad.{InstallingLoadFails, LoadData, file_domain_for, named_or}
+use Rattle.policy_machine.specs.Admission.{Admitted}
+use Rattle.policy_machine.specs.Charge.{IsAtOrAbove}
+use Rattle.policy_machine.specs.InstallLoad.{InstallingLoadFails, LoadData, file_domain_for, named_or}
+use Rattle.policy_machine.specs.Management.{acting}
+use Rattle.policy_machine.specs.Volatile.{LoadSession}
+use Rattle.policy_machine.specs.declared.install_load.RuleIL.{RuleIL}
+use Rattle.policy_machine.specs.declared.install_load.RuleIL.TheVariants.{IL2, IL3, IL4, IL5, IL7}
 use Rattle.policy_rules.specs.InstallLoadRequests.{IsLoadInstallOf, NamesDomain}
-use Rattle.policy_rules.specs.Management.{acting}
 use Rattle.policy_rules.specs.Requests.{ActsIn, IsLoadNamed}
-use Rattle.policy_rules.specs.Volatile.{LoadSession}
 use Rattle.policy_rules.specs.declared.install_load.LoadInstallRequest.{LoadInstallRequest}
-use Rattle.policy_rules.specs.declared.install_load.RuleIL.{RuleIL}
-use Rattle.policy_rules.specs.declared.install_load.RuleIL.TheVariants.{IL2, IL3, IL4, IL5, IL7}
 use Rattle.policy_rules.specs.declared.live.LoadName.{LoadName}
 use Rattle.policy_rules.proofs.InstallApplicationJudging.{not_there, there}
 use Rattle.policy_rules.proofs.ThingsFound.{acting_named}

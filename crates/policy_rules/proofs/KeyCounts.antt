@@ -15,8 +15,8 @@ use Rattle.card_types.specs.declared.tables.KeyRec.{KeyRec}
 use Rattle.card_types.specs.declared.tables.Tables.{Tables}
 use Rattle.key_rules.specs.PutFails as slots
 use Rattle.key_rules.specs.Staying.{is_of, staying}
-use Rattle.policy_rules.specs.KeyVersions.{keys_but}
-use Rattle.policy_rules.proofs.Filtered.{as_many_pass, map_kept}
+use Rattle.policy_machine.specs.KeyVersions.{keys_but}
+use Rattle.policy_machine.proofs.Filtered.{as_many_pass, map_kept}
 use Rattle.policy_rules.proofs.KeysByName.{keys_staying}
 use Rattle.policy_rules.proofs.OwnKeys.{own_is}
 

@@ -18,8 +18,8 @@ use Rattle.card_types.specs.declared.tables.KeyRec.{KeyRec}
 use Rattle.card_types.specs.declared.tables.Tables.{Tables}
 use Rattle.key_rules.specs.PutFails as slots
 use Rattle.key_rules.specs.Staying.{is_of, staying}
-use Rattle.policy_rules.specs.KeyVersions.{counters_but, has_key_version, is_counter_numbered, is_key_numbered, keys_but}
-use Rattle.policy_rules.proofs.Filtered.{any_there, filter_same, filters_swap, map_kept, there_any}
+use Rattle.policy_machine.specs.KeyVersions.{counters_but, has_key_version, is_counter_numbered, is_key_numbered, keys_but}
+use Rattle.policy_machine.proofs.Filtered.{any_there, filter_same, filters_swap, map_kept, there_any}
 use Rattle.policy_rules.proofs.OwnKeys.{own_is}
 
 -- a key version number is 01 at least

@@ -2,21 +2,21 @@
 use Rattle.std.proofs.Common.{◌≡◌, ◌++◌, Option, None, Some, refl, inl, inr, arith}
 use Rattle.std.specs.Prelude.{map}
 use Rattle.std.specs.Option.{option_map}
-use Rattle.policy_rules.specs.Admission.{Admitted}
-use Rattle.policy_rules.specs.FirstFailing.{IsFirst}
-use Rattle.policy_rules.specs.Load.{IsLoadOn, LoadFails, LoadingFails, block_of, block_rules, front_rules, last_rules, load_rules}
-use Rattle.policy_rules.specs.LoadBlocks.{Block, HasNoLength, HasNoRoom, HasOtherCount, HasOtherHash}
+use Rattle.policy_machine.specs.Admission.{Admitted}
+use Rattle.policy_machine.specs.FirstFailing.{IsFirst}
+use Rattle.policy_machine.specs.Load.{IsLoadOn, LoadFails, LoadingFails, block_of, block_rules, front_rules, last_rules, load_rules}
+use Rattle.policy_machine.specs.LoadBlocks.{Block, HasNoLength, HasNoRoom, HasOtherCount, HasOtherHash}
+use Rattle.policy_machine.specs.Management.{ManagementFails}
+use Rattle.policy_machine.specs.Volatile.{LoadSession}
+use Rattle.policy_machine.specs.declared.load.RuleLO.{RuleLO}
+use Rattle.policy_machine.specs.declared.management.RuleM.TheVariants.{M1, M2}
+use Rattle.policy_machine.specs.declared.load.RuleLO.TheVariants.{LO3, LO4, LO5, LO6}
+use Rattle.policy_machine.specs.declared.rule.Rule.{Rule}
+use Rattle.policy_machine.specs.declared.rule.Rule.TheVariants.{LO}
+use Rattle.policy_machine.proofs.FirstJoined.{first_behind, first_within}
+use Rattle.policy_machine.proofs.FirstLike.{first_of_group}
+use Rattle.policy_machine.proofs.LoadOfChannel.{of_load}
 use Rattle.policy_rules.specs.LoadFound.{number_rules}
-use Rattle.policy_rules.specs.Management.{ManagementFails}
-use Rattle.policy_rules.specs.Volatile.{LoadSession}
-use Rattle.policy_rules.specs.declared.load.RuleLO.{RuleLO}
-use Rattle.policy_rules.specs.declared.management.RuleM.TheVariants.{M1, M2}
-use Rattle.policy_rules.specs.declared.load.RuleLO.TheVariants.{LO3, LO4, LO5, LO6}
-use Rattle.policy_rules.specs.declared.rule.Rule.{Rule}
-use Rattle.policy_rules.specs.declared.rule.Rule.TheVariants.{LO}
-use Rattle.policy_rules.proofs.FirstJoined.{first_behind, first_within}
-use Rattle.policy_rules.proofs.FirstLike.{first_of_group}
-use Rattle.policy_rules.proofs.LoadNamed.{of_load}
 use Rattle.policy_rules.proofs.ManagementFirst.{behind_management}
 
 module _ (admitted : Admitted) where

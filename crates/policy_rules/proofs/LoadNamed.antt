@@ -15,19 +15,19 @@ use Rattle.card_types.specs.Well.{IsDomainNamed, IsWellEntry, Well}
 use Rattle.card_types.specs.declared.found.Found.TheVariants as found
 use Rattle.card_types.specs.declared.tables.Entry.{Entry}
 use Rattle.card_types.specs.declared.tables.Tables.{Tables}
-use Rattle.policy_rules.specs.Admission.{Admitted}
+use Rattle.policy_machine.specs.Admission.{Admitted}
+use Rattle.policy_machine.specs.Load.{IsLoadOn, LoadingFails}
+use Rattle.policy_machine.specs.LoadBlocks.{with_block}
+use Rattle.policy_machine.specs.Charge.{IsAtOrAbove}
+use Rattle.policy_machine.specs.Management.{acting}
+use Rattle.policy_machine.specs.Sound.{IsWellLoad}
+use Rattle.policy_machine.specs.Volatile.{LoadSession}
+use Rattle.policy_machine.specs.declared.load.RuleLO.TheVariants.{LO7}
+use Rattle.policy_machine.proofs.LoadOfChannel.{of_load}
 use Rattle.policy_rules.specs.LiveEnds.{counted}
-use Rattle.policy_rules.specs.Load.{InLoad, IsLoadOn, LoadingFails}
-use Rattle.policy_rules.specs.LoadBlocks.{with_block}
 use Rattle.policy_rules.specs.LoadFound.{IsForLast, named_on}
-use Rattle.policy_rules.specs.Charge.{IsAtOrAbove}
-use Rattle.policy_rules.specs.Management.{acting}
 use Rattle.policy_rules.specs.Requests.{ActsIn, IsLoadNamed}
-use Rattle.policy_rules.specs.Sound.{IsWellLoad}
-use Rattle.policy_rules.specs.Volatile.{LoadSession}
 use Rattle.policy_rules.specs.declared.live.LoadName.{LoadName}
-use Rattle.policy_rules.specs.declared.load.RuleLO.TheVariants.{LO7}
-use Rattle.policy_rules.proofs.Lawful.{some_same}
 use Rattle.policy_rules.proofs.ExtraditionJudging.{not_told}
 use Rattle.policy_rules.proofs.ThingsFound.{acting_named, named_by_slot}
 
@@ -50,10 +50,6 @@ pub counted_named : (entries : List (Option Entry)) (name : Option LoadName) (lo
     → IsLoadNamed entries (counted name) (Some (with_block load size bytes))
 counted_named entries None load size bytes named = absurd named
 counted_named entries (Some name) load size bytes named = (named.0, named.1, named.2, ap (λ (n : ℕ). n + 1) named.3)
-
--- it holds of the load session of the channel
-pub of_load : (admitted : Admitted) (holds : LoadSession → Type 0) (load : LoadSession) → IsLoadOn admitted load → InLoad admitted holds → holds load
-of_load admitted holds load on there = subst holds (some_same there.0 load (sym there.1.0 ∙ on.0)) there.2
 
 -- the load session that a channel has, as it is named
 pub named_is : (channel : ℕ) (load : Option LoadName) (name : LoadName) → named_on channel load ≡ Some name → (load ≡ Some name) × (name.channel ≡ channel)

@@ -10,14 +10,14 @@ use Rattle.card_types.specs.declared.found.Found.TheVariants as found
 use Rattle.card_types.specs.declared.tables.Entry.{Entry}
 use Rattle.card_types.specs.declared.tables.Tables.{Tables}
 use Rattle.domain_tree.specs.Above.{Above}
-use Rattle.policy_rules.specs.Admission.{Admitted}
-use Rattle.policy_rules.specs.Delegation.{MayManage}
-use Rattle.policy_rules.specs.FirstFailing.{IsFirst}
-use Rattle.policy_rules.specs.MakeSelectable.{MakingSelectableFails, is_installed, managed_selectable}
+use Rattle.policy_machine.specs.Admission.{Admitted}
+use Rattle.policy_machine.specs.Delegation.{MayManage}
+use Rattle.policy_machine.specs.FirstFailing.{IsFirst}
+use Rattle.policy_machine.specs.MakeSelectable.{MakingSelectableFails, is_installed, managed_selectable}
+use Rattle.policy_machine.specs.declared.make_selectable.RuleMS.{RuleMS}
+use Rattle.policy_machine.specs.declared.make_selectable.RuleMS.TheVariants.{MS1, MS2, MS3, MS4, MS5}
 use Rattle.policy_rules.specs.Requests.{ActsIn}
 use Rattle.policy_rules.specs.MakeSelectableRequests.{IsSelectableOf}
-use Rattle.policy_rules.specs.declared.make_selectable.RuleMS.{RuleMS}
-use Rattle.policy_rules.specs.declared.make_selectable.RuleMS.TheVariants.{MS1, MS2, MS3, MS4, MS5}
 use Rattle.policy_rules.specs.declared.make_selectable.SelectableRequest.{SelectableRequest}
 use Rattle.policy_rules.proofs.PrivilegesGiven.{others_given, same_given}
 use Rattle.policy_rules.proofs.ThingsFound.{IsEntryAt, above_by_aids, above_by_slots, acting_at, entry_at, named_as}

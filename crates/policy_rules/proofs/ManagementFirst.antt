@@ -2,10 +2,10 @@
 use Rattle.std.proofs.Common.{◌≡◌, ◌⊎◌, List, ◌∷◌, Err, Ok, Option, Some, ap, subst, sym, inl, inr}
 use Rattle.std.specs.Prelude.{IfErr, Result}
 use Rattle.std.specs.Result.{IsErrAnd}
-use Rattle.policy_rules.specs.FirstFailing.{IsFirst}
-use Rattle.policy_rules.specs.declared.management.RuleM.TheVariants.{M1, M2, M3}
-use Rattle.policy_rules.specs.declared.rule.Rule.{Rule}
-use Rattle.policy_rules.specs.declared.rule.Rule.TheVariants.{M}
+use Rattle.policy_machine.specs.FirstFailing.{IsFirst}
+use Rattle.policy_machine.specs.declared.management.RuleM.TheVariants.{M1, M2, M3}
+use Rattle.policy_machine.specs.declared.rule.Rule.{Rule}
+use Rattle.policy_machine.specs.declared.rule.Rule.TheVariants.{M}
 
 module _ (one two : Rule) (fails : Rule → Type 0) (rules : List Rule) where
   abbrev FailsOfTwo : Rule → Type 0

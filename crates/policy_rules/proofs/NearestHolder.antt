@@ -21,9 +21,9 @@ use Rattle.card_types.specs.declared.tables.Tables.{Tables}
 use Rattle.domain_tree.proofs.AboveNamed.{first_above_named, none_above_named}
 use Rattle.domain_tree.specs.Above.{IsFirstAbove, NoneAbove}
 use Rattle.domain_tree.specs.Holders.{entry_has}
+use Rattle.policy_machine.specs.Charge.{is_privileged}
+use Rattle.policy_machine.specs.Delegation.{IsNearestHolder, has_with_key}
 use Rattle.policy_rules.proofs.AnySlot.{passing_slot, slot_passes}
-use Rattle.policy_rules.specs.Charge.{is_privileged}
-use Rattle.policy_rules.specs.Delegation.{IsNearestHolder, has_with_key}
 use Rattle.policy_rules.specs.HoldersFound.{has_with_key_in, holds_lone_key}
 
 -- a key that the test finds

@@ -20,8 +20,8 @@ use Rattle.card_types.specs.Well.{Well}
 use Rattle.card_types.specs.declared.tables.Entry.{Entry}
 use Rattle.card_types.specs.declared.tables.KeyRec.{KeyRec}
 use Rattle.card_types.specs.declared.tables.Tables.{Tables}
+use Rattle.policy_machine.specs.KeySets.{lowest_counter}
 use Rattle.policy_rules.specs.KeyOrder.{follows, is_past, keeps_counter_of, keeps_counter_with, name_order, version_order}
-use Rattle.policy_rules.specs.KeySets.{lowest_counter}
 use Rattle.policy_rules.specs.declared.key_order.KeyName.{KeyName}
 
 and_true : (a b : Bool) → (a && b) ≡ true → (a ≡ true) × (b ≡ true)

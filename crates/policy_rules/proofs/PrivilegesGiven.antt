@@ -4,8 +4,8 @@ use Rattle.std.specs.Prelude.{MatchOption}
 use Rattle.card_types.proofs.PrivilegeFacts.{length-ArePrivilegeBytes}
 use Rattle.card_types.specs.Privileges.{ArePrivilegeBytes}
 use Rattle.card_types.specs.declared.privileges.Privileges.{Privileges}
+use Rattle.policy_machine.proofs.InstallApplicationAsking.{one_privileges}
 use Rattle.policy_rules.specs.MakeSelectableRequests.{AreGiven}
-use Rattle.policy_rules.proofs.InstallApplicationAsking.{one_privileges}
 
 -- no bytes spell privileges
 no_bytes : (privileges : Privileges) (bytes : List ℕ) → bytes ≡ [] → ArePrivilegeBytes privileges bytes → ⊥

@@ -12,7 +12,7 @@ use Rattle.card_types.specs.declared.tables.Entry.{Entry}
 use Rattle.card_types.specs.declared.tables.Tables.{Tables}
 use Rattle.domain_tree.proofs.AboveNamed.{slot_above}
 use Rattle.domain_tree.specs.Above.{Above}
-use Rattle.policy_rules.specs.Admission.{Admitted}
+use Rattle.policy_machine.specs.Admission.{Admitted}
 use Rattle.policy_rules.specs.DeleteObjectFound.{HasOthersIn}
 use Rattle.policy_rules.specs.HoldersFound.{IsReceipterIn}
 use Rattle.policy_rules.specs.Requests.{ActsIn}

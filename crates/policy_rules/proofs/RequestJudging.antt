@@ -2,24 +2,25 @@
 use Rattle.std.proofs.Common.{◌≡◌, List, Bool, true, false, Option, None, Some, inl, inr, refl, sym, subst}
 use Rattle.std.specs.Option.{option_map}
 use Rattle.std.specs.Prelude.{map}
-use Rattle.policy_rules.proofs.FirstJoined.{first_behind, first_within}
-use Rattle.policy_rules.proofs.FirstLike.{first_like, first_of_group, none_first}
-use Rattle.policy_rules.proofs.ManagedJudging.{two_pass}
-use Rattle.policy_rules.specs.Admission.{Admitted}
-use Rattle.policy_rules.specs.Delegation.{Approval, ReceiptFails, TokenFails, token_rules}
-use Rattle.policy_rules.specs.FirstFailing.{IsFirst}
+use Rattle.policy_machine.proofs.FirstJoined.{first_behind, first_within}
+use Rattle.policy_machine.proofs.FirstLike.{first_like, first_of_group, none_first}
+use Rattle.policy_machine.proofs.ManagedJudging.{two_pass}
+use Rattle.policy_machine.specs.Admission.{Admitted}
+use Rattle.policy_machine.specs.Delegation.{Approval, ReceiptFails, TokenFails, token_rules}
+use Rattle.policy_machine.specs.FirstFailing.{IsFirst}
+use Rattle.policy_machine.specs.ManagedForm.{AskedFails, JudgedForm}
+use Rattle.policy_machine.specs.Management.{ManagementFails}
+use Rattle.policy_machine.specs.JudgedForms.{OfEach}
+use Rattle.policy_machine.specs.declared.delegation.RuleRC.{RuleRC}
+use Rattle.policy_machine.specs.declared.delegation.RuleRC.TheVariants.{RC1}
+use Rattle.policy_machine.specs.declared.delegation.RuleTK.{RuleTK}
+use Rattle.policy_machine.specs.declared.management.RuleM.{RuleM}
+use Rattle.policy_machine.specs.declared.management.RuleM.TheVariants.{M1, M2}
+use Rattle.policy_machine.specs.declared.rule.Rule.{Rule}
+use Rattle.policy_machine.specs.declared.rule.Rule.TheVariants.{RC, TK}
 use Rattle.policy_rules.specs.HoldersFound.{approval_of}
-use Rattle.policy_rules.specs.ManagedForm.{AskedFails, JudgedForm}
-use Rattle.policy_rules.specs.Management.{ManagementFails}
-use Rattle.policy_rules.specs.RequestJudged.{IsBroughtFor, IsTokenForm, OfEach, receipt_rules}
-use Rattle.policy_rules.specs.declared.delegation.RuleRC.{RuleRC}
-use Rattle.policy_rules.specs.declared.delegation.RuleRC.TheVariants.{RC1}
-use Rattle.policy_rules.specs.declared.delegation.RuleTK.{RuleTK}
+use Rattle.policy_rules.specs.RequestJudged.{IsBroughtFor, IsTokenForm, receipt_rules}
 use Rattle.policy_rules.specs.declared.delegation.Signed.{Signed}
-use Rattle.policy_rules.specs.declared.management.RuleM.{RuleM}
-use Rattle.policy_rules.specs.declared.management.RuleM.TheVariants.{M1, M2}
-use Rattle.policy_rules.specs.declared.rule.Rule.{Rule}
-use Rattle.policy_rules.specs.declared.rule.Rule.TheVariants.{RC, TK}
 
 module _ (form : JudgedForm) (receipted : Bool) (lawful : IsTokenForm form receipted) (admitted : Admitted) where
   -- the rules of card content management pass

@@ -6,13 +6,13 @@ use Rattle.card_types.specs.Represents.{domain_aid}
 use Rattle.card_types.specs.Slots.{held}
 use Rattle.card_types.specs.declared.tables.Entry.{Entry}
 use Rattle.card_types.specs.declared.tables.Tables.{Tables}
-use Rattle.policy_rules.specs.Admission.{Admitted}
+use Rattle.policy_machine.specs.Admission.{Admitted}
+use Rattle.policy_machine.specs.Sound.{IsSound}
+use Rattle.policy_machine.specs.State.{State}
+use Rattle.policy_machine.specs.Volatile.{Channel, channel_at, selected_of, selected_on}
+use Rattle.policy_machine.specs.declared.channels.TheConstants.{CHANNELS}
 use Rattle.policy_rules.specs.Requests.{ActsIn, IsSelectedIn, RepresentsState}
-use Rattle.policy_rules.specs.Sound.{IsSound}
-use Rattle.policy_rules.specs.State.{State}
-use Rattle.policy_rules.specs.Volatile.{Channel, channel_at, selected_of, selected_on}
 use Rattle.policy_rules.specs.declared.live.Live.{Live}
-use Rattle.policy_rules.specs.declared.live.TheConstants.{CHANNELS}
 
 by_slot : (entries : List (Option Entry)) (slot : ℕ) (channel : Option Channel) → IsSelectedIn entries (Some slot) channel
     → (entry : Entry) × (held entries slot ≡ Some entry) × (selected_of channel ≡ entry.aid)

@@ -22,8 +22,8 @@ use Rattle.card_types.specs.declared.tables.KeyRec.{KeyRec}
 use Rattle.card_types.specs.declared.tables.Tables.{Tables}
 use Rattle.domain_tree.proofs.OnLine.{first_on_line, none_on_line}
 use Rattle.domain_tree.specs.Above.{IsFirstAbove, NoneAbove}
+use Rattle.policy_machine.specs.KeySets.{OwnsSets, UsesSet, has_set, lowest_counter, set_counter}
 use Rattle.policy_rules.specs.KeyOrder.{has_set_in, holds_counter_of, keeps_counter_of, keeps_counter_with, version_order}
-use Rattle.policy_rules.specs.KeySets.{OwnsSets, UsesSet, has_set, lowest_counter, set_counter}
 use Rattle.policy_rules.proofs.AnySlot.{passing_slot, slot_passes}
 use Rattle.policy_rules.proofs.OwnKeys.{lowest_named, lowest_unnamed, numbered_named, numbered_unnamed}
 

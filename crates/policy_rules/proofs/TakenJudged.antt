@@ -1,13 +1,13 @@
 -- A command that a form takes is judged by the rules of that form.
 use Rattle.std.proofs.Common.{◌≡◌, ℕ, [], Option, None, refl, sym, subst}
-use Rattle.policy_rules.specs.Admission.{Admitted}
-use Rattle.policy_rules.specs.CommandForm.{CommandForm, FailsFirst}
-use Rattle.policy_rules.specs.Commands.{Judges, JudgesAs, OneOf, TakesCommand, forms_of}
-use Rattle.policy_rules.specs.ExternalAuthenticate.{rules_before_form}
-use Rattle.policy_rules.specs.declared.rule.Rule.{Rule}
-use Rattle.policy_rules.proofs.FormTaken.{by_form, own_judged}
-use Rattle.policy_rules.proofs.Judging.{IsListed, judged}
-use Rattle.policy_rules.proofs.OneOutcome.{judges_one}
+use Rattle.policy_machine.specs.Admission.{Admitted}
+use Rattle.policy_machine.specs.CommandForm.{CommandForm, FailsFirst}
+use Rattle.policy_machine.specs.Commands.{Judges, JudgesAs, OneOf, TakesCommand, forms_of}
+use Rattle.policy_machine.specs.ExternalAuthenticate.{rules_before_form}
+use Rattle.policy_machine.specs.declared.rule.Rule.{Rule}
+use Rattle.policy_machine.proofs.FormTaken.{by_form, own_judged}
+use Rattle.policy_machine.proofs.Judging.{IsListed, judged}
+use Rattle.policy_machine.proofs.OneOutcome.{judges_one}
 
 module _ (form : CommandForm) (listed : IsListed form) (admitted : Admitted) (takes : TakesCommand form admitted.command) where
   -- the first of the form's own rules that fails is the rule of the command, where no rule stands before those on the form

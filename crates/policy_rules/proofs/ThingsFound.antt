@@ -2,27 +2,23 @@
 use Rattle.std.proofs.Common.{◌≡◌, ℕ, List, [], Option, None, Some, refl, ap, sym, subst, ◌∙◌}
 use Rattle.std.specs.Prelude.{IsSome, unwrap_or}
 use Rattle.std.specs.Option.{option_map}
-use Rattle.std.proofs.lemmas.List.Elements.{All-contains}
 use Rattle.card_types.proofs.Domains.{domain_aid_is}
 use Rattle.card_types.proofs.FoundNames.{found_entry_named}
-use Rattle.card_types.proofs.LeastOfList.{found_fits}
 use Rattle.card_types.proofs.Next.{held_from_name}
-use Rattle.card_types.proofs.SameAid.{same_aid_decides}
-use Rattle.card_types.specs.AidOrder.{same_aid}
 use Rattle.card_types.specs.Found.{aid_of}
 use Rattle.card_types.specs.Registry as registry
-use Rattle.card_types.specs.Registry.{entry_named, file_named}
+use Rattle.card_types.specs.Registry.{entry_named}
 use Rattle.card_types.specs.Represents.{Represents, domain_aid, domain_slot, entry_of}
 use Rattle.card_types.specs.Slots.{held}
-use Rattle.card_types.specs.Well.{IsWellFile, Well}
+use Rattle.card_types.specs.Well.{Well}
 use Rattle.card_types.specs.declared.found.Found.TheVariants as found
 use Rattle.card_types.specs.declared.tables.Entry.{Entry}
 use Rattle.card_types.specs.declared.tables.Tables.{Tables}
 use Rattle.domain_tree.proofs.AboveNamed.{above_in_slots, above_named}
 use Rattle.domain_tree.specs.Above.{Above}
 use Rattle.domain_tree.specs.AboveLaws.{IsAboveIn}
-use Rattle.policy_rules.specs.Admission.{Admitted}
-use Rattle.policy_rules.specs.Management.{acting}
+use Rattle.policy_machine.specs.Admission.{Admitted}
+use Rattle.policy_machine.specs.Management.{acting}
 use Rattle.policy_rules.specs.Requests.{ActsIn}
 use Rattle.policy_rules.proofs.ActingDomain.{acting_aid}
 
@@ -80,13 +76,6 @@ pub acting_at : (page : ℕ → List ℕ) (tables : Tables) (domain : ℕ) (admi
     → IsEntryAt tables admitted.at.registry domain (acting admitted)
 acting_at page tables domain admitted acts =
     entry_at page tables admitted.at.registry acts.says domain (acting admitted) (acting_named page tables domain admitted acts)
-
--- what is an Executable Load File is no entry
-pub file_apart : (said : registry.Registry) → Well said → (aid : List ℕ) (file : registry.LoadFile) → file_named said aid ≡ Some file → entry_named said aid ≡ None
-file_apart said well aid file named =
-    let found = found_fits (λ (f : registry.LoadFile). same_aid f.aid aid) said.files file named in
-    subst (λ (a : List ℕ). entry_named said a ≡ None) ((same_aid_decides file.aid aid).0 found.1)
-    (All-contains (IsWellFile said) said.files file well.files found.0).apart
 
 -- a used slot has the AID of its entry
 pub named_by_slot : (tables : Tables) (slot : ℕ) → IsSome (held tables.entries.items slot) → aid_of tables (found.Entry slot) ≡ Some (domain_aid tables.entries.items slot)

@@ -10,13 +10,13 @@ use Rattle.card_types.specs.declared.tables.Entry.{Entry as Slot}
 use Rattle.card_types.specs.declared.tables.LoadFile.{LoadFile}
 use Rattle.card_types.specs.declared.tables.Tables.{Tables}
 use Rattle.card_types.specs.declared.tables.TheConstants.{ISSUER_SLOT}
-use Rattle.policy_rules.specs.Admission.{Admitted}
-use Rattle.policy_rules.specs.Charge.{IsInCharge}
-use Rattle.policy_rules.specs.DeleteObject.{IsToGo}
-use Rattle.policy_rules.specs.Management.{acting}
+use Rattle.policy_machine.specs.Admission.{Admitted}
+use Rattle.policy_machine.specs.Charge.{IsInCharge}
+use Rattle.policy_machine.specs.DeleteObject.{IsToGo}
+use Rattle.policy_machine.specs.Management.{acting}
+use Rattle.policy_machine.specs.declared.channels.TheConstants.{CHANNELS}
 use Rattle.policy_rules.specs.declared.delete_object.DeletionRequest.{DeletionRequest}
 use Rattle.policy_rules.specs.declared.live.Live.{Live}
-use Rattle.policy_rules.specs.declared.live.TheConstants.{CHANNELS}
 
 -- the entry in the slot comes from the Executable Load File in another
 abbrev pub IsFrom : Tables → ℕ → ℕ → Type 0

@@ -1,8 +1,8 @@
 -- For the code inside. What the code reads of a DELETE of an object.
 use Rattle.std.specs.Prelude.{◌≡◌, ℕ, ◌≤◌, ◌==◌, List, length}
 use Rattle.apdu_core.specs.Apdu.{Apdu}
-use Rattle.policy_rules.specs.DeleteKey.{DeleteParameters}
-use Rattle.policy_rules.specs.DeleteObject.{AsksToDelete, DeletionAsked}
+use Rattle.policy_machine.specs.DeleteKey.{DeleteParameters}
+use Rattle.policy_machine.specs.DeleteObject.{AsksToDelete, DeletionAsked}
 use Rattle.policy_rules.specs.HoldersFound.{approval_of}
 use Rattle.policy_rules.specs.declared.delete_object.DeletionRequest.{DeletionRequest}
 

@@ -8,9 +8,9 @@ use Rattle.card_types.specs.Slots.{held}
 use Rattle.card_types.specs.Well.{Well}
 use Rattle.card_types.specs.declared.found.Found.TheVariants.{Entry}
 use Rattle.card_types.specs.declared.tables.Tables.{Tables}
-use Rattle.policy_rules.specs.Extradition.{AsksToExtradite, domain_of_thing}
+use Rattle.policy_machine.specs.Extradition.{AsksToExtradite, domain_of_thing}
+use Rattle.policy_machine.specs.InstallFields.{InstallData, approval_in}
 use Rattle.policy_rules.specs.HoldersFound.{approval_of}
-use Rattle.policy_rules.specs.InstallFields.{InstallData, approval_in}
 use Rattle.policy_rules.specs.declared.extradition.Extradition.{Extradition}
 use Rattle.policy_rules.specs.declared.extradition.ExtraditionRequest.{ExtraditionRequest}
 

@@ -6,7 +6,7 @@ use Rattle.card_types.specs.Registry.{Registry}
 use Rattle.card_types.specs.Represents.{domain_aid}
 use Rattle.card_types.specs.declared.tables.Tables.{Tables}
 use Rattle.scp03_card.specs.Offer.{counter_bytes}
-use Rattle.policy_rules.specs.GetData.{IsDataObject, IsSequenceCounter}
+use Rattle.policy_machine.specs.GetData.{IsDataObject, IsSequenceCounter}
 use Rattle.policy_rules.specs.KeyOrder.{follows, name_order}
 use Rattle.policy_rules.specs.declared.get_data.Datum.{Datum}
 use Rattle.policy_rules.specs.declared.get_data.Datum.TheVariants.{Keys, Counter, Object}

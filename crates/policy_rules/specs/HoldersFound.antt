@@ -9,9 +9,9 @@ use Rattle.card_types.specs.declared.tables.KeyRec.{KeyRec}
 use Rattle.card_types.specs.declared.tables.Tables.{Tables}
 use Rattle.card_types.specs.Represents.{domain_aid, key_of}
 use Rattle.domain_tree.specs.Holders.{entry_has}
-use Rattle.policy_rules.specs.Admission.{Admitted}
-use Rattle.policy_rules.specs.Delegation.{Approval, IsReceipter, NoReceipter}
-use Rattle.policy_rules.specs.Management.{acting}
+use Rattle.policy_machine.specs.Admission.{Admitted}
+use Rattle.policy_machine.specs.Delegation.{Approval, IsReceipter, NoReceipter}
+use Rattle.policy_machine.specs.Management.{acting}
 use Rattle.policy_rules.specs.declared.delegation.Signed.{Signed}
 
 -- the slot holds the owner's key with this key version number and key identifier 01

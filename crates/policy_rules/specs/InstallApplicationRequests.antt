@@ -1,5 +1,5 @@
 -- For the code inside. What the code reads of an INSTALL [for install], and what it finds.
-use Rattle.std.specs.Prelude.{◌≡◌, ◌⊎◌, ℕ, ◌≤◌, ◌==◌, ◌&&◌, List, Bool, false, not, Option, None, Some, MatchOption, ◌≢◌, length}
+use Rattle.std.specs.Prelude.{◌≡◌, ℕ, ◌≤◌, ◌==◌, ◌&&◌, List, Bool, false, not, Option, None, Some, MatchOption, ◌≢◌, length}
 use Rattle.apdu_core.specs.Apdu.{Apdu}
 use Rattle.card_types.specs.AidOrder.{same_aid}
 use Rattle.card_types.specs.First.{NoneFree}
@@ -13,24 +13,14 @@ use Rattle.card_types.specs.declared.privileges.Privileges.{Privileges}
 use Rattle.card_types.specs.declared.tables.Entry.{Entry as Slot}
 use Rattle.card_types.specs.declared.tables.Tables.{Tables}
 use Rattle.domain_tree.specs.Holders.{entry_has}
-use Rattle.policy_rules.specs.Admission.{Admitted}
-use Rattle.policy_rules.specs.Charge.{IsFileInCharge}
-use Rattle.policy_rules.specs.CommandForm.{CommandForm}
+use Rattle.policy_machine.specs.Admission.{Admitted}
+use Rattle.policy_machine.specs.Charge.{IsFileInCharge}
+use Rattle.policy_machine.specs.InstallApplication.{AsksToInstall, InstallAsked}
+use Rattle.policy_machine.specs.InstallFields.{approval_in}
+use Rattle.policy_machine.specs.Management.{acting}
 use Rattle.policy_rules.specs.HoldersFound.{approval_of}
-use Rattle.policy_rules.specs.InstallApplication.{AsksToInstall, InstallAsked}
-use Rattle.policy_rules.specs.InstallFields.{approval_in}
-use Rattle.policy_rules.specs.Management.{acting}
 use Rattle.policy_rules.specs.declared.install_application.InstallRequest.{InstallRequest}
 use Rattle.policy_rules.specs.declared.live.LoadName.{LoadName}
-use Rattle.policy_rules.specs.declared.rule.Rule.{Rule}
-use Rattle.policy_rules.specs.declared.rule.Rule.TheVariants.{PS}
-use Rattle.policy_rules.specs.declared.rule.RulePS.TheVariants.{P, S}
-
--- the form does not take this P1 and P2, or with these not this data field
-abbrev pub IsRefusedBy : CommandForm → ℕ → ℕ → List ℕ → Rule → Type 0
-IsRefusedBy form p1 p2 body found =
-    ((found ≡ PS P) × (form.takes p1 p2 → ⊥))
-    ⊎ ((found ≡ PS S) × form.takes p1 p2 × (form.takes_field p1 p2 body → ⊥))
 
 -- The request is that of a command with this P1, P2 and data field.
 pub record IsInstallRequest (request : InstallRequest) (p1 p2 : ℕ) (body : List ℕ) : Type 0 where

@@ -2,8 +2,8 @@
 use Rattle.std.specs.Prelude.{◌≡◌, ℕ, ◌≤◌, List, [], Option, None, Some, length}
 use Rattle.apdu_core.specs.Apdu.{Apdu}
 use Rattle.card_types.specs.Aid.{IsAid}
+use Rattle.policy_machine.specs.InstallLoad.{AsksToLoad, LoadData, load_approval}
 use Rattle.policy_rules.specs.HoldersFound.{approval_of}
-use Rattle.policy_rules.specs.InstallLoad.{AsksToLoad, LoadData, load_approval}
 use Rattle.policy_rules.specs.declared.install_load.LoadFields.{LoadFields}
 use Rattle.policy_rules.specs.declared.install_load.LoadInstallRequest.{LoadInstallRequest}
 

@@ -1,5 +1,5 @@
 -- Places in a listing, as the code keeps them.
-use Rattle.policy_rules.specs.Volatile.{Place}
+use Rattle.policy_machine.specs.Volatile.{Place}
 use Rattle.policy_rules.specs.declared.live.Place.{Place as KeptPlace}
 
 -- a place in a listing, as the code keeps it

@@ -5,15 +5,15 @@ use Rattle.card_types.specs.Found.{aid_of}
 use Rattle.card_types.specs.declared.found.Found.{Found}
 use Rattle.card_types.specs.declared.found.Found.TheVariants.{Entry}
 use Rattle.card_types.specs.declared.tables.Tables.{Tables}
-use Rattle.policy_rules.specs.Admission.{Admitted}
-use Rattle.policy_rules.specs.InstallLoad.{file_domain_for}
+use Rattle.policy_machine.specs.Admission.{Admitted}
+use Rattle.policy_machine.specs.InstallLoad.{file_domain_for}
+use Rattle.policy_machine.specs.Sound.{IsHashLength, IsSound}
+use Rattle.policy_machine.specs.declared.load.RuleLO.{RuleLO}
+use Rattle.policy_machine.specs.declared.load.RuleLO.TheVariants.{LO1, LO2}
 use Rattle.policy_rules.specs.InstallLoadRequests.{IsLoadInstallOf}
 use Rattle.policy_rules.specs.Requests.{ForActing, IsLoadNamed}
-use Rattle.policy_rules.specs.Sound.{IsHashLength, IsSound}
 use Rattle.policy_rules.specs.declared.install_load.LoadInstallRequest.{LoadInstallRequest}
 use Rattle.policy_rules.specs.declared.live.LoadName.{LoadName}
-use Rattle.policy_rules.specs.declared.load.RuleLO.{RuleLO}
-use Rattle.policy_rules.specs.declared.load.RuleLO.TheVariants.{LO1, LO2}
 
 -- The domain of the Executable Load File is in the slot, nothing has the file's AID, and there is room for another file.
 pub record FindsDomain (request : LoadInstallRequest) (tables : Tables) (domain slot : ℕ) : Type 0 where

@@ -1,7 +1,7 @@
 -- For the code inside. What the code reads of a LOAD.
 use Rattle.std.specs.Prelude.{◌≡◌, ℕ, ◌==◌, List}
 use Rattle.apdu_core.specs.Apdu.{Apdu}
-use Rattle.policy_rules.specs.Load.{LoadParameters}
+use Rattle.policy_machine.specs.Load.{LoadParameters}
 use Rattle.policy_rules.specs.declared.load.LoadRequest.{LoadRequest}
 
 -- The request is that of a command with this P1, P2 and data field.

@@ -4,9 +4,9 @@ use Rattle.apdu_core.specs.Apdu.{Apdu}
 use Rattle.card_types.specs.Privileges.{ArePrivilegeBytes}
 use Rattle.card_types.specs.declared.privileges.Privileges.{Privileges}
 use Rattle.card_types.specs.declared.tables.Entry.{Entry}
+use Rattle.policy_machine.specs.InstallFields.{InstallData, approval_in}
+use Rattle.policy_machine.specs.MakeSelectable.{AsksToMakeSelectable, is_installed}
 use Rattle.policy_rules.specs.HoldersFound.{approval_of}
-use Rattle.policy_rules.specs.InstallFields.{InstallData, approval_in}
-use Rattle.policy_rules.specs.MakeSelectable.{AsksToMakeSelectable, is_installed}
 use Rattle.policy_rules.specs.declared.make_selectable.SelectableRequest.{SelectableRequest}
 
 -- no privileges are given, or these

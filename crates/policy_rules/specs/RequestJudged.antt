@@ -1,39 +1,16 @@
 -- For the code inside. Forms whose commands are judged for what they ask for, those whose commands a token may approve, and what the code
 -- reads of such a command.
-use Rattle.std.specs.Prelude.{◌≡◌, ℕ, Bool, true, false, List, [], ◌∷◌, ◌++◌, Some, map}
+use Rattle.std.specs.Prelude.{◌≡◌, Bool, true, false, List, [], ◌∷◌, ◌++◌, Some, map}
 use Rattle.apdu_core.specs.Apdu.{Apdu}
-use Rattle.policy_rules.specs.Admission.{Admitted}
-use Rattle.policy_rules.specs.Delegation.{token_rules}
+use Rattle.policy_machine.specs.Admission.{Admitted}
+use Rattle.policy_machine.specs.Delegation.{token_rules}
+use Rattle.policy_machine.specs.ManagedForm.{JudgedForm, OwnFirst}
+use Rattle.policy_machine.specs.declared.delegation.RuleRC.TheVariants.{RC1}
+use Rattle.policy_machine.specs.declared.management.RuleM.TheVariants.{M1, M2}
+use Rattle.policy_machine.specs.declared.rule.Rule.{Rule}
+use Rattle.policy_machine.specs.declared.rule.Rule.TheVariants.{RC, TK}
 use Rattle.policy_rules.specs.HoldersFound.{approval_of}
-use Rattle.policy_rules.specs.ManagedForm.{JudgedForm, OwnFirst}
-use Rattle.policy_rules.specs.declared.delegation.RuleRC.TheVariants.{RC1}
 use Rattle.policy_rules.specs.declared.delegation.Signed.{Signed}
-use Rattle.policy_rules.specs.declared.management.RuleM.TheVariants.{M1, M2}
-use Rattle.policy_rules.specs.declared.rule.Rule.{Rule}
-use Rattle.policy_rules.specs.declared.rule.Rule.TheVariants.{M, RC, TK}
-
--- a rule on what is asked, and one that is not on its approval
-abbrev pub IsOnAsked : Rule → Type 0
-IsOnAsked (M rule) = ⊥
-IsOnAsked rule = Unit {0}
-
-abbrev pub IsOwn : Rule → Type 0
-IsOwn (M rule) = ⊥
-IsOwn (TK rule) = ⊥
-IsOwn (RC rule) = ⊥
-IsOwn rule = Unit {0}
-
--- it holds of each of these rules
-abbrev pub OfEach : {R : Type 0} → (R → Type 0) → List R → Type 0
-OfEach holds [] = Unit {0}
-OfEach holds (rule ∷ rules) = holds rule × OfEach holds rules
-
--- A data field asks for one thing, and the rules are of their kinds.
-pub record IsJudgeable (form : JudgedForm) : Type 0 where
-  pub one_asked : (p1 p2 : ℕ) (body : List ℕ) (a b : form.Asked) → form.asks p1 p2 body a → form.asks p1 p2 body b → a ≡ b
-  pub own : (one : form.Own) → IsOwn (form.group one)
-  pub one_rule : (a b : form.Own) → form.group a ≡ form.group b → a ≡ b
-  pub approving : OfEach IsOnAsked form.delegation.rules
 
 -- the rule on the receipt, where there may be one
 abbrev pub receipt_rules : Bool → List Rule

@@ -1,5 +1,5 @@
 -- What a request of the code stands for, and how what the code keeps says the state of the card.
-use Rattle.std.specs.Prelude.{◌≡◌, ◌≢◌, ◌⊎◌, ℕ, ◌<◌, ◌≤◌, List, [], ◌∷◌, Option, None, Some, Result, Ok, Err, length, slice_index_or}
+use Rattle.std.specs.Prelude.{◌≡◌, ◌≢◌, ℕ, ◌<◌, ◌≤◌, List, [], ◌∷◌, Option, None, Some, Result, Ok, Err, length, slice_index_or}
 use Rattle.std.specs.Option.{option_map}
 use Rattle.apdu_core.specs.Apdu.{Apdu}
 use Rattle.card_types.specs.Level.{code_of}
@@ -8,51 +8,50 @@ use Rattle.card_types.specs.Slots.{held}
 use Rattle.card_types.specs.Well.{Well}
 use Rattle.card_types.specs.declared.tables.Entry.{Entry}
 use Rattle.card_types.specs.declared.tables.Tables.{Tables}
-use Rattle.policy_rules.specs.Admission.{Admitted}
-use Rattle.policy_rules.specs.CardStatus.{managed_card_status}
-use Rattle.policy_rules.specs.CommandForm.{CommandForm}
-use Rattle.policy_rules.specs.Commands.{HasDataField, HasParameters, TakesCommand, Takes}
-use Rattle.policy_rules.specs.DeleteKey.{Chooses, managed_delete_key}
-use Rattle.policy_rules.specs.DeleteObject.{managed_delete_object}
+use Rattle.policy_machine.specs.Admission.{Admitted}
+use Rattle.policy_machine.specs.CardStatus.{managed_card_status}
+use Rattle.policy_machine.specs.CommandForm.{CommandForm}
+use Rattle.policy_machine.specs.Commands.{TakesCommand, Takes}
+use Rattle.policy_machine.specs.DeleteKey.{Chooses, managed_delete_key}
+use Rattle.policy_machine.specs.DeleteObject.{managed_delete_object}
+use Rattle.policy_machine.specs.EntryStatus.{managed_entry_status}
+use Rattle.policy_machine.specs.ExternalAuthenticate.{external_authenticate}
+use Rattle.policy_machine.specs.Extradition.{managed_extradition}
+use Rattle.policy_machine.specs.GetData.{get_data, tag_of}
+use Rattle.policy_machine.specs.GetStatus.{get_status}
+use Rattle.policy_machine.specs.InitializeUpdate.{initialize_update}
+use Rattle.policy_machine.specs.InstallApplication.{managed_install}
+use Rattle.policy_machine.specs.InstallLoad.{install_load}
+use Rattle.policy_machine.specs.Load.{loading}
+use Rattle.policy_machine.specs.MakeSelectable.{managed_selectable}
+use Rattle.policy_machine.specs.ManageChannel.{manage_channel}
+use Rattle.policy_machine.specs.Management.{acting}
+use Rattle.policy_machine.specs.PutKey.{HasKeyFields, SentKey, managed_put_key}
+use Rattle.policy_machine.specs.Select.{select}
+use Rattle.policy_machine.specs.State.{State}
+use Rattle.policy_machine.specs.StoreData.{managed_store_data}
+use Rattle.policy_machine.specs.Volatile.{Channel, LoadSession, channel_at, place_in, selected_on}
+use Rattle.policy_machine.specs.declared.instruction.TheConstants.{EXTERNAL_AUTHENTICATE, GET_STATUS, LOAD}
+use Rattle.policy_machine.specs.declared.channels.TheConstants.{CHANNELS}
+use Rattle.policy_machine.specs.declared.rule.Rule.{Rule}
+use Rattle.policy_machine.specs.ManagedForm.{command_form}
+use Rattle.policy_machine.specs.Malformed.{IsMalformed}
 use Rattle.policy_rules.specs.DeleteObjectRequests.{IsDeletionRequest}
-use Rattle.policy_rules.specs.EntryStatus.{managed_entry_status}
-use Rattle.policy_rules.specs.ExternalAuthenticate.{external_authenticate}
-use Rattle.policy_rules.specs.Extradition.{managed_extradition}
 use Rattle.policy_rules.specs.ExtraditionRequests.{IsExtraditionRequest}
-use Rattle.policy_rules.specs.GetData.{get_data, tag_of}
-use Rattle.policy_rules.specs.GetStatus.{get_status}
-use Rattle.policy_rules.specs.InitializeUpdate.{initialize_update}
-use Rattle.policy_rules.specs.InstallApplication.{managed_install}
 use Rattle.policy_rules.specs.InstallApplicationRequests.{IsInstallRequest}
-use Rattle.policy_rules.specs.InstallLoad.{install_load}
 use Rattle.policy_rules.specs.InstallLoadRequests.{IsLoadInstallRequest}
-use Rattle.policy_rules.specs.Load.{loading}
 use Rattle.policy_rules.specs.LoadRequests.{IsLoadRequest}
-use Rattle.policy_rules.specs.MakeSelectable.{managed_selectable}
 use Rattle.policy_rules.specs.KeptPlaces.{place_of}
-use Rattle.policy_rules.specs.ManageChannel.{manage_channel}
-use Rattle.policy_rules.specs.Management.{acting}
-use Rattle.policy_rules.specs.PutKey.{HasKeyFields, SentKey, managed_put_key}
-use Rattle.policy_rules.specs.Select.{select}
 use Rattle.policy_rules.specs.MakeSelectableRequests.{IsSelectableRequest}
-use Rattle.policy_rules.specs.State.{State}
 use Rattle.policy_rules.specs.GetStatusRequests.{IsListRequest}
 use Rattle.policy_rules.specs.SetStatusRequests.{IsEntryStatusRequest}
-use Rattle.policy_rules.specs.StoreData.{managed_store_data}
-use Rattle.policy_rules.specs.Volatile.{Channel, LoadSession, channel_at, place_in, selected_on}
-use Rattle.policy_rules.specs.declared.instruction.TheConstants.{EXTERNAL_AUTHENTICATE, GET_STATUS, LOAD}
 use Rattle.policy_rules.specs.declared.live.Live.{Live}
 use Rattle.policy_rules.specs.declared.live.LoadName.{LoadName}
-use Rattle.policy_rules.specs.declared.live.TheConstants.{CHANNELS}
 use Rattle.policy_rules.specs.declared.put_key.PutKeys.{PutKeys}
 use Rattle.policy_rules.specs.declared.put_key.PutKeys.TheVariants.{One, Three}
 use Rattle.policy_rules.specs.declared.put_key.SealedKey.{SealedKey}
 use Rattle.policy_rules.specs.declared.request.Request.{Request}
 use Rattle.policy_rules.specs.declared.request.Request.TheVariants.{Select, MoreChannel, LessChannel, Get, Initialize, Authenticate, PutKey, Store, DeleteKey, DeleteObject, Install, MakeSelectable, Extradite, InstallLoad, CardStatus, EntryStatus, Load, List as ListStatus}
-use Rattle.policy_rules.specs.declared.rule.Rule.{Rule}
-use Rattle.policy_rules.specs.declared.rule.Rule.TheVariants.{PS}
-use Rattle.policy_rules.specs.declared.rule.RulePS.TheVariants.{P, S}
-use Rattle.policy_rules.specs.ManagedForm.{command_form}
 
 -- a key as it is sent, and the keys of PUT KEY
 abbrev pub sent_key : SealedKey → SentKey
@@ -103,12 +102,6 @@ Decodes (CardStatus code) p1 p2 body = code ≡ p2
 Decodes (EntryStatus request) p1 p2 body = IsEntryStatusRequest request p1 p2 body
 Decodes (Load request) p1 p2 body = IsLoadRequest request p1 p2 body
 Decodes (ListStatus request) p1 p2 body = IsListRequest request p1 p2 body
-
--- the rule on its form that a command breaks: P1 and P2 are judged before the data field
-abbrev pub IsMalformed : ℕ → ℕ → ℕ → List ℕ → Rule → Type 0
-IsMalformed ins p1 p2 body found =
-    ((found ≡ PS P) × (HasParameters ins p1 p2 → ⊥))
-    ⊎ ((found ≡ PS S) × HasParameters ins p1 p2 × (HasDataField ins p1 p2 body → ⊥))
 
 -- the request of a well-formed command, or the rule that a malformed one breaks
 abbrev pub Parses : ℕ → ℕ → ℕ → List ℕ → Result Request Rule → Type 0

@@ -11,12 +11,12 @@ use Rattle.card_types.specs.declared.life.Life.TheVariants.{Selectable}
 use Rattle.card_types.specs.declared.life.LifeMark.{LifeMark}
 use Rattle.card_types.specs.declared.tables.Entry.{Entry}
 use Rattle.domain_tree.specs.AboveLaws.{IsAboveIn}
-use Rattle.policy_rules.specs.Admission.{Admitted}
-use Rattle.policy_rules.specs.CardStatus.{CardStatusParameters, IsLocking, IsPreparing, IsTerminating, card_lock, card_terminate}
-use Rattle.policy_rules.specs.Delegation.{Holds}
-use Rattle.policy_rules.specs.EntryStatus.{EntryStatusParameters, IsEntryStep, Marks, PersonalizesItself, global_lock}
-use Rattle.policy_rules.specs.Extradition.{is_personalized}
-use Rattle.policy_rules.specs.Management.{acting}
+use Rattle.policy_machine.specs.Admission.{Admitted}
+use Rattle.policy_machine.specs.CardStatus.{CardStatusParameters, IsLocking, IsPreparing, IsTerminating, card_lock, card_terminate}
+use Rattle.policy_machine.specs.Delegation.{Holds}
+use Rattle.policy_machine.specs.EntryStatus.{EntryStatusParameters, IsEntryStep, Marks, PersonalizesItself, global_lock}
+use Rattle.policy_machine.specs.Extradition.{is_personalized}
+use Rattle.policy_machine.specs.Management.{acting}
 use Rattle.policy_rules.specs.declared.card_status.CardStep.{CardStep}
 use Rattle.policy_rules.specs.declared.card_status.CardStep.TheVariants.{Prepare, Lock, Terminate}
 use Rattle.policy_rules.specs.declared.entry_status.EntryStatusRequest.{EntryStatusRequest}

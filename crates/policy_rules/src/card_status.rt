@@ -1,52 +1,19 @@
 //! SET STATUS of the card (GlobalPlatform Card Specification 2.3.1, 5.1 and 11.10).
 
-ghost use Rattle.std.specs.Prelude.{◌≡◌, ◌↔◌, ℕ, List, None, Some, IfErr, IfNone, IfOk, IfSome, IsTrue, OnOk, ◌≤◌, length};
+ghost use Rattle.std.specs.Prelude.{◌≡◌, ◌↔◌, ℕ, List, None, Some, IfErr, IfNone, IfOk, IfSome, IsTrue, OnOk};
 ghost use Rattle.card_types.specs.CardLife.{card_life_code};
-ghost use Rattle.policy_rules.specs.Admission.{Admitted};
-ghost use Rattle.policy_rules.specs.CardStatus.{CardStatusParameters, IsCardStep, managed_card_status, card_status_refusal};
-ghost use Rattle.policy_rules.specs.InstallApplicationRequests.{IsRefusedBy};
+ghost use Rattle.policy_machine.specs.Admission.{Admitted};
+ghost use Rattle.policy_machine.specs.CardStatus.{CardStatusParameters, IsCardStep, managed_card_status};
+ghost use Rattle.policy_machine.specs.Malformed.{IsRefusedBy};
+ghost use Rattle.policy_machine.specs.CommandForm.{FailsFirst};
+ghost use Rattle.policy_machine.specs.ManagedForm.{command_form};
 ghost use Rattle.policy_rules.specs.Requests.{ActsIn};
 ghost use Rattle.policy_rules.specs.SetStatusRequests.{IsCardStatusOf, IsStepBy, MayStep};
-ghost use Rattle.policy_rules.specs.CommandForm.{FailsFirst};
-ghost use Rattle.policy_rules.specs.ManagedForm.{command_form};
 
 use crate::delegation::holds;
 use crate::management::{is_issuer_in, judge_setting};
-use crate::rule::{Rule, RulePS};
-use apdu_core::Status;
 use card_types::{CardLife, Privileges, Tables};
-
-/// The rules of SET STATUS of the card.
-#[derive(Clone, Copy, Debug, PartialEq, Eq)]
-pub enum RuleSC {
-    /// The card's life cycle has no such step.
-    SC1,
-    /// The step is not the domain's to take.
-    SC2,
-}
-
-impl RuleSC {
-    /// The status word of a command that the rule refuses.
-    pub fn status(&self) -> Status
-        ensures { result.0 ≡ (card_status_refusal self.now).status }
-    {
-        match self {
-            RuleSC::SC1 => Status(0x6985),
-            RuleSC::SC2 => Status(0x6982),
-        }
-    }
-
-    /// The rule's name.
-    pub fn name(&self) -> &'static str
-        ensures name { result.now ≡ (card_status_refusal self.now).name }
-        ensures short { length result.now ≤ 3 }
-    {
-        match self {
-            RuleSC::SC1 => "SC1",
-            RuleSC::SC2 => "SC2",
-        }
-    }
-}
+use policy_machine::{Rule, RulePS, RuleSC};
 
 /// The kinds of steps in a card's life cycle, by who may take them.
 #[derive(Clone, Copy, Debug, PartialEq, Eq)]

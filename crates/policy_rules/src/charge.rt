@@ -9,10 +9,10 @@ ghost use Rattle.card_types.specs.Slots.{held};
 ghost use Rattle.card_types.specs.Well.{IsDomainNamed, Well};
 ghost use Rattle.card_types.specs.declared.found.Found.TheVariants.{Entry};
 ghost use Rattle.domain_tree.specs.AboveLaws.{IsAboveIn};
-ghost use Rattle.policy_rules.specs.Admission.{Admitted};
-ghost use Rattle.policy_rules.specs.Charge.{IsAtOrAbove, IsInCharge};
-ghost use Rattle.policy_rules.specs.Extradition.{domain_of_thing};
-ghost use Rattle.policy_rules.specs.Management.{acting};
+ghost use Rattle.policy_machine.specs.Admission.{Admitted};
+ghost use Rattle.policy_machine.specs.Charge.{IsAtOrAbove, IsInCharge};
+ghost use Rattle.policy_machine.specs.Extradition.{domain_of_thing};
+ghost use Rattle.policy_machine.specs.Management.{acting};
 ghost use Rattle.policy_rules.specs.Requests.{ActsIn};
 
 use crate::delegation::holds;

@@ -10,20 +10,20 @@ ghost use Rattle.card_types.specs.Represents.{domain_aid, key_of};
 ghost use Rattle.card_types.specs.Slots.{held};
 ghost use Rattle.card_types.specs.Well.{IsKeyLength};
 ghost use Rattle.domain_tree.specs.Holders.{entry_has};
-ghost use Rattle.policy_rules.specs.Admission.{Admitted};
-ghost use Rattle.policy_rules.specs.Delegation.{Holds, IsNearestHolder, NoHolder, ReceiptFails, TokenFails, receipt_refusal, token_refusal, token_rules};
-ghost use Rattle.policy_rules.specs.FirstFailing.{IsFirst};
+ghost use Rattle.policy_machine.specs.Admission.{Admitted};
+ghost use Rattle.policy_machine.specs.Delegation.{Holds, IsNearestHolder, NoHolder, ReceiptFails, TokenFails, token_rules};
+ghost use Rattle.policy_machine.specs.FirstFailing.{IsFirst};
+ghost use Rattle.policy_machine.specs.Management.{acting};
+ghost use Rattle.policy_machine.specs.declared.delegation.RuleRC.TheVariants.{RC1};
 ghost use Rattle.policy_rules.specs.HoldersFound.{FindsReceipter, IsSignedFor, MayReceipt, approval_of, has_with_key_in, holds_lone_key as holds_lone_key_by};
-ghost use Rattle.policy_rules.specs.Management.{acting};
 ghost use Rattle.policy_rules.specs.Requests.{ActsIn, ForActing};
-ghost use Rattle.policy_rules.specs.declared.delegation.RuleRC.TheVariants.{RC1};
 ghost use Rattle.tokens_receipts.specs.Token.{token};
 
 use aes_block::{BlockKey, SealingAes128, SealingAes192, SealingAes256};
-use apdu_core::Status;
 use bitflags::Flags;
 use card_types::{Entry, KeyRec, Privileges, RECEIPT_LIMIT, Tables, find_key, in_slot};
 use domain_tree::{Wanted, first_above};
+use policy_machine::{RuleRC, RuleTK};
 use tokens_receipts::token_fits;
 
 /// The key version number of a token key.
@@ -31,70 +31,6 @@ pub(crate) const TOKEN_KEY: u8 = 0x70;
 
 /// The key version number of a receipt key.
 const RECEIPT_KEY: u8 = 0x71;
-
-/// The rules on the token of a delegated command.
-#[derive(Clone, Copy, Debug, PartialEq, Eq)]
-pub enum RuleTK {
-    /// The token has not the length of one.
-    TK1,
-    /// No domain above verifies tokens.
-    TK2,
-    /// The token is another than that of the command under the verifier's token key.
-    TK3,
-}
-
-/// The rule on the receipt of a delegated command.
-#[derive(Clone, Copy, Debug, PartialEq, Eq)]
-pub enum RuleRC {
-    /// The domain above that makes receipts has made the last one.
-    RC1,
-}
-
-impl RuleTK {
-    /// The status word of a command that the rule refuses.
-    pub fn status(&self) -> Status
-        ensures { result.0 ≡ (token_refusal self.now).status }
-    {
-        match self {
-            RuleTK::TK1 => Status(0x6A80),
-            RuleTK::TK2 => Status(0x6982),
-            RuleTK::TK3 => Status(0x6982),
-        }
-    }
-
-    /// The rule's name.
-    pub fn name(&self) -> &'static str
-        ensures name { result.now ≡ (token_refusal self.now).name }
-        ensures short { length result.now ≤ 3 }
-    {
-        match self {
-            RuleTK::TK1 => "TK1",
-            RuleTK::TK2 => "TK2",
-            RuleTK::TK3 => "TK3",
-        }
-    }
-}
-
-impl RuleRC {
-    /// The status word of a command that the rule refuses.
-    pub fn status(&self) -> Status
-        ensures { result.0 ≡ (receipt_refusal self.now).status }
-    {
-        match self {
-            RuleRC::RC1 => Status(0x6985),
-        }
-    }
-
-    /// The rule's name.
-    pub fn name(&self) -> &'static str
-        ensures name { result.now ≡ (receipt_refusal self.now).name }
-        ensures short { length result.now ≤ 3 }
-    {
-        match self {
-            RuleRC::RC1 => "RC1",
-        }
-    }
-}
 
 /// What a command brings for its approval: P1, P2, the bytes of the data field before the token, and the token.
 #[derive(Clone, Copy, Debug)]

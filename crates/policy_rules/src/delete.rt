@@ -1,13 +1,13 @@
 //! DELETE (GlobalPlatform Card Specification 2.3.1, 11.2): the data field tells which of its forms a command has.
 
 ghost use Rattle.std.specs.Prelude.{ℕ, List};
+ghost use Rattle.policy_machine.specs.declared.instruction.TheConstants.{DELETE};
 ghost use Rattle.policy_rules.specs.Requests.{Parses};
-ghost use Rattle.policy_rules.specs.declared.instruction.TheConstants.{DELETE};
 
 use crate::delete_key::parse_delete_key;
 use crate::delete_object::parse_delete_object;
 use crate::request::Request;
-use crate::rule::Rule;
+use policy_machine::Rule;
 
 /// Reads P1, P2 and the data field of a DELETE.
 pub(crate) fn parse_delete(p1: u8, p2: u8, body: &[u8]) -> Result<Request<'_>, Rule>

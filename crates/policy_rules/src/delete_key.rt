@@ -1,56 +1,23 @@
 //! DELETE of a key (GlobalPlatform Card Specification 2.3.1, 11.2).
 
-ghost use Rattle.std.specs.Prelude.{◌≡◌, ◌↔◌, ℕ, List, None, Some, IfErr, IfNone, IfOk, IfSome, IsTrue, OnOk, ◌≤◌, length};
+ghost use Rattle.std.specs.Prelude.{◌≡◌, ◌↔◌, ℕ, List, None, Some, IfErr, IfNone, IfOk, IfSome, IsTrue, OnOk};
 ghost use Rattle.std.specs.List.{list_any};
 ghost use Rattle.card_types.specs.InOrder.{IsInOrder};
 ghost use Rattle.card_types.specs.Represents.{domain_slot};
-ghost use Rattle.policy_rules.specs.Admission.{Admitted};
-ghost use Rattle.policy_rules.specs.DeleteKey.{Chooses, DeleteParameters, IsLastSet, NamesPart, managed_delete_key, delete_key_refusal, AsksToDeleteKey, KeyChosen};
-ghost use Rattle.policy_rules.specs.Commands.{Judges};
-ghost use Rattle.policy_rules.specs.InstallApplicationRequests.{IsRefusedBy};
+ghost use Rattle.policy_machine.specs.Admission.{Admitted};
+ghost use Rattle.policy_machine.specs.DeleteKey.{Chooses, DeleteParameters, IsLastSet, NamesPart, managed_delete_key, AsksToDeleteKey, KeyChosen};
+ghost use Rattle.policy_machine.specs.Commands.{Judges};
+ghost use Rattle.policy_machine.specs.Malformed.{IsRefusedBy};
+ghost use Rattle.policy_machine.specs.ManagedForm.{command_form};
 ghost use Rattle.policy_rules.specs.KeyOrder.{holds_counter_but as holds_counter_but_by};
 ghost use Rattle.policy_rules.specs.Requests.{ActsIn, IsRequestOf};
 ghost use Rattle.policy_rules.specs.declared.request.Request.TheVariants.{DeleteKey};
-ghost use Rattle.policy_rules.specs.ManagedForm.{command_form};
 
 use crate::key_order::keeps_counter;
 use crate::management::judge_management;
-use crate::rule::{Rule, RulePS};
-use apdu_core::Status;
 use card_types::{Entry, KeyRec, Tables, in_slot};
 use key_rules::has_version;
-
-/// The rules of DELETE of a key.
-#[derive(Clone, Copy, Debug, PartialEq, Eq)]
-pub enum RuleDK {
-    /// The domain has no such key.
-    DK1,
-    /// The domain is a root, and no key set would be left to it.
-    DK2,
-}
-
-impl RuleDK {
-    /// The status word of a DELETE of a key that the rule refuses.
-    pub fn status(&self) -> Status
-        ensures { result.0 ≡ (delete_key_refusal self.now).status }
-    {
-        match self {
-            RuleDK::DK1 => Status(0x6A88),
-            RuleDK::DK2 => Status(0x6985),
-        }
-    }
-
-    /// The rule's name.
-    pub fn name(&self) -> &'static str
-        ensures name { result.now ≡ (delete_key_refusal self.now).name }
-        ensures short { length result.now ≤ 3 }
-    {
-        match self {
-            RuleDK::DK1 => "DK1",
-            RuleDK::DK2 => "DK2",
-        }
-    }
-}
+use policy_machine::{Rule, RuleDK, RulePS};
 
 // The key version number (D2), and a key identifier (D0) or none, in either order.
 fn read_choice(body: &[u8]) -> Option<(u8, Option<u8>)>

@@ -1,18 +1,18 @@
 //! DELETE of an application, a security domain or an Executable Load File (GlobalPlatform Card Specification 2.3.1, 9.5 and 11.2).
 
-ghost use Rattle.std.specs.Prelude.{◌≡◌, ◌↔◌, ◌⊎◌, ◌≤◌, ◌==◌, ℕ, List, Some, IfErr, IfNone, IfOk, IfSome, IsTrue, length, refl, true};
+ghost use Rattle.std.specs.Prelude.{◌≡◌, ◌↔◌, ◌⊎◌, ◌==◌, ℕ, List, Some, IfErr, IfNone, IfOk, IfSome, IsTrue, length, refl, true};
 ghost use Rattle.card_types.specs.Found.{aid_of};
 ghost use Rattle.card_types.specs.InOrder.{IsInOrder};
-ghost use Rattle.policy_rules.specs.Admission.{Admitted};
-ghost use Rattle.policy_rules.specs.DeleteKey.{DeleteParameters};
-ghost use Rattle.policy_rules.specs.DeleteObject.{AsksToDelete, DeletingFails, DeletionAsked, IsTokenField, managed_delete_object, delete_object_refusal};
+ghost use Rattle.policy_machine.specs.Admission.{Admitted};
+ghost use Rattle.policy_machine.specs.DeleteKey.{DeleteParameters};
+ghost use Rattle.policy_machine.specs.DeleteObject.{AsksToDelete, DeletingFails, DeletionAsked, IsTokenField, managed_delete_object};
+ghost use Rattle.policy_machine.specs.Malformed.{IsRefusedBy};
+ghost use Rattle.policy_machine.specs.declared.channels.TheConstants.{CHANNELS};
+ghost use Rattle.policy_machine.specs.declared.delete_object.RuleDO.TheVariants.{DO3, DO4};
+ghost use Rattle.policy_machine.specs.ManagedForm.{command_form};
 ghost use Rattle.policy_rules.specs.DeleteObjectFound.{FindsThing, HasNoneFrom, IsAlone, IsPartOutOfCharge, IsUnselected};
 ghost use Rattle.policy_rules.specs.DeleteObjectRequests.{IsDeletionOf, IsDeletionRequest};
-ghost use Rattle.policy_rules.specs.InstallApplicationRequests.{IsRefusedBy};
 ghost use Rattle.policy_rules.specs.Requests.{ActsIn, ForActing, ForActingLive, RepresentsState};
-ghost use Rattle.policy_rules.specs.declared.live.TheConstants.{CHANNELS};
-ghost use Rattle.policy_rules.specs.declared.delete_object.RuleDO.TheVariants.{DO3, DO4};
-ghost use Rattle.policy_rules.specs.ManagedForm.{command_form};
 
 use crate::charge::has_charge;
 use crate::delegation::{Signed, holds};
@@ -21,50 +21,9 @@ use crate::in_use::{has_stranger, has_user, is_in_use, is_source};
 use crate::install_application::may_manage;
 use crate::judged_request::{Approving, JudgedRequest};
 use crate::live::Live;
-use crate::rule::{Rule, RulePS};
-use apdu_core::Status;
 use bertlv::read;
 use card_types::{Aid, Found, Privileges, Tables, find};
-
-/// The rules of DELETE of an object.
-#[derive(Clone, Copy, Debug, PartialEq, Eq)]
-pub enum RuleDO {
-    /// Nothing has the AID.
-    DO1,
-    /// It is the Issuer Security Domain or the factory's Executable Load File.
-    DO2,
-    /// It is not the domain's to delete.
-    DO3,
-    /// It is in use.
-    DO4,
-}
-
-impl RuleDO {
-    /// The status word of a command that the rule refuses.
-    pub fn status(&self) -> Status
-        ensures { result.0 ≡ (delete_object_refusal self.now).status }
-    {
-        match self {
-            RuleDO::DO1 => Status(0x6A88),
-            RuleDO::DO2 => Status(0x6985),
-            RuleDO::DO3 => Status(0x6982),
-            RuleDO::DO4 => Status(0x6985),
-        }
-    }
-
-    /// The rule's name.
-    pub fn name(&self) -> &'static str
-        ensures name { result.now ≡ (delete_object_refusal self.now).name }
-        ensures short { length result.now ≤ 3 }
-    {
-        match self {
-            RuleDO::DO1 => "DO1",
-            RuleDO::DO2 => "DO2",
-            RuleDO::DO3 => "DO3",
-            RuleDO::DO4 => "DO4",
-        }
-    }
-}
+use policy_machine::{Rule, RuleDO, RulePS};
 
 /// What a DELETE of an object asks for: the AID of the thing, whether what comes from an Executable Load File goes with it, and what
 /// approves it.

@@ -1,71 +1,30 @@
 //! SET STATUS of an application or a security domain (GlobalPlatform Card Specification 2.3.1, 5.3 and 11.10).
 
-ghost use Rattle.std.specs.Prelude.{◌≡◌, ◌↔◌, ◌⊎◌, ℕ, List, None, Some, false, IfErr, IfNone, IfOk, IfSome, IsTrue, OnOk, ◌≤◌, length};
+ghost use Rattle.std.specs.Prelude.{◌≡◌, ◌↔◌, ◌⊎◌, ℕ, List, None, Some, false, IfErr, IfNone, IfOk, IfSome, IsTrue, OnOk};
 ghost use Rattle.card_types.specs.Found.{aid_of};
 ghost use Rattle.card_types.specs.InOrder.{IsInOrder};
 ghost use Rattle.card_types.specs.Privileges.{has, security_domain};
 ghost use Rattle.card_types.specs.declared.found.Found.TheVariants.{Entry as At};
 ghost use Rattle.domain_tree.specs.AboveLaws.{IsAboveIn};
-ghost use Rattle.policy_rules.specs.Admission.{Admitted};
-ghost use Rattle.policy_rules.specs.Delegation.{Holds};
-ghost use Rattle.policy_rules.specs.EntryStatus.{EntryStatusParameters, PersonalizesItself, SettingStatusFails, managed_entry_status, entry_status_refusal, global_lock};
-ghost use Rattle.policy_rules.specs.InstallApplicationRequests.{IsRefusedBy};
-ghost use Rattle.policy_rules.specs.Management.{acting};
+ghost use Rattle.policy_machine.specs.Admission.{Admitted};
+ghost use Rattle.policy_machine.specs.Delegation.{Holds};
+ghost use Rattle.policy_machine.specs.EntryStatus.{EntryStatusParameters, PersonalizesItself, SettingStatusFails, managed_entry_status, global_lock};
+ghost use Rattle.policy_machine.specs.Malformed.{IsRefusedBy};
+ghost use Rattle.policy_machine.specs.Management.{acting};
+ghost use Rattle.policy_machine.specs.declared.entry_status.RuleSS.TheVariants.{SS1};
+ghost use Rattle.policy_machine.specs.CommandForm.{FailsFirst};
+ghost use Rattle.policy_machine.specs.ManagedForm.{OwnFirst, command_form};
 ghost use Rattle.policy_rules.specs.Requests.{ActsIn};
 ghost use Rattle.policy_rules.specs.SetStatusRequests.{IsChangeFor, IsEntryStatusOf, IsEntryStatusRequest, IsOther, IsSlotStep, MaySet, slot_of};
-ghost use Rattle.policy_rules.specs.declared.entry_status.RuleSS.TheVariants.{SS1};
-ghost use Rattle.policy_rules.specs.CommandForm.{FailsFirst};
-ghost use Rattle.policy_rules.specs.ManagedForm.{OwnFirst, command_form};
 
 use crate::charge::{find_domain, find_entry};
 use crate::delegation::holds;
 use crate::management::judge_setting;
-use crate::rule::{Rule, RulePS};
 use crate::select::is_issuer;
-use apdu_core::Status;
 use bitflags::Flags;
 use card_types::{Aid, Entry, Life, LifeMark, Privileges, Tables, in_slot};
 use domain_tree::above;
-
-/// The rules of SET STATUS of an entry.
-#[derive(Clone, Copy, Debug, PartialEq, Eq)]
-pub enum RuleSS {
-    /// No entry has the AID, or no security domain where one is to be set with all below it.
-    SS1,
-    /// It is the Issuer Security Domain.
-    SS2,
-    /// It is not the domain's to set.
-    SS3,
-    /// The entry's life cycle has no such step.
-    SS4,
-}
-
-impl RuleSS {
-    /// The status word of a command that the rule refuses.
-    pub fn status(&self) -> Status
-        ensures { result.0 ≡ (entry_status_refusal self.now).status }
-    {
-        match self {
-            RuleSS::SS1 => Status(0x6A88),
-            RuleSS::SS2 => Status(0x6985),
-            RuleSS::SS3 => Status(0x6982),
-            RuleSS::SS4 => Status(0x6985),
-        }
-    }
-
-    /// The rule's name.
-    pub fn name(&self) -> &'static str
-        ensures name { result.now ≡ (entry_status_refusal self.now).name }
-        ensures short { length result.now ≤ 3 }
-    {
-        match self {
-            RuleSS::SS1 => "SS1",
-            RuleSS::SS2 => "SS2",
-            RuleSS::SS3 => "SS3",
-            RuleSS::SS4 => "SS4",
-        }
-    }
-}
+use policy_machine::{Rule, RulePS, RuleSS};
 
 /// What a SET STATUS of an entry asks for: whether the entry is set with all below it, the new state's code, and the AID.
 #[derive(Clone, Copy, Debug)]

@@ -1,21 +1,21 @@
 //! INSTALL [for extradition] (GlobalPlatform Card Specification 2.3.1, 9.4.1 and 11.5).
 
-ghost use Rattle.std.specs.Prelude.{◌≡◌, ◌↔◌, ◌⊎◌, ◌≤◌, ℕ, List, Some, IfErr, IfNone, IfOk, IfSome, IsTrue, length, refl, true};
+ghost use Rattle.std.specs.Prelude.{◌≡◌, ◌↔◌, ◌⊎◌, ℕ, List, Some, IfErr, IfNone, IfOk, IfSome, IsTrue, refl, true};
 ghost use Rattle.card_types.specs.Found.{aid_of};
 ghost use Rattle.card_types.specs.InOrder.{IsInOrder};
 ghost use Rattle.card_types.specs.Privileges.{authorized_management, delegated_management};
 ghost use Rattle.card_types.specs.Represents.{Represents};
 ghost use Rattle.card_types.specs.declared.factory.TheConstants.{FACTORY_FILE, ISSUER};
 ghost use Rattle.card_types.specs.declared.found.Found.TheVariants.{Entry};
-ghost use Rattle.policy_rules.specs.Admission.{Admitted};
-ghost use Rattle.policy_rules.specs.Delegation.{Holds};
-ghost use Rattle.policy_rules.specs.Extradition.{AsksToExtradite, ExtraditingFails, ExtraditionParameters, IsOutOfReach, IsUnapprovable, managed_extradition, extradition_refusal, is_personalized};
+ghost use Rattle.policy_machine.specs.Admission.{Admitted};
+ghost use Rattle.policy_machine.specs.Delegation.{Holds};
+ghost use Rattle.policy_machine.specs.Extradition.{AsksToExtradite, ExtraditingFails, ExtraditionParameters, IsOutOfReach, IsUnapprovable, managed_extradition, is_personalized};
+ghost use Rattle.policy_machine.specs.InstallFields.{InstallData};
+ghost use Rattle.policy_machine.specs.Malformed.{IsRefusedBy};
+ghost use Rattle.policy_machine.specs.ManagedForm.{command_form};
+ghost use Rattle.policy_machine.specs.declared.extradition.RuleEX.TheVariants.{EX5, EX7};
 ghost use Rattle.policy_rules.specs.ExtraditionRequests.{FindsMove, IsExtraditionOf, IsExtraditionRequest};
-ghost use Rattle.policy_rules.specs.InstallFields.{InstallData};
-ghost use Rattle.policy_rules.specs.InstallApplicationRequests.{IsRefusedBy};
-ghost use Rattle.policy_rules.specs.ManagedForm.{command_form};
 ghost use Rattle.policy_rules.specs.Requests.{ActsIn};
-ghost use Rattle.policy_rules.specs.declared.extradition.RuleEX.TheVariants.{EX5, EX7};
 
 use crate::charge::{domain_of, find_domain, has_charge, is_at_or_above, is_over};
 use crate::delegation::{Signed, TOKEN_KEY, holds, nearest_with_key};
@@ -23,61 +23,8 @@ use crate::install_application::{is_factory_file, may_manage};
 use crate::install_fields::read_fields;
 use crate::judged_request::{Approving, JudgedRequest};
 use crate::live::Live;
-use crate::rule::{Rule, RulePS};
-use apdu_core::Status;
 use card_types::{Aid, Found, ISSUER, Life, LifeMark, Privileges, Tables, find, in_slot};
-
-/// The rules of INSTALL [for extradition].
-#[derive(Clone, Copy, Debug, PartialEq, Eq)]
-pub enum RuleEX {
-    /// The domain does not manage content.
-    EX1,
-    /// Nothing has the AID, or the new domain is none.
-    EX2,
-    /// It is the Issuer Security Domain or the factory's Executable Load File.
-    EX3,
-    /// It is not the domain's to move.
-    EX4,
-    /// The new domain is not personalized, or locked.
-    EX5,
-    /// The new domain is below the thing.
-    EX6,
-    /// It may not be moved there.
-    EX7,
-}
-
-impl RuleEX {
-    /// The status word of a command that the rule refuses.
-    pub fn status(&self) -> Status
-        ensures { result.0 ≡ (extradition_refusal self.now).status }
-    {
-        match self {
-            RuleEX::EX1 => Status(0x6982),
-            RuleEX::EX2 => Status(0x6A88),
-            RuleEX::EX3 => Status(0x6985),
-            RuleEX::EX4 => Status(0x6982),
-            RuleEX::EX5 => Status(0x6985),
-            RuleEX::EX6 => Status(0x6985),
-            RuleEX::EX7 => Status(0x6982),
-        }
-    }
-
-    /// The rule's name.
-    pub fn name(&self) -> &'static str
-        ensures name { result.now ≡ (extradition_refusal self.now).name }
-        ensures short { length result.now ≤ 3 }
-    {
-        match self {
-            RuleEX::EX1 => "EX1",
-            RuleEX::EX2 => "EX2",
-            RuleEX::EX3 => "EX3",
-            RuleEX::EX4 => "EX4",
-            RuleEX::EX5 => "EX5",
-            RuleEX::EX6 => "EX6",
-            RuleEX::EX7 => "EX7",
-        }
-    }
-}
+use policy_machine::{Rule, RuleEX, RulePS};
 
 /// What an INSTALL [for extradition] asks for: the AIDs of the new security domain and of the thing, and what approves it.
 #[derive(Clone, Copy, Debug)]

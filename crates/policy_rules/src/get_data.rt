@@ -1,6 +1,6 @@
 //! GET DATA (GlobalPlatform Card Specification 2.3.1, 11.3).
 
-ghost use Rattle.std.specs.Prelude.{◌≡◌, ℕ, ◌&&◌, ◌==◌, List, Some, IfSome, IfNone, IfOk, IfErr, ◌≤◌, length};
+ghost use Rattle.std.specs.Prelude.{◌≡◌, ℕ, ◌&&◌, ◌==◌, List, Some, IfSome, IfNone, IfOk, IfErr};
 ghost use Rattle.std.specs.Ordering.{nat_cmp};
 ghost use Rattle.std.proofs.lemmas.Cmp.{nat_cmp_total, on_total};
 ghost use Rattle.bertlv.specs.Tag.{IsTag};
@@ -10,45 +10,16 @@ ghost use Rattle.card_types.specs.Represents.{Represents, domain_aid};
 ghost use Rattle.card_types.specs.Slots.{held};
 ghost use Rattle.card_types.specs.Well.{Well};
 ghost use Rattle.card_types.specs.declared.tables.Entry.{Entry};
+ghost use Rattle.policy_machine.specs.GetData.{HasData};
+ghost use Rattle.policy_machine.specs.declared.instruction.TheConstants.{GET_DATA};
 ghost use Rattle.policy_rules.specs.Found.{IsFor};
-ghost use Rattle.policy_rules.specs.GetData.{HasData, get_data_refusal};
 ghost use Rattle.policy_rules.specs.Requests.{Parses};
-ghost use Rattle.policy_rules.specs.declared.instruction.TheConstants.{GET_DATA};
 
 use crate::key_order::next_key;
 use crate::request::Request;
-use crate::rule::{Rule, RulePS};
 use crate::session_sets::session_set;
-use apdu_core::Status;
 use card_types::{KeyRec, Object, Search, Tables, least};
-
-/// The rules of GET DATA.
-#[derive(Clone, Copy, Debug, PartialEq, Eq)]
-pub enum RuleGD {
-    /// There is no such data.
-    GD1,
-}
-
-impl RuleGD {
-    /// The status word of a GET DATA that the rule refuses.
-    pub fn status(&self) -> Status
-        ensures { result.0 ≡ (get_data_refusal self.now).status }
-    {
-        match self {
-            RuleGD::GD1 => Status(0x6A88),
-        }
-    }
-
-    /// The rule's name.
-    pub fn name(&self) -> &'static str
-        ensures name { result.now ≡ (get_data_refusal self.now).name }
-        ensures short { length result.now ≤ 3 }
-    {
-        match self {
-            RuleGD::GD1 => "GD1",
-        }
-    }
-}
+use policy_machine::{Rule, RuleGD, RulePS};
 
 /// Reads the data field. P1 and P2 are the tag, of any value.
 pub(crate) fn parse_get_data(p1: u8, p2: u8, body: &[u8]) -> Result<Request<'_>, Rule>

@@ -1,60 +1,27 @@
 //! GET STATUS (GlobalPlatform Card Specification 2.3.1, 11.4).
 
-ghost use Rattle.std.specs.Prelude.{◌≡◌, ◌↔◌, ℕ, List, None, Some, IfErr, IfNone, IfOk, IfSome, IsSome, IsTrue, OnOk, option_copied, ◌≤◌, length};
+ghost use Rattle.std.specs.Prelude.{◌≡◌, ◌↔◌, ℕ, List, None, Some, IfErr, IfNone, IfOk, IfSome, IsSome, IsTrue, OnOk, option_copied};
 ghost use Rattle.card_types.specs.Found.{IsAbove, aid_of};
 ghost use Rattle.card_types.specs.InOrder.{IsInOrder};
-ghost use Rattle.policy_rules.specs.Admission.{Admitted};
-ghost use Rattle.policy_rules.specs.FirstFailing.{IsFirst};
-ghost use Rattle.policy_rules.specs.GetStatus.{BeginsAbove, GetStatusFails, IsInTree, IsSearch, ListingFails, Sees, StatusParameters, Thing, get_status, get_status_refusal, get_status_rules};
-ghost use Rattle.policy_rules.specs.Management.{acting};
+ghost use Rattle.policy_machine.specs.Admission.{Admitted};
+ghost use Rattle.policy_machine.specs.FirstFailing.{IsFirst};
+ghost use Rattle.policy_machine.specs.GetStatus.{BeginsAbove, GetStatusFails, IsInTree, IsSearch, ListingFails, Sees, StatusParameters, Thing, get_status_rules};
+ghost use Rattle.policy_machine.specs.Management.{acting};
+ghost use Rattle.policy_machine.specs.declared.get_status.RuleGS.TheVariants.{GS1};
+ghost use Rattle.policy_machine.specs.declared.instruction.TheConstants.{GET_STATUS};
 ghost use Rattle.policy_rules.specs.Requests.{ActsIn, Parses};
-ghost use Rattle.policy_rules.specs.GetStatusRequests.{IsFirstShown, IsListOf, IsListRequest, IsListedAs, IsListedAt, IsNextListed, IsPlaceBefore, IsThingAt, NoneListed, found_in, lower_of};
-ghost use Rattle.policy_rules.specs.declared.get_status.RuleGS.TheVariants.{GS1};
-ghost use Rattle.policy_rules.specs.declared.instruction.TheConstants.{GET_STATUS};
+ghost use Rattle.policy_rules.specs.GetStatusRequests.{IsFirstShown, IsListOf, IsListedAs, IsListedAt, IsNextListed, IsPlaceBefore, IsThingAt, NoneListed, found_in, lower_of};
 
 use crate::charge::is_at_or_above;
 use crate::delegation::holds;
 use crate::install_application::is_in_charge;
 use crate::live::Place;
-use crate::management::{RuleM, is_locked};
+use crate::management::is_locked;
 use crate::request::Request;
-use crate::rule::{Rule, RulePS};
 use crate::select::is_issuer;
-use apdu_core::Status;
 use bertlv::read;
 use card_types::{Aid, ENTRIES, Found, Privileges, Tables, in_slot};
-
-/// The rules of GET STATUS.
-#[derive(Clone, Copy, Debug, PartialEq, Eq)]
-pub enum RuleGS {
-    /// The channel has no place in such a listing.
-    GS1,
-    /// Nothing is to be shown.
-    GS2,
-}
-
-impl RuleGS {
-    /// The status word of a GET STATUS that the rule refuses.
-    pub fn status(&self) -> Status
-        ensures { result.0 ≡ (get_status_refusal self.now).status }
-    {
-        match self {
-            RuleGS::GS1 => Status(0x6985),
-            RuleGS::GS2 => Status(0x6A88),
-        }
-    }
-
-    /// The rule's name.
-    pub fn name(&self) -> &'static str
-        ensures name { result.now ≡ (get_status_refusal self.now).name }
-        ensures short { length result.now ≤ 3 }
-    {
-        match self {
-            RuleGS::GS1 => "GS1",
-            RuleGS::GS2 => "GS2",
-        }
-    }
-}
+use policy_machine::{Rule, RuleGS, RuleM, RulePS};
 
 /// What a GET STATUS asks for: its P1, whether a listing goes on, what the AIDs begin with, and the whole data field.
 #[derive(Clone, Copy, Debug)]

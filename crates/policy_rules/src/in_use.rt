@@ -9,9 +9,10 @@ ghost use Rattle.card_types.specs.Slots.{held};
 ghost use Rattle.domain_tree.specs.Above.{Above};
 ghost use Rattle.policy_rules.specs.DeleteObjectFound.{HasOthersIn, HasSelected, IsFrom, IsInUseIn, IsLoadDomain, comes_from_slot as comes_from_slot_by, has_slot as has_slot_by, is_file_of as is_file_of_by, is_other_of as is_other_of_by};
 
-use crate::live::{CHANNELS, Live};
+use crate::live::Live;
 use card_types::{Aid, ENTRIES, Entry, LoadFile, Tables, in_slot};
 use domain_tree::above;
+use policy_machine::CHANNELS;
 
 fn has_slot(selected: &Option<u8>, slot: u8) -> bool
     ensures { result ≡ has_slot_by slot selected.now }

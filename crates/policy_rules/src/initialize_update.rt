@@ -1,6 +1,6 @@
 //! INITIALIZE UPDATE (GlobalPlatform Amendment D, 7.1.1).
 
-ghost use Rattle.std.specs.Prelude.{◌≡◌, ◌≤◌, ◌&&◌, not, ℕ, List, None, Some, IfOk, IfErr, OnOk, length};
+ghost use Rattle.std.specs.Prelude.{◌≡◌, ◌≤◌, ◌&&◌, not, ℕ, List, None, Some, IfOk, IfErr, OnOk};
 ghost use Rattle.card_types.specs.AidOrder.{same_aid};
 ghost use Rattle.card_types.specs.Counters.{HasNextCounter};
 ghost use Rattle.card_types.specs.InOrder.{IsInOrder};
@@ -11,57 +11,19 @@ ghost use Rattle.card_types.specs.Slots.{held};
 ghost use Rattle.card_types.specs.Well.{Well};
 ghost use Rattle.card_types.specs.declared.factory.TheConstants.{ISSUER};
 ghost use Rattle.card_types.specs.declared.tables.Entry.{Entry};
-ghost use Rattle.policy_rules.specs.Admission.{Admitted};
-ghost use Rattle.policy_rules.specs.FirstFailing.{IsFirst};
-ghost use Rattle.policy_rules.specs.InitializeUpdate.{InitializeUpdateFails, offer_rules, initialize_update_refusal};
-ghost use Rattle.policy_rules.specs.KeySets.{UsesSetOfKey};
+ghost use Rattle.policy_machine.specs.Admission.{Admitted};
+ghost use Rattle.policy_machine.specs.FirstFailing.{IsFirst};
+ghost use Rattle.policy_machine.specs.InitializeUpdate.{InitializeUpdateFails, offer_rules};
+ghost use Rattle.policy_machine.specs.KeySets.{UsesSetOfKey};
+ghost use Rattle.policy_machine.specs.Select.{is_card_locked};
+ghost use Rattle.policy_machine.specs.declared.instruction.TheConstants.{INITIALIZE_UPDATE};
 ghost use Rattle.policy_rules.specs.Requests.{ActsIn, Parses};
-ghost use Rattle.policy_rules.specs.Select.{is_card_locked};
-ghost use Rattle.policy_rules.specs.declared.instruction.TheConstants.{INITIALIZE_UPDATE};
 
-use crate::management::RuleM;
 use crate::request::Request;
-use crate::rule::{Rule, RulePS};
 use crate::select::is_issuer;
 use crate::session_sets::session_set;
-use apdu_core::Status;
 use card_types::{Aid, COUNTER_LIMIT, CardLife, KeySet, Tables, in_slot, set_with};
-
-/// The rules of INITIALIZE UPDATE.
-#[derive(Clone, Copy, Debug, PartialEq, Eq)]
-pub enum RuleIU {
-    /// The card is locked, and another domain than the Issuer Security Domain is selected.
-    IU1,
-    /// There is no such key set.
-    IU2,
-    /// Its sequence counter has come to its end.
-    IU3,
-}
-
-impl RuleIU {
-    /// The status word of an INITIALIZE UPDATE that the rule refuses.
-    pub fn status(&self) -> Status
-        ensures { result.0 ≡ (initialize_update_refusal self.now).status }
-    {
-        match self {
-            RuleIU::IU1 => Status(0x6985),
-            RuleIU::IU2 => Status(0x6A88),
-            RuleIU::IU3 => Status(0x6985),
-        }
-    }
-
-    /// The rule's name.
-    pub fn name(&self) -> &'static str
-        ensures name { result.now ≡ (initialize_update_refusal self.now).name }
-        ensures short { length result.now ≤ 3 }
-    {
-        match self {
-            RuleIU::IU1 => "IU1",
-            RuleIU::IU2 => "IU2",
-            RuleIU::IU3 => "IU3",
-        }
-    }
-}
+use policy_machine::{Rule, RuleIU, RuleM, RulePS};
 
 /// Reads P2 and the data field: P1 is the key version number, and the data field the host challenge.
 pub(crate) fn parse_initialize_update(p1: u8, p2: u8, body: &[u8]) -> Result<Request<'_>, Rule>

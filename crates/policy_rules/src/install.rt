@@ -1,15 +1,15 @@
 //! INSTALL (GlobalPlatform Card Specification 2.3.1, 11.5): P1 tells which of its forms a command has.
 
 ghost use Rattle.std.specs.Prelude.{ℕ, List};
+ghost use Rattle.policy_machine.specs.declared.instruction.TheConstants.{INSTALL};
 ghost use Rattle.policy_rules.specs.Requests.{Parses};
-ghost use Rattle.policy_rules.specs.declared.instruction.TheConstants.{INSTALL};
 
 use crate::extradition::parse_extradition;
 use crate::install_application::parse_application;
 use crate::install_load::parse_load_install;
 use crate::make_selectable::parse_selectable;
 use crate::request::Request;
-use crate::rule::Rule;
+use policy_machine::Rule;
 
 /// Reads P1, P2 and the data field of an INSTALL.
 pub(crate) fn parse_install(p1: u8, p2: u8, body: &[u8]) -> Result<Request<'_>, Rule>

@@ -1,6 +1,6 @@
 //! INSTALL [for install] (GlobalPlatform Card Specification 2.3.1, 9.3.2 and 11.5).
 
-ghost use Rattle.std.specs.Prelude.{◌≡◌, ◌↔◌, ◌≢◌, ◌≤◌, ◌⊎◌, ◌&&◌, ℕ, List, None, Some, IfErr, IfNone, IfOk, IfSome, IsTrue, length, refl, true};
+ghost use Rattle.std.specs.Prelude.{◌≡◌, ◌↔◌, ◌≢◌, ◌⊎◌, ◌&&◌, ℕ, List, None, Some, IfErr, IfNone, IfOk, IfSome, IsTrue, refl, true};
 ghost use Rattle.std.specs.List.{list_any};
 ghost use Rattle.bertlv.specs.Spelling.{AreElements, Element};
 ghost use Rattle.card_types.specs.AidOrder.{same_aid};
@@ -15,22 +15,21 @@ ghost use Rattle.card_types.specs.declared.factory.TheConstants.{FACTORY_FILE, F
 ghost use Rattle.card_types.specs.declared.found.Found.{Found as Thing};
 ghost use Rattle.card_types.specs.declared.found.Found.TheVariants.{File};
 ghost use Rattle.card_types.specs.declared.tables.LoadFile.{LoadFile};
-ghost use Rattle.policy_rules.specs.Admission.{Admitted};
-ghost use Rattle.policy_rules.specs.Charge.{IsFileInCharge};
-ghost use Rattle.policy_rules.specs.Delegation.{MayManage};
-ghost use Rattle.policy_rules.specs.InstallApplication.{AreInstallParameters, AsksToInstall, InstallAsked, InstallParameters, IsTakenAid, MayBeMade, managed_install, install_refusal};
-ghost use Rattle.policy_rules.specs.InstallApplicationRequests.{FindsSource, IsInstallOf, IsInstallRequest, IsOutOfCharge, IsRefusedBy, exceeds_by, is_loaded_as};
-ghost use Rattle.policy_rules.specs.Management.{acting};
-ghost use Rattle.policy_rules.specs.ManagedForm.{command_form};
+ghost use Rattle.policy_machine.specs.Admission.{Admitted};
+ghost use Rattle.policy_machine.specs.Charge.{IsFileInCharge};
+ghost use Rattle.policy_machine.specs.Delegation.{MayManage};
+ghost use Rattle.policy_machine.specs.InstallApplication.{AreInstallParameters, AsksToInstall, InstallAsked, InstallParameters, IsTakenAid, MayBeMade, managed_install};
+ghost use Rattle.policy_machine.specs.Malformed.{IsRefusedBy};
+ghost use Rattle.policy_machine.specs.Management.{acting};
+ghost use Rattle.policy_machine.specs.ManagedForm.{command_form};
+ghost use Rattle.policy_rules.specs.InstallApplicationRequests.{FindsSource, IsInstallOf, IsInstallRequest, IsOutOfCharge, exceeds_by, is_loaded_as};
 ghost use Rattle.policy_rules.specs.Requests.{ActsIn, ForActing, IsLoadNamed};
 
 use crate::delegation::{Signed, holds};
 use crate::install_fields::read_fields;
 use crate::judged_request::{Approving, JudgedRequest};
 use crate::live::Live;
-use crate::rule::{Rule, RulePS};
 use crate::store_data::has_tag;
-use apdu_core::Status;
 use bertlv::read;
 use bitflags::Flags;
 use card_types::{
@@ -38,58 +37,7 @@ use card_types::{
     in_slot,
 };
 use domain_tree::above;
-
-/// The rules of INSTALL [for install].
-#[derive(Clone, Copy, Debug, PartialEq, Eq)]
-pub enum RuleII {
-    /// The domain does not manage content.
-    II1,
-    /// There is no such Executable Load File, or the factory's has no such Module.
-    II2,
-    /// The Executable Load File is not the domain's to install from.
-    II3,
-    /// Something has the AID.
-    II4,
-    /// The privileges do not go together.
-    II5,
-    /// The domain does not hold a privilege that it grants.
-    II6,
-    /// The card has no room for another entry.
-    II7,
-}
-
-impl RuleII {
-    /// The status word of a command that the rule refuses.
-    pub fn status(&self) -> Status
-        ensures { result.0 ≡ (install_refusal self.now).status }
-    {
-        match self {
-            RuleII::II1 => Status(0x6982),
-            RuleII::II2 => Status(0x6A88),
-            RuleII::II3 => Status(0x6982),
-            RuleII::II4 => Status(0x6A80),
-            RuleII::II5 => Status(0x6A80),
-            RuleII::II6 => Status(0x6982),
-            RuleII::II7 => Status(0x6A84),
-        }
-    }
-
-    /// The rule's name.
-    pub fn name(&self) -> &'static str
-        ensures name { result.now ≡ (install_refusal self.now).name }
-        ensures short { length result.now ≤ 3 }
-    {
-        match self {
-            RuleII::II1 => "II1",
-            RuleII::II2 => "II2",
-            RuleII::II3 => "II3",
-            RuleII::II4 => "II4",
-            RuleII::II5 => "II5",
-            RuleII::II6 => "II6",
-            RuleII::II7 => "II7",
-        }
-    }
-}
+use policy_machine::{Rule, RuleII, RulePS};
 
 /// What an INSTALL [for install] asks for: the AIDs of the Executable Load File, of its Module and of the application, the
 /// privileges, whether it is made selectable too, and what approves it.

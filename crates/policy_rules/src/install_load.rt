@@ -1,19 +1,19 @@
 //! INSTALL [for load] (GlobalPlatform Card Specification 2.3.1, 9.3.1 and 11.5).
 
-ghost use Rattle.std.specs.Prelude.{◌≡◌, ◌↔◌, ◌≢◌, ◌≤◌, ◌⊎◌, ℕ, List, [], Some, false, IfErr, IfNone, IfOk, IfSome, IsTrue, length, refl};
+ghost use Rattle.std.specs.Prelude.{◌≡◌, ◌↔◌, ◌≤◌, ◌⊎◌, ℕ, List, [], Some, false, IfErr, IfNone, IfOk, IfSome, IsTrue, length, refl};
 ghost use Rattle.std.specs.List.{flat_map};
 ghost use Rattle.card_types.specs.Aid.{IsAid};
 ghost use Rattle.card_types.specs.Found.{aid_of};
 ghost use Rattle.card_types.specs.InOrder.{IsInOrder};
 ghost use Rattle.card_types.specs.declared.found.Found.TheVariants.{Entry};
-ghost use Rattle.policy_rules.specs.Admission.{Admitted};
-ghost use Rattle.policy_rules.specs.InstallLoad.{AsksToLoad, InstallLoadParameters, InstallingLoadFails, IsLoadData, LoadData, file_domain_for, install_load, install_load_refusal, signed_load_fields, judged_install_load};
+ghost use Rattle.policy_machine.specs.Admission.{Admitted};
+ghost use Rattle.policy_machine.specs.InstallLoad.{AsksToLoad, InstallLoadParameters, InstallingLoadFails, IsLoadData, LoadData, file_domain_for, install_load, signed_load_fields, judged_install_load};
+ghost use Rattle.policy_machine.specs.Malformed.{IsRefusedBy};
+ghost use Rattle.policy_machine.specs.Sound.{IsHashLength};
+ghost use Rattle.policy_machine.specs.declared.install_load.RuleIL.TheVariants.{IL4, IL6};
 ghost use Rattle.policy_rules.specs.InstallLoadRequests.{IsLoadInstallOf, IsLoadInstallRequest, NamesDomain, load_data_of};
-ghost use Rattle.policy_rules.specs.InstallApplicationRequests.{IsRefusedBy};
 ghost use Rattle.policy_rules.specs.LoadFound.{FindsDomain};
 ghost use Rattle.policy_rules.specs.Requests.{ActsIn, IsLoadNamed};
-ghost use Rattle.policy_rules.specs.Sound.{IsHashLength};
-ghost use Rattle.policy_rules.specs.declared.install_load.RuleIL.TheVariants.{IL4, IL6};
 ghost use Rattle.tokens_receipts.specs.Receipt.{with_length};
 
 use crate::charge::{find_domain, is_at_or_above};
@@ -22,61 +22,8 @@ use crate::install_application::may_manage;
 use crate::install_fields::{front, read_field};
 use crate::judged_request::{Approving, JudgedRequest};
 use crate::live::Live;
-use crate::rule::{Rule, RulePS};
-use apdu_core::Status;
 use card_types::{Aid, Privileges, Tables, find, first_free};
-
-/// The rules of INSTALL [for load].
-#[derive(Clone, Copy, Debug, PartialEq, Eq)]
-pub enum RuleIL {
-    /// The domain does not manage content.
-    IL1,
-    /// Another channel has a load session.
-    IL2,
-    /// Something has the AID of the Executable Load File.
-    IL3,
-    /// What is named as its security domain is none.
-    IL4,
-    /// The domain may not load into that one.
-    IL5,
-    /// The hash has another length than SHA-1 and SHA-256, or there is none, and the command is delegated.
-    IL6,
-    /// The card has no room for another Executable Load File.
-    IL7,
-}
-
-impl RuleIL {
-    /// The status word of a command that the rule refuses.
-    pub fn status(&self) -> Status
-        ensures { result.0 ≡ (install_load_refusal self.now).status }
-    {
-        match self {
-            RuleIL::IL1 => Status(0x6982),
-            RuleIL::IL2 => Status(0x6985),
-            RuleIL::IL3 => Status(0x6A80),
-            RuleIL::IL4 => Status(0x6A88),
-            RuleIL::IL5 => Status(0x6982),
-            RuleIL::IL6 => Status(0x6A80),
-            RuleIL::IL7 => Status(0x6A84),
-        }
-    }
-
-    /// The rule's name.
-    pub fn name(&self) -> &'static str
-        ensures name { result.now ≡ (install_load_refusal self.now).name }
-        ensures short { length result.now ≤ 3 }
-    {
-        match self {
-            RuleIL::IL1 => "IL1",
-            RuleIL::IL2 => "IL2",
-            RuleIL::IL3 => "IL3",
-            RuleIL::IL4 => "IL4",
-            RuleIL::IL5 => "IL5",
-            RuleIL::IL6 => "IL6",
-            RuleIL::IL7 => "IL7",
-        }
-    }
-}
+use policy_machine::{Rule, RuleIL, RulePS};
 
 /// What an INSTALL [for load] asks for: the AIDs of the Executable Load File and of its security domain, where one is named, the hash
 /// of the file, and what approves it.

@@ -5,19 +5,20 @@ ghost use Rattle.std.specs.Prelude.{◌≡◌, ◌↔◌, ◌≤◌, ℕ, Bool, 
 ghost use Rattle.apdu_core.specs.Apdu.{Apdu};
 ghost use Rattle.card_types.specs.InOrder.{IsInOrder};
 ghost use Rattle.card_types.specs.Privileges.{delegated_management};
-ghost use Rattle.policy_rules.specs.Admission.{Admitted};
-ghost use Rattle.policy_rules.specs.Delegation.{Holds};
-ghost use Rattle.policy_rules.specs.FirstFailing.{IsFirst};
+ghost use Rattle.policy_machine.specs.Admission.{Admitted};
+ghost use Rattle.policy_machine.specs.Delegation.{Holds};
+ghost use Rattle.policy_machine.specs.FirstFailing.{IsFirst};
+ghost use Rattle.policy_machine.specs.ManagedForm.{AskedFails, JudgedFirst, JudgedForm, OwnFirst};
+ghost use Rattle.policy_machine.specs.JudgedForms.{IsJudgeable};
 ghost use Rattle.policy_rules.specs.HoldersFound.{FindsConfirmer, MayReceipt};
-ghost use Rattle.policy_rules.specs.ManagedForm.{AskedFails, JudgedFirst, JudgedForm, OwnFirst};
-ghost use Rattle.policy_rules.specs.RequestJudged.{IsBroughtFor, IsJudgeable, IsTokenForm, OwnRefuses};
+ghost use Rattle.policy_rules.specs.RequestJudged.{IsBroughtFor, IsTokenForm, OwnRefuses};
 ghost use Rattle.policy_rules.specs.Requests.{ForActing};
 
 use crate::delegation::{Signed, is_delegate, judge_receipt, judge_token};
 use crate::live::Live;
 use crate::management::judge_management;
-use crate::rule::Rule;
 use card_types::Tables;
+use policy_machine::Rule;
 
 /// What the judgement of a request found: what the rules of its form did, and the slot of the domain that confirms the command, or
 /// none where nobody does.

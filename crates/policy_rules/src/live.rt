@@ -4,9 +4,7 @@ ghost use Rattle.std.specs.Prelude.{◌≡◌, ◌<◌, IfSome, None, position, 
 
 use arrayvec::ArrayVec;
 use card_types::{Aid, ISSUER_SLOT};
-
-/// How many logical channels a card has.
-pub const CHANNELS: usize = 4;
+use policy_machine::CHANNELS;
 
 /// Where a listing of the registry goes on.
 #[derive(Drop, Debug)]

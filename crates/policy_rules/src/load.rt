@@ -1,86 +1,29 @@
 //! LOAD (GlobalPlatform Card Specification 2.3.1, 9.3.5 and 11.6). Whether its block is taken is judged where the bytes are kept.
 
-ghost use Rattle.std.specs.Prelude.{◌≡◌, ◌↔◌, ◌≢◌, ◌<◌, ℕ, List, [], None, Some, IfErr, IfOk, IfSome, IsSome, IsTrue, OnOk, slice_index_or, ◌≤◌, length};
+ghost use Rattle.std.specs.Prelude.{◌≡◌, ◌↔◌, ◌<◌, ℕ, List, None, Some, IfErr, IfOk, IfSome, IsSome, IsTrue, OnOk, slice_index_or};
 ghost use Rattle.card_types.specs.InOrder.{IsInOrder};
 ghost use Rattle.card_types.specs.Privileges.{delegated_management};
 ghost use Rattle.card_types.specs.declared.tables.Tables.{Tables as TheTables};
-ghost use Rattle.policy_rules.specs.Admission.{Admitted};
-ghost use Rattle.policy_rules.specs.Delegation.{Holds};
-ghost use Rattle.policy_rules.specs.FirstFailing.{IsFirst};
+ghost use Rattle.policy_machine.specs.Admission.{Admitted};
+ghost use Rattle.policy_machine.specs.Delegation.{Holds};
+ghost use Rattle.policy_machine.specs.FirstFailing.{IsFirst};
+ghost use Rattle.policy_machine.specs.Load.{IsLoadOn, LoadFails, LoadParameters, LoadingFails, front_rules, last_rules};
+ghost use Rattle.policy_machine.specs.Sound.{IsSound};
+ghost use Rattle.policy_machine.specs.Volatile.{LoadSession};
+ghost use Rattle.policy_machine.specs.declared.instruction.TheConstants.{LOAD};
+ghost use Rattle.policy_machine.specs.declared.load.RuleLO.TheVariants.{LO7};
 ghost use Rattle.policy_rules.specs.HoldersFound.{FindsConfirmer, MayReceipt};
-ghost use Rattle.policy_rules.specs.Load.{IsLoadOn, LoadFails, LoadParameters, LoadingFails, front_rules, last_rules, load_refusal};
 ghost use Rattle.policy_rules.specs.LoadFound.{IsForLast, IsForLoad, named_on, number_rules};
 ghost use Rattle.policy_rules.specs.LoadRequests.{IsLoadOf};
 ghost use Rattle.policy_rules.specs.Requests.{ActsIn, Parses, RepresentsState};
-ghost use Rattle.policy_rules.specs.Sound.{IsSound};
-ghost use Rattle.policy_rules.specs.Volatile.{LoadSession};
-ghost use Rattle.policy_rules.specs.declared.instruction.TheConstants.{LOAD};
-ghost use Rattle.policy_rules.specs.declared.load.RuleLO.TheVariants.{LO7};
 
 use crate::charge::is_at_or_above;
 use crate::delegation::{holds, judge_receipt};
-use crate::live::{CHANNELS, Live, LoadName};
+use crate::live::{Live, LoadName};
 use crate::management::judge_management;
 use crate::request::Request;
-use crate::rule::{Rule, RulePS};
-use apdu_core::Status;
 use card_types::{Privileges, Tables};
-
-/// The rules of LOAD.
-#[derive(Clone, Copy, Debug, PartialEq, Eq)]
-pub enum RuleLO {
-    /// The channel has no load session, or all block numbers were taken.
-    LO1,
-    /// P2 is not the number of the block that comes next.
-    LO2,
-    /// The first block announces no length.
-    LO3,
-    /// The file is too long, or there are not load pages enough.
-    LO4,
-    /// More bytes have come than were announced, or with the last block fewer.
-    LO5,
-    /// With the last block, the bytes have another hash.
-    LO6,
-    /// With the last block, the file is to be in a domain that is neither the acting one nor below it.
-    LO7,
-    /// With the last block, the domain above that makes receipts has made the last one.
-    LO8,
-}
-
-impl RuleLO {
-    /// The status word of a LOAD that the rule refuses.
-    pub fn status(&self) -> Status
-        ensures { result.0 ≡ (load_refusal self.now).status }
-    {
-        match self {
-            RuleLO::LO1 => Status(0x6985),
-            RuleLO::LO2 => Status(0x6A86),
-            RuleLO::LO3 => Status(0x6A80),
-            RuleLO::LO4 => Status(0x6A84),
-            RuleLO::LO5 => Status(0x6A80),
-            RuleLO::LO6 => Status(0x6A80),
-            RuleLO::LO7 => Status(0x6982),
-            RuleLO::LO8 => Status(0x6985),
-        }
-    }
-
-    /// The rule's name.
-    pub fn name(&self) -> &'static str
-        ensures name { result.now ≡ (load_refusal self.now).name }
-        ensures short { length result.now ≤ 3 }
-    {
-        match self {
-            RuleLO::LO1 => "LO1",
-            RuleLO::LO2 => "LO2",
-            RuleLO::LO3 => "LO3",
-            RuleLO::LO4 => "LO4",
-            RuleLO::LO5 => "LO5",
-            RuleLO::LO6 => "LO6",
-            RuleLO::LO7 => "LO7",
-            RuleLO::LO8 => "LO8",
-        }
-    }
-}
+use policy_machine::{CHANNELS, Rule, RuleLO, RulePS};
 
 /// What a LOAD brings: whether the block is the last one, its number, and the block itself.
 #[derive(Clone, Copy, Debug)]

@@ -1,12 +1,12 @@
 //! INSTALL [for make selectable] (GlobalPlatform Card Specification 2.3.1, 9.3.3 and 11.5).
 
-ghost use Rattle.std.specs.Prelude.{◌≡◌, ◌↔◌, ◌≢◌, ◌≤◌, List, ℕ, IfErr, IfNone, IfOk, IfSome, IsTrue, MatchOption, Option, length, refl, true};
+ghost use Rattle.std.specs.Prelude.{◌≡◌, ◌↔◌, ◌≢◌, IfErr, IfNone, IfOk, IfSome, IsTrue, MatchOption, Option, refl, true};
 ghost use Rattle.card_types.specs.Slots.{held};
-ghost use Rattle.policy_rules.specs.InstallFields.{InstallData};
-ghost use Rattle.policy_rules.specs.InstallApplicationRequests.{IsRefusedBy};
-ghost use Rattle.policy_rules.specs.MakeSelectable.{AsksToMakeSelectable, MakeSelectableParameters, is_installed, managed_selectable, selectable_refusal};
+ghost use Rattle.policy_machine.specs.InstallFields.{InstallData};
+ghost use Rattle.policy_machine.specs.Malformed.{IsRefusedBy};
+ghost use Rattle.policy_machine.specs.MakeSelectable.{AsksToMakeSelectable, MakeSelectableParameters, is_installed, managed_selectable};
+ghost use Rattle.policy_machine.specs.ManagedForm.{command_form};
 ghost use Rattle.policy_rules.specs.MakeSelectableRequests.{AreGiven, IsInstalledWith, IsSelectableOf, IsSelectableRequest};
-ghost use Rattle.policy_rules.specs.ManagedForm.{command_form};
 
 use crate::charge::find_entry;
 use crate::delegation::Signed;
@@ -14,54 +14,9 @@ use crate::install_application::may_manage;
 use crate::install_fields::read_fields;
 use crate::judged_request::{Approving, JudgedRequest};
 use crate::live::Live;
-use crate::rule::{Rule, RulePS};
-use apdu_core::Status;
 use card_types::{Aid, Life, LifeMark, Privileges, Tables, in_slot};
 use domain_tree::above;
-
-/// The rules of INSTALL [for make selectable].
-#[derive(Clone, Copy, Debug, PartialEq, Eq)]
-pub enum RuleMS {
-    /// The domain does not manage content.
-    MS1,
-    /// No entry has the AID.
-    MS2,
-    /// The entry is not below the domain.
-    MS3,
-    /// The entry is not just installed.
-    MS4,
-    /// Other privileges are given than the entry has.
-    MS5,
-}
-
-impl RuleMS {
-    /// The status word of a command that the rule refuses.
-    pub fn status(&self) -> Status
-        ensures { result.0 ≡ (selectable_refusal self.now).status }
-    {
-        match self {
-            RuleMS::MS1 => Status(0x6982),
-            RuleMS::MS2 => Status(0x6A88),
-            RuleMS::MS3 => Status(0x6982),
-            RuleMS::MS4 => Status(0x6985),
-            RuleMS::MS5 => Status(0x6A80),
-        }
-    }
-
-    /// The rule's name.
-    pub fn name(&self) -> &'static str
-        ensures name { result.now ≡ (selectable_refusal self.now).name }
-        ensures short { length result.now ≤ 3 }
-    {
-        match self {
-            RuleMS::MS1 => "MS1",
-            RuleMS::MS2 => "MS2",
-            RuleMS::MS3 => "MS3",
-            RuleMS::MS4 => "MS4",
-            RuleMS::MS5 => "MS5",
-        }
-    }
-}
+use policy_machine::{Rule, RuleMS, RulePS};
 
 /// What an INSTALL [for make selectable] asks for: the AID of the application, the privileges that it is to have or none, and
 /// what approves it.

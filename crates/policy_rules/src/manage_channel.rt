@@ -1,44 +1,15 @@
 //! MANAGE CHANNEL (ISO/IEC 7816-4:2013, 11.1.2; GlobalPlatform Card Specification 2.3.1, 11.7).
 
-ghost use Rattle.std.specs.Prelude.{◌≡◌, ◌<◌, ℕ, List, None, Some, IfOk, IfErr, length, ◌≤◌};
+ghost use Rattle.std.specs.Prelude.{◌≡◌, ◌<◌, ℕ, List, None, Some, IfOk, IfErr, length};
 ghost use Rattle.card_types.specs.declared.tables.Tables.{Tables};
-ghost use Rattle.policy_rules.specs.ManageChannel.{lowest_closed, manage_channel_refusal};
+ghost use Rattle.policy_machine.specs.ManageChannel.{lowest_closed};
+ghost use Rattle.policy_machine.specs.State.{State};
+ghost use Rattle.policy_machine.specs.declared.instruction.TheConstants.{MANAGE_CHANNEL};
 ghost use Rattle.policy_rules.specs.Requests.{Parses, RepresentsState};
-ghost use Rattle.policy_rules.specs.State.{State};
-ghost use Rattle.policy_rules.specs.declared.instruction.TheConstants.{MANAGE_CHANNEL};
 
-use crate::live::{CHANNELS, Live};
+use crate::live::Live;
 use crate::request::Request;
-use crate::rule::{Rule, RulePS};
-use apdu_core::Status;
-
-/// The rules of MANAGE CHANNEL.
-#[derive(Clone, Copy, Debug, PartialEq, Eq)]
-pub enum RuleMC {
-    /// No channel is closed.
-    MC1,
-}
-
-impl RuleMC {
-    /// The status word of a MANAGE CHANNEL that the rule refuses.
-    pub fn status(&self) -> Status
-        ensures { result.0 ≡ (manage_channel_refusal self.now).status }
-    {
-        match self {
-            RuleMC::MC1 => Status(0x6A81),
-        }
-    }
-
-    /// The rule's name.
-    pub fn name(&self) -> &'static str
-        ensures name { result.now ≡ (manage_channel_refusal self.now).name }
-        ensures short { length result.now ≤ 3 }
-    {
-        match self {
-            RuleMC::MC1 => "MC1",
-        }
-    }
-}
+use policy_machine::{CHANNELS, Rule, RuleMC, RulePS};
 
 /// Reads P1, P2 and the data field.
 pub(crate) fn parse_manage_channel(p1: u8, p2: u8, body: &[u8]) -> Result<Request<'_>, Rule>

@@ -1,56 +1,19 @@
 //! The rules that the commands of card content management and INITIALIZE UPDATE have in common.
 
-ghost use Rattle.std.specs.Prelude.{◌≡◌, ◌↔◌, ◌⊎◌, ℕ, List, Some, IfErr, IsTrue, OnOk, ◌≤◌, length};
+ghost use Rattle.std.specs.Prelude.{◌≡◌, ◌↔◌, ◌⊎◌, ℕ, List, Some, IfErr, IsTrue, OnOk};
 ghost use Rattle.card_types.specs.Slots.{held};
 ghost use Rattle.card_types.specs.declared.factory.TheConstants.{ISSUER};
 ghost use Rattle.card_types.specs.declared.tables.Entry.{Entry};
-ghost use Rattle.policy_rules.specs.Admission.{Admitted};
-ghost use Rattle.policy_rules.specs.Management.{ManagementFails, acting, management_refusal};
+ghost use Rattle.policy_machine.specs.Admission.{Admitted};
+ghost use Rattle.policy_machine.specs.Management.{ManagementFails, acting};
+ghost use Rattle.policy_machine.specs.declared.management.RuleM.TheVariants.{M1, M2, M3};
+ghost use Rattle.policy_machine.specs.declared.rule.Rule.TheVariants.{M};
 ghost use Rattle.policy_rules.specs.Requests.{ActsIn};
 ghost use Rattle.policy_rules.specs.SetStatusRequests.{TellsCard};
-ghost use Rattle.policy_rules.specs.declared.management.RuleM.TheVariants.{M1, M2, M3};
-ghost use Rattle.policy_rules.specs.declared.rule.Rule.TheVariants.{M};
 
-use crate::rule::Rule;
 use crate::select::is_issuer;
-use apdu_core::Status;
 use card_types::{CardLife, Tables, in_slot};
-
-/// The rules of card content management.
-#[derive(Clone, Copy, Debug, PartialEq, Eq)]
-pub enum RuleM {
-    /// The card is locked.
-    M1,
-    /// The selected domain is locked.
-    M2,
-    /// The card is locked, and it is not the Issuer Security Domain that sets the card's own life cycle state.
-    M3,
-}
-
-impl RuleM {
-    /// The status word of a command that the rule refuses.
-    pub fn status(&self) -> Status
-        ensures { result.0 ≡ (management_refusal self.now).status }
-    {
-        match self {
-            RuleM::M1 => Status(0x6985),
-            RuleM::M2 => Status(0x6985),
-            RuleM::M3 => Status(0x6985),
-        }
-    }
-
-    /// The rule's name.
-    pub fn name(&self) -> &'static str
-        ensures name { result.now ≡ (management_refusal self.now).name }
-        ensures short { length result.now ≤ 3 }
-    {
-        match self {
-            RuleM::M1 => "M1",
-            RuleM::M2 => "M2",
-            RuleM::M3 => "M3",
-        }
-    }
-}
+use policy_machine::{Rule, RuleM};
 
 // Whether the domain in a slot is locked.
 pub(crate) fn is_locked(tables: &Tables, domain: u8) -> bool

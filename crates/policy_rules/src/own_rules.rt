@@ -3,14 +3,14 @@
 ghost use Rattle.std.specs.Prelude.{◌≡◌, ◌<◌, ℕ, List, None, IsSome, slice_index_or};
 ghost use Rattle.apdu_core.specs.Apdu.{Apdu};
 ghost use Rattle.card_types.specs.InOrder.{IsInOrder};
-ghost use Rattle.policy_rules.specs.Admission.{Admitted};
-ghost use Rattle.policy_rules.specs.Commands.{Judges};
-ghost use Rattle.policy_rules.specs.FirstFailing.{IsFirst};
-ghost use Rattle.policy_rules.specs.Load.{LoadFails, front_rules};
+ghost use Rattle.policy_machine.specs.Admission.{Admitted};
+ghost use Rattle.policy_machine.specs.Commands.{Judges};
+ghost use Rattle.policy_machine.specs.FirstFailing.{IsFirst};
+ghost use Rattle.policy_machine.specs.Load.{LoadFails, front_rules};
+ghost use Rattle.policy_machine.specs.PutKey.{TellsChecks};
+ghost use Rattle.policy_machine.specs.Sound.{IsSound};
+ghost use Rattle.policy_machine.specs.declared.instruction.TheConstants.{EXTERNAL_AUTHENTICATE, GET_STATUS, LOAD};
 ghost use Rattle.policy_rules.specs.Requests.{ActsAsBefore, IsJudgedBehind, IsMeant, IsRequestOf, RepresentsState};
-ghost use Rattle.policy_rules.specs.PutKey.{TellsChecks};
-ghost use Rattle.policy_rules.specs.Sound.{IsSound};
-ghost use Rattle.policy_rules.specs.declared.instruction.TheConstants.{EXTERNAL_AUTHENTICATE, GET_STATUS, LOAD};
 
 use crate::card_status::judge_card_status;
 use crate::delete_key::judge_delete_key;
@@ -19,15 +19,15 @@ use crate::get_data::judge_get_data;
 use crate::get_status::judge_status;
 use crate::initialize_update::judge_initialize_update;
 use crate::judged_request::judge_request;
-use crate::live::{CHANNELS, Live};
+use crate::live::Live;
 use crate::load::judge_load;
 use crate::manage_channel::judge_more_channel;
 use crate::put_key::judge_put_key;
 use crate::request::Request;
-use crate::rule::Rule;
 use crate::select::judge_select;
 use crate::store_data::judge_store_data;
 use card_types::Tables;
+use policy_machine::{CHANNELS, Rule};
 
 /// The first of a well-formed command's own rules that fails, or none. Whether the check values of PUT KEY fit is told by the
 /// caller, who has the Key-DEK; of other commands it is not read.

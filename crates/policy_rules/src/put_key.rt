@@ -5,64 +5,23 @@ ghost use Rattle.card_types.specs.InOrder.{IsInOrder};
 ghost use Rattle.card_types.specs.Well.{IsKeyLength};
 ghost use Rattle.key_rules.specs.PutFails.{NoneHolds, PutFails};
 ghost use Rattle.key_rules.specs.declared.refusal.PutRefusal.TheVariants.{Unknown, Taken, Full};
-ghost use Rattle.policy_rules.specs.Admission.{Admitted};
-ghost use Rattle.policy_rules.specs.FirstFailing.{IsFirst};
-ghost use Rattle.policy_rules.specs.KeyFields.{AreFields, BeginsWithKey, NoFields};
+ghost use Rattle.policy_machine.specs.Admission.{Admitted};
+ghost use Rattle.policy_machine.specs.FirstFailing.{IsFirst};
+ghost use Rattle.policy_machine.specs.KeyFields.{AreFields, BeginsWithKey, NoFields};
+ghost use Rattle.policy_machine.specs.PutKey.{PutKeyFails, HasKeyFields, IsNewVersion, PutKeyParameters, SaysChecks, SentKey, key_count, sealed_size, managed_put_key, KeysAsked};
+ghost use Rattle.policy_machine.specs.PutKeyRules.{key_rules, version_rules};
+ghost use Rattle.policy_machine.specs.declared.instruction.TheConstants.{PUT_KEY};
+ghost use Rattle.policy_machine.specs.CommandForm.{FailsFirst};
+ghost use Rattle.policy_machine.specs.ManagedForm.{command_form};
 ghost use Rattle.policy_rules.specs.Requests.{ActsIn, IsRequestOf, Parses, sent_key, sent_keys};
-ghost use Rattle.policy_rules.specs.PutKey.{PutKeyFails, HasKeyFields, IsNewVersion, PutKeyParameters, SaysChecks, SentKey, key_count, put_key_refusal, sealed_size, managed_put_key, KeysAsked};
-ghost use Rattle.policy_rules.specs.PutKeyRules.{key_rules, version_rules};
-ghost use Rattle.policy_rules.specs.declared.instruction.TheConstants.{PUT_KEY};
 ghost use Rattle.policy_rules.specs.declared.put_key.PutKeys.{PutKeys as Keys};
 ghost use Rattle.policy_rules.specs.declared.request.Request.TheVariants.{PutKey};
-ghost use Rattle.policy_rules.specs.CommandForm.{FailsFirst};
-ghost use Rattle.policy_rules.specs.ManagedForm.{command_form};
 
 use crate::management::judge_management;
 use crate::request::Request;
-use crate::rule::{Rule, RulePS};
-use apdu_core::Status;
 use card_types::Tables;
 use key_rules::{is_full, is_taken, lacks_replaced};
-
-/// The rules of PUT KEY.
-#[derive(Clone, Copy, Debug, PartialEq, Eq)]
-pub enum RulePK {
-    /// The key version number that is to be replaced is not there.
-    PK1,
-    /// The new key version number is there already, and is not the one replaced.
-    PK2,
-    /// A check value is another.
-    PK3,
-    /// The card or the domain would have too many keys.
-    PK4,
-}
-
-impl RulePK {
-    /// The status word of a PUT KEY that the rule refuses.
-    pub fn status(&self) -> Status
-        ensures { result.0 ≡ (put_key_refusal self.now).status }
-    {
-        match self {
-            RulePK::PK1 => Status(0x6A88),
-            RulePK::PK2 => Status(0x6A80),
-            RulePK::PK3 => Status(0x6A80),
-            RulePK::PK4 => Status(0x6A84),
-        }
-    }
-
-    /// The rule's name.
-    pub fn name(&self) -> &'static str
-        ensures name { result.now ≡ (put_key_refusal self.now).name }
-        ensures short { length result.now ≤ 3 }
-    {
-        match self {
-            RulePK::PK1 => "PK1",
-            RulePK::PK2 => "PK2",
-            RulePK::PK3 => "PK3",
-            RulePK::PK4 => "PK4",
-        }
-    }
-}
+use policy_machine::{Rule, RulePK, RulePS};
 
 /// A key as it is sent: its length, its enciphered bytes, and its check value.
 #[derive(Clone, Copy, Debug)]

@@ -1,8 +1,9 @@
 //! What a command asks for.
 
 ghost use Rattle.std.specs.Prelude.{IfOk, IfErr};
-ghost use Rattle.policy_rules.specs.Commands.{IsBuilt, Takes};
-ghost use Rattle.policy_rules.specs.Requests.{IsMalformed, Decodes, form_in};
+ghost use Rattle.policy_machine.specs.Commands.{IsBuilt, Takes};
+ghost use Rattle.policy_machine.specs.Malformed.{IsMalformed};
+ghost use Rattle.policy_rules.specs.Requests.{Decodes, form_in};
 
 use crate::delete_object::DeletionRequest;
 use crate::entry_status::EntryStatusRequest;
@@ -13,12 +14,15 @@ use crate::install_load::LoadInstallRequest;
 use crate::load::LoadRequest;
 use crate::make_selectable::SelectableRequest;
 use crate::put_key::PutKeys;
-use crate::rule::Rule;
 use crate::{
-    delete, external_authenticate, get_data, get_status, initialize_update, install, instruction,
-    load, manage_channel, put_key, select, set_status, store_data,
+    delete, external_authenticate, get_data, get_status, initialize_update, install, load,
+    manage_channel, put_key, select, set_status, store_data,
 };
 use card_types::Level;
+use policy_machine::{
+    DELETE, GET_DATA, GET_STATUS, INITIALIZE_UPDATE, INSTALL, LOAD, MANAGE_CHANNEL, PUT_KEY, Rule,
+    SELECT, SET_STATUS, STORE_DATA,
+};
 
 /// The fields of a well-formed command.
 #[derive(Clone, Copy, Debug)]
@@ -92,17 +96,17 @@ pub fn parse(ins: u8, p1: u8, p2: u8, body: &[u8]) -> Result<Request<'_>, Rule>
     ensures refused { IfErr result (IsMalformed ins p1 p2 body.now) }
 {
     match ins {
-        instruction::SELECT => select::parse_select(p1, p2, body),
-        instruction::MANAGE_CHANNEL => manage_channel::parse_manage_channel(p1, p2, body),
-        instruction::GET_DATA => get_data::parse_get_data(p1, p2, body),
-        instruction::INITIALIZE_UPDATE => initialize_update::parse_initialize_update(p1, p2, body),
-        instruction::PUT_KEY => put_key::parse_put_key(p1, p2, body),
-        instruction::STORE_DATA => store_data::parse_store_data(p1, p2, body),
-        instruction::DELETE => delete::parse_delete(p1, p2, body),
-        instruction::INSTALL => install::parse_install(p1, p2, body),
-        instruction::LOAD => load::parse_load(p1, p2, body),
-        instruction::SET_STATUS => set_status::parse_set_status(p1, p2, body),
-        instruction::GET_STATUS => get_status::parse_get_status(p1, p2, body),
+        SELECT => select::parse_select(p1, p2, body),
+        MANAGE_CHANNEL => manage_channel::parse_manage_channel(p1, p2, body),
+        GET_DATA => get_data::parse_get_data(p1, p2, body),
+        INITIALIZE_UPDATE => initialize_update::parse_initialize_update(p1, p2, body),
+        PUT_KEY => put_key::parse_put_key(p1, p2, body),
+        STORE_DATA => store_data::parse_store_data(p1, p2, body),
+        DELETE => delete::parse_delete(p1, p2, body),
+        INSTALL => install::parse_install(p1, p2, body),
+        LOAD => load::parse_load(p1, p2, body),
+        SET_STATUS => set_status::parse_set_status(p1, p2, body),
+        GET_STATUS => get_status::parse_get_status(p1, p2, body),
         _ => external_authenticate::parse_external_authenticate(p1, p2, body),
     }
 }

@@ -1,6 +1,6 @@
 //! SELECT by partial AID (ISO/IEC 7816-4:2013, 11.1.1; GlobalPlatform Card Specification 2.3.1, 11.9).
 
-ghost use Rattle.std.specs.Prelude.{◌≡◌, ℕ, List, None, Some, IfOk, IfErr, ◌≤◌, length};
+ghost use Rattle.std.specs.Prelude.{◌≡◌, ℕ, List, None, Some, IfOk, IfErr};
 ghost use Rattle.std.proofs.lemmas.Cmp.{nat_list_cmp_total, on_total};
 ghost use Rattle.card_types.specs.AidOrder.{aid_order, same_aid};
 ghost use Rattle.card_types.specs.InOrder.{IsInOrder};
@@ -8,42 +8,13 @@ ghost use Rattle.card_types.specs.Registry.{Registry};
 ghost use Rattle.card_types.specs.Represents.{Represents, entry_of};
 ghost use Rattle.card_types.specs.Slots.{held};
 ghost use Rattle.card_types.specs.declared.factory.TheConstants.{ISSUER};
+ghost use Rattle.policy_machine.specs.Select.{fits_as, least_fitting};
+ghost use Rattle.policy_machine.specs.declared.instruction.TheConstants.{SELECT};
 ghost use Rattle.policy_rules.specs.Requests.{Parses};
-ghost use Rattle.policy_rules.specs.Select.{fits_as, least_fitting, select_refusal};
-ghost use Rattle.policy_rules.specs.declared.instruction.TheConstants.{SELECT};
 
 use crate::request::Request;
-use crate::rule::{Rule, RulePS};
-use apdu_core::Status;
 use card_types::{Aid, CardLife, Entry, ISSUER, InSlot, Life, Search, Tables, least};
-
-/// The rules of SELECT.
-#[derive(Clone, Copy, Debug, PartialEq, Eq)]
-pub enum RuleSE {
-    /// No entry fits.
-    SE1,
-}
-
-impl RuleSE {
-    /// The status word of a SELECT that the rule refuses.
-    pub fn status(&self) -> Status
-        ensures { result.0 ≡ (select_refusal self.now).status }
-    {
-        match self {
-            RuleSE::SE1 => Status(0x6A82),
-        }
-    }
-
-    /// The rule's name.
-    pub fn name(&self) -> &'static str
-        ensures name { result.now ≡ (select_refusal self.now).name }
-        ensures short { length result.now ≤ 3 }
-    {
-        match self {
-            RuleSE::SE1 => "SE1",
-        }
-    }
-}
+use policy_machine::{Rule, RulePS, RuleSE};
 
 /// Reads P1, P2 and the data field.
 pub(crate) fn parse_select(p1: u8, p2: u8, body: &[u8]) -> Result<Request<'_>, Rule>

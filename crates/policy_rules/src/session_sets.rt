@@ -7,8 +7,8 @@ ghost use Rattle.card_types.specs.Represents.{Represents, domain_aid, keeps_coun
 ghost use Rattle.card_types.specs.Slots.{held};
 ghost use Rattle.card_types.specs.Well.{Well};
 ghost use Rattle.card_types.specs.declared.tables.Entry.{Entry};
+ghost use Rattle.policy_machine.specs.KeySets.{NoSetToUse, OwnsSets, UsesSetOfKey};
 ghost use Rattle.policy_rules.specs.KeyOrder.{has_set_in, holds_counter_of};
-ghost use Rattle.policy_rules.specs.KeySets.{NoSetToUse, OwnsSets, UsesSetOfKey};
 
 use crate::key_order::{keeps_counter, lowest_set, numbered_set};
 use card_types::{InSlot, KeyRec, Tables};

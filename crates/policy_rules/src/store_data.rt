@@ -6,48 +6,19 @@ ghost use Rattle.card_types.specs.InOrder.{IsInOrder};
 ghost use Rattle.card_types.specs.Represents.{used};
 ghost use Rattle.card_types.specs.Well.{IsObject};
 ghost use Rattle.card_types.specs.declared.limits.TheConstants.{OBJECTS};
-ghost use Rattle.policy_rules.specs.Admission.{Admitted};
-ghost use Rattle.policy_rules.specs.Commands.{Judges};
+ghost use Rattle.policy_machine.specs.Admission.{Admitted};
+ghost use Rattle.policy_machine.specs.Commands.{Judges};
+ghost use Rattle.policy_machine.specs.ObjectsFound.{AreObjects, has_object_in, has_tag_in, is_tagged_in, new_tags};
+ghost use Rattle.policy_machine.specs.StoreData.{StoreDataField, StoreDataParameters};
+ghost use Rattle.policy_machine.specs.declared.instruction.TheConstants.{STORE_DATA};
 ghost use Rattle.policy_rules.specs.Requests.{ActsIn, IsRequestOf, Parses};
-ghost use Rattle.policy_rules.specs.ObjectsFound.{AreObjects, has_object_in, has_tag_in, is_tagged_in, new_tags};
-ghost use Rattle.policy_rules.specs.StoreData.{StoreDataField, StoreDataParameters, store_data_refusal};
-ghost use Rattle.policy_rules.specs.declared.instruction.TheConstants.{STORE_DATA};
 ghost use Rattle.policy_rules.specs.declared.request.Request.TheVariants.{Store};
 
 use crate::management::judge_management;
 use crate::request::Request;
-use crate::rule::{Rule, RulePS};
-use apdu_core::Status;
 use bertlv::{Tlv, read};
 use card_types::{OBJECTS, Object, Tables};
-
-/// The rules of STORE DATA.
-#[derive(Clone, Copy, Debug, PartialEq, Eq)]
-pub enum RuleSD {
-    /// The card would have too many data objects.
-    SD1,
-}
-
-impl RuleSD {
-    /// The status word of a STORE DATA that the rule refuses.
-    pub fn status(&self) -> Status
-        ensures { result.0 ≡ (store_data_refusal self.now).status }
-    {
-        match self {
-            RuleSD::SD1 => Status(0x6A84),
-        }
-    }
-
-    /// The rule's name.
-    pub fn name(&self) -> &'static str
-        ensures name { result.now ≡ (store_data_refusal self.now).name }
-        ensures short { length result.now ≤ 3 }
-    {
-        match self {
-            RuleSD::SD1 => "SD1",
-        }
-    }
-}
+use policy_machine::{Rule, RulePS, RuleSD};
 
 // Whether a domain may have the data object.
 fn is_object(element: &Tlv<'_>) -> bool

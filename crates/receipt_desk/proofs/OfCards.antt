@@ -11,18 +11,18 @@ use Rattle.card_types.specs.Well.{IsWellEntry, IsWellKey, IsWellObject, Well}
 use Rattle.card_types.specs.declared.factory.TheConstants.{ISSUER}
 use Rattle.card_types.specs.declared.limits.TheConstants.{RECEIPT_LIMIT}
 use Rattle.tokens_receipts.specs.Receipt.{receipt}
-use Rattle.policy_rules.specs.Admission.{Admitted}
-use Rattle.policy_rules.specs.Delegation.{IsReceipter, unique_data, value_of}
-use Rattle.policy_rules.specs.Management.{acting}
-use Rattle.policy_rules.specs.Receipts.{Confirms, IsReceiptedBy, number_of}
-use Rattle.policy_rules.specs.Run.{Command, Input, Reset, Run}
-use Rattle.policy_rules.specs.Sound.{IsSound}
-use Rattle.policy_rules.specs.State.{State, powered_on}
-use Rattle.policy_rules.specs.Step.{Outcome}
-use Rattle.policy_rules.proofs.KeepsSound.{starts_sound, steps_keep_sound}
-use Rattle.policy_rules.proofs.Lawful.{some_same}
-use Rattle.policy_rules.proofs.NumbersRisen.{confirmed_so, numbers_rise}
-use Rattle.policy_rules.proofs.OneOutcome.{admits_one}
+use Rattle.policy_machine.specs.Admission.{Admitted}
+use Rattle.policy_machine.specs.Delegation.{IsReceipter, unique_data, value_of}
+use Rattle.policy_machine.specs.Management.{acting}
+use Rattle.policy_machine.specs.Receipts.{Confirms, IsReceiptedBy, number_of}
+use Rattle.policy_machine.specs.Run.{Command, Input, Reset, Run}
+use Rattle.policy_machine.specs.Sound.{IsSound}
+use Rattle.policy_machine.specs.State.{State, powered_on}
+use Rattle.policy_machine.specs.Step.{Outcome}
+use Rattle.policy_machine.proofs.KeepsSound.{starts_sound, steps_keep_sound}
+use Rattle.policy_machine.proofs.Lawful.{some_same}
+use Rattle.policy_machine.proofs.NumbersRisen.{confirmed_so, numbers_rise}
+use Rattle.policy_machine.proofs.OneOutcome.{admits_one}
 use Rattle.receipt_desk.specs.InTurn.{JudgedInTurn, Slip, fits_from}
 use Rattle.receipt_desk.specs.Judgement.{Judged}
 use Rattle.receipt_desk.specs.OfCards.{AreSlips, DesksTakeThese, IsSlip, Keeps, ReceiptsFit, ReceiptsOfRunsFit}

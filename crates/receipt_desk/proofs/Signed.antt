@@ -4,9 +4,9 @@ use Rattle.std.specs.Prelude.{IfSome}
 use Rattle.card_types.specs.Registry.{Key}
 use Rattle.cmac_kdf.proofs.CmacLemmas.{cmac_is_block}
 use Rattle.tokens_receipts.specs.Token.{signed_by_token, token}
-use Rattle.policy_rules.proofs.Approved.{one_holder}
-use Rattle.policy_rules.specs.Management.{acting}
-use Rattle.policy_rules.specs.declared.delegation.RuleTK.TheVariants.{TK1, TK2, TK3}
+use Rattle.policy_machine.proofs.Approved.{one_holder}
+use Rattle.policy_machine.specs.Management.{acting}
+use Rattle.policy_machine.specs.declared.delegation.RuleTK.TheVariants.{TK1, TK2, TK3}
 use Rattle.receipt_desk.specs.Judgement.{DeskState}
 use Rattle.receipt_desk.specs.Laws.{TokensPass}
 use Rattle.receipt_desk.specs.Signing.{Signs}

@@ -2,10 +2,10 @@
 use Rattle.std.specs.Prelude.{◌≡◌, ◌≢◌, ℕ, ◌+◌, ◌<◌, ◌^◌, List, [], ◌∷◌, All, Some}
 use Rattle.card_types.specs.Registry.{Key}
 use Rattle.cmac_kdf.specs.Cmac.{cmac}
-use Rattle.policy_rules.specs.Admission.{Admitted}
-use Rattle.policy_rules.specs.Delegation.{Approval, IsVerifier, TokenFails}
-use Rattle.policy_rules.specs.Management.{acting}
-use Rattle.policy_rules.specs.declared.delegation.RuleTK.{RuleTK}
+use Rattle.policy_machine.specs.Admission.{Admitted}
+use Rattle.policy_machine.specs.Delegation.{Approval, IsVerifier, TokenFails}
+use Rattle.policy_machine.specs.Management.{acting}
+use Rattle.policy_machine.specs.declared.delegation.RuleTK.{RuleTK}
 use Rattle.tokens_receipts.specs.Receipt.{receipt, signed_by_receipt}
 use Rattle.receipt_desk.specs.InTurn.{IsFits, JudgedInTurn, Slip, fits_from}
 use Rattle.receipt_desk.specs.Judgement.{DeskState, Judged}

@@ -2,12 +2,12 @@
 use Rattle.std.specs.Prelude.{◌≡◌, ◌⊎◌, ℕ, ◌+◌, ◌≤◌, List, [], ◌∷◌, Some, IsSome, length}
 use Rattle.card_types.specs.Registry.{Key, Registry, key_named}
 use Rattle.card_types.specs.Well.{IsKeyLength, Well}
-use Rattle.policy_rules.specs.Delegation.{unique_data}
-use Rattle.policy_rules.specs.Receipts.{IsReceiptedBy, number_of}
-use Rattle.policy_rules.specs.Run.{Command, Input, Reset, Run}
-use Rattle.policy_rules.specs.Sound.{IsSound}
-use Rattle.policy_rules.specs.State.{State, powered_on}
-use Rattle.policy_rules.specs.Step.{IsAccepted, Outcome}
+use Rattle.policy_machine.specs.Delegation.{unique_data}
+use Rattle.policy_machine.specs.Receipts.{IsReceiptedBy, number_of}
+use Rattle.policy_machine.specs.Run.{Command, Input, Reset, Run}
+use Rattle.policy_machine.specs.Sound.{IsSound}
+use Rattle.policy_machine.specs.State.{State, powered_on}
+use Rattle.policy_machine.specs.Step.{IsAccepted, Outcome}
 use Rattle.receipt_desk.specs.InTurn.{JudgedInTurn, Slip, fits_from}
 use Rattle.receipt_desk.specs.Judgement.{Judged}
 use Rattle.receipt_desk.specs.declared.verdict.Verdict.TheVariants.{Fits}

@@ -1,9 +1,9 @@
 -- What goes over a link, one thing after the other.
 use Rattle.std.proofs.Common.{◌≡◌, ℕ, List, [], ◌∷◌, ◌++◌, map, refl, sym, subst, ◌∙◌, ap}
 use Rattle.std.proofs.lemmas.List.{append_assoc, append-nil, map-append}
-use Rattle.policy_rules.specs.Run.{Input}
-use Rattle.policy_rules.specs.Run.{Command as Given}
-use Rattle.policy_rules.specs.State.{State, powered_on}
+use Rattle.policy_machine.specs.Run.{Input}
+use Rattle.policy_machine.specs.Run.{Command as Given}
+use Rattle.policy_machine.specs.State.{State, powered_on}
 use Rattle.script_tool.specs.Link.{Breaks, Conveys, LeadOn, given_in}
 use Rattle.script_tool.specs.Talk.{Answered, Event, Reset}
 use Rattle.script_tool.specs.declared.link.CardLink.{Ghosts as CardLink}

@@ -1,8 +1,8 @@
 -- A talk whose replies are the same has one end.
 use Rattle.std.proofs.Common.{◌≡◌, ℕ, List, [], ◌∷◌, refl, sym, subst, ap, ◌∙◌, inl, inr}
-use Rattle.policy_rules.proofs.OneOutcome.{one_outcome}
-use Rattle.policy_rules.specs.State.{State, powered_on}
-use Rattle.policy_rules.specs.Step.{Outcome, Step}
+use Rattle.policy_machine.proofs.OneOutcome.{one_outcome}
+use Rattle.policy_machine.specs.State.{State, powered_on}
+use Rattle.policy_machine.specs.Step.{Outcome, Step}
 use Rattle.scp03_card.specs.Session.{Session}
 use Rattle.scp03_host.proofs.AgreementLemmas.{one_plain_reply}
 use Rattle.scp03_host.specs.declared.refusals.ReplyRefusal.{ReplyRefusal}

@@ -1,7 +1,7 @@
 -- What a command does to a card at the other end of a link.
 use Rattle.std.specs.Prelude.{◌≡◌, ℕ, List}
-use Rattle.policy_rules.specs.State.{State}
-use Rattle.policy_rules.specs.Step.{Outcome, Step}
+use Rattle.policy_machine.specs.State.{State}
+use Rattle.policy_machine.specs.Step.{Outcome, Step}
 
 -- the bytes lead a card from one state to another, with this reply
 abbrev pub LeadsTo : State → List ℕ → List ℕ → State → Type 0

@@ -1,8 +1,8 @@
 -- How a card comes from where it was to where it is, by what it is given.
 use Rattle.std.specs.Prelude.{◌≡◌, false, ℕ, List, [], ◌∷◌, ◌++◌, map}
-use Rattle.policy_rules.specs.Run.{Input}
-use Rattle.policy_rules.specs.Run.{Command as Given, Reset as PowerOff}
-use Rattle.policy_rules.specs.State.{State, powered_on}
+use Rattle.policy_machine.specs.Run.{Input}
+use Rattle.policy_machine.specs.Run.{Command as Given, Reset as PowerOff}
+use Rattle.policy_machine.specs.State.{State, powered_on}
 use Rattle.script_tool.specs.Lead.{LeadsTo}
 use Rattle.script_tool.specs.Talk.{Answered, Event, Reset}
 use Rattle.script_tool.specs.declared.link.CardLink.{Ghosts as CardLink}

@@ -1,6 +1,6 @@
 -- A line has one end.
 use Rattle.std.specs.Prelude.{◌≡◌, List}
-use Rattle.policy_rules.specs.State.{State}
+use Rattle.policy_machine.specs.State.{State}
 use Rattle.script_tool.specs.Host.{Host}
 use Rattle.script_tool.specs.Link.{LeadOn}
 use Rattle.script_tool.specs.Printed.{Printed}

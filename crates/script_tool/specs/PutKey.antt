@@ -11,7 +11,7 @@ use Rattle.std.specs.List.{flat_map}
 use Rattle.apdu_core.specs.Apdu.{Apdu}
 use Rattle.cmac_kdf.specs.Blocks.{zero_block}
 use Rattle.cmac_kdf.specs.Cbc.{cbc}
-use Rattle.policy_rules.specs.PutKey.{SentKey, check_value, key_field, sealed_size}
+use Rattle.policy_machine.specs.PutKey.{SentKey, check_value, key_field, sealed_size}
 use Rattle.script_tool.specs.Command.{plain_command}
 
 abbrev pub SpellOne : (size : ℕ) → List (List ℕ) → List ℕ → Type 0

@@ -2,7 +2,7 @@
 
 ghost use Rattle.std.specs.Prelude.{◌≡◌, ◌≤◌, ◌+◌, ◌-◌, ◌++◌, length, replicate};
 ghost use Rattle.arrayvec.specs.ArrayVec.{array_vec_len};
-ghost use Rattle.policy_rules.specs.PutKey.{check_value, key_field, sealed_size};
+ghost use Rattle.policy_machine.specs.PutKey.{check_value, key_field, sealed_size};
 ghost use Rattle.script_tool.specs.PutKey.{sent_under};
 
 use aes_block::BlockKey;

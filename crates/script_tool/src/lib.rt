@@ -28,7 +28,7 @@
 //! `Player::step` plays a line. What a host does is a `Talk` (`specs/Talk.antt`): it sends bytes and goes
 //! on by the reply, or it ends with what it prints. The definitions of the verbs make one of each line, and
 //! know no link. `CardLink` is what commands are sent over: a card at its other end is led from state
-//! to state by the steps of `policy_rules`, where the link tells its states.
+//! to state by the steps of `policy_machine`, where the link tells its states.
 //!
 //! `Mill` gives the lines of a workload: rounds of ten lines each, that ChaCha20 chooses from a seed. Each is
 //! a line of the language, and short enough for `io_edge`.

@@ -2,7 +2,7 @@
 
 ghost use Rattle.std.specs.Prelude.{◌≡◌, ◌∷◌};
 ghost use Rattle.std.specs.List.{flat_map};
-ghost use Rattle.policy_rules.specs.PutKey.{key_field};
+ghost use Rattle.policy_machine.specs.PutKey.{key_field};
 ghost use Rattle.script_tool.specs.PutKey.{SaysPutKey, SpellNewKeys, SpellOne, SpellSized, keys_of, put_key_p2, putting_keys, sent_under};
 ghost use Rattle.script_tool.specs.Reads.{Reads};
 ghost use Rattle.script_tool.specs.Send.{plain_of};

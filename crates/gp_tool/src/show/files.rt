@@ -10,7 +10,7 @@ ghost use Rattle.card_types.specs.Least.{IsLeast, NoneFits};
 ghost use Rattle.card_types.specs.Represents.{domain_aid, file_of};
 ghost use Rattle.card_types.specs.Slots.{held};
 ghost use Rattle.page_journal.specs.Moments.{LeavesOnly};
-ghost use Rattle.policy_rules.specs.State.{State};
+ghost use Rattle.policy_machine.specs.State.{State};
 ghost use Rattle.rec_store.specs.Reopens.{Reopens, load_page};
 ghost use Rattle.gp_tool.specs.declared.show.fault.ShowFault.TheVariants.{Write};
 ghost use Rattle.gp_tool.specs.Listing.{Writes, is_next_file};

@@ -1,7 +1,7 @@
 use Rattle.std.proofs.Common.{◌≡◌, None, Some, ap, sym, ◌∙◌}
 use Rattle.card_types.proofs.SameAid.{same_aid_decides}
 use Rattle.card_types.specs.Represents.{domain_aid}
-use Rattle.policy_rules.specs.Select.{least_fitting}
+use Rattle.policy_machine.specs.Select.{least_fitting}
 use Rattle.access_matrix.proofs.acceptance.is_selectable.Goals as goal
 
 pub returns-in-Ok : goal.returns-in-Ok

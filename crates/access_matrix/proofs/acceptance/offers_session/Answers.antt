@@ -1,5 +1,5 @@
 use Rattle.std.proofs.Common.{refl}
-use Rattle.policy_rules.specs.InitializeUpdate.{InitializeUpdateFails, offer_rules}
+use Rattle.policy_machine.specs.InitializeUpdate.{InitializeUpdateFails, offer_rules}
 use Rattle.card_types.specs.Represents.{domain_aid}
 use Rattle.access_matrix.specs.May.{initialize}
 use Rattle.access_matrix.specs.There.{judged_there}

@@ -1,8 +1,8 @@
 use Rattle.std.proofs.Common.{inl, inr, refl, sym, subst, ◌∙◌}
 use Rattle.card_types.specs.Represents.{domain_aid}
-use Rattle.policy_rules.proofs.DeleteObjectLaws.{deletion_judgeable}
-use Rattle.policy_rules.specs.DeleteObject.{IsDelegated, managed_delete_object}
-use Rattle.policy_rules.specs.ManagedForm.{command_form}
+use Rattle.policy_machine.proofs.DeleteObjectLaws.{deletion_judgeable}
+use Rattle.policy_machine.specs.DeleteObject.{IsDelegated, managed_delete_object}
+use Rattle.policy_machine.specs.ManagedForm.{command_form}
 use Rattle.policy_rules.specs.Requests.{RepresentsState}
 use Rattle.policy_rules.specs.declared.live.Live.{Live}
 use Rattle.std.specs.Prelude.{IsTrue}

@@ -4,10 +4,10 @@ use Rattle.std.specs.Prelude.{IsTrue}
 use Rattle.card_types.specs.Aid.{IsAid}
 use Rattle.card_types.specs.Privileges.{delegated_management}
 use Rattle.card_types.specs.Represents.{domain_aid}
-use Rattle.policy_rules.proofs.InstallApplicationAsking.{install_judgeable}
-use Rattle.policy_rules.specs.Delegation.{Holds}
-use Rattle.policy_rules.specs.InstallApplication.{managed_install}
-use Rattle.policy_rules.specs.ManagedForm.{command_form}
+use Rattle.policy_machine.proofs.InstallApplicationAsking.{install_judgeable}
+use Rattle.policy_machine.specs.Delegation.{Holds}
+use Rattle.policy_machine.specs.InstallApplication.{managed_install}
+use Rattle.policy_machine.specs.ManagedForm.{command_form}
 use Rattle.policy_rules.specs.Requests.{IsLoadNamed}
 use Rattle.policy_rules.specs.declared.live.Live.{Live}
 use Rattle.tokens_receipts.specs.Receipt.{with_length}

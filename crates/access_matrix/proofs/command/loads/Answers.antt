@@ -3,9 +3,9 @@ use Rattle.std.specs.List.{flat_map}
 use Rattle.std.specs.Prelude.{IsTrue, replicate}
 use Rattle.card_types.specs.Privileges.{delegated_management}
 use Rattle.card_types.specs.Represents.{domain_aid}
-use Rattle.policy_rules.proofs.InstallLoadLaws.{load_install_judgeable}
-use Rattle.policy_rules.specs.Delegation.{Holds}
-use Rattle.policy_rules.specs.InstallLoad.{install_load}
+use Rattle.policy_machine.proofs.InstallLoadLaws.{load_install_judgeable}
+use Rattle.policy_machine.specs.Delegation.{Holds}
+use Rattle.policy_machine.specs.InstallLoad.{install_load}
 use Rattle.policy_rules.specs.Requests.{IsLoadNamed}
 use Rattle.policy_rules.specs.declared.live.Live.{Live}
 use Rattle.std.proofs.Common.{None, subst, sym}

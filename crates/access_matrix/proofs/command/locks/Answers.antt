@@ -4,8 +4,8 @@ use Rattle.card_types.proofs.Domains.{domain_aid_is}
 use Rattle.card_types.proofs.EntryNames.{entry_in_slot}
 use Rattle.card_types.specs.Represents.{domain_aid, entry_of}
 use Rattle.card_types.specs.Slots.{held}
-use Rattle.policy_rules.specs.EntryStatus.{managed_entry_status}
-use Rattle.policy_rules.specs.ManagedForm.{command_form}
+use Rattle.policy_machine.specs.EntryStatus.{managed_entry_status}
+use Rattle.policy_machine.specs.ManagedForm.{command_form}
 use Rattle.access_matrix.specs.Passing.{IsAccepted}
 use Rattle.access_matrix.specs.There.{judged_there}
 use Rattle.access_matrix.specs.declared.deed.Deed.TheVariants.{Lock}

@@ -3,10 +3,10 @@ use Rattle.std.specs.List.{flat_map}
 use Rattle.std.specs.Prelude.{IsTrue}
 use Rattle.card_types.specs.Privileges.{delegated_management}
 use Rattle.card_types.specs.Represents.{domain_aid}
-use Rattle.policy_rules.proofs.ExtraditionLaws.{extradition_judgeable}
-use Rattle.policy_rules.specs.Delegation.{Holds}
-use Rattle.policy_rules.specs.Extradition.{managed_extradition}
-use Rattle.policy_rules.specs.ManagedForm.{command_form}
+use Rattle.policy_machine.proofs.ExtraditionLaws.{extradition_judgeable}
+use Rattle.policy_machine.specs.Delegation.{Holds}
+use Rattle.policy_machine.specs.Extradition.{managed_extradition}
+use Rattle.policy_machine.specs.ManagedForm.{command_form}
 use Rattle.tokens_receipts.specs.Receipt.{with_length}
 use Rattle.access_matrix.specs.There.{judged_there}
 use Rattle.access_matrix.proofs.DeedCommands.{move_accepted, move_command, move_front, move_request, told_token}

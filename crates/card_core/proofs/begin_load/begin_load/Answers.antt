@@ -1,12 +1,12 @@
 use Rattle.std.proofs.Common.{rules, ◌≡◌, ℕ, inr, inl, List, [], ◌∷◌, ◌++◌, OnOk, None, Option, Some, refl, ap, sym, subst, ◌∙◌, arith}
 use Rattle.std.specs.Prelude.{unwrap_or}
 use Rattle.card_types.specs.Represents.{domain_aid}
-use Rattle.policy_rules.proofs.InstallLoadLaws.{load_install_judgeable}
-use Rattle.policy_rules.proofs.Judging.{IsListed, does_so, judged}
-use Rattle.policy_rules.specs.InstallLoad.{file_domain_for, install_load, load_begun}
+use Rattle.policy_machine.proofs.InstallLoadLaws.{load_install_judgeable}
+use Rattle.policy_machine.proofs.Judging.{IsListed, does_so, judged}
+use Rattle.policy_machine.specs.InstallLoad.{file_domain_for, install_load, load_begun}
+use Rattle.policy_machine.specs.State.{Effect, State}
+use Rattle.policy_machine.specs.Volatile.{LoadSession, with_load}
 use Rattle.policy_rules.specs.Requests.{RepresentsState}
-use Rattle.policy_rules.specs.State.{Effect, State}
-use Rattle.policy_rules.specs.Volatile.{LoadSession, with_load}
 use Rattle.policy_rules.specs.declared.live.Live.{Live}
 use Rattle.load_session.specs.Session.{RepresentsLoad}
 use Rattle.card_core.proofs.LoadsKept.{refusal_loaded}

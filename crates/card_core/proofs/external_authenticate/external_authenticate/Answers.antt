@@ -4,7 +4,7 @@ use Rattle.card_core.specs.SecureChannels.{RepresentsSecureChannel}
 use Rattle.card_core.specs.Offers.{secure_channel_for}
 use Rattle.card_core.specs.declared.channel_session.ChannelSession.{ChannelSession}
 use Rattle.card_core.specs.declared.channel_session.ChannelSession.TheVariants.{Offered}
-use Rattle.policy_rules.proofs.ExternalAuthenticateLaws.{answer_passes, wrong_cryptogram, wrong_mac}
+use Rattle.policy_machine.proofs.ExternalAuthenticateLaws.{answer_passes, wrong_cryptogram, wrong_mac}
 use Rattle.card_core.proofs.external_authenticate.external_authenticate.Goals as goal
 
 pub returns-in-Ok : goal.returns-in-Ok

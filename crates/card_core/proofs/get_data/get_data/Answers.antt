@@ -1,13 +1,13 @@
 use Rattle.std.proofs.Common.{ℕ, ◌<◌, inl, refl, sym, ap, subst, ◌∙◌}
 use Rattle.bertlv.specs.Spelling.{Spelling}
-use Rattle.policy_rules.specs.declared.rule.Rule.TheVariants.{GD}
+use Rattle.policy_machine.specs.declared.rule.Rule.TheVariants.{GD}
+use Rattle.policy_machine.proofs.GetDataLaws.{get_passes, get_refused}
+use Rattle.policy_machine.proofs.Judging.{does_so}
+use Rattle.policy_machine.specs.Volatile.{selected_on}
+use Rattle.policy_machine.specs.GetData.{get_data}
+use Rattle.policy_machine.specs.declared.channels.TheConstants.{CHANNELS}
 use Rattle.policy_rules.proofs.DataAsked.{asked_for, asks}
-use Rattle.policy_rules.proofs.GetDataLaws.{get_passes, get_refused}
-use Rattle.policy_rules.proofs.Judging.{does_so}
 use Rattle.policy_rules.proofs.Selected.{selected_entry}
-use Rattle.policy_rules.specs.Volatile.{selected_on}
-use Rattle.policy_rules.specs.GetData.{get_data}
-use Rattle.policy_rules.specs.declared.live.TheConstants.{CHANNELS}
 use Rattle.card_core.proofs.Carrying.{refusal_shows}
 use Rattle.card_core.proofs.get_data.get_data.Goals as goal
 

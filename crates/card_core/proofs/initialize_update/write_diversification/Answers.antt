@@ -1,7 +1,7 @@
 use Rattle.std.proofs.Common.{ℕ, List, ◌++◌, sym, ap, ◌∙◌}
 use Rattle.std.specs.Prelude.{replicate}
 use Rattle.card_core.proofs.OfferMade.{object_diversifies}
-use Rattle.policy_rules.specs.InitializeUpdate.{diversification_of}
+use Rattle.policy_machine.specs.InitializeUpdate.{diversification_of}
 use Rattle.card_core.proofs.initialize_update.write_diversification.Goals as goal
 
 pub returns-in-Some-clause-written : goal.returns-in-Some-clause-written

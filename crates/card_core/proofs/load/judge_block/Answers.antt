@@ -1,9 +1,9 @@
 use Rattle.std.proofs.Common.{None, Some, sym, subst}
-use Rattle.policy_rules.proofs.FirstLike.{handed_on}
-use Rattle.policy_rules.specs.FirstFailing.{IsFirst}
-use Rattle.policy_rules.specs.Load.{LoadFails, load_rules}
-use Rattle.policy_rules.specs.declared.load.RuleLO.{RuleLO}
-use Rattle.policy_rules.specs.declared.rule.Rule.TheVariants.{LO}
+use Rattle.policy_machine.proofs.FirstLike.{handed_on}
+use Rattle.policy_machine.specs.FirstFailing.{IsFirst}
+use Rattle.policy_machine.specs.Load.{LoadFails, load_rules}
+use Rattle.policy_machine.specs.declared.load.RuleLO.{RuleLO}
+use Rattle.policy_machine.specs.declared.rule.Rule.TheVariants.{LO}
 use Rattle.card_core.proofs.LoadJudged.{decided, for_last, passed_more, refused_for}
 use Rattle.card_core.proofs.load.judge_block.Goals as goal
 

@@ -1,10 +1,10 @@
 use Rattle.std.proofs.Common.{rules, ◌≡◌, ℕ, ◌<◌, [], true, false, None, length, refl, sym, subst, inl, inr}
 use Rattle.std.specs.Prelude.{is_none, slice_index_or}
-use Rattle.policy_rules.proofs.Judging.{does_so}
-use Rattle.policy_rules.proofs.ManageChannelLaws.{close_passes}
-use Rattle.policy_rules.specs.ManageChannel.{manage_channel}
-use Rattle.policy_rules.specs.Volatile.{without_channel}
-use Rattle.policy_rules.specs.declared.live.TheConstants.{CHANNELS}
+use Rattle.policy_machine.proofs.Judging.{does_so}
+use Rattle.policy_machine.proofs.ManageChannelLaws.{close_passes}
+use Rattle.policy_machine.specs.ManageChannel.{manage_channel}
+use Rattle.policy_machine.specs.Volatile.{without_channel}
+use Rattle.policy_machine.specs.declared.channels.TheConstants.{CHANNELS}
 use Rattle.card_core.proofs.ChannelChanges.{begun_shows, none_selected, some_selected}
 use Rattle.card_core.proofs.manage_channel.close_channel.Goals as goal
 

@@ -1,11 +1,11 @@
 use Rattle.std.proofs.Common.{rules, ◌≡◌, ℕ, ◌<◌, [], ◌∷◌, Some, length, refl, sym, subst, inl, ◌∙◌}
-use Rattle.policy_rules.specs.declared.rule.Rule.TheVariants.{MC}
-use Rattle.policy_rules.proofs.Judging.{does_so}
-use Rattle.policy_rules.proofs.ManageChannelLaws.{open_passes, open_refused}
+use Rattle.policy_machine.specs.declared.rule.Rule.TheVariants.{MC}
+use Rattle.policy_machine.proofs.Judging.{does_so}
+use Rattle.policy_machine.proofs.ManageChannelLaws.{open_passes, open_refused}
 use Rattle.card_types.specs.declared.factory.TheConstants.{ISSUER}
-use Rattle.policy_rules.specs.ManageChannel.{manage_channel}
-use Rattle.policy_rules.specs.Volatile.{fresh, with_channel}
-use Rattle.policy_rules.specs.declared.live.TheConstants.{CHANNELS}
+use Rattle.policy_machine.specs.ManageChannel.{manage_channel}
+use Rattle.policy_machine.specs.Volatile.{fresh, with_channel}
+use Rattle.policy_machine.specs.declared.channels.TheConstants.{CHANNELS}
 use Rattle.card_core.proofs.Carrying.{refusal_shows}
 use Rattle.card_core.proofs.ChannelChanges.{opened_shows}
 use Rattle.card_core.proofs.manage_channel.open_channel.Goals as goal

@@ -3,8 +3,8 @@ use Rattle.std.proofs.lemmas.Bool.{eq-eqb}
 use Rattle.std.proofs.lemmas.List.Elements.{All-contains, All-from_recursion, Contains-append_left}
 use Rattle.std.specs.List.{AllByRecursion}
 use Rattle.std.specs.Prelude.{Contains, ◌==◌}
-use Rattle.policy_rules.specs.Classes.{changing}
-use Rattle.policy_rules.specs.declared.live.TheConstants.{CHANNELS}
+use Rattle.policy_machine.specs.Classes.{changing}
+use Rattle.policy_machine.specs.declared.channels.TheConstants.{CHANNELS}
 use Rattle.policy_rules.specs.Requests.{form_in}
 use Rattle.card_core.proofs.Acting.{acts_for, held_there, low, managed_done}
 use Rattle.card_core.proofs.LoadsKept.{kept_loading, loads_same, not_loading}

@@ -1,9 +1,9 @@
 use Rattle.std.proofs.Common.{◌≡◌, arith, Option, ℕ, ◌<◌, List, refl, sym, ap, subst}
 use Rattle.std.specs.Prelude.{Contains, slice_set}
 use Rattle.card_types.specs.InOrder.{IsInOrder}
-use Rattle.policy_rules.specs.Classes.{changing}
+use Rattle.policy_machine.specs.Classes.{changing}
+use Rattle.policy_machine.specs.declared.channels.TheConstants.{CHANNELS}
 use Rattle.policy_rules.specs.Requests.{IsRequestOf, IsWellFormed, form_in}
-use Rattle.policy_rules.specs.declared.live.TheConstants.{CHANNELS}
 use Rattle.policy_rules.specs.declared.request.Request.{Request}
 use Rattle.card_core.proofs.Acting.{answer_done, carries_other, listing_done, loading_done, offer_done}
 use Rattle.card_core.proofs.Cards.{in_order}

@@ -1,12 +1,12 @@
 use Rattle.std.proofs.Common.{◌<◌, ℕ, List, Some, refl, sym, ap, inl, subst, ◌∙◌}
 use Rattle.std.specs.Prelude.{slice_set}
 use Rattle.std.proofs.lemmas.List.{length-set}
-use Rattle.policy_rules.specs.declared.rule.Rule.TheVariants.{SE}
-use Rattle.policy_rules.proofs.Judging.{does_so}
-use Rattle.policy_rules.proofs.SelectLaws.{select_passes, select_refused}
-use Rattle.policy_rules.specs.Select.{IsControlInformation, select, selected_status}
-use Rattle.policy_rules.specs.Volatile.{fresh, with_selected}
-use Rattle.policy_rules.specs.declared.live.TheConstants.{CHANNELS}
+use Rattle.policy_machine.specs.declared.rule.Rule.TheVariants.{SE}
+use Rattle.policy_machine.proofs.Judging.{does_so}
+use Rattle.policy_machine.proofs.SelectLaws.{select_passes, select_refused}
+use Rattle.policy_machine.specs.Select.{IsControlInformation, select, selected_status}
+use Rattle.policy_machine.specs.Volatile.{fresh, with_selected}
+use Rattle.policy_machine.specs.declared.channels.TheConstants.{CHANNELS}
 use Rattle.card_core.proofs.Carrying.{refusal_shows}
 use Rattle.card_core.proofs.ChannelChanges.{begun_shows, held_same}
 use Rattle.card_core.proofs.select.select.Goals as goal

@@ -5,14 +5,14 @@ use Rattle.card_core.proofs.Acting.{held_there, low}
 use Rattle.card_core.proofs.Carrying.{done_carried, refusal_carried, refused_carried}
 use Rattle.load_session.specs.Loaded.{loaded}
 use Rattle.card_core.proofs.Passed.{read_at, session_kept}
-use Rattle.policy_rules.specs.Classes.{managing}
-use Rattle.policy_rules.specs.declared.instruction.TheConstants.{GET_DATA}
+use Rattle.policy_machine.specs.Classes.{managing}
+use Rattle.policy_machine.specs.declared.instruction.TheConstants.{GET_DATA}
+use Rattle.policy_machine.specs.Admission.{Admitted}
 use Rattle.policy_rules.specs.Requests.{IsRequestOf}
-use Rattle.policy_rules.specs.Admission.{Admitted}
 use Rattle.policy_rules.specs.declared.live.Place.{Place}
 use Rattle.policy_rules.specs.declared.request.Request.{Request}
 use Rattle.card_core.specs.Serves.{IsAsked, IsPassed}
-use Rattle.policy_rules.specs.declared.live.TheConstants.{CHANNELS}
+use Rattle.policy_machine.specs.declared.channels.TheConstants.{CHANNELS}
 use Rattle.card_core.specs.Offers.{secure_channel_for}
 use Rattle.card_core.specs.Ready.{IsReady}
 use Rattle.card_core.specs.SecureChannels.{IsInSession, RepresentsSecureChannel, without_offer_held}

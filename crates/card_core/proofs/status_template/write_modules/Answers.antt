@@ -2,7 +2,7 @@ use Rattle.std.proofs.Common.{◌≡◌, List, [], ◌∷◌, ◌++◌, true, re
 use Rattle.bertlv.specs.Spelling.{AreElements, Element}
 use Rattle.card_types.specs.AidOrder.{same_aid}
 use Rattle.card_types.specs.declared.factory.TheConstants.{FACTORY_FILE, FACTORY_MODULE}
-use Rattle.policy_rules.specs.GetStatus.{module_parts}
+use Rattle.policy_machine.specs.GetStatus.{module_parts}
 use Rattle.card_core.proofs.StatusTemplates.{appended, part}
 use Rattle.card_core.proofs.status_template.write_modules.Goals as goal
 

@@ -5,7 +5,7 @@ use Rattle.card_types.specs.Slots.{held}
 use Rattle.card_types.specs.declared.found.Found.{Found}
 use Rattle.card_types.specs.declared.tables.Entry.{Entry}
 use Rattle.card_types.specs.declared.tables.LoadFile.{LoadFile}
-use Rattle.policy_rules.specs.GetStatus.{AFile, AnEntry, Thing, status_parts}
+use Rattle.policy_machine.specs.GetStatus.{AFile, AnEntry, Thing, status_parts}
 use Rattle.policy_rules.specs.GetStatusRequests.{IsThingAt}
 use Rattle.card_core.proofs.status_template.write_value.Goals as goal
 

@@ -1,6 +1,6 @@
 use Rattle.std.proofs.Common.{[], ◌∷◌, refl}
-use Rattle.policy_rules.specs.Run.{Command, Reset}
-use Rattle.policy_rules.specs.State.{powered_on}
+use Rattle.policy_machine.specs.Run.{Command, Reset}
+use Rattle.policy_machine.specs.State.{powered_on}
 use Rattle.gp_tool.proofs.Given.{command_breaks, command_runs, silent_runs, then_line, then_nothing}
 use Rattle.gp_tool.specs.Replies.{Replies, reply_line}
 use Rattle.gp_tool.specs.Serve.{IsHeld}

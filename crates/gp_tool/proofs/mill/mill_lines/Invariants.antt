@@ -1,6 +1,6 @@
 use Rattle.std.proofs.Common.{◌≡◌, ◌≤◌, ◌+◌, ◌*◌, length, true}
 use Rattle.card_core.specs.Card.{CardRepresents}
-use Rattle.policy_rules.specs.State.{State}
+use Rattle.policy_machine.specs.State.{State}
 use Rattle.script_tool.specs.Mill.{to_come}
 use Rattle.script_tool.specs.Workload.{AreLines}
 use Rattle.gp_tool.specs.Milling.{Milling}

@@ -1,5 +1,5 @@
 use Rattle.std.proofs.Common.{[], ◌∷◌, ◌∙◌, refl, inl, inr}
-use Rattle.policy_rules.specs.State.{powered_on}
+use Rattle.policy_machine.specs.State.{powered_on}
 use Rattle.gp_tool.proofs.MillEnding.{is_factory, leaves_made, mill_since, mills_all, not_milled}
 use Rattle.gp_tool.proofs.Moments.{left_now}
 use Rattle.gp_tool.proofs.Powered.{cause_since, no_other_cause}

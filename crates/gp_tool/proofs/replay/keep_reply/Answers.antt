@@ -1,6 +1,6 @@
 use Rattle.std.proofs.Common.{[], ◌∷◌, Some, None, refl, ap}
-use Rattle.policy_rules.specs.Run.{Command, Reset}
-use Rattle.policy_rules.specs.State.{powered_on}
+use Rattle.policy_machine.specs.Run.{Command, Reset}
+use Rattle.policy_machine.specs.State.{powered_on}
 use Rattle.gp_tool.proofs.Given.{command_breaks, command_runs, silent_runs}
 use Rattle.gp_tool.specs.Replay.{Keeps}
 use Rattle.gp_tool.specs.Serve.{IsHeld}

@@ -1,7 +1,7 @@
 use Rattle.std.proofs.Common.{◌≡◌, ◌-◌, ◌≤◌, None, true}
 use Rattle.io_edge.specs.Lines.{IsWithin}
 use Rattle.card_core.specs.Card.{CardRepresents}
-use Rattle.policy_rules.specs.State.{State}
+use Rattle.policy_machine.specs.State.{State}
 use Rattle.line_runs.specs.Outside.{outside}
 use Rattle.gp_tool.specs.Going.{Going}
 use Rattle.gp_tool.specs.Standing.{standing_in}

@@ -1,5 +1,5 @@
 use Rattle.std.proofs.Common.{refl, inl, inr}
-use Rattle.policy_rules.specs.State.{powered_on}
+use Rattle.policy_machine.specs.State.{powered_on}
 use Rattle.gp_tool.proofs.Powered.{no_other_cause, not_powered, rose_since, serves_since}
 use Rattle.gp_tool.proofs.run_verb.run_verb.Goals as goal
 

@@ -1,5 +1,5 @@
 use Rattle.std.proofs.Common.{ap, ◌∙◌}
-use Rattle.policy_rules.specs.State.{powered_on}
+use Rattle.policy_machine.specs.State.{powered_on}
 use Rattle.line_runs.specs.Exit.{exit_status}
 use Rattle.gp_tool.proofs.Complete.{is_done}
 use Rattle.gp_tool.proofs.LinesAreRuns.{lines_keep_trees}

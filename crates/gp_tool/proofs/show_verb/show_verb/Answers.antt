@@ -1,5 +1,5 @@
 use Rattle.std.proofs.Common.{refl, ◌∙◌, inl, inr}
-use Rattle.policy_rules.specs.State.{powered_on}
+use Rattle.policy_machine.specs.State.{powered_on}
 use Rattle.gp_tool.proofs.Powered.{cause_since, no_other_cause}
 use Rattle.gp_tool.proofs.ShownCard.{has_shown, shows_all}
 use Rattle.gp_tool.proofs.show_verb.show_verb.Goals as goal

@@ -1,8 +1,8 @@
 use Rattle.std.proofs.Common.{ℕ, List, sym, ap, subst, ◌∙◌, inl, inr, arith}
 use Rattle.hex.specs.Hex.{encode_lower}
 use Rattle.card_types.specs.Represents.{domain_aid}
+use Rattle.policy_machine.specs.GetData.{IsSequenceCounter}
 use Rattle.policy_rules.proofs.DataFound.{counter_data}
-use Rattle.policy_rules.specs.GetData.{IsSequenceCounter}
 use Rattle.scp03_card.proofs.OfferLemmas.{last_three}
 use Rattle.scp03_card.specs.Offer.{counter_bytes}
 use Rattle.gp_tool.proofs.CounterText.{issuer_held}

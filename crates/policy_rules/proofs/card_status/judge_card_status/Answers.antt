@@ -1,12 +1,12 @@
 use Rattle.std.proofs.Common.{[], ◌∷◌}
 use Rattle.std.proofs.lemmas.Bool.{iff_false}
-use Rattle.policy_rules.specs.declared.card_status.RuleSC.TheVariants.{SC1, SC2}
-use Rattle.policy_rules.specs.declared.rule.Rule.TheVariants.{SC}
+use Rattle.policy_machine.specs.declared.card_status.RuleSC.TheVariants.{SC1, SC2}
+use Rattle.policy_machine.specs.declared.rule.Rule.TheVariants.{SC}
+use Rattle.policy_machine.specs.CardStatus.{managed_card_status}
+use Rattle.policy_machine.specs.ManagedForm.{command_form}
 use Rattle.policy_rules.proofs.CardStatusJudging.{barred_first, codeless_first, of_card, step_passes, stepless_first}
 use Rattle.policy_rules.proofs.ManagementFirst.{setting_handed}
 use Rattle.policy_rules.proofs.card_status.judge_card_status.Goals as goal
-use Rattle.policy_rules.specs.CardStatus.{managed_card_status}
-use Rattle.policy_rules.specs.ManagedForm.{command_form}
 
 pub returns-in_err-judge_setting-clause-refused : goal.returns-in_err-judge_setting-clause-refused
 returns-in_err-judge_setting-clause-refused c page admitted acts is =

@@ -1,5 +1,5 @@
 use Rattle.card_types.proofs.FoundNames.{found_file_named, none_found_none_named}
-use Rattle.policy_rules.proofs.ThingsFound.{file_apart}
+use Rattle.policy_machine.proofs.FileApart.{file_apart}
 use Rattle.policy_rules.proofs.charge.find_entry.Goals as goal
 
 pub returns-in-Some-File-clause-none : goal.returns-in-Some-File-clause-none

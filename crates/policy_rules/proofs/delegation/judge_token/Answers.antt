@@ -1,6 +1,6 @@
 use Rattle.std.proofs.Common.{sym, ◌∙◌}
 use Rattle.card_types.specs.Represents.{domain_aid, key_of}
-use Rattle.policy_rules.proofs.Approved.{approved, unfitting, unverified}
+use Rattle.policy_machine.proofs.Approved.{approved, unfitting, unverified}
 use Rattle.policy_rules.specs.HoldersFound.{approval_of}
 use Rattle.policy_rules.proofs.delegation.judge_token.Goals as goal
 

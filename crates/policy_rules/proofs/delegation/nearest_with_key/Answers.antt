@@ -8,8 +8,8 @@ use Rattle.card_types.specs.Represents.{domain_aid, domain_slot, key_of}
 use Rattle.card_types.specs.Slots.{held}
 use Rattle.card_types.specs.declared.tables.KeyRec.{KeyRec}
 use Rattle.domain_tree.specs.Above.{IsFirstAbove, NoneAbove}
+use Rattle.policy_machine.specs.Delegation.{IsNearestHolder, NoHolder}
 use Rattle.policy_rules.proofs.NearestHolder.{holder_named, lone_key, no_holder_named, some_found}
-use Rattle.policy_rules.specs.Delegation.{IsNearestHolder, NoHolder}
 use Rattle.policy_rules.specs.HoldersFound.{has_with_key_in}
 use Rattle.policy_rules.proofs.delegation.nearest_with_key.Goals as goal
 

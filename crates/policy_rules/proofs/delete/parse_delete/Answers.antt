@@ -1,5 +1,5 @@
 use Rattle.std.proofs.Common.{refl}
-use Rattle.policy_rules.proofs.DeleteForms.{deletion_malformed}
+use Rattle.policy_machine.proofs.DeleteForms.{deletion_malformed}
 use Rattle.policy_rules.proofs.delete.parse_delete.Goals as goal
 
 pub returns-in-Err-parse_delete_object : goal.returns-in-Err-parse_delete_object

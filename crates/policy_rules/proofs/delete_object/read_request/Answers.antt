@@ -1,7 +1,7 @@
 use Rattle.std.proofs.Common.{◌-◌, length, refl, arith}
 use Rattle.std.specs.Prelude.{take}
 use Rattle.std.proofs.lemmas.List.{length-take-le}
-use Rattle.policy_rules.proofs.DeleteObjectAsking.{before_token, deletion_read, no_token, unread_deletion}
+use Rattle.policy_machine.proofs.DeleteObjectAsking.{before_token, deletion_read, no_token, unread_deletion}
 use Rattle.policy_rules.proofs.delete_object.read_request.Goals as goal
 
 pub returns-in_default-clause-none : goal.returns-in_default-clause-none

@@ -1,6 +1,6 @@
 use Rattle.std.proofs.Common.{inl, inr, length, sym, ◌∙◌}
 use Rattle.std.proofs.lemmas.Bool.{eqb-false}
-use Rattle.policy_rules.proofs.DeleteObjectAsking.{other_token, unread_token}
+use Rattle.policy_machine.proofs.DeleteObjectAsking.{other_token, unread_token}
 use Rattle.policy_rules.proofs.delete_object.read_token.Goals.{then-token-ne158-via-then-token-ne158, then-token-ne158-via-else-token-ne158+then-not-is_empty}
 use Rattle.policy_rules.proofs.delete_object.read_token.Goals as goal
 

@@ -1,6 +1,6 @@
 use Rattle.std.proofs.Common.{inl, inr, sym, ◌∙◌}
 use Rattle.domain_tree.proofs.AboveNamed.{free_of_loops}
-use Rattle.policy_rules.specs.Management.{acting}
+use Rattle.policy_machine.specs.Management.{acting}
 use Rattle.policy_rules.proofs.ChargeNamed.{above_alike}
 use Rattle.policy_rules.proofs.ExtraditionJudging.{holds_told}
 use Rattle.policy_rules.proofs.ThingsFound.{acting_named}

@@ -1,7 +1,7 @@
 use Rattle.std.proofs.Common.{sym, ◌∙◌}
 use Rattle.std.proofs.lemmas.Bool.{false≢true}
 use Rattle.card_types.proofs.SameAid.{same_aid_decides}
-use Rattle.policy_rules.specs.Management.{acting}
+use Rattle.policy_machine.specs.Management.{acting}
 use Rattle.policy_rules.proofs.ExtraditionJudging.{holds_told, lacks_told, one_thing, reach_told}
 use Rattle.policy_rules.proofs.ThingsFound.{acting_named}
 use Rattle.policy_rules.proofs.extradition.is_out_of_reach.Goals as goal

@@ -2,9 +2,9 @@ use Rattle.std.proofs.Common.{◌≡◌, [], length, sym, ap, subst, ◌∙◌, 
 use Rattle.std.proofs.lemmas.Bool.{eq-eqb, eqb-true}
 use Rattle.std.proofs.lemmas.List.{nil_from_length}
 use Rattle.card_types.specs.Aid.{IsAid}
+use Rattle.policy_machine.specs.InstallFields.{InstallData}
+use Rattle.policy_machine.proofs.LengthFields.{one_data}
 use Rattle.policy_rules.specs.FieldsRead.{given_of}
-use Rattle.policy_rules.specs.InstallFields.{InstallData}
-use Rattle.policy_rules.proofs.LengthFields.{one_data}
 use Rattle.policy_rules.proofs.extradition.read_request.Goals as goal
 use Rattle.policy_rules.proofs.extradition.read_request.Goals.{then-not-is_empty-via-then-not-is_empty, then-not-is_empty-via-else-not-is_empty+then-not-is_empty-2}
 

@@ -1,8 +1,8 @@
 use Rattle.std.proofs.Common.{Some, subst, sym, ◌∙◌}
 use Rattle.std.specs.Prelude.{option_copied}
-use Rattle.policy_rules.specs.FirstFailing.{IsFirst}
-use Rattle.policy_rules.specs.GetStatus.{GetStatusFails, get_status_rules}
-use Rattle.policy_rules.specs.declared.rule.Rule.TheVariants.{GS}
+use Rattle.policy_machine.specs.FirstFailing.{IsFirst}
+use Rattle.policy_machine.specs.GetStatus.{GetStatusFails, get_status_rules}
+use Rattle.policy_machine.specs.declared.rule.Rule.TheVariants.{GS}
 use Rattle.policy_rules.proofs.ActingDomain.{locked_fails, unlocked_passes}
 use Rattle.policy_rules.proofs.GetStatusJudging.{locked_first, none_first, nothing_first, nothing_shown, placeless_first, something_shown}
 use Rattle.policy_rules.proofs.get_status.judge_status.Goals as goal

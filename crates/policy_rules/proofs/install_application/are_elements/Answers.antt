@@ -1,6 +1,6 @@
 use Rattle.std.proofs.Common.{length, sym, ◌∙◌, arith}
 use Rattle.std.proofs.lemmas.Bool.{eqb-false, false≢true}
-use Rattle.policy_rules.proofs.InstallApplicationAsking.{no_elements, some_behind, some_with}
+use Rattle.policy_machine.proofs.InstallApplicationAsking.{no_elements, some_behind, some_with}
 use Rattle.policy_rules.proofs.install_application.are_elements.Goals as goal
 
 pub returns-in_default : goal.returns-in_default

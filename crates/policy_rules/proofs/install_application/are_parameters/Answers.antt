@@ -1,5 +1,5 @@
 use Rattle.std.proofs.Common.{sym, ◌∙◌}
-use Rattle.policy_rules.proofs.InstallApplicationAsking.{has_application, parameters_from}
+use Rattle.policy_machine.proofs.InstallApplicationAsking.{has_application, parameters_from}
 use Rattle.policy_rules.proofs.install_application.are_parameters.Goals as goal
 
 pub returns-then-are_elements : goal.returns-then-are_elements

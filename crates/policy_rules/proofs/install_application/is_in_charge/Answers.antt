@@ -4,10 +4,10 @@ use Rattle.card_types.proofs.DomainLines.{line_in_slots}
 use Rattle.card_types.specs.Represents.{file_of}
 use Rattle.card_types.specs.Slots.{held}
 use Rattle.card_types.specs.declared.tables.LoadFile.{LoadFile}
-use Rattle.policy_rules.specs.Charge.{IsFileInCharge}
-use Rattle.policy_rules.specs.Management.{acting}
+use Rattle.policy_machine.specs.Charge.{IsFileInCharge}
+use Rattle.policy_machine.specs.Management.{acting}
+use Rattle.policy_machine.proofs.Lawful.{some_same}
 use Rattle.policy_rules.proofs.InstallApplicationJudging.{by_slots, file_below}
-use Rattle.policy_rules.proofs.Lawful.{some_same}
 use Rattle.policy_rules.proofs.install_application.is_in_charge.Goals as goal
 
 pub above-requires-clause-no_loops : goal.above-requires-clause-no_loops

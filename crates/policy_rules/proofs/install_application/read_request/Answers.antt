@@ -2,10 +2,10 @@ use Rattle.std.proofs.Common.{refl, subst, arith, ◌∙◌}
 use Rattle.std.proofs.lemmas.Bool.{iff_false}
 use Rattle.card_types.specs.Aid.{IsAid}
 use Rattle.card_types.specs.Privileges.{ArePrivilegeBytes}
+use Rattle.policy_machine.specs.InstallApplication.{AreInstallParameters}
+use Rattle.policy_machine.specs.InstallFields.{InstallData}
+use Rattle.policy_machine.proofs.InstallApplicationAsking.{same_given}
 use Rattle.policy_rules.specs.FieldsRead.{given_of}
-use Rattle.policy_rules.specs.InstallApplication.{AreInstallParameters}
-use Rattle.policy_rules.specs.InstallFields.{InstallData}
-use Rattle.policy_rules.proofs.InstallApplicationAsking.{same_given}
 use Rattle.policy_rules.proofs.install_application.read_request.Goals as goal
 
 pub returns-in_err-module-clause-none : goal.returns-in_err-module-clause-none

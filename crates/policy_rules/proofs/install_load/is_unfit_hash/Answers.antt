@@ -1,7 +1,7 @@
 use Rattle.std.proofs.Common.{List, ℕ, inl, inr, length, subst, sym, ◌∙◌}
 use Rattle.std.proofs.lemmas.Bool.{eqb-true}
 use Rattle.std.proofs.lemmas.List.{nil_from_length}
-use Rattle.policy_rules.specs.Sound.{IsHashLength}
+use Rattle.policy_machine.specs.Sound.{IsHashLength}
 use Rattle.policy_rules.proofs.ExtraditionJudging.{holds_told}
 use Rattle.policy_rules.proofs.install_load.is_unfit_hash.Goals as goal
 

@@ -1,6 +1,6 @@
 use Rattle.std.proofs.Common.{[], ◌∷◌, refl, sym}
 use Rattle.std.proofs.lemmas.Bool.{eqb-false, eqb-true}
-use Rattle.policy_rules.proofs.LengthFields.{before_more, more_fields, no_load_data, no_more_fields, none_behind, none_here, none_later}
+use Rattle.policy_machine.proofs.LengthFields.{before_more, more_fields, no_load_data, no_more_fields, none_behind, none_here, none_later}
 use Rattle.policy_rules.proofs.install_load.read_fields.Goals as goal
 
 pub returns-in_err-domain-clause-none : goal.returns-in_err-domain-clause-none

@@ -1,9 +1,9 @@
 use Rattle.std.proofs.Common.{◌≡◌, ◌⊎◌, [], refl, subst, arith, ◌∙◌}
 use Rattle.card_types.specs.Aid.{IsAid}
-use Rattle.policy_rules.specs.InstallLoad.{LoadData}
+use Rattle.policy_machine.specs.InstallLoad.{LoadData}
+use Rattle.policy_machine.proofs.LengthFields.{one_load_data}
 use Rattle.policy_rules.specs.InstallLoadRequests.{load_data_of}
 use Rattle.policy_rules.proofs.InstallLoadJudging.{names_some}
-use Rattle.policy_rules.proofs.LengthFields.{one_load_data}
 use Rattle.policy_rules.proofs.install_load.read_request.Goals as goal
 
 pub returns-in_err-file-clause-none : goal.returns-in_err-file-clause-none

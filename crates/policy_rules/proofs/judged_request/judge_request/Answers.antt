@@ -1,14 +1,14 @@
 use Rattle.std.proofs.Common.{◌++◌, List, None, Some, subst, sym}
 use Rattle.std.specs.Prelude.{IfErr, map}
-use Rattle.policy_rules.proofs.FirstLike.{handed_on}
-use Rattle.policy_rules.proofs.ManagedJudging.{approval_decides, own_refuses}
+use Rattle.policy_machine.proofs.FirstLike.{handed_on}
+use Rattle.policy_machine.proofs.ManagedJudging.{approval_decides, own_refuses}
+use Rattle.policy_machine.specs.FirstFailing.{IsFirst}
+use Rattle.policy_machine.specs.ManagedForm.{JudgedFails, JudgedFirst}
+use Rattle.policy_machine.specs.declared.management.RuleM.{RuleM}
+use Rattle.policy_machine.specs.declared.rule.Rule.{Rule}
+use Rattle.policy_machine.specs.declared.rule.Rule.TheVariants.{M}
 use Rattle.policy_rules.proofs.ManagementFirst.{management_handed}
 use Rattle.policy_rules.proofs.RequestJudging.{management_passes}
-use Rattle.policy_rules.specs.FirstFailing.{IsFirst}
-use Rattle.policy_rules.specs.ManagedForm.{JudgedFails, JudgedFirst}
-use Rattle.policy_rules.specs.declared.management.RuleM.{RuleM}
-use Rattle.policy_rules.specs.declared.rule.Rule.{Rule}
-use Rattle.policy_rules.specs.declared.rule.Rule.TheVariants.{M}
 use Rattle.policy_rules.proofs.judged_request.judge_request.Goals as goal
 
 pub returns-in_err-judge_management-clause-refused : goal.returns-in_err-judge_management-clause-refused

@@ -1,5 +1,5 @@
+use Rattle.policy_machine.specs.Management.{acting}
 use Rattle.policy_rules.proofs.LoadNamed.{foreign_told, named_last}
-use Rattle.policy_rules.specs.Management.{acting}
 use Rattle.policy_rules.proofs.load.is_foreign.Goals as goal
 
 pub returns : goal.returns

@@ -1,10 +1,10 @@
 use Rattle.std.proofs.Common.{None, Some}
 use Rattle.std.specs.Prelude.{map}
+use Rattle.policy_machine.specs.Load.{LoadFails}
+use Rattle.policy_machine.specs.declared.rule.Rule.TheVariants.{LO}
 use Rattle.policy_rules.proofs.LoadJudging.{number_decides}
 use Rattle.policy_rules.proofs.ManagementFirst.{management_handed}
-use Rattle.policy_rules.specs.Load.{LoadFails}
 use Rattle.policy_rules.specs.LoadFound.{number_rules}
-use Rattle.policy_rules.specs.declared.rule.Rule.TheVariants.{LO}
 use Rattle.policy_rules.proofs.load.judge_load.Goals as goal
 
 pub returns-in_err-judge_management-clause-refused : goal.returns-in_err-judge_management-clause-refused

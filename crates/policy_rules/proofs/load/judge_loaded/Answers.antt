@@ -1,10 +1,10 @@
 use Rattle.std.proofs.Common.{rules, ◌≡◌, None, Option, Some, subst, sym, ◌∙◌}
 use Rattle.std.specs.Prelude.{slice_index_or}
-use Rattle.policy_rules.proofs.Judging.{by_err}
+use Rattle.policy_machine.proofs.Judging.{by_err}
+use Rattle.policy_machine.specs.FirstFailing.{IsFirst}
+use Rattle.policy_machine.specs.Load.{LoadFails, last_rules}
 use Rattle.policy_rules.proofs.LoadNamed.{named_is}
 use Rattle.policy_rules.proofs.Selected.{selected_acts}
-use Rattle.policy_rules.specs.FirstFailing.{IsFirst}
-use Rattle.policy_rules.specs.Load.{LoadFails, last_rules}
 use Rattle.policy_rules.specs.LoadFound.{IsForLast}
 use Rattle.policy_rules.specs.Requests.{IsLoadNamed}
 use Rattle.policy_rules.specs.declared.live.LoadName.{LoadName}

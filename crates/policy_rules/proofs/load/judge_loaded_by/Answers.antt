@@ -1,6 +1,7 @@
 use Rattle.std.proofs.Common.{inl, inr, refl}
 use Rattle.std.proofs.lemmas.Bool.{iff_false}
-use Rattle.policy_rules.proofs.Approved.{receipt_passes, receipt_rule}
+use Rattle.policy_machine.proofs.Approved.{receipt_rule}
+use Rattle.policy_rules.proofs.ReceiptPasses.{receipt_passes}
 use Rattle.policy_rules.proofs.ExtraditionJudging.{holds_told, lacks_told}
 use Rattle.policy_rules.proofs.load.judge_loaded_by.Goals as goal
 

@@ -1,9 +1,9 @@
 use Rattle.std.proofs.Common.{length, sym, subst, ◌∙◌, arith}
 use Rattle.std.proofs.lemmas.Bool.{eqb-true}
 use Rattle.std.proofs.lemmas.List.{nil_from_length}
+use Rattle.policy_machine.specs.InstallFields.{InstallData}
+use Rattle.policy_machine.proofs.LengthFields.{one_data}
 use Rattle.policy_rules.specs.FieldsRead.{given_of}
-use Rattle.policy_rules.specs.InstallFields.{InstallData}
-use Rattle.policy_rules.proofs.LengthFields.{one_data}
 use Rattle.policy_rules.proofs.PrivilegesGiven.{GivesPrivileges, gives_privileges, unreadable}
 use Rattle.policy_rules.proofs.make_selectable.read_request.Goals as goal
 

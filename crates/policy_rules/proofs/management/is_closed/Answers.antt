@@ -1,5 +1,5 @@
 use Rattle.std.proofs.Common.{◌≡◌, true, rules, inl, inr}
-use Rattle.policy_rules.specs.Select.{is_card_locked}
+use Rattle.policy_machine.specs.Select.{is_card_locked}
 use Rattle.policy_rules.proofs.ActingDomain.{closed_fails}
 use Rattle.policy_rules.proofs.ExtraditionJudging.{not_told}
 use Rattle.policy_rules.proofs.management.is_closed.Goals as goal

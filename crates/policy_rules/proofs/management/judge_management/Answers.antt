@@ -1,5 +1,5 @@
 use Rattle.std.proofs.Common.{◌≡◌, false, refl, rules, sym, ◌∙◌, inr}
-use Rattle.policy_rules.specs.Select.{is_card_locked}
+use Rattle.policy_machine.specs.Select.{is_card_locked}
 use Rattle.policy_rules.proofs.ActingDomain.{card_passes, locked_fails, unlocked_passes}
 use Rattle.policy_rules.proofs.management.judge_management.Goals as goal
 

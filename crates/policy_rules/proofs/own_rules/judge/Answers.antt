@@ -2,46 +2,46 @@ use Rattle.std.proofs.Common.{rules, ◌≡◌, ℕ, ◌<◌, List, length, None
 use Rattle.std.specs.Prelude.{option_copied, slice_index_or}
 use Rattle.std.specs.Option.{option_map}
 use Rattle.std.proofs.lemmas.List.{get_or_default}
-use Rattle.policy_rules.specs.declared.live.TheConstants.{CHANNELS}
-use Rattle.policy_rules.specs.Commands.{Judges}
-use Rattle.policy_rules.specs.CardStatus.{managed_card_status}
-use Rattle.policy_rules.specs.DeleteObject.{managed_delete_object}
-use Rattle.policy_rules.specs.EntryStatus.{managed_entry_status}
+use Rattle.policy_machine.specs.declared.channels.TheConstants.{CHANNELS}
+use Rattle.policy_machine.specs.Commands.{Judges}
+use Rattle.policy_machine.specs.CardStatus.{managed_card_status}
+use Rattle.policy_machine.specs.DeleteObject.{managed_delete_object}
+use Rattle.policy_machine.specs.EntryStatus.{managed_entry_status}
+use Rattle.policy_machine.specs.Extradition.{managed_extradition}
+use Rattle.policy_machine.specs.FirstFailing.{IsFirst}
+use Rattle.policy_machine.specs.InstallApplication.{managed_install}
+use Rattle.policy_machine.specs.Load.{LoadFails, front_rules}
+use Rattle.policy_machine.specs.MakeSelectable.{managed_selectable}
+use Rattle.policy_machine.specs.GetStatus.{get_status}
+use Rattle.policy_machine.specs.Admission.{Admitted}
+use Rattle.policy_machine.specs.Sound.{IsSound}
 use Rattle.policy_rules.specs.SetStatusRequests.{IsCardStatusOf}
-use Rattle.policy_rules.specs.Extradition.{managed_extradition}
-use Rattle.policy_rules.specs.FirstFailing.{IsFirst}
-use Rattle.policy_rules.specs.InstallApplication.{managed_install}
-use Rattle.policy_rules.specs.Load.{LoadFails, front_rules}
 use Rattle.policy_rules.specs.LoadFound.{IsForLoad}
-use Rattle.policy_rules.specs.MakeSelectable.{managed_selectable}
-use Rattle.policy_rules.specs.GetStatus.{get_status}
 use Rattle.policy_rules.specs.KeptPlaces.{place_of}
 use Rattle.policy_rules.specs.Requests.{ActsIn, RepresentsState}
-use Rattle.policy_rules.specs.Admission.{Admitted}
-use Rattle.policy_rules.specs.Sound.{IsSound}
 use Rattle.card_types.specs.Represents.{Represents}
 use Rattle.card_types.specs.Well.{Well}
+use Rattle.policy_machine.specs.Volatile.{channel_at, place_in, selected_on}
+use Rattle.policy_machine.proofs.DeleteObjectLaws.{deletion_judgeable}
+use Rattle.policy_machine.proofs.ExtraditionLaws.{extradition_judgeable}
+use Rattle.policy_machine.proofs.InstallApplicationAsking.{install_judgeable}
+use Rattle.policy_machine.proofs.MakeSelectableLaws.{selectable_judgeable}
+use Rattle.policy_machine.proofs.GetDataLaws.{get_passes, get_refused}
+use Rattle.policy_machine.proofs.InitializeUpdateLaws.{offer_judged}
+use Rattle.policy_machine.proofs.Judging.{by_err, judged_by}
+use Rattle.policy_machine.proofs.ManageChannelLaws.{open_passes, open_refused}
+use Rattle.policy_machine.proofs.InstallLoadLaws.{load_install_judgeable, load_install_judged}
+use Rattle.policy_machine.proofs.PutKeyLaws.{put_judged}
+use Rattle.policy_machine.proofs.SelectLaws.{select_passes, select_refused}
+use Rattle.policy_machine.specs.CommandForm.{FailsFirst}
+use Rattle.policy_machine.specs.InstallLoad.{install_load}
+use Rattle.policy_machine.specs.PutKey.{managed_put_key}
+use Rattle.policy_machine.specs.ManagedForm.{command_form}
 use Rattle.policy_rules.specs.GetStatusRequests.{IsPlaceBefore}
-use Rattle.policy_rules.specs.Volatile.{channel_at, place_in, selected_on}
-use Rattle.policy_rules.proofs.DeleteObjectLaws.{deletion_judgeable}
-use Rattle.policy_rules.proofs.ExtraditionLaws.{extradition_judgeable}
-use Rattle.policy_rules.proofs.InstallApplicationAsking.{install_judgeable}
-use Rattle.policy_rules.proofs.MakeSelectableLaws.{selectable_judgeable}
 use Rattle.policy_rules.proofs.DataAsked.{asked_for, asks, has_data}
-use Rattle.policy_rules.proofs.GetDataLaws.{get_passes, get_refused}
-use Rattle.policy_rules.proofs.InitializeUpdateLaws.{offer_judged}
-use Rattle.policy_rules.proofs.Judging.{by_err, judged_by}
-use Rattle.policy_rules.proofs.ManageChannelLaws.{open_passes, open_refused}
-use Rattle.policy_rules.proofs.InstallLoadLaws.{load_install_judgeable, load_install_judged}
-use Rattle.policy_rules.proofs.PutKeyLaws.{put_judged}
-use Rattle.policy_rules.proofs.SelectLaws.{select_passes, select_refused}
 use Rattle.policy_rules.proofs.Selected.{selected_acts, selected_entry}
 use Rattle.policy_rules.proofs.own_rules.judge.Goals as goal
 use Rattle.policy_rules.proofs.own_rules.judge.Goals.{After-unwrap-domain}
-use Rattle.policy_rules.specs.CommandForm.{FailsFirst}
-use Rattle.policy_rules.specs.InstallLoad.{install_load}
-use Rattle.policy_rules.specs.PutKey.{managed_put_key}
-use Rattle.policy_rules.specs.ManagedForm.{command_form}
 
 -- the domain that is selected acts
 acts_in : (c : After-unwrap-domain) (page : ℕ → List ℕ) (admitted : Admitted) → RepresentsState page c.args.tables.now c.args.live.now admitted.at

@@ -1,6 +1,6 @@
 use Rattle.std.proofs.Common.{true, false, subst}
+use Rattle.policy_machine.specs.PutKey.{SaysChecks}
 use Rattle.policy_rules.proofs.PutKeyJudging.{check_first, full_first, keys_pass}
-use Rattle.policy_rules.specs.PutKey.{SaysChecks}
 use Rattle.policy_rules.proofs.put_key.judge_put_keys.Goals as goal
 
 pub returns-then-not-checks_fit-clause-refused : goal.returns-then-not-checks_fit-clause-refused

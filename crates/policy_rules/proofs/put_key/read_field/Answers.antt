@@ -1,7 +1,7 @@
 use Rattle.std.proofs.Common.{◌≡◌, ◌+◌, List, ℕ, get_or, refl, ap, subst, sym, ◌∙◌, arith}
 use Rattle.std.proofs.lemmas.List.{take_rest}
-use Rattle.policy_rules.proofs.KeyFields.{HasMarks, field_from_marks, key_between}
-use Rattle.policy_rules.specs.KeyFields.{BeginsWithKey}
+use Rattle.policy_machine.proofs.KeyFields.{HasMarks, field_from_marks, key_between}
+use Rattle.policy_machine.specs.KeyFields.{BeginsWithKey}
 use Rattle.policy_rules.proofs.put_key.read_field.Goals as goal
 
 pub returns-clause-some : goal.returns-clause-some

@@ -1,6 +1,6 @@
 use Rattle.std.proofs.Common.{sym}
 use Rattle.std.proofs.lemmas.Bool.{eqb-false, eqb-true}
-use Rattle.policy_rules.proofs.KeyFields.{last_field, none_behind, none_here, none_later}
+use Rattle.policy_machine.proofs.KeyFields.{last_field, none_behind, none_here, none_later}
 use Rattle.policy_rules.proofs.put_key.read_one.Goals as goal
 
 pub returns-in_err-key-clause-none : goal.returns-in_err-key-clause-none

@@ -1,7 +1,7 @@
 use Rattle.std.proofs.Common.{◌≡◌, [], ◌∷◌, sym, ◌∙◌}
 use Rattle.std.proofs.lemmas.Bool.{eqb-false, eqb-true}
 use Rattle.std.proofs.lemmas.List.Elements.{All-cons, All-nil}
-use Rattle.policy_rules.proofs.KeyFields.{has_size, last_field, more_fields, none_behind, none_here, none_later, none_unlike}
+use Rattle.policy_machine.proofs.KeyFields.{has_size, last_field, more_fields, none_behind, none_here, none_later, none_unlike}
 use Rattle.policy_rules.specs.Requests.{sent_key}
 use Rattle.policy_rules.proofs.put_key.read_three.Goals as goal
 

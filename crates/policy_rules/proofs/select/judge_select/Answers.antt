@@ -1,5 +1,5 @@
 use Rattle.card_types.proofs.EntryNames.{least_entry, no_entry}
-use Rattle.policy_rules.specs.Select.{fits_select}
+use Rattle.policy_machine.specs.Select.{fits_select}
 use Rattle.policy_rules.proofs.select.judge_select.Goals as goal
 
 pub returns-in-Some-clause-found : goal.returns-in-Some-clause-found

@@ -1,6 +1,6 @@
 use Rattle.std.proofs.Common.{length, sym, ◌∙◌, arith}
 use Rattle.std.proofs.lemmas.Bool.{eqb-false, false≢true, iff_false}
-use Rattle.policy_rules.proofs.StoreDataElements.{no_objects, objects_behind, objects_with}
+use Rattle.policy_machine.proofs.StoreDataElements.{no_objects, objects_behind, objects_with}
 use Rattle.policy_rules.proofs.store_data.are_objects.Goals as goal
 
 pub loop-rest-preserved : goal.loop-rest-preserved

@@ -3,7 +3,7 @@ use Rattle.std.proofs.lemmas.Iterator.{YieldsList-from_slice}
 use Rattle.std.proofs.lemmas.Iterator.Consumers.{YieldsList-from_filter, count_from_yields_List}
 use Rattle.std.specs.Prelude.{filter}
 use Rattle.std.specs.Option.{is_some}
-use Rattle.policy_rules.proofs.NewTags.{count_some}
+use Rattle.policy_machine.proofs.NewTags.{count_some}
 use Rattle.policy_rules.proofs.store_data.count_used.Goals as goal
 
 pub returns-clause-number : goal.returns-clause-number

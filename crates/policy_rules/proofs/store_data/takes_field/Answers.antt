@@ -1,7 +1,7 @@
 use Rattle.std.proofs.Common.{length, sym, ◌∙◌, ap}
 use Rattle.std.specs.Prelude.{not}
 use Rattle.std.proofs.lemmas.Bool.{eqb-true, false≢true}
-use Rattle.policy_rules.proofs.StoreDataElements.{from_field}
+use Rattle.policy_machine.proofs.StoreDataElements.{from_field}
 use Rattle.policy_rules.proofs.store_data.takes_field.Goals as goal
 
 pub returns-else-not-is_empty : goal.returns-else-not-is_empty

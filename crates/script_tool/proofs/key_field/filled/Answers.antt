@@ -1,6 +1,6 @@
 use Rattle.std.proofs.Common.{◌≡◌, ◌-◌, ◌++◌, ◌∙◌, ap, arith, length, replicate, take, ℕ, ◌*◌}
 use Rattle.std.proofs.lemmas.List.{take-replicate}
-use Rattle.policy_rules.specs.PutKey.{sealed_size}
+use Rattle.policy_machine.specs.PutKey.{sealed_size}
 use Rattle.script_tool.proofs.key_field.filled.Goals as goal
 
 pub returns : goal.returns

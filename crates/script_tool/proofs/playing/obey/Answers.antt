@@ -2,7 +2,7 @@ use Rattle.std.proofs.Common.{[], ◌∷◌}
 use Rattle.script_tool.specs.Play.{playing_control}
 use Rattle.script_tool.specs.Played.{IsPlayed}
 use Rattle.std.proofs.Common.{[], ◌∷◌, refl, subst, sym}
-use Rattle.policy_rules.specs.State.{powered_on}
+use Rattle.policy_machine.specs.State.{powered_on}
 use Rattle.script_tool.proofs.PlayedRules.{ends_here}
 use Rattle.script_tool.specs.Host.{after_reset, with_channel, with_keys, with_tokens}
 use Rattle.script_tool.specs.Printed.{Nothing}

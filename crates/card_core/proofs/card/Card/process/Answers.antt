@@ -1,8 +1,8 @@
 use Rattle.std.proofs.Common.{refl, sym, ap, subst, ◌∙◌}
-use Rattle.policy_rules.proofs.NumbersRisen.{numbers_rise}
-use Rattle.policy_rules.proofs.Opened.{changes_are_opened}
-use Rattle.policy_rules.proofs.TreesStayed.{trees_stay}
-use Rattle.policy_rules.specs.Changes.{Changes}
+use Rattle.policy_machine.proofs.NumbersRisen.{numbers_rise}
+use Rattle.policy_machine.proofs.Opened.{changes_are_opened}
+use Rattle.policy_machine.proofs.TreesStayed.{trees_stay}
+use Rattle.policy_machine.specs.Changes.{Changes}
 use Rattle.load_session.proofs.Loading.{pages_stay_whole}
 use Rattle.load_session.specs.Loaded.{loaded}
 use Rattle.card_core.proofs.LoadsKept.{free_spare}

@@ -7,11 +7,11 @@ use Rattle.card_core.proofs.Deleting.{confirmer_stays, deletion_able, deletion_k
 use Rattle.card_core.proofs.Managing.{confirmed_managed, refused_as}
 use Rattle.card_core.proofs.SomeAdmitted.{some_acts, some_admitted}
 use Rattle.card_types.specs.Represents.{Represents}
-use Rattle.policy_rules.proofs.DeleteObjectLaws.{deletion_judgeable}
-use Rattle.policy_rules.specs.DeleteObject.{IsDelegated, managed_delete_object, without_thing}
+use Rattle.policy_machine.proofs.DeleteObjectLaws.{deletion_judgeable}
+use Rattle.policy_machine.specs.DeleteObject.{IsDelegated, managed_delete_object, without_thing}
 use Rattle.card_core.proofs.FreePages.{files_free, free_twice}
 use Rattle.card_core.proofs.delete_object.DeletionRequestManagedRequest.manage.Goals as goal
-use Rattle.policy_rules.specs.ManagedForm.{command_form}
+use Rattle.policy_machine.specs.ManagedForm.{command_form}
 
 pub judge-requires-clause-short : goal.judge-requires-clause-short
 judge-requires-clause-short g c = omega (arith, c.requires.formed.1.means.short, c.requires.formed.2)

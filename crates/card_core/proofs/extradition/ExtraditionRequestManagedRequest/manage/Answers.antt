@@ -10,16 +10,16 @@ use Rattle.card_types.specs.Privileges.{delegated_management}
 use Rattle.card_types.specs.Represents.{Represents, domain_aid}
 use Rattle.card_types.specs.Slots.{held}
 use Rattle.card_types.specs.declared.tables.Tables.{Tables}
-use Rattle.policy_rules.specs.Delegation.{Holds}
+use Rattle.policy_machine.specs.Delegation.{Holds}
 use Rattle.card_types.specs.Found.{aid_of}
 use Rattle.card_types.specs.RegistryChange.{moved}
 use Rattle.card_types.specs.declared.found.Found.TheVariants.{Entry}
 use Rattle.card_types.specs.declared.tables.Entry.{Entry as Slot}
-use Rattle.policy_rules.proofs.ExtraditionLaws.{extradition_judgeable, moved_of_card}
-use Rattle.policy_rules.specs.Extradition.{domain_of_thing, managed_extradition}
+use Rattle.policy_machine.proofs.ExtraditionLaws.{extradition_judgeable, moved_of_card}
+use Rattle.policy_machine.specs.Extradition.{domain_of_thing, managed_extradition}
 use Rattle.card_core.proofs.FreePages.{files_free, free_twice, moved_free}
 use Rattle.card_core.proofs.extradition.ExtraditionRequestManagedRequest.manage.Goals as goal
-use Rattle.policy_rules.specs.ManagedForm.{command_form}
+use Rattle.policy_machine.specs.ManagedForm.{command_form}
 
 pub judge-requires-clause-short : goal.judge-requires-clause-short
 judge-requires-clause-short g c = omega (arith, c.requires.formed.1.means.short, c.requires.formed.2)

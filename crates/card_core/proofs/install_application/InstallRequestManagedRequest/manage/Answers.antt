@@ -17,13 +17,13 @@ use Rattle.card_types.specs.declared.found.Found.TheVariants.{File}
 use Rattle.card_types.specs.declared.tables.Entry.{Entry}
 use Rattle.card_types.specs.declared.tables.LoadFile.{LoadFile}
 use Rattle.card_types.specs.declared.tables.Tables.{Tables}
-use Rattle.policy_rules.proofs.InstallApplicationAsking.{install_judgeable}
-use Rattle.policy_rules.proofs.InstallApplicationLaws.{made_of_card}
-use Rattle.policy_rules.specs.InstallApplication.{managed_install}
-use Rattle.policy_rules.specs.Delegation.{Holds}
+use Rattle.policy_machine.proofs.InstallApplicationAsking.{install_judgeable}
+use Rattle.policy_machine.proofs.InstallApplicationLaws.{made_of_card}
+use Rattle.policy_machine.specs.InstallApplication.{managed_install}
+use Rattle.policy_machine.specs.Delegation.{Holds}
 use Rattle.registry.specs.Adding.{NoneHas}
 use Rattle.card_core.proofs.install_application.InstallRequestManagedRequest.manage.Goals as goal
-use Rattle.policy_rules.specs.ManagedForm.{command_form}
+use Rattle.policy_machine.specs.ManagedForm.{command_form}
 
 pub judge-requires-clause-short : goal.judge-requires-clause-short
 judge-requires-clause-short g c = omega (arith, c.requires.formed.1.means.short, c.requires.formed.2)

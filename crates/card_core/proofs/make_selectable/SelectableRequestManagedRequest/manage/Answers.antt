@@ -11,12 +11,12 @@ use Rattle.card_types.specs.RegistryChange.{with_life}
 use Rattle.card_types.specs.Represents.{Represents, domain_aid}
 use Rattle.card_types.specs.Slots.{held}
 use Rattle.card_types.specs.declared.tables.Entry.{Entry}
-use Rattle.policy_rules.proofs.MakeSelectableLaws.{selectable_judgeable, selectable_life, selectable_of_card}
-use Rattle.policy_rules.specs.Delegation.{Holds}
-use Rattle.policy_rules.specs.MakeSelectable.{managed_selectable}
+use Rattle.policy_machine.proofs.MakeSelectableLaws.{selectable_judgeable, selectable_life, selectable_of_card}
+use Rattle.policy_machine.specs.Delegation.{Holds}
+use Rattle.policy_machine.specs.MakeSelectable.{managed_selectable}
 use Rattle.policy_rules.specs.MakeSelectableRequests.{IsInstalledWith}
 use Rattle.card_core.proofs.make_selectable.SelectableRequestManagedRequest.manage.Goals as goal
-use Rattle.policy_rules.specs.ManagedForm.{command_form}
+use Rattle.policy_machine.specs.ManagedForm.{command_form}
 
 -- the entry that was found is just installed, and has the AID that is asked for
 found_at : (aid : List ℕ) (entries : List (Option Entry)) (slot : ℕ) → IsInstalledWith aid (held entries slot)

@@ -1,10 +1,10 @@
 use Rattle.std.proofs.Common.{[], ◌∷◌, ◌∙◌, None, Some, ap, inl, inr, length, refl, rules, sym, subst}
 use Rattle.card_types.specs.InOrder.{IsInOrder}
 use Rattle.card_types.specs.Well.{IsKeyLength}
-use Rattle.policy_rules.proofs.FirstJoined.{first_behind, first_within}
-use Rattle.policy_rules.proofs.PutKeyLaws.{put_judged}
+use Rattle.policy_machine.proofs.FirstJoined.{first_behind, first_within}
+use Rattle.policy_machine.proofs.PutKeyLaws.{put_judged}
+use Rattle.policy_machine.specs.PutKeyRules.{key_rules, version_rules}
 use Rattle.policy_rules.specs.Requests.{ActsIn, IsRequestOf, IsWellFormed, sent_key}
-use Rattle.policy_rules.specs.PutKeyRules.{key_rules, version_rules}
 use Rattle.policy_rules.specs.declared.put_key.PutKeys.TheVariants.{One, Three}
 use Rattle.policy_rules.specs.declared.request.Request.TheVariants.{PutKey}
 use Rattle.card_core.proofs.Answered.{entries_selected}
@@ -17,8 +17,8 @@ use Rattle.card_core.proofs.PutKeyTables.{put_cards, puts_lent}
 use Rattle.card_core.specs.SecureChannels.{RepresentsSecureChannel}
 use Rattle.card_core.specs.Offers.{secure_channel_for}
 use Rattle.card_core.proofs.put_key.PutKeyRequestManagedRequest.manage.Goals as goal
-use Rattle.policy_rules.specs.PutKey.{managed_put_key}
-use Rattle.policy_rules.specs.ManagedForm.{command_form}
+use Rattle.policy_machine.specs.PutKey.{managed_put_key}
+use Rattle.policy_machine.specs.ManagedForm.{command_form}
 
 pub returns-in_err-judge_put_versions-clause-done : goal.returns-in_err-judge_put_versions-clause-done
 returns-in_err-judge_put_versions-clause-done g c page admitted acts says channels request holds =

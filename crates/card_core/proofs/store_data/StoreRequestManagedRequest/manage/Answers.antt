@@ -6,9 +6,9 @@ use Rattle.card_types.specs.InOrder.{IsInOrder}
 use Rattle.card_types.specs.Represents.{used}
 use Rattle.card_types.specs.Well.{IsObject}
 use Rattle.card_types.specs.declared.limits.TheConstants.{OBJECTS}
-use Rattle.policy_rules.proofs.StoreDataElements.{elements_behind, none_left}
+use Rattle.policy_machine.proofs.StoreDataElements.{elements_behind, none_left}
+use Rattle.policy_machine.specs.ObjectsFound.{has_object_in, new_tags}
 use Rattle.policy_rules.specs.Requests.{ActsIn}
-use Rattle.policy_rules.specs.ObjectsFound.{has_object_in, new_tags}
 use Rattle.card_core.proofs.Answered.{entries_selected}
 use Rattle.card_core.proofs.Cards.{in_order}
 use Rattle.card_core.proofs.FreePages.{files_free}
@@ -20,15 +20,15 @@ use Rattle.apdu_core.specs.Apdu.{Apdu}
 use Rattle.apdu_core.specs.declared.reply.Status.{Status}
 use Rattle.card_types.specs.Ascending.{object_order}
 use Rattle.card_types.specs.declared.tables.Tables.{Tables}
-use Rattle.policy_rules.specs.Admission.{Admitted}
-use Rattle.policy_rules.specs.Arranged.{IsArranged}
-use Rattle.policy_rules.specs.Commands.{TakesCommand, Judges}
-use Rattle.policy_rules.specs.DataObjects.{with_data, with_objects}
-use Rattle.policy_rules.specs.StoreData.{HasObjects, StoreDataField, managed_store_data}
+use Rattle.policy_machine.specs.Admission.{Admitted}
+use Rattle.policy_machine.specs.Arranged.{IsArranged}
+use Rattle.policy_machine.specs.Commands.{TakesCommand, Judges}
+use Rattle.policy_machine.specs.DataObjects.{with_data, with_objects}
+use Rattle.policy_machine.specs.StoreData.{HasObjects, StoreDataField, managed_store_data}
 use Rattle.card_core.specs.Manages.{IsManaged}
 use Rattle.card_types.specs.Registry as registry
 use Rattle.card_core.proofs.store_data.StoreRequestManagedRequest.manage.Goals as goal
-use Rattle.policy_rules.specs.ManagedForm.{command_form}
+use Rattle.policy_machine.specs.ManagedForm.{command_form}
 
 -- the data objects of a command
 objects_of : (objects : List ℕ) (command : Apdu) → objects ≡ command.body → StoreDataField command.body

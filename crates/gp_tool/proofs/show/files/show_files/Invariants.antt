@@ -3,7 +3,7 @@ use Rattle.std.specs.Option.{option_map}
 use Rattle.card_core.specs.Card.{CardRepresents}
 use Rattle.card_types.specs.Represents.{file_of}
 use Rattle.page_journal.specs.Moments.{LeavesOnly}
-use Rattle.policy_rules.specs.State.{State}
+use Rattle.policy_machine.specs.State.{State}
 use Rattle.rec_store.specs.Reopens.{Reopens, load_page}
 use Rattle.gp_tool.proofs.FilesInOrder.{file_order}
 use Rattle.gp_tool.proofs.Written.{IsWritten}

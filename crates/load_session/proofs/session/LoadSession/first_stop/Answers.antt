@@ -1,7 +1,7 @@
 use Rattle.std.proofs.Common.{◌≡◌, ◌++◌, drop, true, sym, ◌∙◌}
 use Rattle.std.proofs.lemmas.Bool.{false≢true}
 use Rattle.load_session.proofs.Judged.{has_hash, has_room, no_room, other_count, other_hash, same_count, same_hash, some_length, up_to_end}
-use Rattle.policy_rules.specs.LoadBlocks.{Block, HaveHash}
+use Rattle.policy_machine.specs.LoadBlocks.{Block, HaveHash}
 use Rattle.load_session.proofs.session.LoadSession.first_stop.Goals as goal
 use Rattle.load_session.proofs.session.LoadSession.first_stop.Goals.{else-last-via-then-last+else-not-fits, else-last-via-else-last}
 

@@ -8,7 +8,7 @@ use Rattle.load_session.specs.Loaded.{loaded}
 use Rattle.load_session.specs.Paged.{size_of}
 use Rattle.load_session.specs.Session.{RepresentsAfter, RepresentsWhole}
 use Rattle.load_session.specs.declared.session.LoadSession.{LoadSession}
-use Rattle.policy_rules.specs.LoadBlocks.{with_block}
+use Rattle.policy_machine.specs.LoadBlocks.{with_block}
 use Rattle.load_session.proofs.session.LoadSession.take_block.Goals as goal
 
 pub returns-clause-stands : goal.returns-clause-stands

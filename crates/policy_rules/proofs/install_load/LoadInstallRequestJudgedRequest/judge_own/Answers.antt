@@ -1,16 +1,16 @@
 use Rattle.std.proofs.Common.{rules, ℕ, List, [], ◌∷◌, Option, inl, inr, refl, sym, ◌∙◌}
 use Rattle.std.proofs.lemmas.Bool.{iff_false}
+use Rattle.policy_machine.specs.Admission.{Admitted}
+use Rattle.policy_machine.specs.FirstFailing.{IsFirst}
+use Rattle.policy_machine.specs.InstallLoad.{InstallingLoadFails, LoadData, judged_install_load}
+use Rattle.policy_machine.specs.ManagedForm.{OwnFirst}
+use Rattle.policy_machine.specs.declared.install_load.RuleIL.{RuleIL}
+use Rattle.policy_machine.specs.declared.install_load.RuleIL.TheVariants.{IL1, IL2, IL3, IL4, IL5, IL6, IL7}
 use Rattle.policy_rules.proofs.InstallApplicationJudging.{none_found}
 use Rattle.policy_rules.proofs.InstallLoadJudging.{free, full, idle, loading, roomy, taken, within}
 use Rattle.policy_rules.proofs.ThingsFound.{acting_named}
-use Rattle.policy_rules.specs.Admission.{Admitted}
-use Rattle.policy_rules.specs.FirstFailing.{IsFirst}
-use Rattle.policy_rules.specs.InstallLoad.{InstallingLoadFails, LoadData, judged_install_load}
 use Rattle.policy_rules.specs.InstallLoadRequests.{IsLoadInstallOf}
-use Rattle.policy_rules.specs.ManagedForm.{OwnFirst}
 use Rattle.policy_rules.specs.Requests.{ActsIn, IsLoadNamed}
-use Rattle.policy_rules.specs.declared.install_load.RuleIL.{RuleIL}
-use Rattle.policy_rules.specs.declared.install_load.RuleIL.TheVariants.{IL1, IL2, IL3, IL4, IL5, IL6, IL7}
 use Rattle.policy_rules.proofs.install_load.LoadInstallRequestJudgedRequest.judge_own.Goals as goal
 use Rattle.policy_rules.proofs.install_load.LoadInstallRequestJudgedRequest.judge_own.Goals.{After-find, After-first_free, After-is_at_or_above}
 

@@ -4,8 +4,8 @@ use Rattle.card_types.specs.Represents.{domain_slot}
 use Rattle.card_types.specs.Slots.{held}
 use Rattle.domain_tree.proofs.AboveNamed.{free_of_loops}
 use Rattle.domain_tree.specs.Above.{Above}
+use Rattle.policy_machine.specs.declared.make_selectable.RuleMS.TheVariants.{MS1, MS2, MS3, MS4, MS5}
 use Rattle.policy_rules.proofs.MakeSelectableJudging.{elsewhere_first, other_life_first, others_first, own_passes, unknown_first, unmanaged_first}
-use Rattle.policy_rules.specs.declared.make_selectable.RuleMS.TheVariants.{MS1, MS2, MS3, MS4, MS5}
 use Rattle.policy_rules.proofs.make_selectable.SelectableRequestJudgedRequest.judge_own.Goals as goal
 use Rattle.policy_rules.proofs.make_selectable.SelectableRequestJudgedRequest.judge_own.Goals.{After-is_just_installed}
 

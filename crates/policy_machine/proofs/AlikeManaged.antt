@@ -1,0 +1,181 @@
+-- The forms of card content management: their rules fail of both of two commands that are alike, or of neither.
+use Rattle.std.proofs.Common.{◌≡◌, ◌⊎◌, ℕ, List, Option, None, Some, inl, inr, subst}
+use Rattle.std.specs.Prelude.{MatchOption}
+use Rattle.bertlv.specs.Spelling.{Element}
+use Rattle.card_types.specs.Privileges.{delegated_management}
+use Rattle.policy_machine.specs.Admission.{Admitted}
+use Rattle.policy_machine.specs.CardStatus.{SettingCardFails, managed_card_status}
+use Rattle.policy_machine.specs.Delegation.{Holds}
+use Rattle.policy_machine.specs.DeleteKey.{DeletingKeyFails, KeyChosen, managed_delete_key}
+use Rattle.policy_machine.specs.DeleteObject.{ComesFrom, DeletingFails, DeletionAsked, HasOthers, IsDelegated, IsInUse, IsLoadedInto, IsToGo, managed_delete_object}
+use Rattle.policy_machine.specs.EntryStatus.{PersonalizesItself, SettingStatusFails, managed_entry_status}
+use Rattle.policy_machine.specs.Extradition.{ExtraditingFails, managed_extradition}
+use Rattle.policy_machine.specs.InstallApplication.{InstallAsked, InstallingFails, managed_install}
+use Rattle.policy_machine.specs.InstallFields.{InstallData}
+use Rattle.policy_machine.specs.InstallLoad.{InstallingLoadFails, LoadData, install_load, judged_install_load}
+use Rattle.policy_machine.specs.MakeSelectable.{MakingSelectableFails, managed_selectable}
+use Rattle.policy_machine.specs.ManagedForm.{AskedFails, CommandAsks, JudgedFails, JudgedForm, command_form}
+use Rattle.policy_machine.specs.OwnRules.{selection_of}
+use Rattle.policy_machine.specs.StoreData.{StoringFails, managed_store_data}
+use Rattle.policy_machine.specs.Volatile.{Channel, channel_at}
+use Rattle.policy_machine.specs.declared.card_status.RuleSC.{RuleSC}
+use Rattle.policy_machine.specs.declared.card_status.RuleSC.TheVariants.{SC1, SC2}
+use Rattle.policy_machine.specs.declared.delete_key.RuleDK.{RuleDK}
+use Rattle.policy_machine.specs.declared.delete_key.RuleDK.TheVariants.{DK1, DK2}
+use Rattle.policy_machine.specs.declared.delete_object.RuleDO.{RuleDO}
+use Rattle.policy_machine.specs.declared.delete_object.RuleDO.TheVariants.{DO1, DO2, DO3, DO4}
+use Rattle.policy_machine.specs.declared.entry_status.RuleSS.{RuleSS}
+use Rattle.policy_machine.specs.declared.entry_status.RuleSS.TheVariants.{SS1, SS2, SS3, SS4}
+use Rattle.policy_machine.specs.declared.extradition.RuleEX.{RuleEX}
+use Rattle.policy_machine.specs.declared.extradition.RuleEX.TheVariants.{EX1, EX2, EX3, EX4, EX5, EX6, EX7}
+use Rattle.policy_machine.specs.declared.install_application.RuleII.{RuleII}
+use Rattle.policy_machine.specs.declared.install_application.RuleII.TheVariants.{II1, II2, II3, II4, II5, II6, II7}
+use Rattle.policy_machine.specs.declared.install_load.RuleIL.{RuleIL}
+use Rattle.policy_machine.specs.declared.install_load.RuleIL.TheVariants.{IL1, IL2, IL3, IL4, IL5, IL6, IL7}
+use Rattle.policy_machine.specs.declared.make_selectable.RuleMS.{RuleMS}
+use Rattle.policy_machine.specs.declared.make_selectable.RuleMS.TheVariants.{MS1, MS2, MS3, MS4, MS5}
+use Rattle.policy_machine.specs.declared.rule.Rule.{Rule}
+use Rattle.policy_machine.specs.declared.rule.Rule.TheVariants.{M, RC, TK}
+use Rattle.policy_machine.specs.declared.store_data.RuleSD.{RuleSD}
+use Rattle.policy_machine.specs.declared.store_data.RuleSD.TheVariants.{SD1}
+use Rattle.policy_machine.proofs.Alike.{IsAlike, IsAlikeForm, LooksAtSeen, by_seen, management_alike, receipt_alike, same_selection, token_alike, unchanged}
+
+-- What these forms share: their rules do so where both commands are delegated or neither, and where the rules of the form's own do so
+-- for each thing that is asked.
+module _ (form : JudgedForm) (delegated : IsAlike form.delegation.is_delegated)
+    (own : (asked : form.Asked) (rule : form.Own) → IsAlike (λ x. form.fails x asked rule)) where
+  asked_alike : (asked : form.Asked) (rule : Rule) → IsAlike (λ x. AskedFails form x asked rule)
+  asked_alike asked (TK rule) a b alike fails = (delegated a b alike fails.0, token_alike (form.delegation.approval asked) rule a b alike fails.1)
+  asked_alike asked (RC rule) a b alike fails = (delegated a b alike fails.0, receipt_alike rule a b alike fails.1)
+  asked_alike asked rule a b alike fails = (fails.0, fails.1, own asked fails.0 a b alike fails.2)
+
+  asks_alike : (asked : form.Asked) → IsAlike (λ x. CommandAsks form x asked)
+  asks_alike asked = by_seen (λ x. CommandAsks form x asked) (λ x. unchanged)
+
+  pub judged_alike : (rule : Rule) → IsAlike (λ x. JudgedFails form x rule)
+  judged_alike (M rule) a b alike fails = management_alike rule a b alike fails
+  judged_alike rule a b alike fails = (fails.0, asks_alike fails.0 a b alike fails.1, asked_alike fails.0 rule a b alike fails.2)
+
+-- commands of domains with Delegated Management are delegated, or none is
+held : IsAlike (λ x. Holds x delegated_management)
+held = by_seen (λ x. Holds x delegated_management) (λ x. unchanged)
+
+nobody : IsAlike (λ x. ⊥)
+nobody a b alike is = is
+
+storing_looks : (asked : List Element) (rule : RuleSD) → LooksAtSeen (λ x. StoringFails x asked rule)
+storing_looks asked SD1 a = unchanged
+
+pub store_data_alike : IsAlikeForm (command_form managed_store_data)
+store_data_alike = judged_alike managed_store_data.judged nobody (λ asked rule. by_seen (λ x. StoringFails x asked rule) (storing_looks asked rule))
+
+deleting_key_looks : (asked : KeyChosen) (rule : RuleDK) → LooksAtSeen (λ x. DeletingKeyFails x asked rule)
+deleting_key_looks asked DK1 a = unchanged
+deleting_key_looks asked DK2 a = unchanged
+
+pub delete_key_alike : IsAlikeForm (command_form managed_delete_key)
+delete_key_alike = judged_alike managed_delete_key.judged nobody (λ asked rule. by_seen (λ x. DeletingKeyFails x asked rule) (deleting_key_looks asked rule))
+
+installing_looks : (asked : InstallAsked) (rule : RuleII) → LooksAtSeen (λ x. InstallingFails x asked rule)
+installing_looks asked II1 a = unchanged
+installing_looks asked II2 a = unchanged
+installing_looks asked II3 a = unchanged
+installing_looks asked II4 a = unchanged
+installing_looks asked II5 a = unchanged
+installing_looks asked II6 a = unchanged
+installing_looks asked II7 a = unchanged
+
+pub install_alike : IsAlikeForm (command_form managed_install)
+install_alike = judged_alike managed_install.judged held (λ asked rule. by_seen (λ x. InstallingFails x asked rule) (installing_looks asked rule))
+
+installing_load_looks : (asked : LoadData) (rule : RuleIL) → LooksAtSeen (λ x. InstallingLoadFails x asked rule)
+installing_load_looks asked IL1 a = unchanged
+installing_load_looks asked IL2 a = unchanged
+installing_load_looks asked IL3 a = unchanged
+installing_load_looks asked IL4 a = unchanged
+installing_load_looks asked IL5 a = unchanged
+installing_load_looks asked IL6 a = unchanged
+installing_load_looks asked IL7 a = unchanged
+
+pub install_load_alike : IsAlikeForm install_load
+install_load_alike = judged_alike judged_install_load held (λ asked rule. by_seen (λ x. InstallingLoadFails x asked rule) (installing_load_looks asked rule))
+
+making_selectable_looks : (asked : InstallData) (rule : RuleMS) → LooksAtSeen (λ x. MakingSelectableFails x asked rule)
+making_selectable_looks asked MS1 a = unchanged
+making_selectable_looks asked MS2 a = unchanged
+making_selectable_looks asked MS3 a = unchanged
+making_selectable_looks asked MS4 a = unchanged
+making_selectable_looks asked MS5 a = unchanged
+
+pub selectable_alike : IsAlikeForm (command_form managed_selectable)
+selectable_alike =
+    judged_alike managed_selectable.judged held (λ asked rule. by_seen (λ x. MakingSelectableFails x asked rule) (making_selectable_looks asked rule))
+
+extraditing_looks : (asked : InstallData) (rule : RuleEX) → LooksAtSeen (λ x. ExtraditingFails x asked rule)
+extraditing_looks asked EX1 a = unchanged
+extraditing_looks asked EX2 a = unchanged
+extraditing_looks asked EX3 a = unchanged
+extraditing_looks asked EX4 a = unchanged
+extraditing_looks asked EX5 a = unchanged
+extraditing_looks asked EX6 a = unchanged
+extraditing_looks asked EX7 a = unchanged
+
+pub extradition_alike : IsAlikeForm (command_form managed_extradition)
+extradition_alike = judged_alike managed_extradition.judged held (λ asked rule. by_seen (λ x. ExtraditingFails x asked rule) (extraditing_looks asked rule))
+
+setting_card_looks : (rule : RuleSC) → LooksAtSeen (λ x. SettingCardFails x rule)
+setting_card_looks SC1 a = unchanged
+setting_card_looks SC2 a = unchanged
+
+pub card_status_alike : IsAlikeForm (command_form managed_card_status)
+card_status_alike = judged_alike managed_card_status.judged nobody (λ asked rule. by_seen (λ x. SettingCardFails x rule) (setting_card_looks rule))
+
+itself_looks : LooksAtSeen PersonalizesItself
+itself_looks a = (
+  (λ is. record { itself = is.itself; one = is.one; code = is.code }),
+  (λ is. record { itself = is.itself; one = is.one; code = is.code }),
+)
+
+setting_status_looks : (rule : RuleSS) → LooksAtSeen (λ x. SettingStatusFails x rule)
+setting_status_looks SS1 a = unchanged
+setting_status_looks SS2 a = unchanged
+setting_status_looks SS3 a = (
+  (λ fails. (fails.0, fails.1, (λ is. fails.2 ((itself_looks a).1 is)))),
+  (λ fails. (fails.0, fails.1, (λ is. fails.2 ((itself_looks a).0 is)))),
+)
+setting_status_looks SS4 a = unchanged
+
+pub entry_status_alike : IsAlikeForm (command_form managed_entry_status)
+entry_status_alike = judged_alike managed_entry_status.judged nobody (λ asked rule. by_seen (λ x. SettingStatusFails x rule) (setting_status_looks rule))
+
+-- whether an AID is selected on a channel, by what is selected there
+on_channel : (aid : List ℕ) (channel : Option Channel)
+    → (MatchOption channel ⊥ (λ opened. opened.selected ≡ aid) → MatchOption (selection_of channel) ⊥ (λ one. one ≡ aid))
+    × (MatchOption (selection_of channel) ⊥ (λ one. one ≡ aid) → MatchOption channel ⊥ (λ opened. opened.selected ≡ aid))
+on_channel aid None = unchanged
+on_channel aid (Some channel) = unchanged
+
+in_use_alike : (aid : List ℕ) → IsAlike (λ x. IsInUse x aid)
+in_use_alike aid a b alike (inl (number, here)) =
+    let there = (on_channel aid (channel_at a.at.volatile number)).0 here in
+    let same = subst (λ (one : Option (List ℕ)). MatchOption one ⊥ (λ other. other ≡ aid)) (same_selection a b alike number) there in
+    inl (number, (on_channel aid (channel_at b.at.volatile number)).1 same)
+in_use_alike aid a b alike (inr other) =
+    inr (by_seen (λ x. IsLoadedInto x.at.volatile aid ⊎ HasOthers x.at.registry aid) (λ x. unchanged) a b alike other)
+
+to_go_alike : (thing aid : List ℕ) → IsAlike (λ x. IsToGo x thing aid)
+to_go_alike thing aid = by_seen (λ x. IsToGo x thing aid) (λ x. unchanged)
+
+-- something comes from the Executable Load File, which is to go alone
+abbrev LeavesOthers : Admitted → List ℕ → Type 0
+LeavesOthers x thing = (x.command.p2 ≡ 0x00) × ((aid : List ℕ) × ComesFrom x.at.registry thing aid)
+
+deleting_alike : (asked : DeletionAsked) (rule : RuleDO) → IsAlike (λ x. DeletingFails x asked rule)
+deleting_alike asked DO1 a b alike fails = by_seen (λ x. DeletingFails x asked DO1) (λ x. unchanged) a b alike fails
+deleting_alike asked DO2 a b alike fails = by_seen (λ x. DeletingFails x asked DO2) (λ x. unchanged) a b alike fails
+deleting_alike asked DO3 a b alike fails = by_seen (λ x. DeletingFails x asked DO3) (λ x. unchanged) a b alike fails
+deleting_alike asked DO4 a b alike (inl (aid, goes, used)) = inl (aid, to_go_alike asked.aid aid a b alike goes, in_use_alike aid a b alike used)
+deleting_alike asked DO4 a b alike (inr leaves) = inr (by_seen (λ x. LeavesOthers x asked.aid) (λ x. unchanged) a b alike leaves)
+
+pub deletion_alike : IsAlikeForm (command_form managed_delete_object)
+deletion_alike = judged_alike managed_delete_object.judged (by_seen IsDelegated (λ x. unchanged)) deleting_alike

@@ -1,0 +1,89 @@
+-- The laws of GET STATUS.
+use Rattle.std.proofs.Common.{ap, ◌≡◌, ℕ, ◌<◌, List, [], ◌∷◌, ◌++◌, Option, None, Some, refl, sym, subst, ◌∙◌, arith, inl}
+use Rattle.std.specs.Prelude.{IsSome, MatchOption}
+use Rattle.card_types.specs.Registry.{Registry}
+use Rattle.policy_machine.specs.Admission.{Admitted}
+use Rattle.policy_machine.specs.GetStatus.{AreTemplates, GetStatusEffect, IsFullFor, IsLeftAt, Thing, channel_at_place, get_status, with_place}
+use Rattle.policy_machine.specs.Sound.{Fits, IsSecured, IsSound, IsWellChannel}
+use Rattle.policy_machine.specs.State.{Effect}
+use Rattle.policy_machine.specs.Volatile.{Channel, Place, Volatile, channel_at}
+use Rattle.policy_machine.proofs.Lawful.{IsLawful, IsReady, same_as, sound_with, LoadStays}
+use Rattle.policy_machine.proofs.SameEffect.{effect_same, state_same}
+use Rattle.policy_machine.proofs.SecureChannelSet.{within}
+use Rattle.policy_machine.proofs.SetChannel.{set_fits}
+use Rattle.policy_machine.proofs.GetStatusParts.{IsFullBehind, one_listing, one_part, one_templates}
+
+abbrev HasSecured : Option Channel → Type 0
+HasSecured channel = MatchOption channel ⊥ (λ opened. IsSecured opened.secure_channel)
+
+-- a channel has what it had, with another place
+well_placed : (registry : Registry) (place : Place) (channel : Option Channel) → MatchOption channel (Unit {0}) (IsWellChannel registry)
+    → MatchOption (channel_at_place place channel) (Unit {0}) (IsWellChannel registry)
+well_placed registry place None well = tt
+well_placed registry place (Some channel) well = record { selected = well.selected; secure_channel = well.secure_channel }
+
+open_placed : (place : Place) (channel : Option Channel) → IsSome channel → IsSome (channel_at_place place channel)
+open_placed place None opened = opened
+open_placed place (Some channel) opened = refl
+
+secured_placed : (place : Place) (channel : Option Channel) → HasSecured channel → HasSecured (channel_at_place place channel)
+secured_placed place None has = has
+secured_placed place (Some channel) has = has
+
+place_fits : (registry : Registry) (volatile : Volatile) (number : ℕ) (place : Place) → Fits registry volatile → number < 4
+    → Fits registry (with_place volatile number place)
+place_fits registry volatile number place fits low =
+    set_fits registry volatile number (channel_at_place place (channel_at volatile number)) fits (within registry volatile number fits low)
+    (well_placed registry place (channel_at volatile number) (fits.each number))
+    (λ first. open_placed place (channel_at volatile number) (subst (λ (n : ℕ). IsSome (channel_at volatile n)) (sym first) fits.basic))
+    (secured_placed place (channel_at volatile number))
+
+left_fits : (admitted : Admitted) (done : Effect) (shown left : List Thing) → Fits admitted.at.registry admitted.at.volatile → admitted.channel < 4
+    → IsLeftAt admitted done shown left → Fits admitted.at.registry done.state.volatile
+left_fits admitted done shown [] fits low is = subst (Fits admitted.at.registry) (sym is.0) fits
+left_fits admitted done shown (next ∷ left) fits low is =
+    subst (Fits admitted.at.registry) (sym is.0) (place_fits admitted.at.registry admitted.at.volatile admitted.channel _ fits low)
+
+listing_keeps : (admitted : Admitted) (done : Effect) → IsReady admitted → GetStatusEffect admitted done → IsSound done.state
+listing_keeps admitted done ready does =
+    sound_with admitted.at done.state ready.sound does.registry
+    (left_fits admitted done does.shown does.left ready.sound.fits ready.low does.left_at)
+
+-- it says the same of what is left
+left_one : (admitted : Admitted) (a b : Effect) (shown left : List Thing) → IsLeftAt admitted a shown left → IsLeftAt admitted b shown left
+    → (a.state.volatile ≡ b.state.volatile) × (a.status ≡ b.status)
+left_one admitted a b shown [] one other = (one.0 ∙ sym other.0, one.1 ∙ sym other.1)
+left_one admitted a b shown (next ∷ left) one other = (one.0 ∙ sym other.0, one.1 ∙ sym other.1)
+
+-- a place is all that GET STATUS sets
+left_loads : (admitted : Admitted) (done : Effect) (shown left : List Thing) → IsLeftAt admitted done shown left → LoadStays admitted.at.volatile done.state.volatile
+left_loads admitted done shown [] at = inl (ap (λ (v : Volatile). v.load) at.0)
+left_loads admitted done shown (next ∷ left) at = inl (ap (λ (v : Volatile). v.load) at.0)
+
+full_from_first : (registry : Registry) (p1 : ℕ) (left : List Thing) (bytes : List ℕ) → IsFullFor registry p1 left bytes → IsFullBehind registry p1 0 left bytes
+full_from_first registry p1 [] bytes full = tt
+full_from_first registry p1 (next ∷ left) bytes (template, is, above) = (template, is, omega (arith, above))
+
+listing_one : (admitted : Admitted) (a b : Effect) → GetStatusEffect admitted a → GetStatusEffect admitted b → a ≡ b
+listing_one admitted a b one other =
+    let registry = admitted.at.registry in
+    let p1 = admitted.command.p1 in
+    let whole = one_listing admitted (one.shown ++ one.left) (other.shown ++ other.left) one.listing other.listing in
+    let parts = one_part registry p1 0 one.shown one.left other.shown other.left a.body b.body whole one.body other.body (omega (arith, one.fits)) (omega (arith, other.fits))
+    (full_from_first registry p1 one.left a.body one.full) (full_from_first registry p1 other.left b.body other.full) in
+    let body = one_templates registry p1 other.shown a.body b.body
+    (subst (λ (things : List Thing). AreTemplates registry p1 things a.body) parts.0 one.body) other.body in
+    let here : IsLeftAt admitted a other.shown other.left
+    = subst (λ (things : List Thing). IsLeftAt admitted a things other.left) parts.0
+    (subst (λ (things : List Thing). IsLeftAt admitted a one.shown things) parts.1 one.left_at) in
+    let same = left_one admitted a b other.shown other.left here other.left_at in
+    effect_same a b (state_same a.state b.state (one.registry ∙ sym other.registry) same.0) body same.1
+
+pub get_status_lawful : IsLawful get_status
+get_status_lawful = record {
+  keeps = λ admitted done ready judges does. listing_keeps admitted done ready does;
+  one = listing_one;
+  quiet = λ unmanaged admitted done does. same_as admitted.at.registry done.state.registry does.registry;
+  without_place = λ other admitted done none does. absurd (other refl);
+  loads_stay = λ admitted done takes other does. left_loads admitted done does.shown does.left does.left_at;
+}

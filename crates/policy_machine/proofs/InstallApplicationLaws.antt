@@ -1,0 +1,198 @@
+-- The laws of INSTALL [for install].
+use Rattle.std.proofs.Common.{◌≡◌, ◌≢◌, inl, inr, ℕ, List, ◌∷◌, Bool, true, false, ◌&&◌, Option, None, Some, length, refl, sym, ap, subst, ◌∙◌, arith, if◌then◌else◌}
+use Rattle.std.specs.Prelude.{Contains, IsSome, MatchOption, ◌==◌}
+use Rattle.std.proofs.lemmas.Bool.{cases_Bool, cases_lt}
+use Rattle.std.proofs.lemmas.Bool.Decides.{eqb_tells}
+use Rattle.std.proofs.lemmas.List.Sorted.{IsPermutation-sym, IsPermutation-trans}
+use Rattle.std.proofs.lemmas.Cmp.{nat_list_cmp_total, on_total}
+use Rattle.std.specs.Int.RustNames.{bit_and}
+use Rattle.card_types.proofs.AddedThing.{entry_added_keeps}
+use Rattle.card_types.proofs.ChangeExists.{one_order}
+use Rattle.card_types.proofs.NamedThings.{beside_found, still_found}
+use Rattle.card_types.proofs.SameAid.{same_aid_decides}
+use Rattle.card_types.specs.AidOrder.{aid_order, same_aid}
+use Rattle.card_types.specs.ChangeLaws.{IsOfCard, MayAddEntry}
+use Rattle.card_types.specs.Privileges.{authorized_management, bits_of, delegated_management, has}
+use Rattle.card_types.specs.Registry.{Entry, Registry, entry_named, file_named, is_domain}
+use Rattle.card_types.specs.RegistryChange.{IsEntryAdded}
+use Rattle.card_types.specs.Well.{IsDomainNamed, IsProperEntry, has_domain_privilege, has_life}
+use Rattle.card_types.specs.declared.factory.TheConstants.{FACTORY_FILE, FACTORY_MODULE}
+use Rattle.card_types.specs.declared.life.Life.TheVariants.{Installed, Selectable}
+use Rattle.card_types.specs.declared.limits.TheConstants.{ENTRIES}
+use Rattle.policy_machine.proofs.FitsKept.{KeepsThings, fits_kept, load_unnamed}
+use Rattle.policy_machine.specs.Admission.{Admitted}
+use Rattle.policy_machine.specs.FirstFailing.{IsFirst}
+use Rattle.policy_machine.specs.InstallApplication.{AsksToInstall, InstallAsked, InstallingFails, MayBeMade, entry_made, managed_install, refused_privileges}
+use Rattle.policy_machine.specs.Management.{acting}
+use Rattle.policy_machine.specs.Volatile.{LoadSession}
+use Rattle.policy_machine.specs.declared.install_application.RuleII.{RuleII}
+use Rattle.policy_machine.specs.declared.install_application.RuleII.TheVariants.{II1, II2, II3, II4, II5, II6, II7}
+use Rattle.policy_machine.proofs.InstallApplicationAsking.{install_judgeable}
+use Rattle.policy_machine.proofs.ManagedJudging.{own_pass}
+use Rattle.policy_machine.proofs.ManagedLawful.{IsManagedLawful, IsPassedFor, MayFollow, receipt_judged}
+use Rattle.policy_machine.specs.ManagedForm.{command_form}
+
+-- what can't be otherwise is so
+bool_stable : (a b : Bool) → ((a ≡ b → ⊥) → ⊥) → a ≡ b
+bool_stable true true other = refl
+bool_stable false false other = refl
+bool_stable true false other = absurd (other (λ is. cc))
+bool_stable false true other = absurd (other (λ is. cc))
+
+number_stable : (a b : ℕ) → ((a ≡ b → ⊥) → ⊥) → a ≡ b
+number_stable a b other = elim (eqb_tells a b) [
+  | inl same ↦ same.1
+  | inr differs ↦ absurd (other differs.1)
+]
+
+implied_stable : (a b : Bool) → (((a ≡ true → b ≡ true) → ⊥) → ⊥) → a ≡ true → b ≡ true
+implied_stable a b other is = bool_stable b true (λ differs. other (λ so. differs (so is)))
+
+made_stable : (entry : Entry) → ((MayBeMade entry → ⊥) → ⊥) → MayBeMade entry
+made_stable entry other = record {
+  kind = bool_stable (is_domain entry) (same_aid entry.file FACTORY_FILE) (λ differs. other (λ may. differs may.kind));
+  domain_privileges = implied_stable (has_domain_privilege entry) (is_domain entry) (λ differs. other (λ may. differs may.domain_privileges));
+  one_management = bool_stable (has authorized_management entry.privileges && has delegated_management entry.privileges) false (λ differs. other (λ may. differs may.one_management));
+  none_refused = number_stable (bit_and (bits_of entry.privileges) refused_privileges) 0 (λ differs. other (λ may. differs may.none_refused));
+}
+
+none_of : {A : Type 0} (o : Option A) → (IsSome o → ⊥) → o ≡ None
+none_of None without = refl
+none_of (Some x) without = absurd (without refl)
+
+some_of : {A : Type 0} (o : Option A) → (o ≡ None → ⊥) → IsSome o
+some_of None missing = absurd (missing refl)
+some_of (Some x) missing = refl
+
+aid_stable : (a b : List ℕ) → (a ≢ b → ⊥) → a ≡ b
+aid_stable a b other = elim (cases_Bool (same_aid a b)) [
+  | inl same ↦ (same_aid_decides a b).0 same
+  | inr differs ↦ absurd (other (λ is. (let clash = sym ((same_aid_decides a b).1 is) ∙ differs in cc)))
+]
+
+module _ (admitted : Admitted) (asked : InstallAsked) (passes : (rule : RuleII) → InstallingFails admitted asked rule → ⊥) where
+  abbrev made : Entry
+  made = entry_made admitted asked
+
+  life_fits : (b domain : Bool) → has_life domain (if b then Selectable else Installed) ≡ true
+  life_fits true domain = refl
+  life_fits false domain = refl
+
+  is_made : MayBeMade made
+  is_made = made_stable made (passes II5)
+
+  is_proper : AsksToInstall admitted.command.body asked → IsProperEntry made
+  is_proper asks = record {
+    aid = asks.aid;
+    module_ = asks.module_;
+    kind = is_made.kind;
+    domain_module = λ is.
+        aid_stable asked.given.second FACTORY_MODULE (λ other.
+        passes II2 (inr ((same_aid_decides asked.given.first FACTORY_FILE).0 (sym is_made.kind ∙ is), other)));
+    life = life_fits (admitted.command.p1 == 0x0C) (is_domain made);
+    named_privileges = asks.privileges.named;
+    domain_privileges = is_made.domain_privileges;
+    one_management = is_made.one_management;
+    receipts = omega arith;
+  }
+
+  -- it may be added
+  pub may_be_added : AsksToInstall admitted.command.body asked → IsDomainNamed admitted.at.registry (acting admitted) → MayAddEntry admitted.at.registry made
+  may_be_added asks domain = record {
+    free = record {
+      no_entry = none_of (entry_named admitted.at.registry asked.given.third) (λ there. passes II4 (inl there));
+      no_file = none_of (file_named admitted.at.registry asked.given.third) (λ there. passes II4 (inr (inl there)));
+    };
+    room = (elim (cases_lt (length admitted.at.registry.entries) ENTRIES) [ inl below ↦ below | inr above ↦ absurd (passes II7 above) ]);
+    proper = is_proper asks;
+    domain = domain;
+    loaded = some_of (file_named admitted.at.registry asked.given.first) (λ none. passes II2 (inl none));
+  }
+
+  module _ (of : IsOfCard admitted.at.registry) (asks : AsksToInstall admitted.command.body asked) (domain : IsDomainNamed admitted.at.registry (acting admitted))
+      (changed : Registry) (added : IsEntryAdded made admitted.at.registry changed) where
+    pub added_keeps_things : KeepsThings admitted.at.registry changed
+    added_keeps_things =
+        let free = (may_be_added asks domain).free.no_entry in
+        let same = added.same in
+        record {
+          entries = λ aid some.
+              some_matched (entry_named changed aid)
+              (subst (λ (r : Registry). MatchOption (entry_named r aid) ⊥ (λ e. Unit {0})) (sym same)
+              (still_found (λ (e : Entry). e.aid) made admitted.at.registry.entries changed.entries of.ascending.entries added.entries free (λ e. Unit {0}) aid
+              (matched_some (entry_named admitted.at.registry aid) some)));
+          domains = λ aid is.
+              subst (λ (r : Registry). IsDomainNamed r aid) (sym same)
+              (still_found (λ (e : Entry). e.aid) made admitted.at.registry.entries changed.entries of.ascending.entries added.entries free (λ e. is_domain e ≡ true) aid is);
+          files = ap (λ (r : Registry). r.files) same;
+        }
+      where
+        matched_some : (o : Option Entry) → IsSome o → MatchOption o ⊥ (λ e. Unit {0})
+        matched_some None some = cc
+        matched_some (Some e) some = tt
+
+        some_matched : (o : Option Entry) → MatchOption o ⊥ (λ e. Unit {0}) → IsSome o
+        some_matched None is = absurd is
+        some_matched (Some e) is = refl
+
+    -- the AID of the load session is another
+    pub load_free : (load : Option LoadSession) → (MatchOption load ⊥ (λ l. l.aid ≡ asked.given.third) → ⊥)
+        → MatchOption load (Unit {0}) (λ l. entry_named admitted.at.registry l.aid ≡ None) → MatchOption load (Unit {0}) (λ l. entry_named changed l.aid ≡ None)
+    load_free None other free = tt
+    load_free (Some l) other free =
+        subst (λ (r : Registry). entry_named r l.aid ≡ None) (sym added.same)
+        (beside_found (λ (e : Entry). e.aid) made admitted.at.registry.entries changed.entries of.ascending.entries added.entries l.aid (λ same. other (sym same)) ∙ free)
+
+-- each of its own rules passes
+pub passing : (admitted : Admitted) (asked : InstallAsked) → ((rule : RuleII) → Contains managed_install.judged.own_rules rule → InstallingFails admitted asked rule → ⊥)
+    → (rule : RuleII) → InstallingFails admitted asked rule → ⊥
+passing admitted asked own rule = own rule (among rule)
+  where
+    among : (rule : RuleII) → Contains managed_install.judged.own_rules rule
+    among II1 = (0, omega arith, refl)
+    among II2 = (1, omega arith, refl)
+    among II3 = (2, omega arith, refl)
+    among II4 = (3, omega arith, refl)
+    among II5 = (4, omega arith, refl)
+    among II6 = (5, omega arith, refl)
+    among II7 = (6, omega arith, refl)
+
+-- the registry with the entry is one that a card may have
+pub made_of_card : (admitted : Admitted) (asked : InstallAsked) → AsksToInstall admitted.command.body asked → IsOfCard admitted.at.registry
+    → IsDomainNamed admitted.at.registry (acting admitted) → IsFirst ((command_form managed_install).fails admitted) (command_form managed_install).rules None → (changed : Registry)
+    → IsEntryAdded (entry_made admitted asked) admitted.at.registry changed → IsOfCard changed
+made_of_card admitted asked asks of domain first changed added =
+    entry_added_keeps (entry_made admitted asked) admitted.at.registry changed of
+    (may_be_added admitted asked (passing admitted asked (own_pass managed_install.judged install_judgeable admitted asked asks first)) asks domain) added
+
+-- it leaves a card sound
+install_keeps : (admitted : Admitted) (asked : InstallAsked) (changed : Registry) → IsPassedFor managed_install.judged admitted asked
+    → IsEntryAdded (entry_made admitted asked) admitted.at.registry changed → MayFollow admitted changed
+install_keeps admitted asked changed passed added =
+    let registry = admitted.at.registry in
+    let of : IsOfCard registry = record { well = passed.sound.well; ascending = passed.sound.ascending } in
+    let passes = passing admitted asked passed.own in
+    let free = load_free admitted asked passes of passed.asks passed.domain changed added admitted.at.volatile.load (λ loading. passes II4 (inr (inr loading)))
+    (load_unnamed registry admitted.at.volatile admitted.at.volatile.load passed.sound.fits.load) in
+    record {
+      of = entry_added_keeps (entry_made admitted asked) registry changed of (may_be_added admitted asked passes passed.asks passed.domain) added;
+      fits = fits_kept registry changed (added_keeps_things admitted asked passes of passed.asks passed.domain changed added) admitted.at.volatile free passed.sound.fits;
+    }
+
+-- there is one registry with the entry
+install_one : (admitted : Admitted) (asked : InstallAsked) (a b : Registry) → AsksToInstall admitted.command.body asked
+    → IsEntryAdded (entry_made admitted asked) admitted.at.registry a → IsEntryAdded (entry_made admitted asked) admitted.at.registry b → a ≡ b
+install_one admitted asked a b asks one other =
+    let made = entry_made admitted asked ∷ admitted.at.registry.entries in
+    let entries : a.entries ≡ b.entries =
+    one_order (λ (x y : Entry). aid_order x.aid y.aid) (on_total (λ (e : Entry). e.aid) nat_list_cmp_total) a.entries b.entries one.entries.ascending other.entries.ascending
+    (IsPermutation-trans a.entries made b.entries (IsPermutation-sym made a.entries one.entries.same) other.entries.same) in
+    one.same ∙ ap (λ (es : List Entry). record admitted.at.registry { entries = es }) entries ∙ sym other.same
+
+pub managed_install_lawful : IsManagedLawful managed_install
+managed_install_lawful = record {
+  judgeable = install_judgeable;
+  receipted = λ admitted delegated. receipt_judged;
+  keeps = install_keeps;
+  one = install_one;
+}

@@ -1,0 +1,41 @@
+-- The forms of INSTALL: P1 tells which one takes a command.
+use Rattle.std.proofs.Common.{◌≡◌, ℕ, List, [], ◌∷◌, false, refl, sym, ◌∙◌, inl, inr, arith}
+use Rattle.std.specs.Prelude.{Contains, ◌==◌}
+use Rattle.std.proofs.lemmas.Bool.{eqb-false}
+use Rattle.policy_machine.specs.Classes.{managing}
+use Rattle.policy_machine.specs.CommandForm.{CommandForm}
+use Rattle.policy_machine.specs.Commands.{OneOf, Takes}
+use Rattle.policy_machine.specs.Extradition.{managed_extradition}
+use Rattle.policy_machine.specs.InstallApplication.{managed_install}
+use Rattle.policy_machine.specs.InstallLoad.{install_load}
+use Rattle.policy_machine.specs.MakeSelectable.{managed_selectable}
+use Rattle.policy_machine.specs.ManagedForm.{command_form}
+
+-- none of the forms takes a command that this one takes
+abbrev pub AreApart : CommandForm → List CommandForm → Type 0
+AreApart form forms = (ins p1 p2 : ℕ) (body : List ℕ) → Takes form ins p1 p2 body → OneOf (λ other. Takes other ins p1 p2 body) forms → ⊥
+
+pub managed : Contains managing 0xE6
+managed = (3, omega arith, refl)
+
+-- a P1 is one byte
+not_both : (p1 a b : ℕ) → (a == b) ≡ false → p1 ≡ a → p1 ≡ b → ⊥
+not_both p1 a b differ is other = eqb-false a b differ (sym is ∙ other)
+
+pub install_apart : AreApart (command_form managed_install) (command_form managed_selectable ∷ command_form managed_extradition ∷ install_load ∷ [])
+install_apart ins p1 p2 body (is, (inl four, zero), field) (inl other) = not_both p1 0x04 0x08 refl four other.1.0
+install_apart ins p1 p2 body (is, (inr twelve, zero), field) (inl other) = not_both p1 0x0C 0x08 refl twelve other.1.0
+install_apart ins p1 p2 body (is, (inl four, zero), field) (inr (inl other)) = not_both p1 0x04 0x10 refl four other.1.0
+install_apart ins p1 p2 body (is, (inr twelve, zero), field) (inr (inl other)) = not_both p1 0x0C 0x10 refl twelve other.1.0
+install_apart ins p1 p2 body (is, (inl four, zero), field) (inr (inr (inl other))) = not_both p1 0x04 0x02 refl four other.1.0
+install_apart ins p1 p2 body (is, (inr twelve, zero), field) (inr (inr (inl other))) = not_both p1 0x0C 0x02 refl twelve other.1.0
+install_apart ins p1 p2 body takes (inr (inr (inr none))) = none
+
+pub selectable_apart : AreApart (command_form managed_selectable) (command_form managed_extradition ∷ install_load ∷ [])
+selectable_apart ins p1 p2 body takes (inl other) = not_both p1 0x08 0x10 refl takes.1.0 other.1.0
+selectable_apart ins p1 p2 body takes (inr (inl other)) = not_both p1 0x08 0x02 refl takes.1.0 other.1.0
+selectable_apart ins p1 p2 body takes (inr (inr none)) = none
+
+pub extradition_apart : AreApart (command_form managed_extradition) (install_load ∷ [])
+extradition_apart ins p1 p2 body takes (inl other) = not_both p1 0x10 0x02 refl takes.1.0 other.1.0
+extradition_apart ins p1 p2 body takes (inr none) = none

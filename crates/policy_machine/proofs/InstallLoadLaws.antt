@@ -1,0 +1,133 @@
+-- The laws of INSTALL [for load].
+use Rattle.std.proofs.Common.{◌≡◌, ◌≢◌, inl, inr, ℕ, List, [], ◌∷◌, Option, None, Some, length, refl, sym, subst, ◌∙◌, arith}
+use Rattle.std.specs.Prelude.{Contains, IsSome}
+use Rattle.std.proofs.lemmas.Bool.Decides.{eqb_tells}
+use Rattle.card_types.specs.Aid.{IsAid}
+use Rattle.card_types.specs.Registry.{Registry, entry_named, file_named}
+use Rattle.card_types.specs.Well.{IsDomainNamed}
+use Rattle.policy_machine.specs.Admission.{Admitted}
+use Rattle.policy_machine.specs.Classes.{managing}
+use Rattle.policy_machine.specs.Commands.{Judges, JudgesAs, TakesCommand}
+use Rattle.policy_machine.specs.FirstFailing.{IsFirst}
+use Rattle.policy_machine.specs.InstallLoad.{AsksToLoad, InstallLoadEffect, InstallingLoadFails, LoadData, install_load, load_begun, named_or, judged_install_load}
+use Rattle.policy_machine.specs.Management.{acting}
+use Rattle.policy_machine.specs.Sound.{Fits, IsHashLength, IsSound, IsWellLoad}
+use Rattle.policy_machine.specs.State.{Effect}
+use Rattle.policy_machine.specs.Volatile.{Volatile, with_load}
+use Rattle.policy_machine.specs.declared.install_load.RuleIL.{RuleIL}
+use Rattle.policy_machine.specs.declared.install_load.RuleIL.TheVariants.{IL1, IL2, IL3, IL4, IL5, IL6, IL7}
+use Rattle.policy_machine.specs.declared.rule.Rule.{Rule}
+use Rattle.policy_machine.proofs.ExtraditionLaws.{domain_stable}
+use Rattle.policy_machine.proofs.InstallForms.{managed}
+use Rattle.policy_machine.proofs.Judging.{judged}
+use Rattle.policy_machine.proofs.Lawful.{HasNoPlaceOn, IsLawful, IsReady, managed_apart, sound_with}
+use Rattle.policy_machine.proofs.LengthFields.{one_load_data}
+use Rattle.policy_machine.proofs.SameEffect.{effect_same, state_same}
+use Rattle.policy_machine.proofs.ManagedJudging.{own_pass}
+use Rattle.policy_machine.specs.JudgedForms.{IsJudgeable}
+
+-- what is not there
+gone : {A : Type 0} (o : Option A) → (IsSome o → ⊥) → o ≡ None
+gone None none = refl
+gone (Some x) none = absurd (none refl)
+
+-- a length that can't be none of a hash is one
+hash_stable : (size : ℕ) → ((IsHashLength size → ⊥) → ⊥) → IsHashLength size
+hash_stable size other = elim (eqb_tells size 0) [
+  | inl none ↦ inl none.1
+  | inr some ↦ elim (eqb_tells size 20) [
+    | inl short ↦ inr (inl short.1)
+    | inr longer ↦ elim (eqb_tells size 32) [
+      | inl long ↦ inr (inr long.1)
+      | inr another ↦ absurd (other (λ is. elim is [
+        | inl none ↦ some.1 none
+        | inr (inl short) ↦ longer.1 short
+        | inr (inr long) ↦ another.1 long
+      ]))
+    ]
+  ]
+]
+
+-- the domain of the file is one: it is named, or the command acts for it
+domain_given : (registry : Registry) (field other : List ℕ) → IsDomainNamed registry other → ((field ≢ []) × (IsDomainNamed registry field → ⊥) → ⊥)
+    → IsDomainNamed registry (named_or field other)
+domain_given registry [] other domain passes = domain
+domain_given registry (byte ∷ bytes) other domain passes =
+    domain_stable (entry_named registry (byte ∷ bytes)) (λ none. passes ((λ same. cc), none))
+
+pub load_install_judgeable : IsJudgeable judged_install_load
+load_install_judgeable = record {
+  one_asked = λ p1 p2 body a b one other. one_load_data a b body one.fields other.fields;
+  own = λ rule. tt;
+  one_rule = λ a b same. cc;
+  approving = (tt, (tt, (tt, tt)));
+}
+
+-- each of its own rules passes where none fails
+no_rule : (admitted : Admitted) → IsFirst (install_load.fails admitted) install_load.rules None → (given : LoadData) → AsksToLoad admitted.command.body given
+    → (rule : RuleIL) → InstallingLoadFails admitted given rule → ⊥
+no_rule admitted first given asks rule =
+    own_pass judged_install_load load_install_judgeable admitted given asks first rule (among rule)
+  where
+    among : (rule : RuleIL) → Contains judged_install_load.own_rules rule
+    among IL1 = (0, omega arith, refl)
+    among IL2 = (1, omega arith, refl)
+    among IL3 = (2, omega arith, refl)
+    among IL4 = (3, omega arith, refl)
+    among IL5 = (4, omega arith, refl)
+    among IL6 = (5, omega arith, refl)
+    among IL7 = (6, omega arith, refl)
+
+-- the load session that begins goes with the registry
+begun_well : (admitted : Admitted) (given : LoadData) → IsAid given.file → IsReady admitted → admitted.command.ins ≡ install_load.instruction
+    → ((rule : RuleIL) → InstallingLoadFails admitted given rule → ⊥)
+    → IsWellLoad admitted.at.registry (with_load admitted.at.volatile (load_begun admitted given)) (load_begun admitted given)
+begun_well admitted given aid ready is passes =
+    let registry = admitted.at.registry in
+    let apart = managed_apart admitted.command.ins install_load.instruction is (omega arith) in
+    record {
+      aid = aid;
+      session = ready.session (subst (Contains managing) (sym is) managed);
+      no_entry = gone (entry_named registry given.file) (λ some. passes IL3 (inl some));
+      no_file = gone (file_named registry given.file) (λ some. passes IL3 (inr some));
+      domain = domain_given registry given.domain (acting admitted) (ready.domain apart.0 apart.1) (passes IL4);
+      hash = hash_stable (length given.hash) (λ other. passes IL6 (inl other));
+      few_files = (let room = passes IL7 in omega (arith, room));
+      few_blocks = omega arith;
+      announced = refl;
+      within = omega arith;
+      few_pages = (let few = ready.sound.well.few_pages in omega (arith, few));
+    }
+
+begun_fits : (admitted : Admitted) (given : LoadData) → Fits admitted.at.registry admitted.at.volatile
+    → IsWellLoad admitted.at.registry (with_load admitted.at.volatile (load_begun admitted given)) (load_begun admitted given)
+    → Fits admitted.at.registry (with_load admitted.at.volatile (load_begun admitted given))
+begun_fits admitted given fits well = record { channels = fits.channels; basic = fits.basic; each = fits.each; load = well }
+
+install_load_keeps : (admitted : Admitted) (done : Effect) → IsReady admitted → JudgesAs install_load admitted None → InstallLoadEffect admitted done
+    → IsSound done.state
+install_load_keeps admitted done ready (takes, first) does =
+    let well = begun_well admitted does.given does.asks.file ready takes.0 (no_rule admitted first does.given does.asks) in
+    sound_with admitted.at done.state ready.sound does.registry
+    (subst (Fits admitted.at.registry) (sym does.volatile) (begun_fits admitted does.given ready.sound.fits well))
+
+install_load_one : (admitted : Admitted) (a b : Effect) → InstallLoadEffect admitted a → InstallLoadEffect admitted b → a ≡ b
+install_load_one admitted a b one other =
+    let given = one_load_data one.given other.given admitted.command.body one.asks.fields other.asks.fields in
+    let volatile = subst (λ (g : LoadData). a.state.volatile ≡ with_load admitted.at.volatile (load_begun admitted g)) given one.volatile in
+    effect_same a b (state_same a.state b.state (one.registry ∙ sym other.registry) (volatile ∙ sym other.volatile)) (one.body ∙ sym other.body) (one.status ∙ sym other.status)
+
+-- how it is judged by what was found
+pub load_install_judged : (admitted : Admitted) (found : Option Rule) → TakesCommand install_load admitted.command → IsFirst (install_load.fails admitted) install_load.rules found
+    → Judges admitted found
+load_install_judged admitted found takes first = judged install_load (λ P is. inr (inr (inr (inl is)))) admitted takes refl found first
+
+-- once its instruction is one of those that manage content
+pub install_load_lawful : Contains managing install_load.instruction → IsLawful install_load
+install_load_lawful among = record {
+  keeps = install_load_keeps;
+  one = install_load_one;
+  quiet = λ unmanaged. absurd (unmanaged among);
+  without_place = λ other admitted done none does. subst (λ (v : Volatile). HasNoPlaceOn v admitted.channel) (sym does.volatile) none;
+  loads_stay = λ admitted done takes other does. absurd (other (inr (takes.0, takes.1.0)));
+}

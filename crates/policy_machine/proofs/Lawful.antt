@@ -1,0 +1,114 @@
+-- What is asked of a command.
+use Rattle.std.proofs.Common.{◌≡◌, ◌≢◌, ◌⊎◌, ℕ, ◌<◌, ◌≤◌, false, Option, None, Some, refl, sym, ap, subst, ◌∙◌, inl, inr, arith}
+use Rattle.std.specs.Prelude.{◌==◌, Contains}
+use Rattle.card_types.specs.Ascending.{IsAscending}
+use Rattle.card_types.specs.Registry.{Registry}
+use Rattle.card_types.specs.Well.{IsDomainNamed, Well}
+use Rattle.apdu_core.specs.Apdu.{Apdu}
+use Rattle.policy_machine.specs.Admission.{Admitted}
+use Rattle.policy_machine.specs.Classes.{managing}
+use Rattle.policy_machine.specs.Commands.{JudgesAs, TakesCommand}
+use Rattle.policy_machine.specs.Management.{acting}
+use Rattle.policy_machine.specs.Sound.{Fits, IsSound}
+use Rattle.policy_machine.specs.State.{Effect, State}
+use Rattle.policy_machine.specs.Volatile.{Channel, LoadSession, SecureChannel, Volatile, channel_at, load_without_channel, place_in, channel_with, with_channel, with_secure_channel}
+use Rattle.policy_machine.specs.declared.instruction.TheConstants.{GET_STATUS, INSTALL, LOAD, MANAGE_CHANNEL, SELECT}
+use Rattle.policy_machine.specs.Changes.{IsSameButCounters}
+use Rattle.policy_machine.specs.CommandForm.{CommandForm}
+use Rattle.std.proofs.lemmas.Bool.Decides.{eqb_tells}
+use Rattle.policy_machine.proofs.SetChannel.{HasSession, set_other, set_there}
+
+-- what a command that has passed finds
+pub record IsReady (admitted : Admitted) : Type 0 where
+  pub sound : IsSound admitted.at
+  pub low : admitted.channel < 4
+  pub loads : (admitted.command.ins == LOAD) ≡ false → load_without_channel admitted.channel admitted.at.volatile.load ≡ admitted.at.volatile.load
+  pub domain : admitted.command.ins ≢ SELECT → admitted.command.ins ≢ MANAGE_CHANNEL → IsDomainNamed admitted.at.registry (acting admitted)
+  pub session : Contains managing admitted.command.ins → HasSession admitted.at.volatile admitted.channel
+
+-- the channel has no place in a listing
+abbrev pub HasNoPlaceOn : Volatile → ℕ → Type 0
+HasNoPlaceOn volatile number = place_in (channel_at volatile number) ≡ None
+
+-- the command begins a load session, or goes on with one: INSTALL [for load] and LOAD
+abbrev pub IsLoading : Apdu → Type 0
+IsLoading command = (command.ins ≡ LOAD) ⊎ ((command.ins ≡ INSTALL) × (command.p1 ≡ 0x02))
+
+-- the load session is as it was, or there is none
+abbrev pub LoadStays : Volatile → Volatile → Type 0
+LoadStays before after = (after.load ≡ before.load) ⊎ (after.load ≡ None)
+
+-- It leaves a card sound, it does one thing, without secure messaging it changes no more than the numbers of sequence counters,
+-- unless it is GET STATUS it sets no place in a listing on its channel, and unless it loads it leaves the load session or ends it.
+pub record IsLawful (form : CommandForm) : Type 0 where
+  pub keeps : (admitted : Admitted) (done : Effect) → IsReady admitted → JudgesAs form admitted None → form.does admitted done → IsSound done.state
+  pub one : (admitted : Admitted) (a b : Effect) → form.does admitted a → form.does admitted b → a ≡ b
+  pub quiet : (Contains managing form.instruction → ⊥) → (admitted : Admitted) (done : Effect) → form.does admitted done
+      → IsSameButCounters admitted.at.registry done.state.registry
+  pub without_place : form.instruction ≢ GET_STATUS → (admitted : Admitted) (done : Effect) → HasNoPlaceOn admitted.at.volatile admitted.channel → form.does admitted done
+      → HasNoPlaceOn done.state.volatile admitted.channel
+  pub loads_stay : (admitted : Admitted) (done : Effect) → TakesCommand form admitted.command → (IsLoading admitted.command → ⊥) → form.does admitted done
+      → LoadStays admitted.at.volatile done.state.volatile
+
+-- a sound card with other channels
+pub sound_with : (state : State) (after : State) → IsSound state → after.registry ≡ state.registry → Fits state.registry after.volatile → IsSound after
+sound_with state after sound same fits = record {
+  well = subst Well (sym same) sound.well;
+  ascending = subst IsAscending (sym same) sound.ascending;
+  fits = subst (λ (r : Registry). Fits r after.volatile) (sym same) fits;
+}
+
+pub fits_as : {registry other : Registry} {volatile another : Volatile} → registry ≡ other → volatile ≡ another → Fits registry volatile → Fits other another
+fits_as {registry} {other} {volatile} {another} same alike fits = subst (Fits other) alike (subst (λ (r : Registry). Fits r volatile) same fits)
+
+-- card content management is for a domain
+pub managed_apart : (ins byte : ℕ) → ins ≡ byte → 0xD8 ≤ byte → (ins ≢ SELECT) × (ins ≢ MANAGE_CHANNEL)
+managed_apart ins byte is high = ((λ same. absurd (omega arith)), (λ same. absurd (omega arith)))
+
+-- it is the same volatile state, or another that stands on the channel
+pub placeless_same : (before after : Volatile) (number : ℕ) → after ≡ before → HasNoPlaceOn before number → HasNoPlaceOn after number
+placeless_same before after number same none = subst (λ (v : Volatile). HasNoPlaceOn v number) (sym same) none
+
+pub place_leaves_secure_channel : (volatile after : Volatile) (number : ℕ) (secure_channel : SecureChannel) → after ≡ with_secure_channel volatile number secure_channel → HasNoPlaceOn volatile number
+    → HasNoPlaceOn after number
+place_leaves_secure_channel volatile after number secure_channel same none =
+    placeless_same (with_secure_channel volatile number secure_channel) after number same
+    (set_there (λ c. place_in c ≡ None) refl volatile.channels number (channel_with secure_channel (channel_at volatile number)) (so (channel_at volatile number) none))
+  where
+    so : (channel : Option Channel) → place_in channel ≡ None → place_in (channel_with secure_channel channel) ≡ None
+    so None none = refl
+    so (Some channel) none = none
+
+-- a channel is set to one without a place
+pub placeless_set : (volatile : Volatile) (other number : ℕ) (channel : Option Channel) → place_in channel ≡ None → HasNoPlaceOn volatile number
+    → HasNoPlaceOn (with_channel volatile other channel) number
+placeless_set volatile other number channel there none = elim (eqb_tells number other) [
+  | inl same ↦ subst (λ (n : ℕ). HasNoPlaceOn (with_channel volatile other channel) n) (sym same.1)
+      (set_there (λ c. place_in c ≡ None) refl volatile.channels other channel there)
+  | inr differs ↦ ap place_in (set_other volatile other number channel differs.1) ∙ none
+]
+
+-- a registry that is left as it is
+same_all : (registry : Registry) → IsSameButCounters registry registry
+same_all registry = record { life = refl; entries = refl; files = refl; keys = refl; counters = refl; objects = refl }
+
+pub same_as : (before after : Registry) → after ≡ before → IsSameButCounters before after
+same_as before after same = subst (IsSameButCounters before) (sym same) (same_all before)
+
+pub some_same : {A : Type 0} (a b : A) → Some a ≡ Some b → a ≡ b
+some_same a b same = cc
+
+-- an equal volatile state has the same load session
+pub load_same : (before after : Volatile) → after ≡ before → LoadStays before after
+load_same before after same = inl (ap (λ (v : Volatile). v.load) same)
+
+-- that of a channel has ended
+pub load_ended : (before after : Volatile) (number : ℕ) → after.load ≡ load_without_channel number before.load → LoadStays before after
+load_ended before after number ends = by before.load refl
+  where
+    by : (load : Option LoadSession) → before.load ≡ load → LoadStays before after
+    by None at = inr (ends ∙ ap (load_without_channel number) at)
+    by (Some load) at = elim (eqb_tells load.channel number) [
+      | inl same ↦ inr (ends ∙ ap (load_without_channel number) at ∙ rw same.0 refl)
+      | inr differs ↦ inl (ends ∙ ap (load_without_channel number) at ∙ rw differs.0 (sym at))
+    ]

@@ -1,0 +1,87 @@
+-- The laws of INSTALL [for make selectable].
+use Rattle.std.proofs.Common.{◌≡◌, ◌≢◌, ℕ, List, Option, None, Some, true, false, refl, ap, sym, subst, ◌∙◌, arith}
+use Rattle.std.specs.Prelude.{Contains, IfSome, MatchOption}
+use Rattle.card_types.proofs.LifeChanges.{life_keeps}
+use Rattle.card_types.proofs.MappedEntries.{KeepsNames}
+use Rattle.card_types.specs.AidOrder.{same_aid}
+use Rattle.card_types.specs.ChangeLaws.{IsOfCard, MayHaveLife}
+use Rattle.card_types.specs.Registry.{Entry, entry_named, is_domain, Registry}
+use Rattle.card_types.specs.RegistryChange.{with_life}
+use Rattle.card_types.specs.Well.{IsIssuerDomain, Well, has_life}
+use Rattle.card_types.specs.declared.factory.TheConstants.{ISSUER}
+use Rattle.card_types.specs.declared.life.Life.TheVariants.{Selectable}
+use Rattle.card_types.specs.declared.life.LifeMark.{LifeMark}
+use Rattle.policy_machine.specs.Admission.{Admitted}
+use Rattle.policy_machine.specs.FirstFailing.{IsFirst}
+use Rattle.policy_machine.specs.InstallFields.{InstallData}
+use Rattle.policy_machine.specs.MakeSelectable.{AsksToMakeSelectable, MakingSelectableFails, is_installed, managed_selectable}
+use Rattle.policy_machine.specs.declared.make_selectable.RuleMS.TheVariants.{MS2, MS4}
+use Rattle.policy_machine.proofs.ChangedFits.{changed_fits}
+use Rattle.policy_machine.proofs.LengthFields.{one_data}
+use Rattle.policy_machine.proofs.ManagedJudging.{own_pass, delegation_asked}
+use Rattle.policy_machine.specs.JudgedForms.{IsJudgeable}
+use Rattle.policy_machine.proofs.ManagedLawful.{IsManagedLawful, IsPassedFor, MayFollow, receipt_judged, may_follow}
+use Rattle.policy_machine.specs.declared.make_selectable.RuleMS.{RuleMS}
+use Rattle.policy_machine.specs.ManagedForm.{command_form}
+
+abbrev pub selectable_life : LifeMark
+selectable_life = record { life = Selectable; locked = false }
+
+module _ (admitted : Admitted) (given : InstallData) (well : Well admitted.at.registry) (installed : MakingSelectableFails admitted given MS4 → ⊥)
+    (known : MakingSelectableFails admitted given MS2 → ⊥) where
+  -- it is not the Issuer Security Domain, which is personalized
+  not_issuer : given.third ≢ ISSUER
+  not_issuer same = by (entry_named admitted.at.registry ISSUER) refl well.issuer
+    where
+      by : (o : Option Entry) → entry_named admitted.at.registry ISSUER ≡ o → MatchOption o ⊥ IsIssuerDomain → ⊥
+      by None at is = is
+      by (Some entry) at is =
+          installed (subst (λ (o : Option Entry). MatchOption o ⊥ (λ e. e.life ≢ is_installed)) (sym (ap (entry_named admitted.at.registry) same ∙ at))
+          (λ just. (let clash = sym is.life ∙ ap (λ (l : LifeMark). l.life) just in cc)))
+
+  may_be_selectable : MayHaveLife admitted.at.registry given.third selectable_life
+  may_be_selectable = record { other = not_issuer; fits = any (entry_named admitted.at.registry given.third) }
+    where
+      any : (o : Option Entry) → IfSome o (λ entry. has_life (is_domain entry) Selectable ≡ true)
+      any None = tt
+      any (Some entry) = refl
+
+pub selectable_judgeable : IsJudgeable managed_selectable.judged
+selectable_judgeable = record {
+  one_asked = λ p1 p2 body a b one other. one_data a b body one.fields other.fields;
+  own = λ rule. tt;
+  one_rule = λ a b same. cc;
+  approving = delegation_asked;
+}
+
+-- its own rules leave the application selectable
+module _ (admitted : Admitted) (given : InstallData) (of : IsOfCard admitted.at.registry)
+    (own : (rule : RuleMS) → Contains managed_selectable.judged.own_rules rule → MakingSelectableFails admitted given rule → ⊥) where
+  selectable_follows : IsOfCard (with_life admitted.at.registry given.third selectable_life)
+  selectable_follows =
+      life_keeps admitted.at.registry given.third selectable_life of
+      (may_be_selectable admitted given of.well (own MS4 (3, omega arith, refl)) (own MS2 (1, omega arith, refl)))
+
+-- the registry with the application selectable is one that a card may have
+pub selectable_of_card : (admitted : Admitted) (given : InstallData) → AsksToMakeSelectable admitted.command.body given → IsOfCard admitted.at.registry
+    → IsFirst ((command_form managed_selectable).fails admitted) (command_form managed_selectable).rules None → IsOfCard (with_life admitted.at.registry given.third selectable_life)
+selectable_of_card admitted given asks of first =
+    selectable_follows admitted given of (own_pass managed_selectable.judged selectable_judgeable admitted given asks first)
+
+selecting_keeps : (admitted : Admitted) (given : InstallData) (changed : Registry) → IsPassedFor managed_selectable.judged admitted given
+    → changed ≡ with_life admitted.at.registry given.third selectable_life → MayFollow admitted changed
+selecting_keeps admitted given changed passed becomes =
+    let this = λ (other : List ℕ). same_aid other given.third in
+    let change = λ (entry : Entry). record entry { life = selectable_life } in
+    let names : KeepsNames change = record { aid = λ _. refl; file = λ _. refl; privileges = λ _. refl } in
+    may_follow admitted _ changed becomes
+    (selectable_follows admitted given (record { well = passed.sound.well; ascending = passed.sound.ascending }) passed.own)
+    (changed_fits admitted.at.registry this change names admitted.at.volatile passed.sound.fits)
+
+pub managed_selectable_lawful : IsManagedLawful managed_selectable
+managed_selectable_lawful = record {
+  judgeable = selectable_judgeable;
+  receipted = λ admitted delegated. receipt_judged;
+  keeps = selecting_keeps;
+  one = λ admitted given a b asks one other. one ∙ sym other;
+}

@@ -1,0 +1,126 @@
+-- A command after the checks of class, channel and instruction leaves no place in a listing, unless it is GET STATUS.
+use Rattle.std.proofs.Common.{◌≡◌, ◌≢◌, ℕ, List, [], ◌∷◌, Bool, false, true, Option, None, Some, refl, sym, ap, subst, ◌∙◌, inl, inr}
+use Rattle.std.specs.Prelude.{MatchOption, ◌==◌}
+use Rattle.std.proofs.lemmas.Bool.{false≢true}
+use Rattle.apdu_core.specs.Apdu.{Apdu}
+use Rattle.policy_machine.specs.Admission.{Admitted, GeneralRefusalLeaves, Of, SessionEnds, admitted_as, channel_passed, class_passed, message_joined, without_place}
+use Rattle.policy_machine.specs.Classes.{channel_of}
+use Rattle.policy_machine.specs.CommandForm.{CommandForm}
+use Rattle.policy_machine.specs.Commands.{DoesAs, OneOf, forms_of}
+use Rattle.policy_machine.specs.Laws.{PlacesAreForgotten, is_later}
+use Rattle.policy_machine.specs.State.{Effect, State}
+use Rattle.policy_machine.specs.Step.{Outcome, keeps_load, refusal_leaves}
+use Rattle.policy_machine.specs.Volatile.{Channel, Nothing, Secured, Volatile, channel_at, place_in, secure_channel_of, with_offer_dropped, with_secure_channel, without_load, without_offer}
+use Rattle.policy_machine.specs.declared.instruction.TheConstants.{EXTERNAL_AUTHENTICATE, GET_STATUS, LOAD}
+use Rattle.policy_machine.specs.declared.rule.Rule.{Rule}
+use Rattle.policy_machine.specs.declared.rule.Rule.TheVariants.{G}
+use Rattle.policy_machine.specs.declared.rule.RuleG.{RuleG}
+use Rattle.policy_machine.specs.declared.rule.RuleG.TheVariants.{G1, G2, G3, G4, G5, G6, G7, G8}
+use Rattle.scp03_card.specs.Session.{Session}
+use Rattle.policy_machine.proofs.AllLawful.{AllOf, all_lawful}
+use Rattle.policy_machine.proofs.Lawful.{HasNoPlaceOn, IsLawful, placeless_same, place_leaves_secure_channel}
+use Rattle.policy_machine.proofs.Passing.{either}
+use Rattle.policy_machine.proofs.SetChannel.{set_there}
+
+passed_has_none : (volatile : Volatile) (number : ℕ) (keeps : Bool) → HasNoPlaceOn (without_place volatile number keeps) number
+passed_has_none volatile number keeps =
+    set_there (λ c. place_in c ≡ None) refl volatile.channels number (channel_passed keeps (channel_at volatile number)) (none (channel_at volatile number))
+  where
+    none : (channel : Option Channel) → place_in (channel_passed keeps channel) ≡ None
+    none None = refl
+    none (Some channel) = refl
+
+class_has_none : (volatile : Volatile) (command : Apdu) → HasNoPlaceOn (class_passed volatile command) (channel_of command.class)
+class_has_none volatile command = passed_has_none volatile (channel_of command.class) (command.ins == EXTERNAL_AUTHENTICATE)
+
+ended_has_none : (state : State) (bytes : List ℕ) (left : Volatile) → SessionEnds state bytes left
+    → Of bytes (λ command. HasNoPlaceOn left (channel_of command.class))
+ended_has_none state bytes left ends = (
+  ends.0,
+  ends.1,
+  (let number = channel_of ends.0.class in
+      let passed = class_passed state.volatile ends.0 in
+      placeless_same (without_load (with_secure_channel passed number Nothing) number) left number ends.2
+      (place_leaves_secure_channel passed (with_secure_channel passed number Nothing) number Nothing refl (class_has_none state.volatile ends.0))),
+)
+
+rejected_has_none : (state : State) (bytes : List ℕ) (rule : RuleG) (left : Volatile) → is_later (G rule) ≡ true → GeneralRefusalLeaves state bytes rule left
+    → Of bytes (λ command. HasNoPlaceOn left (channel_of command.class))
+rejected_has_none state bytes G1 left later leaves = absurd (false≢true later)
+rejected_has_none state bytes G2 left later leaves = absurd (false≢true later)
+rejected_has_none state bytes G3 left later leaves = absurd (false≢true later)
+rejected_has_none state bytes G4 left later leaves = absurd (false≢true later)
+rejected_has_none state bytes G5 left later leaves = (
+  leaves.0,
+  leaves.1,
+  (let number = channel_of leaves.0.class in
+      placeless_same (without_place state.volatile number false) left number leaves.2 (passed_has_none state.volatile number false)),
+)
+rejected_has_none state bytes G6 left later leaves = elim leaves.2 [
+  | inl ends ↦ ended_has_none state bytes left (leaves.0, leaves.1, ends.1)
+  | inr stays ↦ (
+    leaves.0,
+    leaves.1,
+    placeless_same (class_passed state.volatile leaves.0) left (channel_of leaves.0.class) stays.1 (class_has_none state.volatile leaves.0),
+  )
+]
+rejected_has_none state bytes G7 left later leaves = ended_has_none state bytes left leaves
+rejected_has_none state bytes G8 left later leaves = ended_has_none state bytes left leaves
+
+joined_has_none : (volatile : Volatile) (number : ℕ) (session : Option Session) → HasNoPlaceOn volatile number → HasNoPlaceOn (message_joined volatile number session) number
+joined_has_none volatile number None none = none
+joined_has_none volatile number (Some session) none = place_leaves_secure_channel volatile (with_secure_channel volatile number (Secured session)) number (Secured session) refl none
+
+-- an admitted command
+admitted_has_none : (state : State) (command : Apdu) (session : Option Session) (plain : List ℕ)
+    → HasNoPlaceOn (admitted_as state command session plain).at.volatile (channel_of command.class)
+admitted_has_none state command session plain =
+    let number = channel_of command.class in
+    let joined = message_joined (class_passed state.volatile command) number session in
+    let none = joined_has_none (class_passed state.volatile command) number session (class_has_none state.volatile command) in
+    either (λ v. HasNoPlaceOn v number) (command.ins == LOAD) joined (without_load joined number) none none
+
+-- what its refusal leaves
+left_has_none : (admitted : Admitted) (rule : Rule) → HasNoPlaceOn admitted.at.volatile admitted.channel → HasNoPlaceOn (refusal_leaves admitted rule) admitted.channel
+left_has_none admitted rule none =
+    let number = admitted.channel in
+    let left = with_offer_dropped admitted.at.volatile number in
+    let still = place_leaves_secure_channel admitted.at.volatile left number (without_offer (secure_channel_of (channel_at admitted.at.volatile number))) refl none in
+    either (λ v. HasNoPlaceOn v number) (keeps_load rule) left (without_load left number) still still
+
+done_has_none : (admitted : Admitted) (done : Effect) → admitted.command.ins ≢ GET_STATUS → HasNoPlaceOn admitted.at.volatile admitted.channel
+    → (forms : List CommandForm) → AllOf IsLawful forms → OneOf (λ form. DoesAs form admitted done) forms → HasNoPlaceOn done.state.volatile admitted.channel
+done_has_none admitted done other none [] lawful does = absurd does
+done_has_none admitted done other none (form ∷ forms) lawful (inl does) = lawful.0.without_place (λ is. other (does.0.0 ∙ is)) admitted done none does.1
+done_has_none admitted done other none (form ∷ forms) lawful (inr does) = done_has_none admitted done other none forms lawful.1 does
+
+pub places_are_forgotten : PlacesAreForgotten
+places_are_forgotten state bytes outcome (inl rejected) later =
+    let by : is_later (G rejected.rule) ≡ true =
+    subst (λ (o : Outcome). MatchOption o.rule (Unit {0}) (λ rule. is_later rule ≡ true)) rejected.outcome_is later in
+    let left = rejected_has_none state bytes rejected.rule rejected.left by rejected.leaves in
+    (left.0, left.1, λ other. subst (λ (o : Outcome). HasNoPlaceOn o.state.volatile (channel_of left.0.class)) (sym rejected.outcome_is) left.2)
+places_are_forgotten state bytes outcome (inr (inl refuses)) later =
+    let of = refuses.admits.1 in
+    let taken = of.2 in
+    let number : refuses.admitted.channel ≡ channel_of of.0.class = ap (λ (a : Admitted). a.channel) taken.3 in
+    let none : HasNoPlaceOn refuses.admitted.at.volatile refuses.admitted.channel =
+    subst (λ (a : Admitted). HasNoPlaceOn a.at.volatile a.channel) (sym taken.3) (admitted_has_none state of.0 taken.0 taken.1) in (
+      of.0,
+      of.1,
+      λ other. subst (λ (o : Outcome). HasNoPlaceOn o.state.volatile (channel_of of.0.class)) (sym refuses.outcome_is)
+          (subst (HasNoPlaceOn (refusal_leaves refuses.admitted refuses.rule)) number (left_has_none refuses.admitted refuses.rule none)),
+    )
+places_are_forgotten state bytes outcome (inr (inr accepts)) later =
+    let of = accepts.admits.1 in
+    let taken = of.2 in
+    let number : accepts.admitted.channel ≡ channel_of of.0.class = ap (λ (a : Admitted). a.channel) taken.3 in
+    let ins : accepts.admitted.command.ins ≡ of.0.ins = ap (λ (a : Admitted). a.command.ins) taken.3 in
+    let none : HasNoPlaceOn accepts.admitted.at.volatile accepts.admitted.channel =
+    subst (λ (a : Admitted). HasNoPlaceOn a.at.volatile a.channel) (sym taken.3) (admitted_has_none state of.0 taken.0 taken.1) in (
+      of.0,
+      of.1,
+      λ other. subst (λ (o : Outcome). HasNoPlaceOn o.state.volatile (channel_of of.0.class)) (sym accepts.outcome_is)
+          (subst (HasNoPlaceOn accepts.done.state.volatile) number (done_has_none accepts.admitted accepts.done (λ is. other (sym ins ∙ is)) none
+          (forms_of accepts.admitted.command.ins) (all_lawful accepts.admitted.command.ins).each accepts.does)),
+    )

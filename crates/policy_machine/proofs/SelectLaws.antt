@@ -1,0 +1,109 @@
+-- The laws of SELECT.
+use Rattle.std.proofs.Common.{◌≡◌, ℕ, List, [], ◌∷◌, Bool, true, false, Option, None, Some, refl, sym, ap, subst, ◌∙◌}
+use Rattle.std.specs.Prelude.{IsSome, MatchOption, find, cond}
+use Rattle.card_types.proofs.SameAid.{aid_same_itself}
+use Rattle.card_types.specs.AidOrder.{same_aid}
+use Rattle.card_types.specs.Registry.{Entry, Registry, entry_named}
+use Rattle.policy_machine.specs.Admission.{Admitted}
+use Rattle.policy_machine.specs.Select.{IsSelected, fits_select, least_fitting, IsControlInformation, control_parts, select}
+use Rattle.policy_machine.specs.Sound.{Fits, IsSound}
+use Rattle.policy_machine.specs.State.{Effect}
+use Rattle.policy_machine.specs.Volatile.{Volatile, fresh, with_selected}
+use Rattle.policy_machine.proofs.SetChannel.{ended_fits}
+use Rattle.policy_machine.proofs.SecureChannelSet.{within}
+use Rattle.bertlv.proofs.SpellingLemmas.{one_spelling, one_spelling_each}
+use Rattle.bertlv.specs.Spelling.{AreElements, Spelling}
+use Rattle.policy_machine.proofs.SameEffect.{effect_same, state_same}
+use Rattle.policy_machine.specs.Changes.{IsSameButCounters}
+use Rattle.policy_machine.proofs.Lawful.{HasNoPlaceOn, IsLawful, IsReady, load_ended, placeless_same, placeless_set, same_as, sound_with, LoadStays}
+use Rattle.policy_machine.proofs.FreshChannel.{fresh_is_well}
+use Rattle.card_types.specs.Registry as registry
+use Rattle.policy_machine.proofs.Judging.{judged}
+use Rattle.policy_machine.specs.Commands.{TakesCommand, Judges}
+use Rattle.policy_machine.specs.declared.rule.Rule.TheVariants.{SE}
+use Rattle.policy_machine.specs.declared.select.RuleSE.{RuleSE}
+use Rattle.policy_machine.specs.declared.select.RuleSE.TheVariants.{SE1}
+use Rattle.std.proofs.Common.{inl, inr}
+
+-- what passes one test is there for another
+found_for : (test other : Entry → Bool) (entries : List Entry) (entry : Entry) → find test entries ≡ Some entry → other entry ≡ true → IsSome (find other entries)
+found_for test other [] entry found passes = cc
+found_for test other (first ∷ entries) entry found passes = by (test first) found (other first) refl (λ behind. found_for test other entries entry behind passes)
+  where
+    by : (is : Bool) → cond is (Some first) (find test entries) ≡ Some entry → (too : Bool) → other first ≡ too
+        → (find test entries ≡ Some entry → IsSome (find other entries)) → IsSome (cond too (Some first) (find other entries))
+    by is some true same more = refl
+    by true some false same more = (let here : first ≡ entry = cc in let clash = sym same ∙ ap other here ∙ passes in cc)
+    by false some false same more = more some
+
+pub fitting_is_named : (registry : Registry) (partial : List ℕ) (entry : Entry) → least_fitting registry partial ≡ Some entry
+    → IsSome (entry_named registry entry.aid)
+fitting_is_named registry partial entry found =
+    found_for (fits_select registry.life partial) (λ e. same_aid e.aid entry.aid) registry.entries entry found (aid_same_itself entry.aid)
+
+select_keeps : (admitted : Admitted) (done : Effect) (partial : List ℕ) (found : Option Entry) → IsReady admitted
+    → least_fitting admitted.at.registry partial ≡ found → MatchOption found ⊥ (IsSelected admitted done) → IsSound done.state
+select_keeps admitted done partial None ready is does = absurd does
+select_keeps admitted done partial (Some entry) ready is does =
+    let registry = admitted.at.registry in
+    let volatile = admitted.at.volatile in
+    let fits = ended_fits registry volatile admitted.channel (Some (fresh entry.aid)) ready.sound.fits
+    (within registry volatile admitted.channel ready.sound.fits ready.low)
+    (fresh_is_well registry entry.aid (fitting_is_named registry partial entry is)) (λ first. refl) in
+    sound_with admitted.at done.state ready.sound does.registry (subst (Fits registry) (sym does.volatile) fits)
+
+control_information_one : (aid a b : List ℕ) → IsControlInformation aid a → IsControlInformation aid b → a ≡ b
+control_information_one aid a b one other =
+    let proprietary = one_spelling 0x9F65 (0xFF ∷ []) one.proprietary other.proprietary one.longest other.longest in
+    let parts = subst (λ (p : List ℕ). AreElements (control_parts aid p) one.template) proprietary one.parts in
+    let template = one_spelling_each (control_parts aid other.proprietary) one.template other.template parts other.parts in
+    one_spelling 0x6F other.template a b (subst (λ (t : List ℕ). Spelling 0x6F t a) template one.whole) other.whole
+
+select_one : (admitted : Admitted) (a b : Effect) (found : Option registry.Entry)
+    → MatchOption found ⊥ (IsSelected admitted a) → MatchOption found ⊥ (IsSelected admitted b) → a ≡ b
+select_one admitted a b None one other = absurd one
+select_one admitted a b (Some entry) one other =
+    effect_same a b
+    (state_same a.state b.state (one.registry ∙ sym other.registry) (one.volatile ∙ sym other.volatile))
+    (control_information_one entry.aid a.body b.body one.body other.body)
+    (one.status ∙ sym other.status)
+
+selects_same : (admitted : Admitted) (done : Effect) (found : Option _) → MatchOption found ⊥ (IsSelected admitted done)
+    → IsSameButCounters admitted.at.registry done.state.registry
+selects_same admitted done None does = absurd does
+selects_same admitted done (Some entry) does = same_as admitted.at.registry done.state.registry does.registry
+
+selects_placeless : (admitted : Admitted) (done : Effect) (found : Option _) → HasNoPlaceOn admitted.at.volatile admitted.channel → MatchOption found ⊥ (IsSelected admitted done)
+    → HasNoPlaceOn done.state.volatile admitted.channel
+selects_placeless admitted done None none does = absurd does
+selects_placeless admitted done (Some entry) none does =
+    placeless_same (with_selected admitted.at.volatile admitted.channel entry.aid) done.state.volatile admitted.channel does.volatile
+    (placeless_set admitted.at.volatile admitted.channel admitted.channel (Some (fresh entry.aid)) refl none)
+
+selects_loads : (admitted : Admitted) (done : Effect) (found : Option _) → MatchOption found ⊥ (IsSelected admitted done)
+    → LoadStays admitted.at.volatile done.state.volatile
+selects_loads admitted done None does = absurd does
+selects_loads admitted done (Some entry) does =
+    load_ended admitted.at.volatile done.state.volatile admitted.channel (ap (λ (v : Volatile). v.load) does.volatile)
+
+pub select_lawful : IsLawful select
+select_lawful = record {
+  keeps = λ admitted done ready judges does. select_keeps admitted done admitted.command.body _ ready refl does;
+  one = λ admitted a b one other. select_one admitted a b _ one other;
+  quiet = λ unmanaged admitted done does. selects_same admitted done _ does;
+  without_place = λ other admitted done none does. selects_placeless admitted done _ none does;
+  loads_stay = λ admitted done takes other does. selects_loads admitted done _ does;
+}
+
+-- how it is judged, by what was found
+module _ (admitted : Admitted) (partial : List ℕ) (takes : TakesCommand select admitted.command) (body : partial ≡ admitted.command.body) where
+  pub select_passes : (entry : Entry) → least_fitting admitted.at.registry partial ≡ Some entry
+      → Judges admitted None × (least_fitting admitted.at.registry admitted.command.body ≡ Some entry)
+  select_passes entry found =
+      let here = subst (λ (p : List ℕ). least_fitting admitted.at.registry p ≡ Some entry) body found in
+      (judged select (λ P is. inl is) admitted takes refl None (inr ((λ none. (let other = sym none ∙ here in cc)), refl)), here)
+
+  pub select_refused : (rule : RuleSE) → least_fitting admitted.at.registry partial ≡ None → Judges admitted (Some (SE rule))
+  select_refused SE1 none =
+      judged select (λ P is. inl is) admitted takes refl (Some (SE SE1))
+      (inl (subst (λ (p : List ℕ). least_fitting admitted.at.registry p ≡ None) body none, refl))

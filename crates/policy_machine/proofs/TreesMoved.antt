@@ -1,0 +1,198 @@
+-- The tree of a domain where another domain moves a thing.
+use Rattle.std.proofs.Common.{◌≡◌, ◌≢◌, ◌⊎◌, inl, inr, ℕ, cond, List, Option, None, Some, refl, ap, sym, subst, ◌∙◌}
+use Rattle.std.specs.Prelude.{Contains, IsSome, map}
+use Rattle.std.specs.Option.{option_map}
+use Rattle.std.proofs.lemmas.List.Elements.{All-contains}
+use Rattle.card_types.proofs.Members.{contains_map, mapped}
+use Rattle.card_types.proofs.NamedThings.{aid_cases, aid_differs}
+use Rattle.card_types.proofs.SameAid.{same_aid_decides}
+use Rattle.card_types.specs.AidOrder.{same_aid}
+use Rattle.card_types.specs.ChangeLaws.{MayMove}
+use Rattle.card_types.specs.Registry.{Entry, LoadFile, Registry, domain_of, entry_named}
+use Rattle.card_types.specs.RegistryChange.{moved}
+use Rattle.card_types.specs.Well.{IsDomainNamed, IsWellFile, IsWellKey, IsWellObject}
+use Rattle.domain_tree.proofs.AboveBelow.{above_below_moved}
+use Rattle.domain_tree.proofs.AboveChanges.{above_moved, above_others_of_moved, none_above_root}
+use Rattle.domain_tree.proofs.Compared.{above_decided}
+use Rattle.domain_tree.proofs.DomainsStay.{domains_after_move}
+use Rattle.domain_tree.specs.AboveLaws.{IsAboveIn}
+use Rattle.policy_machine.specs.Admission.{Admitted}
+use Rattle.policy_machine.specs.Charge.{IsAtOrAbove, IsInCharge}
+use Rattle.policy_machine.specs.Isolation.{IsEntrusted, MovesWith}
+use Rattle.policy_machine.specs.Management.{acting}
+use Rattle.policy_machine.specs.Trees.{AFile, AKey, AnEntry, AnObject, InTreeOf, IsMember, Member, place_of}
+use Rattle.policy_machine.proofs.ChargeReaches.{charge_above, charge_place, entry_has_domain, file_found, file_has_none}
+use Rattle.policy_machine.proofs.Strangers.{named_has_domain, upper_named}
+use Rattle.policy_machine.proofs.TreeKept.{AreApart, KeepsElsewhere, SparesTree, out_of_reach, spares_tree}
+
+-- a member that a map leaves as it is
+left_by_map : {X : Type 0} (f : X → X) (xs : List X) (x : X) → Contains xs x → f x ≡ x → Contains (map f xs) x
+left_by_map f xs x is same = subst (Contains (map f xs)) same (contains_map f xs x is)
+
+module _ (admitted : Admitted) (domain : List ℕ) (apart : AreApart admitted domain) (thing to : List ℕ) (may : MayMove admitted.at.registry thing to)
+    (charged : (IsInCharge admitted.at.registry (acting admitted) thing → ⊥) → ⊥) (over : IsAboveIn admitted.at.registry thing to → ⊥)
+    (entrusted : (member : Member) → MovesWith admitted.at.registry thing member → IsAtOrAbove admitted.at.registry domain to → to ≢ thing
+    → IsEntrusted admitted domain member) where
+  abbrev before : Registry
+  before = admitted.at.registry
+
+  abbrev after : Registry
+  after = moved before thing to
+
+  abbrev in_domain : Entry → Entry
+  in_domain entry = cond (same_aid entry.aid thing) (record entry { domain = to }) entry
+
+  abbrev file_in : LoadFile → LoadFile
+  file_in file = cond (same_aid file.aid thing) (record file { domain = to }) file
+
+  same_entry : (entry : Entry) → entry.aid ≢ thing → in_domain entry ≡ entry
+  same_entry entry other = ap (λ b. cond b (record entry { domain = to }) entry) (aid_differs entry.aid thing other)
+
+  moved_entry : (entry : Entry) → entry.aid ≡ thing → in_domain entry ≡ record entry { domain = to }
+  moved_entry entry same = ap (λ b. cond b (record entry { domain = to }) entry) ((same_aid_decides entry.aid thing).1 same)
+
+  same_file : (file : LoadFile) → file.aid ≢ thing → file_in file ≡ file
+  same_file file other = ap (λ b. cond b (record file { domain = to }) file) (aid_differs file.aid thing other)
+
+  moved_file : (file : LoadFile) → file.aid ≡ thing → file_in file ≡ record file { domain = to }
+  moved_file file same = ap (λ b. cond b (record file { domain = to }) file) ((same_aid_decides file.aid thing).1 same)
+
+  -- the thing, where it has a domain, is below the acting domain
+  reached : {P : Type 0} → domain_of before thing ≢ None → (IsAboveIn before (acting admitted) thing → ⊥) → P
+  reached has away = absurd (charged (λ charge. away (charge_above before apart.of (acting admitted) thing charge has)))
+
+  has_by : (x : List ℕ) → x ≡ thing → domain_of before x ≢ None → domain_of before thing ≢ None
+  has_by x same has = subst (λ (a : List ℕ). domain_of before a ≢ None) same has
+
+  elsewhere : KeepsElsewhere admitted after
+  elsewhere x away has =
+      domains_after_move before thing to x (λ same. reached (has_by x same has) (λ above. away (subst (IsAboveIn before (acting admitted)) (sym same) above)))
+
+  -- the thing is not in the tree
+  thing_out : {P : Type 0} (entry : Entry) → Contains before.entries entry → entry.aid ≡ thing → IsAtOrAbove before domain thing → P
+  thing_out entry is same at =
+      reached (has_by entry.aid same (entry_has_domain before apart.of entry is)) (λ above. out_of_reach admitted domain apart thing at (inr above))
+
+  file_out : {P : Type 0} (file : LoadFile) → Contains before.files file → file.aid ≡ thing → IsAtOrAbove before domain file.domain → P
+  file_out file is same at =
+      absurd (charged (λ charge.
+      out_of_reach admitted domain apart file.domain at
+      (charge_place before apart.of (acting admitted) file is (subst (IsInCharge before (acting admitted)) (sym same) charge))))
+
+  there : (member : Member) → IsMember before member → IsAtOrAbove before domain (place_of member) → IsMember after member
+  there (AnEntry entry) is at = elim (aid_cases entry.aid thing) [
+    | inl same ↦ thing_out entry is same (subst (IsAtOrAbove before domain) same at)
+    | inr other ↦ left_by_map in_domain before.entries entry is (same_entry entry other)
+  ]
+  there (AFile file) is at = elim (aid_cases file.aid thing) [
+    | inl same ↦ file_out file is same at
+    | inr other ↦ left_by_map file_in before.files file is (same_file file other)
+  ]
+  there (AKey key) is at = is
+  there (AnObject object) is at = is
+
+  -- where the domain is above the thing then, the thing was moved into its tree
+  moved_into : IsSome (entry_named before thing) → IsAboveIn after domain thing → IsAtOrAbove before domain to × (to ≢ thing)
+  moved_into some above = elim (aid_cases to thing) [
+    | inl same ↦
+        absurd (none_above_root before thing apart.of (subst (MayMove before thing) same may) some domain
+        (subst (λ (d : List ℕ). IsAboveIn (moved before thing d) domain thing) same above))
+    | inr other ↦ (by ((above_moved before thing to apart.of may some other domain).0 above), other)
+  ]
+    where
+      by : (domain ≡ to) ⊎ IsAboveIn before domain to → IsAtOrAbove before domain to
+      by (inl same) = inl (sym same)
+      by (inr higher) = inr higher
+
+  -- an entry that has a domain
+  some_entry : (x : List ℕ) → domain_of before x ≢ None → IsSome (entry_named before x)
+  some_entry x has = by (entry_named before x) refl
+    where
+      by : (o : Option Entry) → entry_named before x ≡ o → IsSome o
+      by None named = absurd (has (ap (option_map (λ (e : Entry). e.domain)) named))
+      by (Some entry) named = refl
+
+  -- what comes to be in the tree was there, or is the thing or below it, which was moved there
+  abbrev IsBrought : List ℕ → Type 0
+  IsBrought x = IsAtOrAbove before thing x × IsAtOrAbove before domain to × (to ≢ thing)
+
+  was_in_tree : (x : List ℕ) → (x ≡ thing → IsSome (entry_named before thing)) → IsAtOrAbove after domain x → IsAtOrAbove before domain x ⊎ IsBrought x
+  was_in_tree x named (inl here) = inl (inl here)
+  was_in_tree x named (inr above) = elim (aid_cases x thing) [
+    | inl same ↦ (let into = moved_into (named same) (subst (IsAboveIn after domain) same above) in inr (inl same, into.0, into.1))
+    | inr other ↦ elim (above_decided before apart.of thing x) [
+      | inl below ↦ elim ((above_below_moved before thing to apart.of may domain x below).0 above) [
+        | inl kept ↦ inl (inr kept.0)
+        | inr higher ↦ (let into = moved_into (some_entry thing (upper_has x below)) higher in inr (inr below, into.0, into.1))
+      ]
+      | inr apart_from ↦ inl (inr ((above_others_of_moved before thing to apart.of may domain x other apart_from).0 above))
+    ]
+  ]
+    where
+      upper_has : (x : List ℕ) → IsAboveIn before thing x → domain_of before thing ≢ None
+      upper_has x below = named_has_domain before thing (upper_named before apart.of thing x below)
+
+  named_by : (x : List ℕ) → IsDomainNamed before x → x ≡ thing → IsSome (entry_named before thing)
+  named_by x named same = some_entry thing (has_by x same (named_has_domain before x named))
+
+  -- with the file the domain comes to be above, where it was above the new domain
+  into_tree : to ≢ thing → IsAtOrAbove after domain to → IsAtOrAbove before domain to
+  into_tree other (inl here) = inl here
+  into_tree other (inr above) = inr ((above_others_of_moved before thing to apart.of may domain to other over).0 above)
+
+  -- what a domain owns
+  owned : (owner : List ℕ) → IsDomainNamed before owner → IsAtOrAbove after domain owner → IsAtOrAbove before domain owner ⊎ IsBrought owner
+  owned owner named at = was_in_tree owner (named_by owner named) at
+
+  new : (member : Member) → InTreeOf after domain member → InTreeOf before domain member ⊎ IsEntrusted admitted domain member
+  new (AnEntry entry) (is, at) = by (mapped in_domain before.entries entry is)
+    where
+      by : (old : Entry) × Contains before.entries old × (in_domain old ≡ entry) → InTreeOf before domain (AnEntry entry) ⊎ IsEntrusted admitted domain (AnEntry entry)
+      by (old, was, becomes) = elim (aid_cases old.aid thing) [
+        | inl same ↦
+            (let it : entry ≡ record old { domain = to } = sym becomes ∙ moved_entry old same in
+            let aid : entry.aid ≡ thing = ap (λ (e : Entry). e.aid) it ∙ same in
+            let some = some_entry thing (has_by old.aid same (entry_has_domain before apart.of old was)) in
+            elim (was_in_tree entry.aid (λ here. some) at) [
+              | inl before_it ↦ thing_out old was same (subst (IsAtOrAbove before domain) aid before_it)
+              | inr brought ↦ inr (entrusted (AnEntry entry) brought.0 brought.1 brought.2)
+            ])
+        | inr other ↦
+            (let it : old ≡ entry = sym (same_entry old other) ∙ becomes in
+            let was_it = subst (Contains before.entries) it was in
+            elim (was_in_tree entry.aid (λ here. absurd (other (ap (λ (e : Entry). e.aid) it ∙ here))) at) [
+              | inl before_it ↦ inl (was_it, before_it)
+              | inr brought ↦ inr (entrusted (AnEntry entry) brought.0 brought.1 brought.2)
+            ])
+      ]
+  new (AFile file) (is, at) = by (mapped file_in before.files file is)
+    where
+      by : (old : LoadFile) × Contains before.files old × (file_in old ≡ file) → InTreeOf before domain (AFile file) ⊎ IsEntrusted admitted domain (AFile file)
+      by (old, was, becomes) = elim (aid_cases old.aid thing) [
+        | inl same ↦
+            (let it : file ≡ record old { domain = to } = sym becomes ∙ moved_file old same in
+            let aid : file.aid ≡ thing = ap (λ (f : LoadFile). f.aid) it ∙ same in
+            let into : file.domain ≡ to = ap (λ (f : LoadFile). f.domain) it in
+            let none : domain_of before thing ≡ None = subst (λ (a : List ℕ). domain_of before a ≡ None) same (file_has_none before apart.of old.aid old (file_found before apart.of old was)) in
+            let other : to ≢ thing = (λ here. named_has_domain before to may.into (subst (λ (a : List ℕ). domain_of before a ≡ None) (sym here) none)) in
+            inr (entrusted (AFile file) (inl aid) (into_tree other (subst (IsAtOrAbove after domain) into at)) other))
+        | inr other ↦
+            (let it : old ≡ file = sym (same_file old other) ∙ becomes in
+            let was_it = subst (Contains before.files) it was in
+            let owner = (All-contains (IsWellFile before) before.files file apart.of.well.files was_it).domain in
+            elim (owned file.domain owner at) [
+              | inl before_it ↦ inl (was_it, before_it)
+              | inr brought ↦ inr (entrusted (AFile file) (inr brought.0) brought.1 brought.2)
+            ])
+      ]
+  new (AKey key) (is, at) = elim (owned key.owner (All-contains (IsWellKey before) before.keys key apart.of.well.keys is).owner at) [
+    | inl before_it ↦ inl (is, before_it)
+    | inr brought ↦ inr (entrusted (AKey key) brought.0 brought.1 brought.2)
+  ]
+  new (AnObject object) (is, at) = elim (owned object.owner (All-contains (IsWellObject before) before.objects object apart.of.well.objects is).owner at) [
+    | inl before_it ↦ inl (is, before_it)
+    | inr brought ↦ inr (entrusted (AnObject object) brought.0 brought.1 brought.2)
+  ]
+
+  pub moved_spared : SparesTree admitted (moved admitted.at.registry thing to) domain
+  moved_spared = spares_tree admitted domain apart after elsewhere there new

@@ -1,0 +1,53 @@
+-- The tree of a domain where keys, data objects or Executable Load Files are put or taken that are not in it.
+use Rattle.std.proofs.Common.{◌≡◌, ◌≢◌, inl, ℕ, List, sym, subst}
+use Rattle.std.specs.Prelude.{Contains}
+use Rattle.card_types.specs.Registry.{Entry, Key, LoadFile, Object, Registry}
+use Rattle.policy_machine.specs.Admission.{Admitted}
+use Rattle.policy_machine.specs.Charge.{IsAtOrAbove}
+use Rattle.policy_machine.specs.Management.{acting}
+use Rattle.policy_machine.specs.Trees.{AFile, AKey, AnEntry, AnObject, IsMember, Member, place_of}
+use Rattle.policy_machine.proofs.TreeKept.{AreApart, SparesTree, out_of_reach, spares_left}
+use Rattle.policy_machine.proofs.TreesAlike.{leaves_tree, same_entries}
+
+-- the second list has what the first has, but for what belongs to the acting domain
+pub record SameOfOthers {X : Type 0} (owner : X → List ℕ) (acting : List ℕ) (before after : List X) : Type 0 where
+  pub there : (x : X) → Contains before x → owner x ≢ acting → Contains after x
+  pub back : (x : X) → Contains after x → owner x ≢ acting → Contains before x
+
+module _ (admitted : Admitted) (domain : List ℕ) (apart : AreApart admitted domain) (after : Registry) where
+  abbrev before : Registry
+  before = admitted.at.registry
+
+  -- what is in the tree belongs to another domain than the acting one
+  another : (owner : List ℕ) → IsAtOrAbove before domain owner → owner ≢ acting admitted
+  another owner at same = out_of_reach admitted domain apart owner at (inl same)
+
+  -- with the same entries, the same files but for those at or below the acting domain, and the same keys and objects of other owners
+  pub owned_spared : (entries : after.entries ≡ before.entries)
+      → ((file : LoadFile) → Contains before.files file → Contains after.files file)
+      → ((file : LoadFile) → Contains after.files file → IsAtOrAbove before domain file.domain → Contains before.files file)
+      → SameOfOthers (λ (key : Key). key.owner) (acting admitted) before.keys after.keys
+      → SameOfOthers (λ (object : Object). object.owner) (acting admitted) before.objects after.objects
+      → SparesTree admitted after domain
+  owned_spared entries files_there files_back keys objects =
+      let same = same_entries before after entries in
+      spares_left admitted domain apart after same (leaves_tree before after same domain there back)
+    where
+      there : (member : Member) → IsMember before member → IsAtOrAbove before domain (place_of member) → IsMember after member
+      there (AnEntry entry) is at = subst (λ (es : List Entry). Contains es entry) (sym entries) is
+      there (AFile file) is at = files_there file is
+      there (AKey key) is at = keys.there key is (another key.owner at)
+      there (AnObject object) is at = objects.there object is (another object.owner at)
+
+      back : (member : Member) → IsMember after member → IsAtOrAbove before domain (place_of member) → IsMember before member
+      back (AnEntry entry) is at = subst (λ (es : List Entry). Contains es entry) entries is
+      back (AFile file) is at = files_back file is at
+      back (AKey key) is at = keys.back key is (another key.owner at)
+      back (AnObject object) is at = objects.back object is (another object.owner at)
+
+-- a list that stays
+pub same_list : {X : Type 0} (owner : X → List ℕ) (acting : List ℕ) (old new : List X) → new ≡ old → SameOfOthers owner acting old new
+same_list {X} owner acting old new same = record {
+  there = λ x is other. subst (λ (xs : List X). Contains xs x) (sym same) is;
+  back = λ x is other. subst (λ (xs : List X). Contains xs x) same is;
+}

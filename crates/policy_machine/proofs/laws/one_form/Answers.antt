@@ -1,0 +1,5 @@
+use Rattle.policy_machine.proofs.AllLawful.{one_form}
+use Rattle.policy_machine.proofs.laws.one_form.Goals as goal
+
+pub returns : goal.returns
+returns c = one_form

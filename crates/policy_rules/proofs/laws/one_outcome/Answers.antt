@@ -1,8 +1,0 @@
-use Rattle.policy_rules.proofs.OneOutcome.{one_outcome, one_run}
-use Rattle.policy_rules.proofs.laws.one_outcome.Goals as goal
-
-pub returns-clause-step : goal.returns-clause-step
-returns-clause-step c = one_outcome
-
-pub returns-clause-run : goal.returns-clause-run
-returns-clause-run c = one_run

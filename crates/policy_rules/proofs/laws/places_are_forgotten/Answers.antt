@@ -1,5 +1,0 @@
-use Rattle.policy_rules.proofs.Places.{places_are_forgotten}
-use Rattle.policy_rules.proofs.laws.places_are_forgotten.Goals as goal
-
-pub returns : goal.returns
-returns c = places_are_forgotten

@@ -1,5 +1,0 @@
-use Rattle.policy_rules.proofs.Offers.{refusals_drop_offers}
-use Rattle.policy_rules.proofs.laws.refusals_drop_offers.Goals as goal
-
-pub returns : goal.returns
-returns c = refusals_drop_offers
