@@ -3,7 +3,6 @@
 ghost use Rattle.std.specs.Prelude.{◌≡◌, ◌≤◌, None, Some, true, IfErr, IfOk, IfSome, OnOk, length};
 ghost use Rattle.card_core.specs.Kept.{AreCards};
 ghost use Rattle.policy_machine.specs.ManagedForm.{JudgedFirst};
-ghost use Rattle.policy_machine.specs.JudgedForms.{IsJudgeable};
 ghost use Rattle.policy_rules.specs.HoldersFound.{FindsConfirmer, MayReceipt};
 ghost use Rattle.policy_rules.specs.Requests.{ForActing};
 
@@ -20,9 +19,9 @@ pub fn judge<M: JudgedRequest, F: Flash>(
 ) -> Result<Judged<M::Found>, Rule>
     requires cards { AreCards records.now.tables }
     requires short { length (M.brought request.now).before.now ≤ 255 }
-    ensures passed { IsJudgeable M.form → ForActing records.now.tables domain (λ page admitted. M.told page records.now.tables live.now admitted → M.reads request.now admitted.command
+    ensures passed { ForActing records.now.tables domain (λ page admitted. M.told page records.now.tables live.now admitted → M.reads request.now admitted.command
         → OnOk result (JudgedFirst M.form admitted None)) }
-    ensures refused { IsJudgeable M.form → ForActing records.now.tables domain (λ page admitted. M.told page records.now.tables live.now admitted → M.reads request.now admitted.command
+    ensures refused { ForActing records.now.tables domain (λ page admitted. M.told page records.now.tables live.now admitted → M.reads request.now admitted.command
         → IfErr result (λ rule. JudgedFirst M.form admitted (Some rule))) }
     ensures found { IfOk result (λ judged. M.finds request.now records.now.tables live.now domain judged.found) }
     ensures receipter { ForActing records.now.tables domain (λ page admitted. M.receipted ≡ true

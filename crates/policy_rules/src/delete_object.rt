@@ -3,6 +3,7 @@
 ghost use Rattle.std.specs.Prelude.{◌≡◌, ◌↔◌, ◌⊎◌, ◌==◌, ℕ, List, Some, IfErr, IfNone, IfOk, IfSome, IsTrue, length, refl, true};
 ghost use Rattle.card_types.specs.Found.{aid_of};
 ghost use Rattle.card_types.specs.InOrder.{IsInOrder};
+ghost use Rattle.policy_machine.proofs.DeleteObjectLaws.{deletion_judgeable};
 ghost use Rattle.policy_machine.specs.Admission.{Admitted};
 ghost use Rattle.policy_machine.specs.DeleteKey.{DeleteParameters};
 ghost use Rattle.policy_machine.specs.DeleteObject.{AsksToDelete, DeletingFails, DeletionAsked, IsTokenField, managed_delete_object};
@@ -134,6 +135,8 @@ impl JudgedRequest for DeletionRequest<'_> {
             receipted: true,
         }
     }
+
+    ghost judgeable = { deletion_judgeable };
 
     ghost lawful = { record { first_rules = refl; approval_rules = refl } };
 

@@ -7,6 +7,7 @@ ghost use Rattle.card_types.specs.Privileges.{authorized_management, delegated_m
 ghost use Rattle.card_types.specs.Represents.{Represents};
 ghost use Rattle.card_types.specs.declared.factory.TheConstants.{FACTORY_FILE, ISSUER};
 ghost use Rattle.card_types.specs.declared.found.Found.TheVariants.{Entry};
+ghost use Rattle.policy_machine.proofs.ExtraditionLaws.{extradition_judgeable};
 ghost use Rattle.policy_machine.specs.Admission.{Admitted};
 ghost use Rattle.policy_machine.specs.Delegation.{Holds};
 ghost use Rattle.policy_machine.specs.Extradition.{AsksToExtradite, ExtraditingFails, ExtraditionParameters, IsOutOfReach, IsUnapprovable, managed_extradition, is_personalized};
@@ -175,6 +176,8 @@ impl JudgedRequest for ExtraditionRequest<'_> {
     fn approving(&self, tables: &Tables, domain: u8) -> Approving<'_> {
         Approving::of_delegate(tables, domain, self.signed, true)
     }
+
+    ghost judgeable = { extradition_judgeable };
 
     ghost lawful = { record { first_rules = refl; approval_rules = refl } };
 

@@ -15,6 +15,7 @@ ghost use Rattle.card_types.specs.declared.factory.TheConstants.{FACTORY_FILE, F
 ghost use Rattle.card_types.specs.declared.found.Found.{Found as Thing};
 ghost use Rattle.card_types.specs.declared.found.Found.TheVariants.{File};
 ghost use Rattle.card_types.specs.declared.tables.LoadFile.{LoadFile};
+ghost use Rattle.policy_machine.proofs.InstallApplicationAsking.{install_judgeable};
 ghost use Rattle.policy_machine.specs.Admission.{Admitted};
 ghost use Rattle.policy_machine.specs.Charge.{IsFileInCharge};
 ghost use Rattle.policy_machine.specs.Delegation.{MayManage};
@@ -312,6 +313,8 @@ impl JudgedRequest for InstallRequest<'_> {
     fn approving(&self, tables: &Tables, domain: u8) -> Approving<'_> {
         Approving::of_delegate(tables, domain, self.signed, true)
     }
+
+    ghost judgeable = { install_judgeable };
 
     ghost lawful = { record { first_rules = refl; approval_rules = refl } };
 

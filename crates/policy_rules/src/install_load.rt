@@ -6,6 +6,7 @@ ghost use Rattle.card_types.specs.Aid.{IsAid};
 ghost use Rattle.card_types.specs.Found.{aid_of};
 ghost use Rattle.card_types.specs.InOrder.{IsInOrder};
 ghost use Rattle.card_types.specs.declared.found.Found.TheVariants.{Entry};
+ghost use Rattle.policy_machine.proofs.InstallLoadLaws.{load_install_judgeable};
 ghost use Rattle.policy_machine.specs.Admission.{Admitted};
 ghost use Rattle.policy_machine.specs.InstallLoad.{AsksToLoad, InstallLoadParameters, InstallingLoadFails, IsLoadData, LoadData, file_domain_for, install_load, signed_load_fields, judged_install_load};
 ghost use Rattle.policy_machine.specs.Malformed.{IsRefusedBy};
@@ -197,6 +198,8 @@ impl JudgedRequest for LoadInstallRequest<'_> {
     fn approving(&self, tables: &Tables, domain: u8) -> Approving<'_> {
         Approving::of_delegate(tables, domain, self.signed, false)
     }
+
+    ghost judgeable = { load_install_judgeable };
 
     ghost lawful = { record { first_rules = refl; approval_rules = refl } };
 

@@ -97,6 +97,8 @@ pub trait JudgedRequest {
         ensures delegated { ForActing tables.now domain (λ page admitted. IsTrue result.delegated ↔ form.delegation.is_delegated admitted) }
         ensures receipted { result.receipted ≡ receipted };
 
+    ghost judgeable: { IsJudgeable form };
+
     ghost lawful: { IsTokenForm form receipted };
 
     ghost meant: { (request : Self) (command : Apdu) (is : reads request command) → IsBroughtFor form command (asked request command is) (brought request) };
@@ -144,9 +146,9 @@ pub fn judge_request<M: JudgedRequest>(
 ) -> Result<Judged<M::Found>, Rule>
     requires in_order { IsInOrder tables.now }
     requires short { length (M.brought request.now).before.now ≤ 255 }
-    ensures passed { IsJudgeable M.form → ForActing tables.now domain (λ page admitted. M.told page tables.now live.now admitted → M.reads request.now admitted.command
+    ensures passed { ForActing tables.now domain (λ page admitted. M.told page tables.now live.now admitted → M.reads request.now admitted.command
         → OnOk result (JudgedFirst M.form admitted None)) }
-    ensures refused { IsJudgeable M.form → ForActing tables.now domain (λ page admitted. M.told page tables.now live.now admitted → M.reads request.now admitted.command
+    ensures refused { ForActing tables.now domain (λ page admitted. M.told page tables.now live.now admitted → M.reads request.now admitted.command
         → IfErr result (λ rule. JudgedFirst M.form admitted (Some rule))) }
     ensures found { IfOk result (λ judged. M.finds request.now tables.now live.now domain judged.found) }
     ensures receipter { ForActing tables.now domain (λ page admitted. M.receipted ≡ true

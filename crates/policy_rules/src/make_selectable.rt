@@ -2,6 +2,7 @@
 
 ghost use Rattle.std.specs.Prelude.{◌≡◌, ◌↔◌, ◌≢◌, IfErr, IfNone, IfOk, IfSome, IsTrue, MatchOption, Option, refl, true};
 ghost use Rattle.card_types.specs.Slots.{held};
+ghost use Rattle.policy_machine.proofs.MakeSelectableLaws.{selectable_judgeable};
 ghost use Rattle.policy_machine.specs.InstallFields.{InstallData};
 ghost use Rattle.policy_machine.specs.Malformed.{IsRefusedBy};
 ghost use Rattle.policy_machine.specs.MakeSelectable.{AsksToMakeSelectable, MakeSelectableParameters, is_installed, managed_selectable};
@@ -90,6 +91,8 @@ impl JudgedRequest for SelectableRequest<'_> {
     fn approving(&self, tables: &Tables, domain: u8) -> Approving<'_> {
         Approving::of_delegate(tables, domain, self.signed, true)
     }
+
+    ghost judgeable = { selectable_judgeable };
 
     ghost lawful = { record { first_rules = refl; approval_rules = refl } };
 

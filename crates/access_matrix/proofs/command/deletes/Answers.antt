@@ -1,6 +1,5 @@
 use Rattle.std.proofs.Common.{inl, inr, refl, sym, subst, ◌∙◌}
 use Rattle.card_types.specs.Represents.{domain_aid}
-use Rattle.policy_machine.proofs.DeleteObjectLaws.{deletion_judgeable}
 use Rattle.policy_machine.specs.DeleteObject.{IsDelegated, managed_delete_object}
 use Rattle.policy_machine.specs.ManagedForm.{command_form}
 use Rattle.policy_rules.specs.Requests.{RepresentsState}
@@ -39,5 +38,5 @@ returns c page said says well =
     (c.deref-2.ensures.0 ∙ c.object_field-before.ensures.items) c.token_bytes.ensures in
     deletion_accepted aid given c.args.related p2 told said domain approved
     (passes_told ((command_form managed_delete_object).fails admitted) (command_form managed_delete_object).rules c.judge_request.result
-    (c.judge_request.ensures.passed deletion_judgeable page admitted acts (represented, refl) is) (c.judge_request.ensures.refused deletion_judgeable page admitted acts (represented, refl) is)
+    (c.judge_request.ensures.passed page admitted acts (represented, refl) is) (c.judge_request.ensures.refused page admitted acts (represented, refl) is)
     c.is_ok.result c.is_ok.ensures.value)

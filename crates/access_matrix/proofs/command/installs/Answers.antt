@@ -4,7 +4,6 @@ use Rattle.std.specs.Prelude.{IsTrue}
 use Rattle.card_types.specs.Aid.{IsAid}
 use Rattle.card_types.specs.Privileges.{delegated_management}
 use Rattle.card_types.specs.Represents.{domain_aid}
-use Rattle.policy_machine.proofs.InstallApplicationAsking.{install_judgeable}
 use Rattle.policy_machine.specs.Delegation.{Holds}
 use Rattle.policy_machine.specs.InstallApplication.{managed_install}
 use Rattle.policy_machine.specs.ManagedForm.{command_form}
@@ -42,4 +41,4 @@ returns c page said says well =
     refl refl c.module_from-module.ensures refl refl refl (c.deref-2.ensures.0 ∙ front) c.token_bytes.ensures in
     install_accepted file aid given said domain (c.free_aid-aid.ensures page said says) approved
     (passes_told ((command_form managed_install).fails admitted) (command_form managed_install).rules c.judge_request.result
-    (c.judge_request.ensures.passed install_judgeable page admitted acts none is) (c.judge_request.ensures.refused install_judgeable page admitted acts none is) c.is_ok.result c.is_ok.ensures.value)
+    (c.judge_request.ensures.passed page admitted acts none is) (c.judge_request.ensures.refused page admitted acts none is) c.is_ok.result c.is_ok.ensures.value)

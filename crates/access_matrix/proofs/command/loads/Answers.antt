@@ -3,7 +3,6 @@ use Rattle.std.specs.List.{flat_map}
 use Rattle.std.specs.Prelude.{IsTrue, replicate}
 use Rattle.card_types.specs.Privileges.{delegated_management}
 use Rattle.card_types.specs.Represents.{domain_aid}
-use Rattle.policy_machine.proofs.InstallLoadLaws.{load_install_judgeable}
 use Rattle.policy_machine.specs.Delegation.{Holds}
 use Rattle.policy_machine.specs.InstallLoad.{install_load}
 use Rattle.policy_rules.specs.Requests.{IsLoadNamed}
@@ -36,4 +35,4 @@ returns c page said says well =
     (c.deref-2.ensures.0 ∙ front) c.token_bytes.ensures in
     load_accepted file given said domain (c.free_aid-file.ensures page said says) approved
     (passes_told (install_load.fails admitted) install_load.rules c.judge_request.result
-    (c.judge_request.ensures.passed load_install_judgeable page admitted acts none is) (c.judge_request.ensures.refused load_install_judgeable page admitted acts none is) c.is_ok.result c.is_ok.ensures.value)
+    (c.judge_request.ensures.passed page admitted acts none is) (c.judge_request.ensures.refused page admitted acts none is) c.is_ok.result c.is_ok.ensures.value)

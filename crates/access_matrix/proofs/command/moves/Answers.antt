@@ -3,7 +3,6 @@ use Rattle.std.specs.List.{flat_map}
 use Rattle.std.specs.Prelude.{IsTrue}
 use Rattle.card_types.specs.Privileges.{delegated_management}
 use Rattle.card_types.specs.Represents.{domain_aid}
-use Rattle.policy_machine.proofs.ExtraditionLaws.{extradition_judgeable}
 use Rattle.policy_machine.specs.Delegation.{Holds}
 use Rattle.policy_machine.specs.Extradition.{managed_extradition}
 use Rattle.policy_machine.specs.ManagedForm.{command_form}
@@ -34,4 +33,4 @@ returns c page said says well =
     (c.deref-2.ensures.0 ∙ front) c.token_bytes.ensures in
     move_accepted to aid given said domain approved
     (passes_told ((command_form managed_extradition).fails admitted) (command_form managed_extradition).rules c.judge_request.result
-    (c.judge_request.ensures.passed extradition_judgeable page admitted acts tt is) (c.judge_request.ensures.refused extradition_judgeable page admitted acts tt is) c.is_ok.result c.is_ok.ensures.value)
+    (c.judge_request.ensures.passed page admitted acts tt is) (c.judge_request.ensures.refused page admitted acts tt is) c.is_ok.result c.is_ok.ensures.value)

@@ -1,7 +1,6 @@
 use Rattle.std.proofs.Common.{rules, ◌≡◌, ℕ, inr, inl, List, [], ◌∷◌, ◌++◌, OnOk, None, Option, Some, refl, ap, sym, subst, ◌∙◌, arith}
 use Rattle.std.specs.Prelude.{unwrap_or}
 use Rattle.card_types.specs.Represents.{domain_aid}
-use Rattle.policy_machine.proofs.InstallLoadLaws.{load_install_judgeable}
 use Rattle.policy_machine.proofs.Judging.{IsListed, does_so, judged}
 use Rattle.policy_machine.specs.InstallLoad.{file_domain_for, install_load, load_begun}
 use Rattle.policy_machine.specs.State.{Effect, State}
@@ -21,7 +20,7 @@ judge_request-requires-clause-short c = omega (arith, c.requires.formed.1.means.
 pub returns-in_err-judged-clause-done : goal.returns-in_err-judged-clause-done
 returns-in_err-judged-clause-done c page admitted acts says channels on request =
     refusal_loaded admitted page c.args.tables.now c.args.live.now c.args.loading.now.session c.args.reply.now.items c.from_residual.result c.in_err-judged.field-0.0 c.from_residual.ensures.1
-    (judged install_load listed admitted request.form refl (Some c.in_err-judged.field-0.0) (c.in_err-judged.ensures.refused load_install_judgeable page admitted acts says.load request.means)) c.requires.empty
+    (judged install_load listed admitted request.form refl (Some c.in_err-judged.field-0.0) (c.in_err-judged.ensures.refused page admitted acts says.load request.means)) c.requires.empty
 
 pub returns-clause-done : goal.returns-clause-done
 returns-clause-done c page admitted acts says channels on request =
@@ -30,7 +29,7 @@ returns-clause-done c page admitted acts says channels on request =
     let load : LoadSession = load_begun admitted given in
     let after : State = record { registry = admitted.at.registry; volatile = with_load admitted.at.volatile load } in
     let done : Effect = record { state = after; body = 0x00 ∷ []; status = 0x9000 } in
-    let passed = c.in_ok-judged.ensures.passed load_install_judgeable page admitted acts says.load is in
+    let passed = c.in_ok-judged.ensures.passed page admitted acts says.load is in
     let domain : domain_aid c.args.tables.now.entries.items c.in_ok-judged.judged.found ≡ file_domain_for admitted given =
     ap (λ (o : Option (List ℕ)). unwrap_or o []) (c.in_ok-judged.ensures.found.found page admitted acts is) in
     let whole = subst (λ r. OnOk r (c.try_extend_from_slice.new.self.items ≡ c.new-hash.result.items ++ c.args.request.now.hash.now)) c.unwrap.ensures

@@ -12,7 +12,7 @@ use Rattle.policy_rules.proofs.RequestJudging.{management_passes}
 use Rattle.policy_rules.proofs.judged_request.judge_request.Goals as goal
 
 pub returns-in_err-judge_management-clause-refused : goal.returns-in_err-judge_management-clause-refused
-returns-in_err-judge_management-clause-refused g c judgeable page admitted acts told is =
+returns-in_err-judge_management-clause-refused g c page admitted acts told is =
     let form = g.M.JudgedRequest.form in
     let Fails = JudgedFails form admitted in
     subst (λ (rules : List RuleM). IfErr c.from_residual.result (λ r. IsFirst Fails (map M rules ++ map form.group form.own_rules ++ form.delegation.rules) (Some r))) (sym g.met.M.JudgedRequest.lawful.first_rules)
@@ -20,8 +20,9 @@ returns-in_err-judge_management-clause-refused g c judgeable page admitted acts 
     (c.in_err-judge_management.ensures.refused page admitted acts))
 
 pub returns-in_err-found-clause-refused : goal.returns-in_err-found-clause-refused
-returns-in_err-found-clause-refused g c judgeable page admitted acts told is =
+returns-in_err-found-clause-refused g c page admitted acts told is =
     let form = g.M.JudgedRequest.form in
+    let judgeable = g.met.M.JudgedRequest.judgeable in
     let lawful = g.met.M.JudgedRequest.lawful in
     let meant = g.met.M.JudgedRequest.meant c.args.request.now admitted.command is in
     let refused = c.in_err-found.ensures.refused page admitted acts told is in
@@ -30,8 +31,9 @@ returns-in_err-found-clause-refused g c judgeable page admitted acts told is =
     (own_refuses form judgeable admitted _ meant.asks (management_passes form _ lawful admitted (c.in_ok-judge_management.ensures.passed page admitted acts)) refused.0 refused.2))
 
 pub returns-in_err-receipter-clause-refused : goal.returns-in_err-receipter-clause-refused
-returns-in_err-receipter-clause-refused g c judgeable page admitted acts told is =
+returns-in_err-receipter-clause-refused g c page admitted acts told is =
     let form = g.M.JudgedRequest.form in
+    let judgeable = g.met.M.JudgedRequest.judgeable in
     let lawful = g.met.M.JudgedRequest.lawful in
     let meant = g.met.M.JudgedRequest.meant c.args.request.now admitted.command is in
     let rule = c.in_err-receipter.field-0.0 in
@@ -40,8 +42,9 @@ returns-in_err-receipter-clause-refused g c judgeable page admitted acts told is
     (c.in_ok-found.ensures.passed page admitted acts told is) (c.in_err-receipter.ensures.refused page admitted acts is))
 
 pub returns-clause-passed : goal.returns-clause-passed
-returns-clause-passed g c judgeable page admitted acts told is =
+returns-clause-passed g c page admitted acts told is =
     let form = g.M.JudgedRequest.form in
+    let judgeable = g.met.M.JudgedRequest.judgeable in
     let lawful = g.met.M.JudgedRequest.lawful in
     let meant = g.met.M.JudgedRequest.meant c.args.request.now admitted.command is in
     approval_decides form judgeable admitted _ meant.asks (management_passes form _ lawful admitted (c.in_ok-judge_management.ensures.passed page admitted acts)) None

@@ -22,15 +22,11 @@ use Rattle.policy_rules.specs.Requests.{ActsIn, RepresentsState}
 use Rattle.card_types.specs.Represents.{Represents}
 use Rattle.card_types.specs.Well.{Well}
 use Rattle.policy_machine.specs.Volatile.{channel_at, place_in, selected_on}
-use Rattle.policy_machine.proofs.DeleteObjectLaws.{deletion_judgeable}
-use Rattle.policy_machine.proofs.ExtraditionLaws.{extradition_judgeable}
-use Rattle.policy_machine.proofs.InstallApplicationAsking.{install_judgeable}
-use Rattle.policy_machine.proofs.MakeSelectableLaws.{selectable_judgeable}
 use Rattle.policy_machine.proofs.GetDataLaws.{get_passes, get_refused}
 use Rattle.policy_machine.proofs.InitializeUpdateLaws.{offer_judged}
 use Rattle.policy_machine.proofs.Judging.{by_err, judged_by}
 use Rattle.policy_machine.proofs.ManageChannelLaws.{open_passes, open_refused}
-use Rattle.policy_machine.proofs.InstallLoadLaws.{load_install_judgeable, load_install_judged}
+use Rattle.policy_machine.proofs.InstallLoadLaws.{load_install_judged}
 use Rattle.policy_machine.proofs.PutKeyLaws.{put_judged}
 use Rattle.policy_machine.proofs.SelectLaws.{select_passes, select_refused}
 use Rattle.policy_machine.specs.CommandForm.{FailsFirst}
@@ -141,8 +137,8 @@ returns-in-DeleteObject-clause-judged c page admitted says sound here request be
     let asked = rw c.in-DeleteObject.is at request in
     let acts = acts_in (goal.at.returns-in-DeleteObject-clause-judged c).After-unwrap-domain page admitted says sound here in
     rw c.err-in-DeleteObject.ensures.value (judged_by (command_form managed_delete_object) (λ holds here. inr (inl here)) admitted asked.form refl _
-    (c.judge_request.ensures.passed deletion_judgeable page admitted acts (says, sound.fits.channels) asked.means)
-    (c.judge_request.ensures.refused deletion_judgeable page admitted acts (says, sound.fits.channels) asked.means))
+    (c.judge_request.ensures.passed page admitted acts (says, sound.fits.channels) asked.means)
+    (c.judge_request.ensures.refused page admitted acts (says, sound.fits.channels) asked.means))
 
 pub judge_request-requires-in-Install-clause-short : goal.judge_request-requires-in-Install-clause-short
 judge_request-requires-in-Install-clause-short c = (let meant = rw c.in-Install.is at c.requires.meant in omega (arith, meant.3.short, meant.4))
@@ -152,7 +148,7 @@ returns-in-Install-clause-judged c page admitted says sound here request behind 
     let asked = rw c.in-Install.is at request in
     let acts = acts_in (goal.at.returns-in-Install-clause-judged c).After-unwrap-domain page admitted says sound here in
     rw c.err-in-Install.ensures.value (judged_by (command_form managed_install) (λ holds here. inl here) admitted asked.form refl _
-    (c.judge_request-in-Install.ensures.passed install_judgeable page admitted acts says.load asked.means) (c.judge_request-in-Install.ensures.refused install_judgeable page admitted acts says.load asked.means))
+    (c.judge_request-in-Install.ensures.passed page admitted acts says.load asked.means) (c.judge_request-in-Install.ensures.refused page admitted acts says.load asked.means))
 
 pub judge_request-requires-in-MakeSelectable-clause-short : goal.judge_request-requires-in-MakeSelectable-clause-short
 judge_request-requires-in-MakeSelectable-clause-short c = (let meant = rw c.in-MakeSelectable.is at c.requires.meant in omega (arith, meant.3.short, meant.4))
@@ -162,7 +158,7 @@ returns-in-MakeSelectable-clause-judged c page admitted says sound here request 
     let asked = rw c.in-MakeSelectable.is at request in
     let acts = acts_in (goal.at.returns-in-MakeSelectable-clause-judged c).After-unwrap-domain page admitted says sound here in
     rw c.err-in-MakeSelectable.ensures.value (judged_by (command_form managed_selectable) (λ holds here. inr (inl here)) admitted asked.form refl _
-    (c.judge_request-in-MakeSelectable.ensures.passed selectable_judgeable page admitted acts tt asked.means) (c.judge_request-in-MakeSelectable.ensures.refused selectable_judgeable page admitted acts tt asked.means))
+    (c.judge_request-in-MakeSelectable.ensures.passed page admitted acts tt asked.means) (c.judge_request-in-MakeSelectable.ensures.refused page admitted acts tt asked.means))
 
 pub judge_request-requires-in-Extradite-clause-short : goal.judge_request-requires-in-Extradite-clause-short
 judge_request-requires-in-Extradite-clause-short c = (let meant = rw c.in-Extradite.is at c.requires.meant in omega (arith, meant.3.short, meant.4))
@@ -172,7 +168,7 @@ returns-in-Extradite-clause-judged c page admitted says sound here request behin
     let asked = rw c.in-Extradite.is at request in
     let acts = acts_in (goal.at.returns-in-Extradite-clause-judged c).After-unwrap-domain page admitted says sound here in
     rw c.err-in-Extradite.ensures.value (judged_by (command_form managed_extradition) (λ holds here. inr (inr (inl here))) admitted asked.form refl _
-    (c.judge_request-in-Extradite.ensures.passed extradition_judgeable page admitted acts tt asked.means) (c.judge_request-in-Extradite.ensures.refused extradition_judgeable page admitted acts tt asked.means))
+    (c.judge_request-in-Extradite.ensures.passed page admitted acts tt asked.means) (c.judge_request-in-Extradite.ensures.refused page admitted acts tt asked.means))
 
 pub judge_request-requires-in-InstallLoad-clause-short : goal.judge_request-requires-in-InstallLoad-clause-short
 judge_request-requires-in-InstallLoad-clause-short c = (let meant = rw c.in-InstallLoad.is at c.requires.meant in omega (arith, meant.3.short, meant.4))
@@ -183,7 +179,7 @@ returns-in-InstallLoad-clause-judged c page admitted says sound here request beh
     let acts = acts_in (goal.at.returns-in-InstallLoad-clause-judged c).After-unwrap-domain page admitted says sound here in
     load_install_judged admitted _ asked.form
     (rw c.err-in-InstallLoad.ensures.value (by_err (FailsFirst install_load admitted) c.judge_request-in-InstallLoad.result
-    (c.judge_request-in-InstallLoad.ensures.passed load_install_judgeable page admitted acts says.load asked.means) (c.judge_request-in-InstallLoad.ensures.refused load_install_judgeable page admitted acts says.load asked.means)))
+    (c.judge_request-in-InstallLoad.ensures.passed page admitted acts says.load asked.means) (c.judge_request-in-InstallLoad.ensures.refused page admitted acts says.load asked.means)))
 
 pub returns-in-CardStatus-clause-judged : goal.returns-in-CardStatus-clause-judged
 returns-in-CardStatus-clause-judged c page admitted says sound here request behind checks =

@@ -7,7 +7,6 @@ use Rattle.card_core.proofs.Deleting.{confirmer_stays, deletion_able, deletion_k
 use Rattle.card_core.proofs.Managing.{confirmed_managed, refused_as}
 use Rattle.card_core.proofs.SomeAdmitted.{some_acts, some_admitted}
 use Rattle.card_types.specs.Represents.{Represents}
-use Rattle.policy_machine.proofs.DeleteObjectLaws.{deletion_judgeable}
 use Rattle.policy_machine.specs.DeleteObject.{IsDelegated, managed_delete_object, without_thing}
 use Rattle.card_core.proofs.FreePages.{files_free, free_twice}
 use Rattle.card_core.proofs.delete_object.DeletionRequestManagedRequest.manage.Goals as goal
@@ -21,7 +20,7 @@ returns-in_err-judged-clause-done g c page admitted acts state four is holds =
     let request = is.means in
     let rule = c.in_err-judged.field-0.0 in
     refused_as (command_form managed_delete_object) (λ held here. inr (inl here)) admitted is.form refl page c.args.records.now.tables c.args.reply.now.items c.from_residual.result rule c.from_residual.ensures.1
-    (c.in_err-judged.ensures.refused deletion_judgeable page admitted acts (state, four) request) c.requires.empty
+    (c.in_err-judged.ensures.refused page admitted acts (state, four) request) c.requires.empty
 
 pub returns-in_err-judged-clause-selected : goal.returns-in_err-judged-clause-selected
 returns-in_err-judged-clause-selected g c =
@@ -89,7 +88,7 @@ returns-clause-done g c page admitted acts state four is holds =
     let found = finds_receipter delegated before admitted receipter finds in
     let issuer = (in_order before c.requires.cards).layout.issuer in
     confirmed_managed managed_delete_object (λ held here. inr (inl here)) admitted is.form asked request.asks changed refl refl refl
-    (c.in_ok-judged.ensures.passed deletion_judgeable page admitted acts (state, four) request) page before after c.confirm.new.records.tables c.args.domain c.requires.cards acts receipter finds
+    (c.in_ok-judged.ensures.passed page admitted acts (state, four) request) page before after c.confirm.new.records.tables c.args.domain c.requires.cards acts receipter finds
     (deletion_keeps before after related thing c.remove.ensures.slots receipter
     (confirmer_stays page before c.args.domain admitted acts related thing alone receipter found)
     (issuer_stays page before registry acts.says acts.well issuer related thing lasting))

@@ -15,7 +15,7 @@ use Rattle.card_types.specs.Found.{aid_of}
 use Rattle.card_types.specs.RegistryChange.{moved}
 use Rattle.card_types.specs.declared.found.Found.TheVariants.{Entry}
 use Rattle.card_types.specs.declared.tables.Entry.{Entry as Slot}
-use Rattle.policy_machine.proofs.ExtraditionLaws.{extradition_judgeable, moved_of_card}
+use Rattle.policy_machine.proofs.ExtraditionLaws.{moved_of_card}
 use Rattle.policy_machine.specs.Extradition.{domain_of_thing, managed_extradition}
 use Rattle.card_core.proofs.FreePages.{files_free, free_twice, moved_free}
 use Rattle.card_core.proofs.extradition.ExtraditionRequestManagedRequest.manage.Goals as goal
@@ -27,7 +27,7 @@ judge-requires-clause-short g c = omega (arith, c.requires.formed.1.means.short,
 pub returns-in_err-judged-clause-done : goal.returns-in_err-judged-clause-done
 returns-in_err-judged-clause-done g c page admitted acts says channels request holds =
     refused_as (command_form managed_extradition) (λ holds found. inr (inr (inl found))) admitted request.form refl page c.args.records.now.tables c.args.reply.now.items c.from_residual.result c.in_err-judged.field-0.0
-    c.from_residual.ensures.1 (c.in_err-judged.ensures.refused extradition_judgeable page admitted acts tt request.means) c.requires.empty
+    c.from_residual.ensures.1 (c.in_err-judged.ensures.refused page admitted acts tt request.means) c.requires.empty
 
 -- the AID of an entry that is found in its slot
 slot_aid : (tables : Tables) (slot : ℕ) (aid : List ℕ) → aid_of tables (Entry slot) ≡ Some aid → domain_aid tables.entries.items slot ≡ aid
@@ -77,7 +77,7 @@ confirm-requires-clause-cards g c =
     (let some = some_admitted page before said says well c.args.domain c.requires.domain None c.requires.formed.0 in
     let acts = some_acts page before said says well c.args.domain c.requires.domain None c.requires.formed.0 in
     let kept = moved_of_card some given request.means.asks (of_card page before said says well c.args.domain c.requires.domain)
-    (c.in_ok-judged.ensures.passed extradition_judgeable page some acts tt request.means) in (
+    (c.in_ok-judged.ensures.passed page some acts tt request.means) in (
       moved said given.third given.first,
       subst (λ (name : List ℕ). Represents page after (moved said given.third name)) (into ∙ request.means.to)
           (subst (λ (name : List ℕ). Represents page after (moved said name (domain_aid before.entries.items to))) request.means.aid
@@ -115,7 +115,7 @@ returns-clause-done g c page admitted acts says channels request holds =
     ∙ (c.in_ok-judged.ensures.found.from page registry acts.says acts.well)
     ∙ ap (domain_of_thing registry) request.means.aid in
     confirmed_managed managed_extradition (λ holds found. inr (inr (inl found))) admitted request.form given request.means.asks changed refl refl refl
-    (c.in_ok-judged.ensures.passed extradition_judgeable page admitted acts tt request.means) page before after c.confirm.new.records.tables c.args.domain c.requires.cards acts c.in_ok-judged.judged.receipter finds
+    (c.in_ok-judged.ensures.passed page admitted acts tt request.means) page before after c.confirm.new.records.tables c.args.domain c.requires.cards acts c.in_ok-judged.judged.receipter finds
     (receipts_kept before after (moving_keeps before after thing to c.move_to.ensures.slots) c.in_ok-judged.judged.receipter)
     says _ (λ i. from i ∷ request.means.aid i ∷ request.means.to i ∷ []) c.confirm.new.reply.items c.confirm.ensures.answered (record { 0 = 0x9000 }) refl
 

@@ -17,7 +17,6 @@ use Rattle.card_types.specs.declared.found.Found.TheVariants.{File}
 use Rattle.card_types.specs.declared.tables.Entry.{Entry}
 use Rattle.card_types.specs.declared.tables.LoadFile.{LoadFile}
 use Rattle.card_types.specs.declared.tables.Tables.{Tables}
-use Rattle.policy_machine.proofs.InstallApplicationAsking.{install_judgeable}
 use Rattle.policy_machine.proofs.InstallApplicationLaws.{made_of_card}
 use Rattle.policy_machine.specs.InstallApplication.{managed_install}
 use Rattle.policy_machine.specs.Delegation.{Holds}
@@ -31,7 +30,7 @@ judge-requires-clause-short g c = omega (arith, c.requires.formed.1.means.short,
 pub returns-in_err-judged-clause-done : goal.returns-in_err-judged-clause-done
 returns-in_err-judged-clause-done g c page admitted acts says channels request holds =
     refused_as (command_form managed_install) (λ holds found. inl found) admitted request.form refl page c.args.records.now.tables c.args.reply.now.items c.from_residual.result c.in_err-judged.field-0.0
-    c.from_residual.ensures.1 (c.in_err-judged.ensures.refused install_judgeable page admitted acts says.load request.means) c.requires.empty
+    c.from_residual.ensures.1 (c.in_err-judged.ensures.refused page admitted acts says.load request.means) c.requires.empty
 
 file_there : (tables : Tables) (slot : ℕ) (aid : List ℕ) → aid_of tables (File slot) ≡ Some aid → IsSome (held tables.files.items slot)
 file_there tables slot aid is = by (held tables.files.items slot) is
@@ -89,7 +88,7 @@ confirm-requires-clause-cards g c =
     let added = c.place_entry.ensures.said page said says well in
     let joined = subst (λ (entry : registry.Entry). IsEntryAdded entry said added.0) made added.1 in
     let kept = made_of_card some asked request.means.asks (of_card page before said says well c.args.domain c.requires.domain)
-    (domain_named page before said says well c.args.domain c.requires.domain) (c.in_ok-judged.ensures.passed install_judgeable page some acts load request.means) added.0 joined in
+    (domain_named page before said says well c.args.domain c.requires.domain) (c.in_ok-judged.ensures.passed page some acts load request.means) added.0 joined in
     (added.0, added.2, kept.well))) c.requires.cards
 
 pub returns-clause-selected : goal.returns-clause-selected
@@ -114,7 +113,7 @@ returns-clause-done g c page admitted acts says channels request holds =
     let delegated = Holds admitted delegated_management in
     let finds = c.in_ok-judged.ensures.receipter page admitted acts refl in
     confirmed_managed managed_install (λ holds found. inl found) admitted request.form asked request.means.asks added.0 joined refl refl
-    (c.in_ok-judged.ensures.passed install_judgeable page admitted acts says.load request.means) page before after c.confirm.new.records.tables c.args.domain c.requires.cards acts c.in_ok-judged.judged.receipter finds
+    (c.in_ok-judged.ensures.passed page admitted acts says.load request.means) page before after c.confirm.new.records.tables c.args.domain c.requires.cards acts c.in_ok-judged.judged.receipter finds
     (receipts_kept before after (adding_keeps before after c.place_entry.result c.made.result c.place_entry.ensures.slots) c.in_ok-judged.judged.receipter)
     added.2 _ (λ i. request.means.file i ∷ request.means.aid i ∷ []) c.confirm.new.reply.items c.confirm.ensures.answered (record { 0 = 0x9000 }) refl
 

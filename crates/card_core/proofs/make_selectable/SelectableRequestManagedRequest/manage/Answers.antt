@@ -11,7 +11,7 @@ use Rattle.card_types.specs.RegistryChange.{with_life}
 use Rattle.card_types.specs.Represents.{Represents, domain_aid}
 use Rattle.card_types.specs.Slots.{held}
 use Rattle.card_types.specs.declared.tables.Entry.{Entry}
-use Rattle.policy_machine.proofs.MakeSelectableLaws.{selectable_judgeable, selectable_life, selectable_of_card}
+use Rattle.policy_machine.proofs.MakeSelectableLaws.{selectable_life, selectable_of_card}
 use Rattle.policy_machine.specs.Delegation.{Holds}
 use Rattle.policy_machine.specs.MakeSelectable.{managed_selectable}
 use Rattle.policy_rules.specs.MakeSelectableRequests.{IsInstalledWith}
@@ -36,7 +36,7 @@ judge-requires-clause-short g c = omega (arith, c.requires.formed.1.means.short,
 pub returns-in_err-judged-clause-done : goal.returns-in_err-judged-clause-done
 returns-in_err-judged-clause-done g c page admitted acts says channels request holds =
     refused_as (command_form managed_selectable) (λ holds found. inr (inl found)) admitted request.form refl page c.args.records.now.tables c.args.reply.now.items c.from_residual.result c.in_err-judged.field-0.0
-    c.from_residual.ensures.1 (c.in_err-judged.ensures.refused selectable_judgeable page admitted acts tt request.means) c.requires.empty
+    c.from_residual.ensures.1 (c.in_err-judged.ensures.refused page admitted acts tt request.means) c.requires.empty
 
 pub set_life-requires-clause-slot : goal.set_life-requires-clause-slot
 set_life-requires-clause-slot g c =
@@ -72,7 +72,7 @@ confirm-requires-clause-cards g c =
     (let some = some_admitted page before said says well c.args.domain c.requires.domain None c.requires.formed.0 in
     let acts = some_acts page before said says well c.args.domain c.requires.domain None c.requires.formed.0 in
     let kept = selectable_of_card some given request.means.asks (of_card page before said says well c.args.domain c.requires.domain)
-    (c.in_ok-judged.ensures.passed selectable_judgeable page some acts tt request.means) in (
+    (c.in_ok-judged.ensures.passed page some acts tt request.means) in (
       with_life said given.third selectable_life,
       subst (λ (name : List ℕ). Represents page after (with_life said name selectable_life)) aid (c.set_life.ensures.said page said says),
       kept.well,
@@ -102,6 +102,6 @@ returns-clause-done g c page admitted acts says channels request holds =
     let delegated = Holds admitted delegated_management in
     let finds = c.in_ok-judged.ensures.receipter page admitted acts refl in
     confirmed_managed managed_selectable (λ holds found. inr (inl found)) admitted request.form given request.means.asks changed refl refl refl
-    (c.in_ok-judged.ensures.passed selectable_judgeable page admitted acts tt request.means) page before after c.confirm.new.records.tables c.args.domain c.requires.cards acts c.in_ok-judged.judged.receipter finds
+    (c.in_ok-judged.ensures.passed page admitted acts tt request.means) page before after c.confirm.new.records.tables c.args.domain c.requires.cards acts c.in_ok-judged.judged.receipter finds
     (receipts_kept before after (changing_keeps before after slot (λ entry. record entry { life = selectable_life }) (λ e. (refl, refl)) c.set_life.ensures.slots) c.in_ok-judged.judged.receipter)
     says _ (ap (λ (name : List ℕ). name ∷ []) request.means.aid) c.confirm.new.reply.items c.confirm.ensures.answered (record { 0 = 0x9000 }) refl
