@@ -14,9 +14,9 @@ use Rattle.policy_machine.specs.Volatile.{Channel, LoadSession, Nothing, Place, 
 use Rattle.policy_machine.specs.declared.delegation.RuleRC.{RuleRC}
 use Rattle.policy_machine.specs.declared.delegation.RuleRC.TheVariants.{RC1}
 use Rattle.policy_machine.specs.declared.delegation.RuleTK.{RuleTK}
-use Rattle.policy_machine.specs.declared.delegation.RuleTK.TheVariants.{TK1, TK2, TK3}
+use Rattle.policy_machine.specs.declared.delegation.RuleTK.TheVariants.{TK1}
 use Rattle.policy_machine.specs.declared.management.RuleM.{RuleM}
-use Rattle.policy_machine.specs.declared.management.RuleM.TheVariants.{M1, M2, M3}
+use Rattle.policy_machine.specs.declared.management.RuleM.TheVariants.{M1}
 use Rattle.policy_machine.specs.declared.rule.Rule.{Rule}
 
 -- what holds of one of two commands that are alike holds of the other
@@ -103,16 +103,14 @@ unchanged = ((λ is. is), (λ is. is))
 -- the rules that forms have in common
 management_looks : (rule : RuleM) → LooksAtSeen (λ x. ManagementFails x rule)
 management_looks M1 a = unchanged
-management_looks M2 a = unchanged
-management_looks M3 a = unchanged
+management_looks rule a = unchanged
 
 pub management_alike : (rule : RuleM) → IsAlike (λ x. ManagementFails x rule)
 management_alike rule = by_seen (λ x. ManagementFails x rule) (management_looks rule)
 
 token_looks : (approval : Approval) (rule : RuleTK) → LooksAtSeen (λ x. TokenFails x approval rule)
 token_looks approval TK1 a = unchanged
-token_looks approval TK2 a = unchanged
-token_looks approval TK3 a = unchanged
+token_looks approval rule a = unchanged
 
 pub token_alike : (approval : Approval) (rule : RuleTK) → IsAlike (λ x. TokenFails x approval rule)
 token_alike approval rule = by_seen (λ x. TokenFails x approval rule) (token_looks approval rule)

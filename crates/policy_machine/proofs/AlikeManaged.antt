@@ -23,17 +23,17 @@ use Rattle.policy_machine.specs.declared.card_status.RuleSC.TheVariants.{SC1, SC
 use Rattle.policy_machine.specs.declared.delete_key.RuleDK.{RuleDK}
 use Rattle.policy_machine.specs.declared.delete_key.RuleDK.TheVariants.{DK1, DK2}
 use Rattle.policy_machine.specs.declared.delete_object.RuleDO.{RuleDO}
-use Rattle.policy_machine.specs.declared.delete_object.RuleDO.TheVariants.{DO1, DO2, DO3, DO4}
+use Rattle.policy_machine.specs.declared.delete_object.RuleDO.TheVariants.{DO4}
 use Rattle.policy_machine.specs.declared.entry_status.RuleSS.{RuleSS}
-use Rattle.policy_machine.specs.declared.entry_status.RuleSS.TheVariants.{SS1, SS2, SS3, SS4}
+use Rattle.policy_machine.specs.declared.entry_status.RuleSS.TheVariants.{SS3}
 use Rattle.policy_machine.specs.declared.extradition.RuleEX.{RuleEX}
-use Rattle.policy_machine.specs.declared.extradition.RuleEX.TheVariants.{EX1, EX2, EX3, EX4, EX5, EX6, EX7}
+use Rattle.policy_machine.specs.declared.extradition.RuleEX.TheVariants.{EX1}
 use Rattle.policy_machine.specs.declared.install_application.RuleII.{RuleII}
-use Rattle.policy_machine.specs.declared.install_application.RuleII.TheVariants.{II1, II2, II3, II4, II5, II6, II7}
+use Rattle.policy_machine.specs.declared.install_application.RuleII.TheVariants.{II1}
 use Rattle.policy_machine.specs.declared.install_load.RuleIL.{RuleIL}
-use Rattle.policy_machine.specs.declared.install_load.RuleIL.TheVariants.{IL1, IL2, IL3, IL4, IL5, IL6, IL7}
+use Rattle.policy_machine.specs.declared.install_load.RuleIL.TheVariants.{IL1}
 use Rattle.policy_machine.specs.declared.make_selectable.RuleMS.{RuleMS}
-use Rattle.policy_machine.specs.declared.make_selectable.RuleMS.TheVariants.{MS1, MS2, MS3, MS4, MS5}
+use Rattle.policy_machine.specs.declared.make_selectable.RuleMS.TheVariants.{MS1}
 use Rattle.policy_machine.specs.declared.rule.Rule.{Rule}
 use Rattle.policy_machine.specs.declared.rule.Rule.TheVariants.{M, RC, TK}
 use Rattle.policy_machine.specs.declared.store_data.RuleSD.{RuleSD}
@@ -56,6 +56,11 @@ module _ (form : JudgedForm) (delegated : IsAlike form.delegation.is_delegated)
   judged_alike (M rule) a b alike fails = management_alike rule a b alike fails
   judged_alike rule a b alike fails = (fails.0, asks_alike fails.0 a b alike fails.1, asked_alike fails.0 rule a b alike fails.2)
 
+-- also where the rules of the form's own look at what is seen alone
+looking_alike : (form : JudgedForm) → IsAlike form.delegation.is_delegated
+    → ((asked : form.Asked) (rule : form.Own) → LooksAtSeen (λ x. form.fails x asked rule)) → (rule : Rule) → IsAlike (λ x. JudgedFails form x rule)
+looking_alike form delegated looks = judged_alike form delegated (λ asked rule. by_seen (λ x. form.fails x asked rule) (looks asked rule))
+
 -- commands of domains with Delegated Management are delegated, or none is
 held : IsAlike (λ x. Holds x delegated_management)
 held = by_seen (λ x. Holds x delegated_management) (λ x. unchanged)
@@ -67,68 +72,49 @@ storing_looks : (asked : List Element) (rule : RuleSD) → LooksAtSeen (λ x. St
 storing_looks asked SD1 a = unchanged
 
 pub store_data_alike : IsAlikeForm (command_form managed_store_data)
-store_data_alike = judged_alike managed_store_data.judged nobody (λ asked rule. by_seen (λ x. StoringFails x asked rule) (storing_looks asked rule))
+store_data_alike = looking_alike managed_store_data.judged nobody storing_looks
 
 deleting_key_looks : (asked : KeyChosen) (rule : RuleDK) → LooksAtSeen (λ x. DeletingKeyFails x asked rule)
 deleting_key_looks asked DK1 a = unchanged
 deleting_key_looks asked DK2 a = unchanged
 
 pub delete_key_alike : IsAlikeForm (command_form managed_delete_key)
-delete_key_alike = judged_alike managed_delete_key.judged nobody (λ asked rule. by_seen (λ x. DeletingKeyFails x asked rule) (deleting_key_looks asked rule))
+delete_key_alike = looking_alike managed_delete_key.judged nobody deleting_key_looks
 
 installing_looks : (asked : InstallAsked) (rule : RuleII) → LooksAtSeen (λ x. InstallingFails x asked rule)
 installing_looks asked II1 a = unchanged
-installing_looks asked II2 a = unchanged
-installing_looks asked II3 a = unchanged
-installing_looks asked II4 a = unchanged
-installing_looks asked II5 a = unchanged
-installing_looks asked II6 a = unchanged
-installing_looks asked II7 a = unchanged
+installing_looks asked rule a = unchanged
 
 pub install_alike : IsAlikeForm (command_form managed_install)
-install_alike = judged_alike managed_install.judged held (λ asked rule. by_seen (λ x. InstallingFails x asked rule) (installing_looks asked rule))
+install_alike = looking_alike managed_install.judged held installing_looks
 
 installing_load_looks : (asked : LoadData) (rule : RuleIL) → LooksAtSeen (λ x. InstallingLoadFails x asked rule)
 installing_load_looks asked IL1 a = unchanged
-installing_load_looks asked IL2 a = unchanged
-installing_load_looks asked IL3 a = unchanged
-installing_load_looks asked IL4 a = unchanged
-installing_load_looks asked IL5 a = unchanged
-installing_load_looks asked IL6 a = unchanged
-installing_load_looks asked IL7 a = unchanged
+installing_load_looks asked rule a = unchanged
 
 pub install_load_alike : IsAlikeForm install_load
-install_load_alike = judged_alike judged_install_load held (λ asked rule. by_seen (λ x. InstallingLoadFails x asked rule) (installing_load_looks asked rule))
+install_load_alike = looking_alike judged_install_load held installing_load_looks
 
 making_selectable_looks : (asked : InstallData) (rule : RuleMS) → LooksAtSeen (λ x. MakingSelectableFails x asked rule)
 making_selectable_looks asked MS1 a = unchanged
-making_selectable_looks asked MS2 a = unchanged
-making_selectable_looks asked MS3 a = unchanged
-making_selectable_looks asked MS4 a = unchanged
-making_selectable_looks asked MS5 a = unchanged
+making_selectable_looks asked rule a = unchanged
 
 pub selectable_alike : IsAlikeForm (command_form managed_selectable)
-selectable_alike =
-    judged_alike managed_selectable.judged held (λ asked rule. by_seen (λ x. MakingSelectableFails x asked rule) (making_selectable_looks asked rule))
+selectable_alike = looking_alike managed_selectable.judged held making_selectable_looks
 
 extraditing_looks : (asked : InstallData) (rule : RuleEX) → LooksAtSeen (λ x. ExtraditingFails x asked rule)
 extraditing_looks asked EX1 a = unchanged
-extraditing_looks asked EX2 a = unchanged
-extraditing_looks asked EX3 a = unchanged
-extraditing_looks asked EX4 a = unchanged
-extraditing_looks asked EX5 a = unchanged
-extraditing_looks asked EX6 a = unchanged
-extraditing_looks asked EX7 a = unchanged
+extraditing_looks asked rule a = unchanged
 
 pub extradition_alike : IsAlikeForm (command_form managed_extradition)
-extradition_alike = judged_alike managed_extradition.judged held (λ asked rule. by_seen (λ x. ExtraditingFails x asked rule) (extraditing_looks asked rule))
+extradition_alike = looking_alike managed_extradition.judged held extraditing_looks
 
 setting_card_looks : (rule : RuleSC) → LooksAtSeen (λ x. SettingCardFails x rule)
 setting_card_looks SC1 a = unchanged
 setting_card_looks SC2 a = unchanged
 
 pub card_status_alike : IsAlikeForm (command_form managed_card_status)
-card_status_alike = judged_alike managed_card_status.judged nobody (λ asked rule. by_seen (λ x. SettingCardFails x rule) (setting_card_looks rule))
+card_status_alike = looking_alike managed_card_status.judged nobody (λ asked. setting_card_looks)
 
 itself_looks : LooksAtSeen PersonalizesItself
 itself_looks a = (
@@ -137,16 +123,14 @@ itself_looks a = (
 )
 
 setting_status_looks : (rule : RuleSS) → LooksAtSeen (λ x. SettingStatusFails x rule)
-setting_status_looks SS1 a = unchanged
-setting_status_looks SS2 a = unchanged
 setting_status_looks SS3 a = (
   (λ fails. (fails.0, fails.1, (λ is. fails.2 ((itself_looks a).1 is)))),
   (λ fails. (fails.0, fails.1, (λ is. fails.2 ((itself_looks a).0 is)))),
 )
-setting_status_looks SS4 a = unchanged
+setting_status_looks rule a = unchanged
 
 pub entry_status_alike : IsAlikeForm (command_form managed_entry_status)
-entry_status_alike = judged_alike managed_entry_status.judged nobody (λ asked rule. by_seen (λ x. SettingStatusFails x rule) (setting_status_looks rule))
+entry_status_alike = looking_alike managed_entry_status.judged nobody (λ asked. setting_status_looks)
 
 -- whether an AID is selected on a channel, by what is selected there
 on_channel : (aid : List ℕ) (channel : Option Channel)
@@ -171,11 +155,9 @@ abbrev LeavesOthers : Admitted → List ℕ → Type 0
 LeavesOthers x thing = (x.command.p2 ≡ 0x00) × ((aid : List ℕ) × ComesFrom x.at.registry thing aid)
 
 deleting_alike : (asked : DeletionAsked) (rule : RuleDO) → IsAlike (λ x. DeletingFails x asked rule)
-deleting_alike asked DO1 a b alike fails = by_seen (λ x. DeletingFails x asked DO1) (λ x. unchanged) a b alike fails
-deleting_alike asked DO2 a b alike fails = by_seen (λ x. DeletingFails x asked DO2) (λ x. unchanged) a b alike fails
-deleting_alike asked DO3 a b alike fails = by_seen (λ x. DeletingFails x asked DO3) (λ x. unchanged) a b alike fails
 deleting_alike asked DO4 a b alike (inl (aid, goes, used)) = inl (aid, to_go_alike asked.aid aid a b alike goes, in_use_alike aid a b alike used)
 deleting_alike asked DO4 a b alike (inr leaves) = inr (by_seen (λ x. LeavesOthers x asked.aid) (λ x. unchanged) a b alike leaves)
+deleting_alike asked rule a b alike fails = by_seen (λ x. DeletingFails x asked rule) (λ x. unchanged) a b alike fails
 
 pub deletion_alike : IsAlikeForm (command_form managed_delete_object)
 deletion_alike = judged_alike managed_delete_object.judged (by_seen IsDelegated (λ x. unchanged)) deleting_alike

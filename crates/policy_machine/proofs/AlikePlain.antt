@@ -14,7 +14,7 @@ use Rattle.policy_machine.specs.declared.get_data.RuleGD.TheVariants.{GD1}
 use Rattle.policy_machine.specs.declared.get_status.RuleGS.{RuleGS}
 use Rattle.policy_machine.specs.declared.get_status.RuleGS.TheVariants.{GS1, GS2}
 use Rattle.policy_machine.specs.declared.initialize_update.RuleIU.{RuleIU}
-use Rattle.policy_machine.specs.declared.initialize_update.RuleIU.TheVariants.{IU1, IU2, IU3}
+use Rattle.policy_machine.specs.declared.initialize_update.RuleIU.TheVariants.{IU1}
 use Rattle.policy_machine.specs.declared.manage_channel.RuleMC.TheVariants.{MC1}
 use Rattle.policy_machine.specs.declared.rule.Rule.TheVariants.{GD, GS, IU, M, MC, SE}
 use Rattle.policy_machine.specs.declared.select.RuleSE.TheVariants.{SE1}
@@ -30,8 +30,7 @@ get_data_alike rule a b alike fails = absurd fails
 
 offer_looks : (rule : RuleIU) → LooksAtSeen (λ x. InitializeUpdateFails x (IU rule))
 offer_looks IU1 a = unchanged
-offer_looks IU2 a = unchanged
-offer_looks IU3 a = unchanged
+offer_looks rule a = unchanged
 
 pub initialize_update_alike : IsAlikeForm initialize_update
 initialize_update_alike (M rule) a b alike fails = management_alike rule a b alike fails
