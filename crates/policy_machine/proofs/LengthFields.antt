@@ -81,30 +81,29 @@ one_fields (x ∷ xs) (y ∷ ys) bytes number one other =
     (λ i. first i ∷ behind i)
 
 -- the six of an INSTALL
+abbrev data_of : List (List ℕ) → InstallData
+data_of fields = record {
+  first = get_or fields 0 [];
+  second = get_or fields 1 [];
+  third = get_or fields 2 [];
+  privileges = get_or fields 3 [];
+  parameters = get_or fields 4 [];
+  token = get_or fields 5 [];
+}
+
 pub one_data : (a b : InstallData) (body : List ℕ) → IsInstallData a body → IsInstallData b body → a ≡ b
-one_data a b body one other =
-    let same = one_fields (signed_fields a ++ a.token ∷ []) (signed_fields b ++ b.token ∷ []) body refl one other in
-    let first : a.first ≡ b.first = cc in
-    let second : a.second ≡ b.second = cc in
-    let third : a.third ≡ b.third = cc in
-    let privileges : a.privileges ≡ b.privileges = cc in
-    let parameters : a.parameters ≡ b.parameters = cc in
-    let token : a.token ≡ b.token = cc in
-    (λ i. record { first = first i; second = second i; third = third i; privileges = privileges i; parameters = parameters i; token = token i })
+one_data a b body one other = ap data_of (one_fields (signed_fields a ++ a.token ∷ []) (signed_fields b ++ b.token ∷ []) body refl one other)
 
 pub no_data : (body : List ℕ) → NoLengthFields 6 body → (given : InstallData) → IsInstallData given body → ⊥
 no_data body none given is = none (signed_fields given ++ given.token ∷ []) refl is
 
 -- the five of an INSTALL [for load]
+abbrev load_data_of : List (List ℕ) → LoadData
+load_data_of fields =
+    record { file = get_or fields 0 []; domain = get_or fields 1 []; hash = get_or fields 2 []; parameters = get_or fields 3 []; token = get_or fields 4 [] }
+
 pub one_load_data : (a b : LoadData) (body : List ℕ) → IsLoadData a body → IsLoadData b body → a ≡ b
-one_load_data a b body one other =
-    let same = one_fields (signed_load_fields a ++ a.token ∷ []) (signed_load_fields b ++ b.token ∷ []) body refl one other in
-    let file : a.file ≡ b.file = cc in
-    let domain : a.domain ≡ b.domain = cc in
-    let hash : a.hash ≡ b.hash = cc in
-    let parameters : a.parameters ≡ b.parameters = cc in
-    let token : a.token ≡ b.token = cc in
-    (λ i. record { file = file i; domain = domain i; hash = hash i; parameters = parameters i; token = token i })
+one_load_data a b body one other = ap load_data_of (one_fields (signed_load_fields a ++ a.token ∷ []) (signed_load_fields b ++ b.token ∷ []) body refl one other)
 
 pub no_load_data : (body : List ℕ) → NoLengthFields 5 body → (given : LoadData) → IsLoadData given body → ⊥
 no_load_data body none given is = none (signed_load_fields given ++ given.token ∷ []) refl is
