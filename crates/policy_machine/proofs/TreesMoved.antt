@@ -144,6 +144,15 @@ module _ (admitted : Admitted) (domain : List ℕ) (apart : AreApart admitted do
   owned : (owner : List ℕ) → IsDomainNamed before owner → IsAtOrAbove after domain owner → IsAtOrAbove before domain owner ⊎ IsBrought owner
   owned owner named at = was_in_tree owner (named_by owner named) at
 
+  moves_with : (member : Member) → IsAtOrAbove before thing (place_of member) → MovesWith before thing member
+  moves_with (AFile file) at = inr at
+  moves_with member at = at
+
+  there_or_brought : (member : Member) → IsMember before member → IsAtOrAbove before domain (place_of member) ⊎ IsBrought (place_of member)
+      → InTreeOf before domain member ⊎ IsEntrusted admitted domain member
+  there_or_brought member was (inl at) = inl (was, at)
+  there_or_brought member was (inr brought) = inr (entrusted member (moves_with member brought.0) brought.1 brought.2)
+
   new : (member : Member) → InTreeOf after domain member → InTreeOf before domain member ⊎ IsEntrusted admitted domain member
   new (AnEntry entry) (is, at) = by (mapped in_domain before.entries entry is)
     where
@@ -159,11 +168,8 @@ module _ (admitted : Admitted) (domain : List ℕ) (apart : AreApart admitted do
             ])
         | inr other ↦
             (let it : old ≡ entry = sym (same_entry old other) ∙ becomes in
-            let was_it = subst (Contains before.entries) it was in
-            elim (was_in_tree entry.aid (λ here. absurd (other (ap (λ (e : Entry). e.aid) it ∙ here))) at) [
-              | inl before_it ↦ inl (was_it, before_it)
-              | inr brought ↦ inr (entrusted (AnEntry entry) brought.0 brought.1 brought.2)
-            ])
+            there_or_brought (AnEntry entry) (subst (Contains before.entries) it was)
+            (was_in_tree entry.aid (λ here. absurd (other (ap (λ (e : Entry). e.aid) it ∙ here))) at))
       ]
   new (AFile file) (is, at) = by (mapped file_in before.files file is)
     where
@@ -180,19 +186,12 @@ module _ (admitted : Admitted) (domain : List ℕ) (apart : AreApart admitted do
             (let it : old ≡ file = sym (same_file old other) ∙ becomes in
             let was_it = subst (Contains before.files) it was in
             let owner = (All-contains (IsWellFile before) before.files file apart.of.well.files was_it).domain in
-            elim (owned file.domain owner at) [
-              | inl before_it ↦ inl (was_it, before_it)
-              | inr brought ↦ inr (entrusted (AFile file) (inr brought.0) brought.1 brought.2)
-            ])
+            there_or_brought (AFile file) was_it (owned file.domain owner at))
       ]
-  new (AKey key) (is, at) = elim (owned key.owner (All-contains (IsWellKey before) before.keys key apart.of.well.keys is).owner at) [
-    | inl before_it ↦ inl (is, before_it)
-    | inr brought ↦ inr (entrusted (AKey key) brought.0 brought.1 brought.2)
-  ]
-  new (AnObject object) (is, at) = elim (owned object.owner (All-contains (IsWellObject before) before.objects object apart.of.well.objects is).owner at) [
-    | inl before_it ↦ inl (is, before_it)
-    | inr brought ↦ inr (entrusted (AnObject object) brought.0 brought.1 brought.2)
-  ]
+  new (AKey key) (is, at) =
+      there_or_brought (AKey key) is (owned key.owner (All-contains (IsWellKey before) before.keys key apart.of.well.keys is).owner at)
+  new (AnObject object) (is, at) =
+      there_or_brought (AnObject object) is (owned object.owner (All-contains (IsWellObject before) before.objects object apart.of.well.objects is).owner at)
 
   pub moved_spared : SparesTree admitted (moved admitted.at.registry thing to) domain
   moved_spared = spares_tree admitted domain apart after elsewhere there new
