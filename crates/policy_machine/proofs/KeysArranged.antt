@@ -1,6 +1,6 @@
 -- Keys that are put in the place of others, and their sequence counters, have an order.
-use Rattle.std.proofs.Common.{◌≡◌, ◌≢◌, inl, inr, ℕ, ◌+◌, ◌<◌, true, false, ◌==◌, ◌&&◌, ◌++◌, List, [], ◌∷◌, sym, subst, arith}
-use Rattle.std.specs.Prelude.{Contains, not}
+use Rattle.std.proofs.Common.{◌≡◌, ◌≢◌, inl, inr, ℕ, ◌+◌, ◌<◌, Bool, true, false, ◌==◌, ◌&&◌, ◌++◌, List, [], ◌∷◌, sym, subst, arith}
+use Rattle.std.specs.Prelude.{Contains, filter, not}
 use Rattle.std.specs.Cmp.{IsTotalOrder}
 use Rattle.std.specs.List.Sorted.{IsStrictlySortedBy}
 use Rattle.std.specs.Ordering.{nat_cmp, ordering_then}
@@ -69,32 +69,30 @@ module _ (registry : Registry) (well : Well registry) (ascending : IsAscending r
   abbrev counters_stay : List Counter
   counters_stay = counters_but owner replaced registry.counters
 
-  other_key : (key : Key) → Contains stay key → is_key_numbered owner version key ≡ true → ⊥
-  other_key key there is =
-      let kept = filtered (λ k. not (is_key_numbered owner replaced k)) registry.keys key there in
+  -- what stays has another version number
+  others_stay : {X : Type 0} (things : List X) (numbered : ℕ → X → Bool)
+      → ((thing : X) → Contains things thing → version ≢ replaced → numbered version thing ≡ true → ⊥)
+      → (thing : X) → Contains (filter (λ other. not (numbered replaced other)) things) thing → numbered version thing ≡ true → ⊥
+  others_stay things numbered none thing there is =
+      let kept = filtered (λ other. not (numbered replaced other)) things thing there in
       elim (cases_eq version replaced) [
         | inl same ↦
-            (let other = not-true (is_key_numbered owner replaced key) kept.1 in
-            let clash : is_key_numbered owner replaced key ≡ true = subst (λ (v : ℕ). is_key_numbered owner v key ≡ true) same is in cc)
-        | inr differs ↦
-            (let none = free differs in
-            let some = any_there (is_key_numbered owner version) registry.keys key kept.0 is in cc)
+            (let other = not-true (numbered replaced thing) kept.1 in
+            let clash : numbered replaced thing ≡ true = subst (λ (v : ℕ). numbered v thing ≡ true) same is in cc)
+        | inr differs ↦ none thing kept.0 differs is
       ]
 
+  none_there : (key : Key) → Contains registry.keys key → version ≢ replaced → is_key_numbered owner version key ≡ true → ⊥
+  none_there key there differs is = (let none = free differs in let some = any_there (is_key_numbered owner version) registry.keys key there is in cc)
+
+  other_key : (key : Key) → Contains stay key → is_key_numbered owner version key ≡ true → ⊥
+  other_key = others_stay registry.keys (is_key_numbered owner) none_there
+
   other_counter : (counter : Counter) → Contains counters_stay counter → is_counter_numbered owner version counter ≡ true → ⊥
-  other_counter counter there is =
-      let kept = filtered (λ c. not (is_counter_numbered owner replaced c)) registry.counters counter there in
-      elim (cases_eq version replaced) [
-        | inl same ↦
-            (let other = not-true (is_counter_numbered owner replaced counter) kept.1 in
-            let clash : is_counter_numbered owner replaced counter ≡ true = subst (λ (v : ℕ). is_counter_numbered owner v counter ≡ true) same is in cc)
-        | inr differs ↦
-            (let none = free differs in
-            let first = key_there registry counter.owner counter.version 1 (All-contains (IsWellCounter registry) registry.counters counter well.counters kept.0).set.first in
-            let key_is : is_key_numbered owner version first.key ≡ true = subst (λ (o : List ℕ). (same_aid o owner && first.key.version == version) ≡ true) (sym first.owner_is)
-            (subst (λ (v : ℕ). (same_aid counter.owner owner && v == version) ≡ true) (sym first.version_is) is) in
-            let some = any_there (is_key_numbered owner version) registry.keys first.key first.is_there key_is in cc)
-      ]
+  other_counter = others_stay registry.counters (is_counter_numbered owner) (λ counter there differs is.
+      (let first = key_there registry counter.owner counter.version 1 (All-contains (IsWellCounter registry) registry.counters counter well.counters there).set.first in
+      none_there first.key first.is_there differs (subst (λ (o : List ℕ). (same_aid o owner && first.key.version == version) ≡ true) (sym first.owner_is)
+      (subst (λ (v : ℕ). (same_aid counter.owner owner && v == version) ≡ true) (sym first.version_is) is))))
 
   not_later : (identifier at : ℕ) (keys : List (List ℕ)) (key : Key) → identifier < at → Contains (keys_from owner version at keys) key → identifier < key.identifier
   not_later identifier at [] key below there = (let low = there.1 in absurd (omega arith))
