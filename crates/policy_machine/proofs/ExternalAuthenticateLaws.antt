@@ -15,7 +15,6 @@ use Rattle.card_types.specs.declared.level.Level.TheVariants.{Mac, EncMac, MacR,
 use Rattle.policy_machine.proofs.SameEffect.{effect_same, state_same}
 use Rattle.policy_machine.proofs.Lawful.{IsLawful, IsReady, place_leaves_secure_channel, same_as, some_same, sound_with}
 use Rattle.std.proofs.Common.{Bool, true, false, List, [], ◌∷◌, ◌++◌, Option, None, Some, inl, inr}
-use Rattle.std.specs.Prelude.{if◌then◌else◌, ◌==◌}
 use Rattle.std.proofs.lemmas.Bool.{eqb-true}
 use Rattle.policy_machine.proofs.Judging.{BeginPasses, judged_behind}
 use Rattle.policy_machine.specs.Commands.{FormFails, TakesCommand, Judges}

@@ -27,7 +27,6 @@ use Rattle.policy_machine.proofs.OneSet.{owner_one}
 use Rattle.card_types.specs.Registry as registry
 use Rattle.policy_machine.proofs.Judging.{judged}
 use Rattle.policy_machine.specs.Commands.{TakesCommand, Judges}
-use Rattle.policy_machine.specs.FirstFailing.{IsFirst}
 use Rattle.policy_machine.specs.declared.rule.Rule.{Rule}
 
 counter_goes_on : (admitted : Admitted) → IsFirst (InitializeUpdateFails admitted) offer_rules None → (owner : List ℕ) (counter : Counter)

@@ -19,7 +19,6 @@ use Rattle.card_types.proofs.ChangeExists.{one_order}
 use Rattle.card_types.proofs.ObjectNames.{object_order_total}
 use Rattle.policy_machine.proofs.StoreDataElements.{one_list}
 use Rattle.policy_machine.proofs.SameThings.{same_fits}
-use Rattle.policy_machine.proofs.Judging.{judged}
 use Rattle.policy_machine.proofs.DataWell.{data_well}
 use Rattle.policy_machine.specs.JudgedForms.{IsJudgeable}
 use Rattle.policy_machine.proofs.ManagedLawful.{IsManagedLawful, IsPassedFor, MayFollow, may_follow}
