@@ -11,6 +11,7 @@ use Rattle.policy_machine.specs.CardStatus.{CardIsSet, managed_card_status}
 use Rattle.card_types.specs.Registry.{Registry}
 use Rattle.policy_machine.specs.JudgedForms.{IsJudgeable}
 use Rattle.policy_machine.proofs.ManagedLawful.{IsManagedLawful, IsPassedFor, MayFollow, may_follow}
+use Rattle.policy_machine.proofs.Lawful.{sound_of_card}
 
 -- the state with a code
 life_of : ℕ → CardLife
@@ -31,7 +32,7 @@ setting_keeps : (admitted : Admitted) (asked : Unit {0}) (changed : Registry) �
     → MayFollow admitted changed
 setting_keeps admitted asked changed passed set =
     let registry = admitted.at.registry in
-    may_follow admitted _ changed set.registry (card_life_keeps registry set.life (record { well = passed.sound.well; ascending = passed.sound.ascending }))
+    may_follow admitted _ changed set.registry (card_life_keeps registry set.life (sound_of_card passed.sound))
     (same_fits registry set.life registry.keys registry.counters registry.objects admitted.at.volatile passed.sound.fits)
 
 set_once : (admitted : Admitted) (asked : Unit {0}) (a b : Registry) → Unit {0} → CardIsSet admitted a → CardIsSet admitted b → a ≡ b

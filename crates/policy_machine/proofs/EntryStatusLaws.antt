@@ -23,7 +23,7 @@ use Rattle.policy_machine.specs.Sound.{Fits}
 use Rattle.policy_machine.specs.Volatile.{Volatile}
 use Rattle.policy_machine.specs.declared.entry_status.RuleSS.TheVariants.{SS2}
 use Rattle.policy_machine.proofs.ChangedFits.{changed_fits}
-use Rattle.policy_machine.proofs.Lawful.{some_same}
+use Rattle.policy_machine.proofs.Lawful.{some_same, sound_of_card}
 use Rattle.card_types.specs.Aid.{IsAid}
 use Rattle.policy_machine.proofs.ManagedJudging.{own_pass}
 use Rattle.policy_machine.specs.JudgedForms.{IsJudgeable}
@@ -87,7 +87,7 @@ set_of_card admitted field first =
 setting_keeps : (admitted : Admitted) (asked : Unit {0}) (changed : Registry) → IsPassedFor managed_entry_status.judged admitted asked
     → OneIsSet admitted changed ⊎ TreeIsSet admitted changed → MayFollow admitted changed
 setting_keeps admitted asked changed passed set = record {
-  of = set_follows admitted (passed.own SS2 (1, omega arith, refl)) (record { well = passed.sound.well; ascending = passed.sound.ascending }) changed set;
+  of = set_follows admitted (passed.own SS2 (1, omega arith, refl)) (sound_of_card passed.sound) changed set;
   fits = set_fits admitted changed admitted.at.volatile set passed.sound.fits;
 }
 

@@ -18,6 +18,7 @@ use Rattle.policy_machine.proofs.InstallApplicationLaws.{may_be_added, passing}
 use Rattle.policy_machine.proofs.NumbersKept.{KeepsNumbers, added_numbers, changed_numbers, found_numbers, same_numbers}
 use Rattle.policy_machine.proofs.RisingForms.{KeepsAllNumbers}
 use Rattle.policy_machine.proofs.TreesRemoved.{named_was}
+use Rattle.policy_machine.proofs.Lawful.{sound_of_card}
 
 -- some entries changed in neither AID nor number
 some_changed : (registry changed : Registry) (these : List ℕ → Bool) (change : Entry → Entry)
@@ -44,7 +45,7 @@ store_data_numbers admitted elements changed passed put = same_numbers admitted.
 pub install_numbers : KeepsAllNumbers managed_install
 install_numbers admitted asked changed passed added =
     let may = may_be_added admitted asked (passing admitted asked passed.own) passed.asks passed.domain in
-    added_numbers (entry_made admitted asked) admitted.at.registry changed (record { well = passed.sound.well; ascending = passed.sound.ascending }) may.free added
+    added_numbers (entry_made admitted asked) admitted.at.registry changed (sound_of_card passed.sound) may.free added
 
 pub selectable_numbers : KeepsAllNumbers managed_selectable
 selectable_numbers admitted given changed passed becomes =
@@ -72,4 +73,4 @@ deletion_numbers admitted asked changed passed becomes =
     let before = admitted.at.registry in
     subst (λ (r : Registry). KeepsNumbers before r) (sym becomes)
     (found_numbers before (without_thing before asked.aid) (λ aid entry named.
-    named_was before (record { well = passed.sound.well; ascending = passed.sound.ascending }) asked.aid aid entry named))
+    named_was before (sound_of_card passed.sound) asked.aid aid entry named))

@@ -2,6 +2,7 @@
 use Rattle.std.proofs.Common.{◌≡◌, ◌≢◌, ◌⊎◌, ℕ, ◌<◌, ◌≤◌, false, Option, None, Some, refl, sym, ap, subst, ◌∙◌, inl, inr, arith}
 use Rattle.std.specs.Prelude.{◌==◌, Contains}
 use Rattle.card_types.specs.Ascending.{IsAscending}
+use Rattle.card_types.specs.ChangeLaws.{IsOfCard}
 use Rattle.card_types.specs.Registry.{Registry}
 use Rattle.card_types.specs.Well.{IsDomainNamed, Well}
 use Rattle.apdu_core.specs.Apdu.{Apdu}
@@ -49,6 +50,10 @@ pub record IsLawful (form : CommandForm) : Type 0 where
       → HasNoPlaceOn done.state.volatile admitted.channel
   pub loads_stay : (admitted : Admitted) (done : Effect) → TakesCommand form admitted.command → (IsLoading admitted.command → ⊥) → form.does admitted done
       → LoadStays admitted.at.volatile done.state.volatile
+
+-- its registry is one that a card may have
+pub sound_of_card : {state : State} → IsSound state → IsOfCard state.registry
+sound_of_card sound = record { well = sound.well; ascending = sound.ascending }
 
 -- a sound card with other channels
 pub sound_with : (state : State) (after : State) → IsSound state → after.registry ≡ state.registry → Fits state.registry after.volatile → IsSound after

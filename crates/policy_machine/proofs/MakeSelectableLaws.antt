@@ -1,11 +1,10 @@
 -- The laws of INSTALL [for make selectable].
-use Rattle.std.proofs.Common.{◌≡◌, ◌≢◌, ℕ, List, Option, None, Some, true, false, refl, ap, sym, subst, ◌∙◌, arith}
+use Rattle.std.proofs.Common.{◌≡◌, ◌≢◌, Option, None, Some, true, false, refl, ap, sym, subst, ◌∙◌, arith}
 use Rattle.std.specs.Prelude.{Contains, IfSome, MatchOption}
 use Rattle.card_types.proofs.LifeChanges.{life_keeps}
-use Rattle.card_types.proofs.MappedEntries.{KeepsNames}
 use Rattle.card_types.specs.AidOrder.{same_aid}
 use Rattle.card_types.specs.ChangeLaws.{IsOfCard, MayHaveLife}
-use Rattle.card_types.specs.Registry.{Entry, entry_named, is_domain, Registry}
+use Rattle.card_types.specs.Registry.{Entry, entry_named, is_domain}
 use Rattle.card_types.specs.RegistryChange.{with_life}
 use Rattle.card_types.specs.Well.{IsIssuerDomain, Well, has_life}
 use Rattle.card_types.specs.declared.factory.TheConstants.{ISSUER}
@@ -17,10 +16,11 @@ use Rattle.policy_machine.specs.InstallFields.{InstallData}
 use Rattle.policy_machine.specs.MakeSelectable.{AsksToMakeSelectable, MakingSelectableFails, is_installed, managed_selectable}
 use Rattle.policy_machine.specs.declared.make_selectable.RuleMS.TheVariants.{MS2, MS4}
 use Rattle.policy_machine.proofs.ChangedFits.{changed_fits}
+use Rattle.policy_machine.proofs.Lawful.{sound_of_card}
 use Rattle.policy_machine.proofs.LengthFields.{one_data}
 use Rattle.policy_machine.proofs.ManagedJudging.{own_pass, delegation_asked}
 use Rattle.policy_machine.specs.JudgedForms.{IsJudgeable}
-use Rattle.policy_machine.proofs.ManagedLawful.{IsManagedLawful, IsPassedFor, MayFollow, receipt_judged, may_follow}
+use Rattle.policy_machine.proofs.ManagedLawful.{IsManagedLawful, leaves_one, receipt_judged}
 use Rattle.policy_machine.specs.declared.make_selectable.RuleMS.{RuleMS}
 use Rattle.policy_machine.specs.ManagedForm.{command_form}
 
@@ -68,20 +68,12 @@ pub selectable_of_card : (admitted : Admitted) (given : InstallData) → AsksToM
 selectable_of_card admitted given asks of first =
     selectable_follows admitted given of (own_pass managed_selectable.judged selectable_judgeable admitted given asks first)
 
-selecting_keeps : (admitted : Admitted) (given : InstallData) (changed : Registry) → IsPassedFor managed_selectable.judged admitted given
-    → changed ≡ with_life admitted.at.registry given.third selectable_life → MayFollow admitted changed
-selecting_keeps admitted given changed passed becomes =
-    let this = λ (other : List ℕ). same_aid other given.third in
-    let change = λ (entry : Entry). record entry { life = selectable_life } in
-    let names : KeepsNames change = record { aid = λ _. refl; file = λ _. refl; privileges = λ _. refl } in
-    may_follow admitted _ changed becomes
-    (selectable_follows admitted given (record { well = passed.sound.well; ascending = passed.sound.ascending }) passed.own)
-    (changed_fits admitted.at.registry this change names admitted.at.volatile passed.sound.fits)
-
 pub managed_selectable_lawful : IsManagedLawful managed_selectable
-managed_selectable_lawful = record {
-  judgeable = selectable_judgeable;
-  receipted = λ admitted delegated. receipt_judged;
-  keeps = selecting_keeps;
-  one = λ admitted given a b asks one other. one ∙ sym other;
-}
+managed_selectable_lawful =
+    leaves_one managed_selectable.judged (λ admitted given. with_life admitted.at.registry given.third selectable_life) managed_selectable.reply selectable_judgeable
+    (λ admitted delegated. receipt_judged)
+    (λ admitted given passed. record {
+      of = selectable_follows admitted given (sound_of_card passed.sound) passed.own;
+      fits = changed_fits admitted.at.registry (λ other. same_aid other given.third) (λ (entry : Entry). record entry { life = selectable_life })
+          (record { aid = λ _. refl; file = λ _. refl; privileges = λ _. refl }) admitted.at.volatile passed.sound.fits;
+    })

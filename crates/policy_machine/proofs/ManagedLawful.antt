@@ -1,5 +1,5 @@
 -- What is asked of a form of card content management, by which its command is lawful.
-use Rattle.std.proofs.Common.{◌≡◌, None, refl, sym, subst, ◌∙◌, arith, inr}
+use Rattle.std.proofs.Common.{◌≡◌, ℕ, List, None, refl, sym, subst, ◌∙◌, arith, inr}
 use Rattle.std.specs.Prelude.{Contains, nat_lt}
 use Rattle.std.proofs.lemmas.Bool.{ltb-true}
 use Rattle.card_types.specs.ChangeLaws.{IsOfCard}
@@ -49,6 +49,18 @@ pub record IsManagedLawful (form : ManagedForm) : Type 0 where
       → form.becomes admitted asked changed → MayFollow admitted changed
   pub one : (admitted : Admitted) (asked : form.judged.Asked) (a b : Registry) → CommandAsks form.judged admitted asked
       → form.becomes admitted asked a → form.becomes admitted asked b → a ≡ b
+
+-- a form that leaves one registry
+pub leaves_one : (form : JudgedForm) (left : Admitted → form.Asked → Registry) (reply : form.Asked → List ℕ) → IsJudgeable form
+    → ((admitted : Admitted) → form.delegation.is_delegated admitted → Contains form.delegation.rules (RC RC1))
+    → ((admitted : Admitted) (asked : form.Asked) → IsPassedFor form admitted asked → MayFollow admitted (left admitted asked))
+    → IsManagedLawful (record { judged = form; becomes = λ admitted asked changed. changed ≡ left admitted asked; reply = reply })
+leaves_one form left reply judgeable receipted follows = record {
+  judgeable = judgeable;
+  receipted = receipted;
+  keeps = λ admitted asked changed passed becomes. subst (MayFollow admitted) (sym becomes) (follows admitted asked passed);
+  one = λ admitted asked a b asks one other. one ∙ sym other;
+}
 
 module _ (form : ManagedForm) (lawful : IsManagedLawful form) (managed : Contains managing form.judged.instruction) where
   pub passed_for : (admitted : Admitted) (done : Effect) → IsReady admitted → JudgesAs (command_form form) admitted None → (does : ManagedEffect form admitted done)

@@ -16,6 +16,7 @@ use Rattle.policy_machine.proofs.ManagedLawful.{IsManagedLawful, IsPassedFor, Ma
 use Rattle.policy_machine.proofs.PutKeyOnce.{one_put, keys_put_once}
 use Rattle.policy_machine.specs.KeyVersions.{with_keys}
 use Rattle.policy_machine.specs.ManagedForm.{command_form}
+use Rattle.policy_machine.proofs.Lawful.{sound_of_card}
 
 pub put_key_judgeable : IsJudgeable managed_put_key.judged
 put_key_judgeable = record { one_asked = one_put; own = λ rule. tt; one_rule = λ a b same. cc; approving = tt }
@@ -26,7 +27,7 @@ putting_keeps : (admitted : Admitted) (asked : KeysAsked) (changed : Registry) �
 putting_keeps admitted asked changed passed put =
     let registry = admitted.at.registry in
     may_follow admitted (with_keys registry put.keys put.counters) changed put.registry
-    (put_keeps admitted asked changed (record { well = passed.sound.well; ascending = passed.sound.ascending }) passed.domain passed.asks
+    (put_keeps admitted asked changed (sound_of_card passed.sound) passed.domain passed.asks
     (passed.own PK2 (1, omega arith, refl)) (passed.own PK4 (3, omega arith, refl)) put)
     (same_fits registry registry.life put.keys put.counters registry.objects admitted.at.volatile passed.sound.fits)
 

@@ -14,7 +14,7 @@ use Rattle.policy_machine.specs.ManagedForm.{ManagedForm, command_form}
 use Rattle.policy_machine.specs.Management.{acting}
 use Rattle.policy_machine.specs.State.{Effect}
 use Rattle.policy_machine.proofs.AnsweredSpares.{answered_spares}
-use Rattle.policy_machine.proofs.Lawful.{IsReady}
+use Rattle.policy_machine.proofs.Lawful.{IsReady, sound_of_card}
 use Rattle.policy_machine.proofs.ManagedLawful.{IsManagedLawful, IsPassedFor, passed_for}
 use Rattle.policy_machine.proofs.TreeKept.{AreApart, KeepsTree, SparesTree}
 use Rattle.policy_machine.proofs.TreesAlike.{same_lists_leave}
@@ -39,7 +39,7 @@ quiet_sparing form quiet = record {
 pub apart_when_ready : (admitted : Admitted) → IsReady admitted → (domain : List ℕ) → IsDomainNamed admitted.at.registry domain
     → (HasPowerOver admitted.at.registry (acting admitted) domain → ⊥) → AreApart admitted domain
 apart_when_ready admitted ready domain named powerless = record {
-  of = record { well = ready.sound.well; ascending = ready.sound.ascending };
+  of = sound_of_card ready.sound;
   named = named;
   powerless = powerless;
 }
