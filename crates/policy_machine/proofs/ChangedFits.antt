@@ -1,40 +1,33 @@
 -- What a card holds while it has power goes with a registry in which entries are changed, but for their AIDs, Executable Load Files and
 -- privileges.
-use Rattle.std.proofs.Common.{◌≡◌, ℕ, Bool, cond, List, Option, None, Some, refl, sym, subst}
-use Rattle.std.specs.Prelude.{IsSome, MatchOption}
+use Rattle.std.proofs.Common.{◌≡◌, ℕ, Bool, List, Option, None, Some, refl, sym, subst}
+use Rattle.std.specs.Prelude.{IsSome}
 use Rattle.std.specs.Option.{option_map}
-use Rattle.card_types.proofs.MappedEntries.{KeepsNames, domain_still, entry_changed, some_keep, unnamed_still}
-use Rattle.card_types.specs.Registry.{Entry, Registry, entry_named}
+use Rattle.card_types.proofs.MappedEntries.{KeepsNames, changed, domain_still, entry_changed, some_keep, unnamed_still}
+use Rattle.card_types.specs.Registry.{Entry, LoadFile, Registry, entry_named}
 use Rattle.card_types.specs.RegistryChange.{with_entries}
 use Rattle.policy_machine.specs.Sound.{Fits}
 use Rattle.policy_machine.specs.Volatile.{LoadSession, Volatile}
-use Rattle.policy_machine.proofs.FitsKept.{KeepsThings, fits_kept, load_unnamed}
+use Rattle.policy_machine.proofs.FitsKept.{LeavesRoom, fits_kept, same_files}
 
-module _ (registry : Registry) (these : List ℕ → Bool) (change : Entry → Entry) (keeps : KeepsNames change) where
-  abbrev some : Entry → Entry
-  some entry = cond (these entry.aid) (change entry) entry
+-- also where other Executable Load Files leave a load session its room
+pub mapped_fits : (registry : Registry) (change : Entry → Entry) (files : List LoadFile) (keeps : KeepsNames change) (volatile : Volatile)
+    → ((load : LoadSession) → (entry_named registry load.aid ≡ None → entry_named (changed registry change files keeps) load.aid ≡ None)
+    → LeavesRoom registry (changed registry change files keeps) load.aid)
+    → Fits registry volatile → Fits (changed registry change files keeps) volatile
+mapped_fits registry change files keeps volatile room fits =
+    fits_kept registry (changed registry change files keeps) volatile (record {
+      entries = λ aid held there. subst IsSome (sym (entry_changed registry change files keeps aid)) (some_mapped (entry_named registry aid) there);
+      domains = λ aid held is. domain_still registry change files keeps aid is;
+      room = λ load at. room load (unnamed_still registry change files keeps load.aid);
+    }) fits
+  where
+    some_mapped : (o : Option Entry) → IsSome o → IsSome (option_map change o)
+    some_mapped None there = there
+    some_mapped (Some entry) there = refl
 
-  names : KeepsNames some
-  names = some_keep these change keeps
-
-  pub changed_keeps_things : KeepsThings registry (with_entries registry these change)
-  changed_keeps_things = record {
-    entries = λ other there. subst IsSome (sym (entry_changed registry some registry.files names other)) (some_mapped (entry_named registry other) there);
-    domains = λ other is. domain_still registry some registry.files names other is;
-    files = refl;
-  }
-    where
-      some_mapped : (o : Option Entry) → IsSome o → IsSome (option_map some o)
-      some_mapped None there = there
-      some_mapped (Some entry) there = refl
-
-  -- the AID of the load session is as free as it was
-  pub changed_leaves_free : (load : Option LoadSession) → MatchOption load (Unit {0}) (λ l. entry_named registry l.aid ≡ None)
-      → MatchOption load (Unit {0}) (λ l. entry_named (with_entries registry these change) l.aid ≡ None)
-  changed_leaves_free None free = tt
-  changed_leaves_free (Some l) free = unnamed_still registry some registry.files names l.aid free
-
-  pub changed_fits : (volatile : Volatile) → Fits registry volatile → Fits (with_entries registry these change) volatile
-  changed_fits volatile fits =
-      fits_kept registry (with_entries registry these change) changed_keeps_things volatile
-      (changed_leaves_free volatile.load (load_unnamed registry volatile volatile.load fits.load)) fits
+pub changed_fits : (registry : Registry) (these : List ℕ → Bool) (change : Entry → Entry) → KeepsNames change → (volatile : Volatile) → Fits registry volatile
+    → Fits (with_entries registry these change) volatile
+changed_fits registry these change keeps volatile fits =
+    mapped_fits registry _ registry.files (some_keep these change keeps) volatile
+    (λ load free. same_files registry (with_entries registry these change) load.aid refl free) fits

@@ -1,5 +1,5 @@
 -- The laws of DELETE of an object.
-use Rattle.std.proofs.Common.{◌≡◌, ◌≢◌, ◌⊎◌, inl, inr, ℕ, Bool, List, Option, None, Some, length, refl, sym, subst, ◌∙◌, arith}
+use Rattle.std.proofs.Common.{◌≡◌, ◌≢◌, inl, inr, ℕ, Bool, true, List, Option, None, Some, length, refl, sym, subst, ◌∙◌, arith}
 use Rattle.std.specs.Prelude.{Contains, IsSome, MatchOption, not}
 use Rattle.std.proofs.lemmas.Bool.{not-true, not_from_false}
 use Rattle.std.proofs.lemmas.List.Filters.{sum_by-filter_both}
@@ -10,20 +10,21 @@ use Rattle.card_types.proofs.RemovedThing.{entry_removed_keeps, file_removed_kee
 use Rattle.card_types.proofs.SameAid.{same_aid_decides}
 use Rattle.card_types.specs.AidOrder.{same_aid}
 use Rattle.card_types.specs.ChangeLaws.{IsOfCard}
-use Rattle.card_types.specs.Registry.{Entry, LoadFile, Registry, entry_named}
+use Rattle.card_types.specs.Registry.{Entry, LoadFile, Registry, entry_named, is_domain}
 use Rattle.card_types.specs.RegistryChange.{without_applications, without_entry}
 use Rattle.card_types.specs.Well.{pages_of}
 use Rattle.card_types.specs.declared.factory.TheConstants.{FACTORY_FILE, ISSUER}
 use Rattle.policy_machine.specs.Admission.{Admitted}
 use Rattle.policy_machine.specs.DeleteKey.{DeleteParameters}
-use Rattle.policy_machine.specs.DeleteObject.{AsksToDelete, ComesFrom, DeletingFails, DeletionAsked, IsInUse, IsLoadedInto, IsSelected, managed_delete_object, without_thing}
+use Rattle.policy_machine.specs.DeleteObject.{AsksToDelete, ComesFrom, DeletingFails, DeletionAsked, IsInUse, managed_delete_object, without_thing}
 use Rattle.policy_machine.specs.FirstFailing.{IsFirst}
 use Rattle.policy_machine.specs.declared.delete_object.RuleDO.TheVariants.{DO2, DO4}
 use Rattle.policy_machine.proofs.DeleteObjectAsking.{one_deletion}
-use Rattle.policy_machine.proofs.RemovedFits.{KeepsHeld, removed_fits}
+use Rattle.policy_machine.proofs.FitsKept.{IsHeld, KeepsHeld, fits_kept}
+use Rattle.policy_machine.proofs.Lawful.{sound_of_card}
 use Rattle.policy_machine.proofs.ManagedJudging.{own_pass, delegation_asked}
 use Rattle.policy_machine.specs.JudgedForms.{IsJudgeable}
-use Rattle.policy_machine.proofs.ManagedLawful.{IsManagedLawful, IsPassedFor, MayFollow, receipt_judged, may_follow}
+use Rattle.policy_machine.proofs.ManagedLawful.{IsManagedLawful, leaves_one, receipt_judged}
 use Rattle.policy_machine.specs.ManagedForm.{command_form}
 
 module _ (admitted : Admitted) (asked : DeletionAsked) (parameters : DeleteParameters admitted.command.p1 admitted.command.p2)
@@ -37,19 +38,19 @@ module _ (admitted : Admitted) (asked : DeletionAsked) (parameters : DeleteParam
   not_factory : asked.aid ≢ FACTORY_FILE
   not_factory same = removable (inr same)
 
+  in_use : (aid : List ℕ) → IsHeld admitted.at.volatile aid → IsInUse admitted aid
+  in_use aid (inl selected) = inl selected
+  in_use aid (inr loaded) = inr (inl loaded)
+
   -- the thing is not in use, and what is in use does not come from it
   unused : IsInUse admitted asked.aid → ⊥
   unused used = unused_so (inl (asked.aid, inl refl, used))
 
-  none_comes : (aid : List ℕ) → IsSelected admitted.at.volatile aid ⊎ IsLoadedInto admitted.at.volatile aid → ComesFrom before asked.aid aid → ⊥
+  none_comes : (aid : List ℕ) → IsHeld admitted.at.volatile aid → ComesFrom before asked.aid aid → ⊥
   none_comes aid here comes = elim parameters.1 [
     | inl zero ↦ unused_so (inr (zero, (aid, comes)))
-    | inr related ↦ unused_so (inl (aid, inr (related, comes), in_use here))
+    | inr related ↦ unused_so (inl (aid, inr (related, comes), in_use aid here))
   ]
-    where
-      in_use : IsSelected admitted.at.volatile aid ⊎ IsLoadedInto admitted.at.volatile aid → IsInUse admitted aid
-      in_use (inl selected) = inl selected
-      in_use (inr loaded) = inr (inl loaded)
 
   abbrev applications_gone : Registry
   applications_gone = without_applications before asked.aid
@@ -82,19 +83,12 @@ module _ (admitted : Admitted) (asked : DeletionAsked) (parameters : DeleteParam
       (record { other = not_factory; no_entry = no_source })
 
   -- what the card holds while it has power is there still
-  still : (aid : List ℕ) → IsSome (entry_named before aid) → IsSelected admitted.at.volatile aid ⊎ IsLoadedInto admitted.at.volatile aid
+  still : (aid : List ℕ) → IsSome (entry_named before aid) → IsHeld admitted.at.volatile aid
       → entry_named (without_thing before asked.aid) aid ≡ entry_named before aid
   still aid some here =
-      rest_found (λ (e : Entry). e.aid) asked.aid aid (λ same. unused (in_use (subst Here same here))) applications_gone.entries
+      rest_found (λ (e : Entry). e.aid) asked.aid aid (λ same. unused (in_use asked.aid (subst (IsHeld admitted.at.volatile) same here))) applications_gone.entries
       ∙ by (entry_named before aid) refl some
     where
-      Here : List ℕ → Type 0
-      Here a = IsSelected admitted.at.volatile a ⊎ IsLoadedInto admitted.at.volatile a
-
-      in_use : Here asked.aid → IsInUse admitted asked.aid
-      in_use (inl selected) = inl selected
-      in_use (inr loaded) = inr (inl loaded)
-
       by : (o : Option Entry) → entry_named before aid ≡ o → IsSome o → entry_named applications_gone aid ≡ entry_named before aid
       by None at some = cc
       by (Some entry) at some =
@@ -111,12 +105,20 @@ module _ (admitted : Admitted) (asked : DeletionAsked) (parameters : DeleteParam
   keeps_held =
       let keep : LoadFile → Bool = λ (file : LoadFile). not (same_aid file.aid asked.aid) in
       record {
-        still = still;
-        no_entry = no_entry;
-        no_file = λ aid none. rest_unfound (λ (f : LoadFile). f.aid) asked.aid aid before.files none;
-        fewer = rest_shorter (λ (f : LoadFile). f.aid) asked.aid before.files;
-        smaller = omega (arith, sum_by-filter_both keep (λ (f : LoadFile). not (keep f)) (λ _. refl) (λ (f : LoadFile). pages_of (length f.bytes)) before.files);
+        entries = λ aid here some. subst IsSome (sym (still aid some here)) some;
+        domains = λ aid here is.
+            subst (λ (o : Option Entry). MatchOption o ⊥ (λ entry. is_domain entry ≡ true)) (sym (still aid (domain_some (entry_named before aid) is) here)) is;
+        room = λ load at. record {
+          no_entry = no_entry load.aid;
+          no_file = λ none. rest_unfound (λ (f : LoadFile). f.aid) asked.aid load.aid before.files none;
+          fewer = rest_shorter (λ (f : LoadFile). f.aid) asked.aid before.files;
+          smaller = omega (arith, sum_by-filter_both keep (λ (f : LoadFile). not (keep f)) (λ _. refl) (λ (f : LoadFile). pages_of (length f.bytes)) before.files);
+        };
       }
+    where
+      domain_some : (o : Option Entry) → MatchOption o ⊥ (λ entry. is_domain entry ≡ true) → IsSome o
+      domain_some None is = absurd is
+      domain_some (Some entry) is = refl
 
 pub deletion_judgeable : IsJudgeable managed_delete_object.judged
 deletion_judgeable = record {
@@ -134,19 +136,15 @@ deleted_of_card admitted asked asks parameters of first =
     let own = own_pass managed_delete_object.judged deletion_judgeable admitted asked asks first in
     removed_of_card admitted asked parameters (own DO2 (1, omega arith, refl)) (own DO4 (3, omega arith, refl)) of
 
-deleting_keeps : (admitted : Admitted) (asked : DeletionAsked) (changed : Registry) → IsPassedFor managed_delete_object.judged admitted asked
-    → changed ≡ without_thing admitted.at.registry asked.aid → MayFollow admitted changed
-deleting_keeps admitted asked changed passed becomes =
-    let removable = passed.own DO2 (1, omega arith, refl) in
-    let unused = passed.own DO4 (3, omega arith, refl) in
-    may_follow admitted _ changed becomes
-    (removed_of_card admitted asked passed.takes removable unused (record { well = passed.sound.well; ascending = passed.sound.ascending }))
-    (removed_fits admitted.at.registry (without_thing admitted.at.registry asked.aid) admitted.at.volatile (keeps_held admitted asked passed.takes removable unused) passed.sound.fits)
-
 pub managed_delete_object_lawful : IsManagedLawful managed_delete_object
-managed_delete_object_lawful = record {
-  judgeable = deletion_judgeable;
-  receipted = λ admitted delegated. receipt_judged;
-  keeps = deleting_keeps;
-  one = λ admitted asked a b asks one other. one ∙ sym other;
-}
+managed_delete_object_lawful =
+    leaves_one managed_delete_object.judged (λ admitted asked. without_thing admitted.at.registry asked.aid) managed_delete_object.reply deletion_judgeable
+    (λ admitted delegated. receipt_judged)
+    (λ admitted asked passed.
+    (let removable = passed.own DO2 (1, omega arith, refl) in
+    let unused = passed.own DO4 (3, omega arith, refl) in
+    record {
+      of = removed_of_card admitted asked passed.takes removable unused (sound_of_card passed.sound);
+      fits = fits_kept admitted.at.registry (without_thing admitted.at.registry asked.aid) admitted.at.volatile
+          (keeps_held admitted asked passed.takes removable unused) passed.sound.fits;
+    }))

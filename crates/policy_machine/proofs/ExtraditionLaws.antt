@@ -5,7 +5,7 @@ use Rattle.std.proofs.lemmas.Bool.{cases_Bool}
 use Rattle.card_types.proofs.MovedThing.{moved_keeps}
 use Rattle.card_types.proofs.NamedThings.{aid_cases}
 use Rattle.card_types.specs.ChangeLaws.{IsOfCard, MayMove}
-use Rattle.card_types.specs.Registry.{Entry, domain_of, entry_named, is_domain, Registry}
+use Rattle.card_types.specs.Registry.{Entry, domain_of, entry_named, is_domain}
 use Rattle.card_types.specs.RegistryChange.{moved}
 use Rattle.domain_tree.proofs.Paths.{off_line}
 use Rattle.policy_machine.specs.Admission.{Admitted}
@@ -13,12 +13,12 @@ use Rattle.policy_machine.specs.Extradition.{AsksToExtradite, ExtraditingFails, 
 use Rattle.policy_machine.specs.FirstFailing.{IsFirst}
 use Rattle.policy_machine.specs.InstallFields.{InstallData}
 use Rattle.policy_machine.specs.declared.extradition.RuleEX.TheVariants.{EX2, EX3, EX6}
-use Rattle.policy_machine.proofs.FitsKept.{load_unnamed}
+use Rattle.policy_machine.proofs.Lawful.{sound_of_card}
 use Rattle.policy_machine.proofs.LengthFields.{one_data}
 use Rattle.policy_machine.proofs.MovedFits.{moved_fits}
 use Rattle.policy_machine.proofs.ManagedJudging.{own_pass, delegation_asked}
 use Rattle.policy_machine.specs.JudgedForms.{IsJudgeable}
-use Rattle.policy_machine.proofs.ManagedLawful.{IsManagedLawful, IsPassedFor, MayFollow, receipt_judged, may_follow}
+use Rattle.policy_machine.proofs.ManagedLawful.{IsManagedLawful, leaves_one, receipt_judged}
 use Rattle.policy_machine.specs.declared.extradition.RuleEX.{RuleEX}
 use Rattle.policy_machine.specs.ManagedForm.{command_form}
 
@@ -65,18 +65,11 @@ pub moved_of_card : (admitted : Admitted) (given : InstallData) → AsksToExtrad
     → IsFirst ((command_form managed_extradition).fails admitted) (command_form managed_extradition).rules None → IsOfCard (moved admitted.at.registry given.third given.first)
 moved_of_card admitted given asks of first = moved_follows admitted given of (own_pass managed_extradition.judged extradition_judgeable admitted given asks first)
 
-extraditing_keeps : (admitted : Admitted) (given : InstallData) (changed : Registry) → IsPassedFor managed_extradition.judged admitted given
-    → changed ≡ moved admitted.at.registry given.third given.first → MayFollow admitted changed
-extraditing_keeps admitted given changed passed becomes =
-    let registry = admitted.at.registry in
-    may_follow admitted _ changed becomes (moved_follows admitted given (record { well = passed.sound.well; ascending = passed.sound.ascending }) passed.own)
-    (moved_fits registry given.third given.first admitted.at.volatile (load_unnamed registry admitted.at.volatile admitted.at.volatile.load passed.sound.fits.load)
-    passed.sound.fits)
-
 pub managed_extradition_lawful : IsManagedLawful managed_extradition
-managed_extradition_lawful = record {
-  judgeable = extradition_judgeable;
-  receipted = λ admitted delegated. receipt_judged;
-  keeps = extraditing_keeps;
-  one = λ admitted given a b asks one other. one ∙ sym other;
-}
+managed_extradition_lawful =
+    leaves_one managed_extradition.judged (λ admitted given. moved admitted.at.registry given.third given.first) managed_extradition.reply extradition_judgeable
+    (λ admitted delegated. receipt_judged)
+    (λ admitted given passed. record {
+      of = moved_follows admitted given (sound_of_card passed.sound) passed.own;
+      fits = moved_fits admitted.at.registry given.third given.first admitted.at.volatile passed.sound.fits;
+    })

@@ -19,7 +19,7 @@ use Rattle.card_types.specs.Well.{IsDomainNamed, IsProperEntry, has_domain_privi
 use Rattle.card_types.specs.declared.factory.TheConstants.{FACTORY_FILE, FACTORY_MODULE}
 use Rattle.card_types.specs.declared.life.Life.TheVariants.{Installed, Selectable}
 use Rattle.card_types.specs.declared.limits.TheConstants.{ENTRIES}
-use Rattle.policy_machine.proofs.FitsKept.{KeepsThings, fits_kept, load_unnamed}
+use Rattle.policy_machine.proofs.FitsKept.{KeepsHeld, fits_kept, same_files}
 use Rattle.policy_machine.specs.Admission.{Admitted}
 use Rattle.policy_machine.specs.FirstFailing.{IsFirst}
 use Rattle.policy_machine.specs.InstallApplication.{AsksToInstall, InstallAsked, InstallingFails, MayBeMade, entry_made, managed_install, refused_privileges}
@@ -31,6 +31,7 @@ use Rattle.policy_machine.proofs.InstallApplicationAsking.{install_judgeable}
 use Rattle.policy_machine.proofs.ManagedJudging.{own_pass}
 use Rattle.policy_machine.proofs.ManagedLawful.{IsManagedLawful, IsPassedFor, MayFollow, receipt_judged}
 use Rattle.policy_machine.specs.ManagedForm.{command_form}
+use Rattle.policy_machine.proofs.Lawful.{sound_of_card}
 
 -- what can't be otherwise is so
 bool_stable : (a b : Bool) → ((a ≡ b → ⊥) → ⊥) → a ≡ b
@@ -111,20 +112,20 @@ module _ (admitted : Admitted) (asked : InstallAsked) (passes : (rule : RuleII) 
 
   module _ (of : IsOfCard admitted.at.registry) (asks : AsksToInstall admitted.command.body asked) (domain : IsDomainNamed admitted.at.registry (acting admitted))
       (changed : Registry) (added : IsEntryAdded made admitted.at.registry changed) where
-    pub added_keeps_things : KeepsThings admitted.at.registry changed
-    added_keeps_things =
+    pub added_keeps : KeepsHeld admitted.at.registry changed admitted.at.volatile
+    added_keeps =
         let free = (may_be_added asks domain).free.no_entry in
         let same = added.same in
         record {
-          entries = λ aid some.
+          entries = λ aid held some.
               some_matched (entry_named changed aid)
               (subst (λ (r : Registry). MatchOption (entry_named r aid) ⊥ (λ e. Unit {0})) (sym same)
               (still_found (λ (e : Entry). e.aid) made admitted.at.registry.entries changed.entries of.ascending.entries added.entries free (λ e. Unit {0}) aid
               (matched_some (entry_named admitted.at.registry aid) some)));
-          domains = λ aid is.
+          domains = λ aid held is.
               subst (λ (r : Registry). IsDomainNamed r aid) (sym same)
               (still_found (λ (e : Entry). e.aid) made admitted.at.registry.entries changed.entries of.ascending.entries added.entries free (λ e. is_domain e ≡ true) aid is);
-          files = ap (λ (r : Registry). r.files) same;
+          room = λ load at. same_files admitted.at.registry changed load.aid (ap (λ (r : Registry). r.files) same) (load_free load at);
         }
       where
         matched_some : (o : Option Entry) → IsSome o → MatchOption o ⊥ (λ e. Unit {0})
@@ -135,13 +136,12 @@ module _ (admitted : Admitted) (asked : InstallAsked) (passes : (rule : RuleII) 
         some_matched None is = absurd is
         some_matched (Some e) is = refl
 
-    -- the AID of the load session is another
-    pub load_free : (load : Option LoadSession) → (MatchOption load ⊥ (λ l. l.aid ≡ asked.given.third) → ⊥)
-        → MatchOption load (Unit {0}) (λ l. entry_named admitted.at.registry l.aid ≡ None) → MatchOption load (Unit {0}) (λ l. entry_named changed l.aid ≡ None)
-    load_free None other free = tt
-    load_free (Some l) other free =
-        subst (λ (r : Registry). entry_named r l.aid ≡ None) (sym added.same)
-        (beside_found (λ (e : Entry). e.aid) made admitted.at.registry.entries changed.entries of.ascending.entries added.entries l.aid (λ same. other (sym same)) ∙ free)
+        -- the AID of the load session is another
+        load_free : (load : LoadSession) → admitted.at.volatile.load ≡ Some load → entry_named admitted.at.registry load.aid ≡ None → entry_named changed load.aid ≡ None
+        load_free load at free =
+            subst (λ (r : Registry). entry_named r load.aid ≡ None) (sym added.same)
+            (beside_found (λ (e : Entry). e.aid) made admitted.at.registry.entries changed.entries of.ascending.entries added.entries load.aid
+            (λ same. passes II4 (inr (inr (subst (λ (o : Option LoadSession). MatchOption o ⊥ (λ l. l.aid ≡ asked.given.third)) (sym at) (sym same))))) ∙ free)
 
 -- each of its own rules passes
 pub passing : (admitted : Admitted) (asked : InstallAsked) → ((rule : RuleII) → Contains managed_install.judged.own_rules rule → InstallingFails admitted asked rule → ⊥)
@@ -170,13 +170,11 @@ install_keeps : (admitted : Admitted) (asked : InstallAsked) (changed : Registry
     → IsEntryAdded (entry_made admitted asked) admitted.at.registry changed → MayFollow admitted changed
 install_keeps admitted asked changed passed added =
     let registry = admitted.at.registry in
-    let of : IsOfCard registry = record { well = passed.sound.well; ascending = passed.sound.ascending } in
+    let of = sound_of_card passed.sound in
     let passes = passing admitted asked passed.own in
-    let free = load_free admitted asked passes of passed.asks passed.domain changed added admitted.at.volatile.load (λ loading. passes II4 (inr (inr loading)))
-    (load_unnamed registry admitted.at.volatile admitted.at.volatile.load passed.sound.fits.load) in
     record {
       of = entry_added_keeps (entry_made admitted asked) registry changed of (may_be_added admitted asked passes passed.asks passed.domain) added;
-      fits = fits_kept registry changed (added_keeps_things admitted asked passes of passed.asks passed.domain changed added) admitted.at.volatile free passed.sound.fits;
+      fits = fits_kept registry changed admitted.at.volatile (added_keeps admitted asked passes of passed.asks passed.domain changed added) passed.sound.fits;
     }
 
 -- there is one registry with the entry

@@ -82,7 +82,6 @@ pub mod PutKeyKeys
 pub mod PutKeyLaws
 pub mod PutKeyOnce
 pub mod PutKeySpares
-pub mod RemovedFits
 pub mod RisingForms
 pub mod SameEffect
 pub mod SameThings

@@ -21,36 +21,27 @@ use Rattle.policy_machine.specs.Delegation.{Holds, IsAnswered, ReceiptFails, unc
 use Rattle.policy_machine.specs.FirstFailing.{IsFirst}
 use Rattle.policy_machine.specs.Load.{EndsLoad, GoesOn, IsLoadOn, LoadEffect, LoadFails, LoadingFails, block_of, file_of_load, load_rules, loading}
 use Rattle.policy_machine.specs.LoadBlocks.{BringsBytes, pages_used, with_block}
-use Rattle.policy_machine.specs.Sound.{Fits, IsSound, IsWellChannel, IsWellLoad}
+use Rattle.policy_machine.specs.Sound.{Fits, IsSound, IsWellLoad}
 use Rattle.policy_machine.specs.State.{Effect}
-use Rattle.policy_machine.specs.Volatile.{Channel, LoadSession, Volatile, channel_at, load_without_channel, without_load}
+use Rattle.policy_machine.specs.Volatile.{LoadSession, Volatile, load_without_channel, without_load}
 use Rattle.policy_machine.specs.declared.delegation.RuleRC.TheVariants.{RC1}
 use Rattle.policy_machine.specs.declared.load.RuleLO.{RuleLO}
 use Rattle.policy_machine.specs.declared.load.RuleLO.TheVariants.{LO1, LO2, LO3, LO4, LO5, LO6, LO7, LO8}
 use Rattle.policy_machine.specs.declared.rule.Rule.TheVariants.{LO}
 use Rattle.policy_machine.proofs.AnsweredKeeps.{answered_fits, answered_keeps, answered_once}
 use Rattle.policy_machine.proofs.FirstUnique.{none_fails}
-use Rattle.policy_machine.proofs.Lawful.{IsLawful, fits_as, placeless_same, some_same, sound_with}
+use Rattle.policy_machine.proofs.FitsKept.{fits_kept}
+use Rattle.policy_machine.proofs.Lawful.{IsLawful, fits_as, placeless_same, some_same, sound_with, sound_of_card}
 use Rattle.policy_machine.proofs.LoadBlocksBrought.{one_brought, some_announced}
 use Rattle.policy_machine.proofs.SameEffect.{effect_same, state_same}
 use Rattle.policy_machine.proofs.SetChannel.{without_load_fits}
 
 -- where there is no load session, an Executable Load File more changes nothing
-module _ (before : Registry) (files : List LoadFile) (volatile : Volatile) where
-  abbrev with_files : Registry
-  with_files = record before { files = files }
-
-  channel_still : (channel : Option Channel) → MatchOption channel (Unit {0}) (IsWellChannel before) → MatchOption channel (Unit {0}) (IsWellChannel with_files)
-  channel_still None well = tt
-  channel_still (Some channel) well = record { selected = well.selected; secure_channel = well.secure_channel }
-
-  files_fit : volatile.load ≡ None → Fits before volatile → Fits with_files volatile
-  files_fit none fits = record {
-    channels = fits.channels;
-    basic = fits.basic;
-    each = λ number. channel_still (channel_at volatile number) (fits.each number);
-    load = subst (λ (load : Option LoadSession). MatchOption load (Unit {0}) (IsWellLoad with_files volatile)) (sym none) tt;
-  }
+files_fit : (before : Registry) (files : List LoadFile) (volatile : Volatile) → volatile.load ≡ None → Fits before volatile
+    → Fits (record before { files = files }) volatile
+files_fit before files volatile none =
+    fits_kept before (record before { files = files }) volatile
+    (record { entries = λ aid held is. is; domains = λ aid held is. is; room = λ load at. (let clash = sym none ∙ at in cc) })
 
 -- none of its own rules fails where none fails
 pub no_rule : (admitted : Admitted) → IsFirst (LoadFails admitted) load_rules None → (rule : RuleLO) → LoadingFails admitted rule → ⊥
@@ -172,7 +163,7 @@ loading_keeps admitted done sound (takes, first) does = by does.taken
         sound_with admitted.at done.state sound goes.registry
         (fits_as refl (sym goes.volatile) (next_fits admitted does.load does.on does.size does.bytes does.brings passes well sound.fits))
     by (inr ends) =
-        (let of : IsOfCard admitted.at.registry = record { well = sound.well; ascending = sound.ascending } in
+        (let of = sound_of_card sound in
         let changed = loaded_of_card admitted does.load does.on does.size does.bytes does.brings well of ends.last first ends.changed ends.added in
         let receipts : Holds admitted delegated_management → ReceiptFails admitted RC1 → ⊥ = (λ holds fails. passes LO8 (ends.last, holds, fails)) in
         let aids = does.load.aid ∷ does.load.domain ∷ [] in

@@ -8,6 +8,7 @@ use Rattle.card_types.specs.Registry.{Registry}
 use Rattle.policy_machine.specs.ManageChannel.{is_closed, lowest_closed}
 use Rattle.policy_machine.specs.Sound.{Fits, IsSecured, IsWellChannel, IsWellLoad}
 use Rattle.policy_machine.specs.Volatile.{Channel, LoadSession, Volatile, channel_at, load_without_channel, with_channel, without_load}
+use Rattle.policy_machine.proofs.FitsKept.{load_goes_on, same_files}
 
 -- a session is opened on the channel
 abbrev pub HasSession : Volatile → ℕ → Type 0
@@ -39,24 +40,13 @@ by_number holds volatile number channel low set other kept = elim (eqb_tells oth
 ]
 
 -- a load session goes on where its channel's session does
-pub load_goes_on : (registry : Registry) (before after : Volatile) (load : Option LoadSession)
+session_goes_on : (registry : Registry) (before after : Volatile) (load : Option LoadSession)
     → MatchOption load (Unit {0}) (IsWellLoad registry before)
     → ((opened : LoadSession) → load ≡ Some opened → HasSession before opened.channel → HasSession after opened.channel)
     → MatchOption load (Unit {0}) (IsWellLoad registry after)
-load_goes_on registry before after None well kept = tt
-load_goes_on registry before after (Some opened) well kept = record {
-  session = kept opened refl well.session;
-  aid = well.aid;
-  no_entry = well.no_entry;
-  no_file = well.no_file;
-  domain = well.domain;
-  hash = well.hash;
-  few_files = well.few_files;
-  few_blocks = well.few_blocks;
-  announced = well.announced;
-  within = well.within;
-  few_pages = well.few_pages;
-}
+session_goes_on registry before after None well kept = tt
+session_goes_on registry before after (Some opened) well kept =
+    load_goes_on registry registry before after opened (same_files registry registry opened.aid refl (λ none. none)) (kept opened refl well.session) well.domain well
 
 -- a load session of another channel is left
 others_kept : (registry : Registry) (before after : Volatile) (number : ℕ) (load : Option LoadSession)
@@ -66,7 +56,7 @@ others_kept : (registry : Registry) (before after : Volatile) (number : ℕ) (lo
 others_kept registry before after number None well kept = tt
 others_kept registry before after number (Some opened) well kept = elim (eqb_tells opened.channel number) [
   | inl same ↦ rw same.0 tt
-  | inr differs ↦ rw differs.0 (load_goes_on registry before after (Some opened) well
+  | inr differs ↦ rw differs.0 (session_goes_on registry before after (Some opened) well
       (λ one is has. subst (HasSession after) (ap (λ (l : LoadSession). l.channel) (some_is opened one is))
       (kept opened.channel differs.1 (subst (HasSession before) (sym (ap (λ (l : LoadSession). l.channel) (some_is opened one is))) has))))
 ]
@@ -101,7 +91,7 @@ set_fits registry volatile number channel fits low well first session = record {
     | inr differs ↦ subst IsSome (sym (set_other volatile number 0 channel differs.1)) fits.basic
   ];
   each = λ other. by_number (λ c. MatchOption c (Unit {0}) (IsWellChannel registry)) volatile number channel low well other (fits.each other);
-  load = load_goes_on registry volatile (with_channel volatile number channel) volatile.load fits.load
+  load = session_goes_on registry volatile (with_channel volatile number channel) volatile.load fits.load
       (λ opened is has. elim (eqb_tells opened.channel number) [
         | inl same ↦ subst (λ (c : Option Channel). MatchOption c ⊥ (λ opened. IsSecured opened.secure_channel))
             (sym (ap (channel_at (with_channel volatile number channel)) same.1 ∙ set_same volatile number channel low))
