@@ -1,42 +1,24 @@
 -- The laws of GET STATUS.
-use Rattle.std.proofs.Common.{ap, ◌≡◌, ℕ, ◌<◌, List, [], ◌∷◌, ◌++◌, Option, None, Some, refl, sym, subst, ◌∙◌, arith, inl}
-use Rattle.std.specs.Prelude.{IsSome, MatchOption}
+use Rattle.std.proofs.Common.{ap, ◌≡◌, ℕ, ◌<◌, List, [], ◌∷◌, ◌++◌, Some, refl, sym, subst, ◌∙◌, arith, inl}
 use Rattle.card_types.specs.Registry.{Registry}
 use Rattle.policy_machine.specs.Admission.{Admitted}
 use Rattle.policy_machine.specs.GetStatus.{AreTemplates, GetStatusEffect, IsFullFor, IsLeftAt, Thing, channel_at_place, get_status, with_place}
-use Rattle.policy_machine.specs.Sound.{Fits, IsSecured, IsSound, IsWellChannel}
+use Rattle.policy_machine.specs.Sound.{Fits, IsSound}
 use Rattle.policy_machine.specs.State.{Effect}
-use Rattle.policy_machine.specs.Volatile.{Channel, Place, Volatile, channel_at}
+use Rattle.policy_machine.specs.Volatile.{Place, Volatile}
 use Rattle.policy_machine.proofs.Lawful.{IsLawful, IsReady, same_as, sound_with, LoadStays}
 use Rattle.policy_machine.proofs.SameEffect.{effect_same, state_same}
 use Rattle.policy_machine.proofs.SecureChannelSet.{within}
-use Rattle.policy_machine.proofs.SetChannel.{set_fits}
+use Rattle.policy_machine.proofs.SetChannel.{becomes_fits}
 use Rattle.policy_machine.proofs.GetStatusParts.{IsFullBehind, one_listing, one_part, one_templates}
 
-abbrev HasSecured : Option Channel → Type 0
-HasSecured channel = MatchOption channel ⊥ (λ opened. IsSecured opened.secure_channel)
-
 -- a channel has what it had, with another place
-well_placed : (registry : Registry) (place : Place) (channel : Option Channel) → MatchOption channel (Unit {0}) (IsWellChannel registry)
-    → MatchOption (channel_at_place place channel) (Unit {0}) (IsWellChannel registry)
-well_placed registry place None well = tt
-well_placed registry place (Some channel) well = record { selected = well.selected; secure_channel = well.secure_channel }
-
-open_placed : (place : Place) (channel : Option Channel) → IsSome channel → IsSome (channel_at_place place channel)
-open_placed place None opened = opened
-open_placed place (Some channel) opened = refl
-
-secured_placed : (place : Place) (channel : Option Channel) → HasSecured channel → HasSecured (channel_at_place place channel)
-secured_placed place None has = has
-secured_placed place (Some channel) has = has
-
 place_fits : (registry : Registry) (volatile : Volatile) (number : ℕ) (place : Place) → Fits registry volatile → number < 4
     → Fits registry (with_place volatile number place)
 place_fits registry volatile number place fits low =
-    set_fits registry volatile number (channel_at_place place (channel_at volatile number)) fits (within registry volatile number fits low)
-    (well_placed registry place (channel_at volatile number) (fits.each number))
-    (λ first. open_placed place (channel_at volatile number) (subst (λ (n : ℕ). IsSome (channel_at volatile n)) (sym first) fits.basic))
-    (secured_placed place (channel_at volatile number))
+    becomes_fits registry volatile number (channel_at_place place) (λ channel. record channel { place = Some place }) refl (λ channel. refl)
+    (λ channel well. record { selected = well.selected; secure_channel = well.secure_channel }) (λ channel secured. secured)
+    fits (within registry volatile number fits low)
 
 left_fits : (admitted : Admitted) (done : Effect) (shown left : List Thing) → Fits admitted.at.registry admitted.at.volatile → admitted.channel < 4
     → IsLeftAt admitted done shown left → Fits admitted.at.registry done.state.volatile

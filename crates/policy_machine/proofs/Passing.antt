@@ -16,7 +16,7 @@ use Rattle.policy_machine.specs.declared.rule.RuleG.TheVariants.{G3, G4}
 use Rattle.scp03_card.specs.Opens.{Opens, accepting}
 use Rattle.scp03_card.specs.Session.{Session}
 use Rattle.policy_machine.proofs.FirstUnique.{none_fails}
-use Rattle.policy_machine.proofs.SetChannel.{HasSession, set_fits, set_same, without_load_fits}
+use Rattle.policy_machine.proofs.SetChannel.{HasSession, becomes_fits, set_same, without_load_fits}
 use Rattle.policy_machine.proofs.SecureChannelSet.{secured_dropped, secured_fits, session_stands, well_dropped, within}
 
 -- after the check of the class
@@ -29,30 +29,16 @@ secure_channel_passed : (registry : Registry) (aid : List ℕ) (keeps : Bool) (s
 secure_channel_passed registry aid true secure_channel well = well
 secure_channel_passed registry aid false secure_channel well = well_dropped registry aid secure_channel well
 
-well_passed : (registry : Registry) (keeps : Bool) (channel : Option Channel) → MatchOption channel (Unit {0}) (IsWellChannel registry)
-    → MatchOption (channel_passed keeps channel) (Unit {0}) (IsWellChannel registry)
-well_passed registry keeps None well = tt
-well_passed registry keeps (Some channel) well = record {
-  selected = well.selected;
-  secure_channel = secure_channel_passed registry channel.selected keeps channel.secure_channel well.secure_channel;
-}
-
-open_passed : (keeps : Bool) (channel : Option Channel) → IsSome channel → IsSome (channel_passed keeps channel)
-open_passed keeps None opened = opened
-open_passed keeps (Some channel) opened = refl
-
-session_kept : (keeps : Bool) (channel : Option Channel) → MatchOption channel ⊥ (λ opened. IsSecured opened.secure_channel)
-    → MatchOption (channel_passed keeps channel) ⊥ (λ opened. IsSecured opened.secure_channel)
-session_kept keeps None session = session
-session_kept keeps (Some channel) session = secured_passed keeps channel.secure_channel session
-
 pub placeless_fits : (registry : Registry) (volatile : Volatile) (number : ℕ) (keeps : Bool) → Fits registry volatile → number < 4
     → Fits registry (without_place volatile number keeps)
 placeless_fits registry volatile number keeps fits low =
-    set_fits registry volatile number (channel_passed keeps (channel_at volatile number)) fits (within registry volatile number fits low)
-    (well_passed registry keeps (channel_at volatile number) (fits.each number))
-    (λ first. open_passed keeps (channel_at volatile number) (subst (λ (n : ℕ). IsSome (channel_at volatile n)) (sym first) fits.basic))
-    (session_kept keeps (channel_at volatile number))
+    becomes_fits registry volatile number (channel_passed keeps)
+    (λ channel. record { selected = channel.selected; secure_channel = offer_passed keeps channel.secure_channel; place = None }) refl (λ channel. refl)
+    (λ channel well. record {
+      selected = well.selected;
+      secure_channel = secure_channel_passed registry channel.selected keeps channel.secure_channel well.secure_channel;
+    })
+    (λ channel secured. secured_passed keeps channel.secure_channel secured) fits (within registry volatile number fits low)
 
 pub channel_is_low : (class : ℕ) → channel_of class < 4
 channel_is_low class = omega arith

@@ -7,7 +7,7 @@ use Rattle.policy_machine.specs.Sound.{Fits, IsSecured, IsWellChannel, IsWellLoa
 use Rattle.policy_machine.specs.Volatile.{Channel, LoadSession, Nothing, Offered, Secured, SecureChannel, Volatile, channel_at, load_without_channel, offer_in, offer_on, selected_of, selected_on, session_in, session_on, secure_channel_of, channel_with, with_offer_dropped, with_secure_channel, without_load, without_offer}
 use Rattle.scp03_card.specs.Offer.{Offer}
 use Rattle.scp03_card.specs.Session.{Session}
-use Rattle.policy_machine.proofs.SetChannel.{ended_fits, set_fits}
+use Rattle.policy_machine.proofs.SetChannel.{becomes_fits, ended_fits, set_fits}
 
 pub within : (registry : Registry) (volatile : Volatile) (number : ℕ) → Fits registry volatile → number < 4 → number < length volatile.channels
 within registry volatile number fits low = subst (λ (n : ℕ). number < n) (sym fits.channels) low
@@ -58,10 +58,13 @@ secured_dropped Nothing secured = secured
 secured_dropped (Offered offer) secured = absurd secured
 secured_dropped (Secured session) secured = secured
 
-session_dropped : (channel : Option Channel) → MatchOption channel ⊥ (λ opened. IsSecured opened.secure_channel)
-    → MatchOption (channel_with (without_offer (secure_channel_of channel)) channel) ⊥ (λ opened. IsSecured opened.secure_channel)
-session_dropped None has = has
-session_dropped (Some channel) has = secured_dropped channel.secure_channel has
+is_session : (secure_channel : SecureChannel) (session : Session) → session_in secure_channel ≡ Some session → secure_channel ≡ Secured session
+is_session (Secured other) session is = cc
+is_session secure_channel session is = absurd cc
+
+is_offer : (secure_channel : SecureChannel) (offer : Offer) → offer_in secure_channel ≡ Some offer → secure_channel ≡ Offered offer
+is_offer (Offered other) offer is = cc
+is_offer secure_channel offer is = absurd cc
 
 module _ (registry : Registry) (volatile : Volatile) (number : ℕ) (fits : Fits registry volatile) (low : number < 4) where
   first_so : (secure_channel : SecureChannel) → number ≡ 0 → IsSome (channel_with secure_channel (channel_at volatile number))
@@ -100,26 +103,14 @@ module _ (registry : Registry) (volatile : Volatile) (number : ℕ) (fits : Fits
   -- its offer is dropped
   pub dropped_fits : Fits registry (with_offer_dropped volatile number)
   dropped_fits =
-      let here = channel_at volatile number in
-      let left = without_offer (secure_channel_of here) in
-      set_fits registry volatile number (channel_with left here) fits (within registry volatile number fits low)
-      (well_so registry left here (fits.each number) (well_dropped registry (selected_of here) (secure_channel_of here) stands)) (first_so left) (session_dropped here)
+      becomes_fits registry volatile number (λ channel. channel_with (without_offer (secure_channel_of channel)) channel)
+      (λ channel. record channel { secure_channel = without_offer channel.secure_channel }) refl (λ channel. refl)
+      (λ channel well. record { selected = well.selected; secure_channel = well_dropped registry channel.selected channel.secure_channel well.secure_channel })
+      (λ channel. secured_dropped channel.secure_channel) fits (within registry volatile number fits low)
 
   -- its session stands with what is selected, and its offer
   pub session_stands : (session : Session) → session_on volatile number ≡ Some session → FitsSecureChannel registry (selected_on volatile number) (Secured session)
-  session_stands session is = by (secure_channel_of (channel_at volatile number)) is stands
-    where
-      by : (secure_channel : SecureChannel) → session_in secure_channel ≡ Some session → FitsSecureChannel registry (selected_on volatile number) secure_channel
-          → FitsSecureChannel registry (selected_on volatile number) (Secured session)
-      by Nothing is well = cc
-      by (Offered offer) is well = cc
-      by (Secured other) is well = (let same : other ≡ session = cc in subst (λ (s : Session). FitsSecureChannel registry (selected_on volatile number) (Secured s)) same well)
+  session_stands session is = subst (FitsSecureChannel registry (selected_on volatile number)) (is_session (secure_channel_of (channel_at volatile number)) session is) stands
 
   pub offer_stands : (offer : Offer) → offer_on volatile number ≡ Some offer → FitsSecureChannel registry (selected_on volatile number) (Offered offer)
-  offer_stands offer is = by (secure_channel_of (channel_at volatile number)) is stands
-    where
-      by : (secure_channel : SecureChannel) → offer_in secure_channel ≡ Some offer → FitsSecureChannel registry (selected_on volatile number) secure_channel
-          → FitsSecureChannel registry (selected_on volatile number) (Offered offer)
-      by Nothing is well = cc
-      by (Secured session) is well = cc
-      by (Offered other) is well = (let same : other ≡ offer = cc in subst (λ (o : Offer). FitsSecureChannel registry (selected_on volatile number) (Offered o)) same well)
+  offer_stands offer is = subst (FitsSecureChannel registry (selected_on volatile number)) (is_offer (secure_channel_of (channel_at volatile number)) offer is) stands

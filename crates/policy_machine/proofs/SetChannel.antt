@@ -101,6 +101,24 @@ set_fits registry volatile number channel fits low well first session = record {
       ]);
 }
 
+-- an open channel is changed, and has a session still, if it had one
+module _ (registry : Registry) (volatile : Volatile) (number : ℕ) (change : Option Channel → Option Channel) (becomes : Channel → Channel)
+    (closed : change None ≡ None) (opened : (channel : Channel) → change (Some channel) ≡ Some (becomes channel))
+    (well : (channel : Channel) → IsWellChannel registry channel → IsWellChannel registry (becomes channel))
+    (secured : (channel : Channel) → IsSecured channel.secure_channel → IsSecured (becomes channel).secure_channel) where
+  through : (holds : Option Channel → Type 0) → ((channel : Channel) → holds (Some channel) → holds (Some (becomes channel))) → (channel : Option Channel)
+      → holds channel → holds (change channel)
+  through holds kept None is = subst holds (sym closed) is
+  through holds kept (Some channel) is = subst holds (sym (opened channel)) (kept channel is)
+
+  pub becomes_fits : Fits registry volatile → number < length volatile.channels → Fits registry (with_channel volatile number (change (channel_at volatile number)))
+  becomes_fits fits low =
+      let here = channel_at volatile number in
+      set_fits registry volatile number (change here) fits low
+      (through (λ c. MatchOption c (Unit {0}) (IsWellChannel registry)) well here (fits.each number))
+      (λ first. through IsSome (λ c some. refl) here (subst (λ (n : ℕ). IsSome (channel_at volatile n)) (sym first) fits.basic))
+      (through (λ c. MatchOption c ⊥ (λ o. IsSecured o.secure_channel)) secured here)
+
 -- the end of a load session
 pub without_load_fits : (registry : Registry) (volatile : Volatile) (number : ℕ) → Fits registry volatile → Fits registry (without_load volatile number)
 without_load_fits registry volatile number fits = record {
