@@ -20,7 +20,7 @@ use Rattle.policy_machine.specs.DeleteObject.{AsksToDelete, ComesFrom, DeletingF
 use Rattle.policy_machine.specs.FirstFailing.{IsFirst}
 use Rattle.policy_machine.specs.declared.delete_object.RuleDO.TheVariants.{DO2, DO4}
 use Rattle.policy_machine.proofs.DeleteObjectAsking.{one_deletion}
-use Rattle.policy_machine.proofs.FitsKept.{IsHeld, KeepsHeld, fits_kept}
+use Rattle.policy_machine.proofs.FitsKept.{IsHeld, KeepsHeld, fits_kept, some_there}
 use Rattle.policy_machine.proofs.Lawful.{sound_of_card}
 use Rattle.policy_machine.proofs.ManagedJudging.{own_pass, delegation_asked}
 use Rattle.policy_machine.specs.JudgedForms.{IsJudgeable}
@@ -107,7 +107,7 @@ module _ (admitted : Admitted) (asked : DeletionAsked) (parameters : DeleteParam
       record {
         entries = λ aid here some. subst IsSome (sym (still aid some here)) some;
         domains = λ aid here is.
-            subst (λ (o : Option Entry). MatchOption o ⊥ (λ entry. is_domain entry ≡ true)) (sym (still aid (domain_some (entry_named before aid) is) here)) is;
+            subst (λ (o : Option Entry). MatchOption o ⊥ (λ entry. is_domain entry ≡ true)) (sym (still aid (some_there (λ entry. is_domain entry ≡ true) (entry_named before aid) is) here)) is;
         room = λ load at. record {
           no_entry = no_entry load.aid;
           no_file = λ none. rest_unfound (λ (f : LoadFile). f.aid) asked.aid load.aid before.files none;
@@ -115,10 +115,6 @@ module _ (admitted : Admitted) (asked : DeletionAsked) (parameters : DeleteParam
           smaller = omega (arith, sum_by-filter_both keep (λ (f : LoadFile). not (keep f)) (λ _. refl) (λ (f : LoadFile). pages_of (length f.bytes)) before.files);
         };
       }
-    where
-      domain_some : (o : Option Entry) → MatchOption o ⊥ (λ entry. is_domain entry ≡ true) → IsSome o
-      domain_some None is = absurd is
-      domain_some (Some entry) is = refl
 
 pub deletion_judgeable : IsJudgeable managed_delete_object.judged
 deletion_judgeable = record {

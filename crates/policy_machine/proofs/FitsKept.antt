@@ -35,6 +35,11 @@ same_files before after aid same free = record {
     same_pages : sum_by (λ (file : LoadFile). pages_of (length file.bytes)) after.files ≡ sum_by (λ (file : LoadFile). pages_of (length file.bytes)) before.files
     same_pages = ap (sum_by (λ (file : LoadFile). pages_of (length file.bytes))) same
 
+-- that of which something is so is there
+pub some_there : {X : Type 0} (holds : X → Type 0) (o : Option X) → MatchOption o ⊥ holds → IsSome o
+some_there holds None is = absurd is
+some_there holds (Some x) is = refl
+
 -- what a card holds is there still
 pub record KeepsHeld (before after : Registry) (volatile : Volatile) : Type 0 where
   pub entries : (aid : List ℕ) → IsHeld volatile aid → IsSome (entry_named before aid) → IsSome (entry_named after aid)

@@ -1,7 +1,7 @@
 -- The laws of INSTALL [for install].
-use Rattle.std.proofs.Common.{◌≡◌, ◌≢◌, inl, inr, ℕ, List, ◌∷◌, Bool, true, false, ◌&&◌, Option, None, Some, length, refl, sym, ap, subst, ◌∙◌, arith, if◌then◌else◌}
+use Rattle.std.proofs.Common.{◌≡◌, ◌≢◌, inl, inr, ℕ, List, ◌∷◌, Bool, true, false, ◌&&◌, Option, None, Some, refl, sym, ap, subst, ◌∙◌, arith, if◌then◌else◌}
 use Rattle.std.specs.Prelude.{Contains, IsSome, MatchOption, ◌==◌}
-use Rattle.std.proofs.lemmas.Bool.{cases_Bool, cases_lt}
+use Rattle.std.proofs.lemmas.Bool.{cases_Bool}
 use Rattle.std.proofs.lemmas.Bool.Decides.{eqb_tells}
 use Rattle.std.proofs.lemmas.List.Sorted.{IsPermutation-sym, IsPermutation-trans}
 use Rattle.std.proofs.lemmas.Cmp.{nat_list_cmp_total, on_total}
@@ -18,8 +18,7 @@ use Rattle.card_types.specs.RegistryChange.{IsEntryAdded}
 use Rattle.card_types.specs.Well.{IsDomainNamed, IsProperEntry, has_domain_privilege, has_life}
 use Rattle.card_types.specs.declared.factory.TheConstants.{FACTORY_FILE, FACTORY_MODULE}
 use Rattle.card_types.specs.declared.life.Life.TheVariants.{Installed, Selectable}
-use Rattle.card_types.specs.declared.limits.TheConstants.{ENTRIES}
-use Rattle.policy_machine.proofs.FitsKept.{KeepsHeld, fits_kept, same_files}
+use Rattle.policy_machine.proofs.FitsKept.{KeepsHeld, fits_kept, same_files, some_there}
 use Rattle.policy_machine.specs.Admission.{Admitted}
 use Rattle.policy_machine.specs.FirstFailing.{IsFirst}
 use Rattle.policy_machine.specs.InstallApplication.{AsksToInstall, InstallAsked, InstallingFails, MayBeMade, entry_made, managed_install, refused_privileges}
@@ -31,7 +30,7 @@ use Rattle.policy_machine.proofs.InstallApplicationAsking.{install_judgeable}
 use Rattle.policy_machine.proofs.ManagedJudging.{own_pass}
 use Rattle.policy_machine.proofs.ManagedLawful.{IsManagedLawful, IsPassedFor, MayFollow, receipt_judged}
 use Rattle.policy_machine.specs.ManagedForm.{command_form}
-use Rattle.policy_machine.proofs.Lawful.{sound_of_card}
+use Rattle.policy_machine.proofs.Lawful.{none_of, sound_of_card}
 
 -- what can't be otherwise is so
 bool_stable : (a b : Bool) → ((a ≡ b → ⊥) → ⊥) → a ≡ b
@@ -56,10 +55,6 @@ made_stable entry other = record {
   one_management = bool_stable (has authorized_management entry.privileges && has delegated_management entry.privileges) false (λ differs. other (λ may. differs may.one_management));
   none_refused = number_stable (bit_and (bits_of entry.privileges) refused_privileges) 0 (λ differs. other (λ may. differs may.none_refused));
 }
-
-none_of : {A : Type 0} (o : Option A) → (IsSome o → ⊥) → o ≡ None
-none_of None without = refl
-none_of (Some x) without = absurd (without refl)
 
 some_of : {A : Type 0} (o : Option A) → (o ≡ None → ⊥) → IsSome o
 some_of None missing = absurd (missing refl)
@@ -104,7 +99,7 @@ module _ (admitted : Admitted) (asked : InstallAsked) (passes : (rule : RuleII) 
       no_entry = none_of (entry_named admitted.at.registry asked.given.third) (λ there. passes II4 (inl there));
       no_file = none_of (file_named admitted.at.registry asked.given.third) (λ there. passes II4 (inr (inl there)));
     };
-    room = (elim (cases_lt (length admitted.at.registry.entries) ENTRIES) [ inl below ↦ below | inr above ↦ absurd (passes II7 above) ]);
+    room = (let full = passes II7 in omega (arith, full));
     proper = is_proper asks;
     domain = domain;
     loaded = some_of (file_named admitted.at.registry asked.given.first) (λ none. passes II2 (inl none));
@@ -118,7 +113,7 @@ module _ (admitted : Admitted) (asked : InstallAsked) (passes : (rule : RuleII) 
         let same = added.same in
         record {
           entries = λ aid held some.
-              some_matched (entry_named changed aid)
+              some_there (λ e. Unit {0}) (entry_named changed aid)
               (subst (λ (r : Registry). MatchOption (entry_named r aid) ⊥ (λ e. Unit {0})) (sym same)
               (still_found (λ (e : Entry). e.aid) made admitted.at.registry.entries changed.entries of.ascending.entries added.entries free (λ e. Unit {0}) aid
               (matched_some (entry_named admitted.at.registry aid) some)));
@@ -131,10 +126,6 @@ module _ (admitted : Admitted) (asked : InstallAsked) (passes : (rule : RuleII) 
         matched_some : (o : Option Entry) → IsSome o → MatchOption o ⊥ (λ e. Unit {0})
         matched_some None some = cc
         matched_some (Some e) some = tt
-
-        some_matched : (o : Option Entry) → MatchOption o ⊥ (λ e. Unit {0}) → IsSome o
-        some_matched None is = absurd is
-        some_matched (Some e) is = refl
 
         -- the AID of the load session is another
         load_free : (load : LoadSession) → admitted.at.volatile.load ≡ Some load → entry_named admitted.at.registry load.aid ≡ None → entry_named changed load.aid ≡ None

@@ -1,6 +1,6 @@
 -- The laws of INSTALL [for load].
-use Rattle.std.proofs.Common.{◌≡◌, ◌≢◌, inl, inr, ℕ, List, [], ◌∷◌, Option, None, Some, length, refl, sym, subst, ◌∙◌, arith}
-use Rattle.std.specs.Prelude.{Contains, IsSome}
+use Rattle.std.proofs.Common.{◌≡◌, ◌≢◌, inl, inr, ℕ, List, [], ◌∷◌, Option, None, length, refl, sym, subst, ◌∙◌, arith}
+use Rattle.std.specs.Prelude.{Contains}
 use Rattle.std.proofs.lemmas.Bool.Decides.{eqb_tells}
 use Rattle.card_types.specs.Aid.{IsAid}
 use Rattle.card_types.specs.Registry.{Registry, entry_named, file_named}
@@ -20,16 +20,11 @@ use Rattle.policy_machine.specs.declared.rule.Rule.{Rule}
 use Rattle.policy_machine.proofs.ExtraditionLaws.{domain_stable}
 use Rattle.policy_machine.proofs.InstallForms.{managed}
 use Rattle.policy_machine.proofs.Judging.{judged}
-use Rattle.policy_machine.proofs.Lawful.{HasNoPlaceOn, IsLawful, IsReady, managed_apart, sound_with}
+use Rattle.policy_machine.proofs.Lawful.{HasNoPlaceOn, IsLawful, IsReady, managed_apart, none_of, sound_with}
 use Rattle.policy_machine.proofs.LengthFields.{one_load_data}
 use Rattle.policy_machine.proofs.SameEffect.{effect_same, state_same}
 use Rattle.policy_machine.proofs.ManagedJudging.{own_pass}
 use Rattle.policy_machine.specs.JudgedForms.{IsJudgeable}
-
--- what is not there
-gone : {A : Type 0} (o : Option A) → (IsSome o → ⊥) → o ≡ None
-gone None none = refl
-gone (Some x) none = absurd (none refl)
 
 -- a length that can't be none of a hash is one
 hash_stable : (size : ℕ) → ((IsHashLength size → ⊥) → ⊥) → IsHashLength size
@@ -88,8 +83,8 @@ begun_well admitted given aid ready is passes =
     record {
       aid = aid;
       session = ready.session (subst (Contains managing) (sym is) managed);
-      no_entry = gone (entry_named registry given.file) (λ some. passes IL3 (inl some));
-      no_file = gone (file_named registry given.file) (λ some. passes IL3 (inr some));
+      no_entry = none_of (entry_named registry given.file) (λ some. passes IL3 (inl some));
+      no_file = none_of (file_named registry given.file) (λ some. passes IL3 (inr some));
       domain = domain_given registry given.domain (acting admitted) (ready.domain apart.0 apart.1) (passes IL4);
       hash = hash_stable (length given.hash) (λ other. passes IL6 (inl other));
       few_files = (let room = passes IL7 in omega (arith, room));

@@ -1,6 +1,6 @@
 -- What is asked of a command.
 use Rattle.std.proofs.Common.{◌≡◌, ◌≢◌, ◌⊎◌, ℕ, ◌<◌, ◌≤◌, false, Option, None, Some, refl, sym, ap, subst, ◌∙◌, inl, inr, arith}
-use Rattle.std.specs.Prelude.{◌==◌, Contains}
+use Rattle.std.specs.Prelude.{◌==◌, Contains, IsSome}
 use Rattle.card_types.specs.Ascending.{IsAscending}
 use Rattle.card_types.specs.ChangeLaws.{IsOfCard}
 use Rattle.card_types.specs.Registry.{Registry}
@@ -102,6 +102,11 @@ same_as before after same = subst (IsSameButCounters before) (sym same) (same_al
 
 pub some_same : {A : Type 0} (a b : A) → Some a ≡ Some b → a ≡ b
 some_same a b same = cc
+
+-- there is none of what is not there
+pub none_of : {A : Type 0} (o : Option A) → (IsSome o → ⊥) → o ≡ None
+none_of None without = refl
+none_of (Some x) without = absurd (without refl)
 
 -- an equal volatile state has the same load session
 pub load_same : (before after : Volatile) → after ≡ before → LoadStays before after

@@ -1,7 +1,7 @@
 -- The laws of LOAD.
-use Rattle.std.proofs.Common.{◌≡◌, ◌⊎◌, inl, inr, ℕ, ◌+◌, ◌≤◌, List, [], ◌∷◌, ◌++◌, Option, None, Some, length, refl, sym, ap, subst, ◌∙◌, arith}
+use Rattle.std.proofs.Common.{◌≡◌, ◌⊎◌, inl, inr, ℕ, ◌+◌, ◌<◌, ◌≤◌, List, [], ◌∷◌, ◌++◌, Option, None, Some, length, refl, sym, ap, subst, ◌∙◌, arith}
 use Rattle.std.specs.Prelude.{Contains, MatchOption}
-use Rattle.std.proofs.lemmas.Bool.{cases_lt, eq-eqb}
+use Rattle.std.proofs.lemmas.Bool.{eq-eqb}
 use Rattle.std.proofs.lemmas.Bool.Decides.{eqb_tells}
 use Rattle.std.proofs.lemmas.Cmp.{nat_list_cmp_total, on_total}
 use Rattle.std.proofs.lemmas.List.Sorted.{IsPermutation-sym, IsPermutation-trans}
@@ -68,22 +68,15 @@ module _ (admitted : Admitted) (load : LoadSession) (on : IsLoadOn admitted load
   some = some_announced load.announced (block_of admitted.command) load.blocks size bytes well.announced brings
 
   limit : size ≤ FILE_LIMIT
-  limit = elim (cases_lt FILE_LIMIT size) [
-    | inl above ↦ absurd (passes LO4 (load, on, (size, bytes, brings, inl above)))
-    | inr below ↦ below
-  ]
+  limit = (let fits : FILE_LIMIT < size → ⊥ = λ above. passes LO4 (load, on, (size, bytes, brings, inl above)) in omega (arith, fits))
 
   room : pages_used admitted.at.registry + pages_of size ≤ LOAD_PAGES
-  room = elim (cases_lt LOAD_PAGES (pages_used admitted.at.registry + pages_of size)) [
-    | inl above ↦ absurd (passes LO4 (load, on, (size, bytes, brings, inr above)))
-    | inr below ↦ below
-  ]
+  room =
+      let fits : LOAD_PAGES < pages_used admitted.at.registry + pages_of size → ⊥ = λ above. passes LO4 (load, on, (size, bytes, brings, inr above)) in
+      omega (arith, fits)
 
   within : length (load.bytes ++ bytes) ≤ size
-  within = elim (cases_lt size (length (load.bytes ++ bytes))) [
-    | inl above ↦ absurd (passes LO5 (load, on, (size, bytes, brings, inl above)))
-    | inr below ↦ below
-  ]
+  within = (let fits : size < length (load.bytes ++ bytes) → ⊥ = λ above. passes LO5 (load, on, (size, bytes, brings, inl above)) in omega (arith, fits))
 
   whole : admitted.command.p1 ≡ 0x80 → length (load.bytes ++ bytes) ≡ size
   whole last = elim (eqb_tells (length (load.bytes ++ bytes)) size) [
@@ -92,10 +85,10 @@ module _ (admitted : Admitted) (load : LoadSession) (on : IsLoadOn admitted load
   ]
 
   few : load.blocks + 1 ≤ 256
-  few = elim (eqb_tells load.blocks 256) [
-    | inl all ↦ absurd (passes LO1 (inr (load, on, all.1)))
-    | inr other ↦ (let most = well.few_blocks in elim (cases_lt load.blocks 256) [ inl below ↦ omega arith | inr above ↦ absurd (other.1 (omega arith)) ])
-  ]
+  few =
+      let most = well.few_blocks in
+      let fits : load.blocks ≡ 256 → ⊥ = λ all. passes LO1 (inr (load, on, all)) in
+      omega (arith, most, fits)
 
   -- the load session goes on
   pub next_fits : Fits admitted.at.registry admitted.at.volatile → Fits admitted.at.registry (record admitted.at.volatile { load = Some next })

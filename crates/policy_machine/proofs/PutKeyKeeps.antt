@@ -231,16 +231,10 @@ of_version p2 version keys (inr one) count = inr (one.1, count ∙ ap key_count 
 -- the card and the domain have room where no rule says otherwise
 pub rooms : (admitted : Admitted) (asked : KeysAsked) → (PuttingKeyFails admitted asked PK4 → ⊥)
     → (length (keys_left admitted) + key_count admitted.command.p2 ≤ KEYS) × (length (own_keys_left admitted) + key_count admitted.command.p2 ≤ DOMAIN_KEYS)
-rooms admitted asked passed = (
-  elim (cases_lt KEYS (length (keys_left admitted) + key_count admitted.command.p2)) [
-    | inl full ↦ absurd (passed (inl full))
-    | inr room ↦ room
-  ],
-  elim (cases_lt DOMAIN_KEYS (length (own_keys_left admitted) + key_count admitted.command.p2)) [
-    | inl full ↦ absurd (passed (inr full))
-    | inr room ↦ room
-  ],
-)
+rooms admitted asked passed =
+    let card : KEYS < length (keys_left admitted) + key_count admitted.command.p2 → ⊥ = λ full. passed (inl full) in
+    let domain : DOMAIN_KEYS < length (own_keys_left admitted) + key_count admitted.command.p2 → ⊥ = λ full. passed (inr full) in
+    (omega (arith, card), omega (arith, domain))
 
 -- it leaves a registry that a card may have
 pub put_keeps : (admitted : Admitted) (asked : KeysAsked) (changed : Registry) → IsOfCard admitted.at.registry → IsDomainNamed admitted.at.registry (acting admitted)

@@ -1,7 +1,6 @@
 -- The laws of STORE DATA.
-use Rattle.std.proofs.Common.{inl, inr, ℕ, ◌≤◌, ◌<◌, List, [], ◌∷◌, length, sym, arith, ◌≡◌, ap, ◌∙◌, refl}
+use Rattle.std.proofs.Common.{ℕ, ◌≤◌, List, [], ◌∷◌, length, sym, arith, ◌≡◌, ap, ◌∙◌, refl}
 use Rattle.std.specs.Prelude.{All, filter, not}
-use Rattle.std.proofs.lemmas.Bool.{cases_lt}
 use Rattle.std.proofs.lemmas.List.Elements.{All-cons, All-filter, All-head, All-tail}
 use Rattle.std.proofs.lemmas.List.Sorted.{All-permutation, length_permutation, IsPermutation-sym, IsPermutation-trans}
 use Rattle.bertlv.specs.Spelling.{Element}
@@ -57,12 +56,6 @@ data_ascending registry things objects ascending arranged = record {
   objects = arranged.ascending;
 }
 
-few_stored : (number : ℕ) → (OBJECTS < number → ⊥) → number ≤ OBJECTS
-few_stored number fits = elim (cases_lt OBJECTS number) [
-  | inl above ↦ absurd (fits above)
-  | inr below ↦ below
-]
-
 pub store_judgeable : IsJudgeable managed_store_data.judged
 store_judgeable = record {
   one_asked = λ p1 p2 body a b one other. one_list a b body one.spelled other.spelled;
@@ -76,10 +69,10 @@ storing_keeps : (admitted : Admitted) (elements : List Element) (changed : Regis
     → AreObjectsPut admitted elements changed → MayFollow admitted changed
 storing_keeps admitted elements changed passed put =
     let registry = admitted.at.registry in
-    let few = few_stored (length (objects_stored admitted elements)) (passed.own SD1 (0, omega arith, refl)) in
+    let fits = passed.own SD1 (0, omega arith, refl) in
     may_follow admitted (with_data registry put.objects) changed put.registry
     (record {
-      well = arranged_well registry (acting admitted) passed.domain passed.sound.well elements put.objects passed.asks.each put.arranged few;
+      well = arranged_well registry (acting admitted) passed.domain passed.sound.well elements put.objects passed.asks.each put.arranged (omega (arith, fits));
       ascending = data_ascending registry (objects_stored admitted elements) put.objects passed.sound.ascending put.arranged;
     })
     (same_fits registry registry.life registry.keys registry.counters put.objects admitted.at.volatile passed.sound.fits)

@@ -25,9 +25,25 @@ use Rattle.policy_machine.proofs.ChargeReaches.{charge_above, charge_place, entr
 use Rattle.policy_machine.proofs.Strangers.{named_has_domain, upper_named}
 use Rattle.policy_machine.proofs.TreeKept.{AreApart, KeepsElsewhere, SparesTree, out_of_reach, spares_tree}
 
--- a member that a map leaves as it is
-left_by_map : {X : Type 0} (f : X → X) (xs : List X) (x : X) → Contains xs x → f x ≡ x → Contains (map f xs) x
-left_by_map f xs x is same = subst (Contains (map f xs)) same (contains_map f xs x is)
+-- things of which those with one AID are changed
+module _ {X : Type 0} (name : X → List ℕ) (change : X → X) (thing : List ℕ) where
+  abbrev some : X → X
+  some x = cond (same_aid (name x) thing) (change x) x
+
+  stays : (x : X) → name x ≢ thing → some x ≡ x
+  stays x other = ap (λ b. cond b (change x) x) (aid_differs (name x) thing other)
+
+  others_left : (xs : List X) (x : X) → Contains xs x → name x ≢ thing → Contains (map some xs) x
+  others_left xs x is other = subst (Contains (map some xs)) (stays x other) (contains_map some xs x is)
+
+  was_so : (xs : List X) (x : X) → Contains (map some xs) x
+      → ((old : X) × Contains xs old × (name old ≡ thing) × (x ≡ change old)) ⊎ (Contains xs x × (name x ≢ thing))
+  was_so xs x is =
+      let from = mapped some xs x is in
+      elim (aid_cases (name from.0) thing) [
+        | inl same ↦ inl (from.0, from.1, same, sym from.2 ∙ ap (λ b. cond b (change from.0) from.0) ((same_aid_decides (name from.0) thing).1 same))
+        | inr other ↦ inr (subst (λ (y : X). Contains xs y × (name y ≢ thing)) (sym (stays from.0 other) ∙ from.2) (from.1, other))
+      ]
 
 module _ (admitted : Admitted) (domain : List ℕ) (apart : AreApart admitted domain) (thing to : List ℕ) (may : MayMove admitted.at.registry thing to)
     (charged : (IsInCharge admitted.at.registry (acting admitted) thing → ⊥) → ⊥) (over : IsAboveIn admitted.at.registry thing to → ⊥)
@@ -39,23 +55,11 @@ module _ (admitted : Admitted) (domain : List ℕ) (apart : AreApart admitted do
   abbrev after : Registry
   after = moved before thing to
 
-  abbrev in_domain : Entry → Entry
-  in_domain entry = cond (same_aid entry.aid thing) (record entry { domain = to }) entry
+  abbrev entry_to : Entry → Entry
+  entry_to entry = record entry { domain = to }
 
-  abbrev file_in : LoadFile → LoadFile
-  file_in file = cond (same_aid file.aid thing) (record file { domain = to }) file
-
-  same_entry : (entry : Entry) → entry.aid ≢ thing → in_domain entry ≡ entry
-  same_entry entry other = ap (λ b. cond b (record entry { domain = to }) entry) (aid_differs entry.aid thing other)
-
-  moved_entry : (entry : Entry) → entry.aid ≡ thing → in_domain entry ≡ record entry { domain = to }
-  moved_entry entry same = ap (λ b. cond b (record entry { domain = to }) entry) ((same_aid_decides entry.aid thing).1 same)
-
-  same_file : (file : LoadFile) → file.aid ≢ thing → file_in file ≡ file
-  same_file file other = ap (λ b. cond b (record file { domain = to }) file) (aid_differs file.aid thing other)
-
-  moved_file : (file : LoadFile) → file.aid ≡ thing → file_in file ≡ record file { domain = to }
-  moved_file file same = ap (λ b. cond b (record file { domain = to }) file) ((same_aid_decides file.aid thing).1 same)
+  abbrev file_to : LoadFile → LoadFile
+  file_to file = record file { domain = to }
 
   -- the thing, where it has a domain, is below the acting domain
   reached : {P : Type 0} → domain_of before thing ≢ None → (IsAboveIn before (acting admitted) thing → ⊥) → P
@@ -82,11 +86,11 @@ module _ (admitted : Admitted) (domain : List ℕ) (apart : AreApart admitted do
   there : (member : Member) → IsMember before member → IsAtOrAbove before domain (place_of member) → IsMember after member
   there (AnEntry entry) is at = elim (aid_cases entry.aid thing) [
     | inl same ↦ thing_out entry is same (subst (IsAtOrAbove before domain) same at)
-    | inr other ↦ left_by_map in_domain before.entries entry is (same_entry entry other)
+    | inr other ↦ others_left (λ (e : Entry). e.aid) entry_to thing before.entries entry is other
   ]
   there (AFile file) is at = elim (aid_cases file.aid thing) [
     | inl same ↦ file_out file is same at
-    | inr other ↦ left_by_map file_in before.files file is (same_file file other)
+    | inr other ↦ others_left (λ (f : LoadFile). f.aid) file_to thing before.files file is other
   ]
   there (AKey key) is at = is
   there (AnObject object) is at = is
@@ -154,40 +158,28 @@ module _ (admitted : Admitted) (domain : List ℕ) (apart : AreApart admitted do
   there_or_brought member was (inr brought) = inr (entrusted member (moves_with member brought.0) brought.1 brought.2)
 
   new : (member : Member) → InTreeOf after domain member → InTreeOf before domain member ⊎ IsEntrusted admitted domain member
-  new (AnEntry entry) (is, at) = by (mapped in_domain before.entries entry is)
-    where
-      by : (old : Entry) × Contains before.entries old × (in_domain old ≡ entry) → InTreeOf before domain (AnEntry entry) ⊎ IsEntrusted admitted domain (AnEntry entry)
-      by (old, was, becomes) = elim (aid_cases old.aid thing) [
-        | inl same ↦
-            (let it : entry ≡ record old { domain = to } = sym becomes ∙ moved_entry old same in
-            let aid : entry.aid ≡ thing = ap (λ (e : Entry). e.aid) it ∙ same in
-            let some = some_entry thing (has_by old.aid same (entry_has_domain before apart.of old was)) in
-            elim (was_in_tree entry.aid (λ here. some) at) [
-              | inl before_it ↦ thing_out old was same (subst (IsAtOrAbove before domain) aid before_it)
-              | inr brought ↦ inr (entrusted (AnEntry entry) brought.0 brought.1 brought.2)
-            ])
-        | inr other ↦
-            (let it : old ≡ entry = sym (same_entry old other) ∙ becomes in
-            there_or_brought (AnEntry entry) (subst (Contains before.entries) it was)
-            (was_in_tree entry.aid (λ here. absurd (other (ap (λ (e : Entry). e.aid) it ∙ here))) at))
-      ]
-  new (AFile file) (is, at) = by (mapped file_in before.files file is)
-    where
-      by : (old : LoadFile) × Contains before.files old × (file_in old ≡ file) → InTreeOf before domain (AFile file) ⊎ IsEntrusted admitted domain (AFile file)
-      by (old, was, becomes) = elim (aid_cases old.aid thing) [
-        | inl same ↦
-            (let it : file ≡ record old { domain = to } = sym becomes ∙ moved_file old same in
-            let aid : file.aid ≡ thing = ap (λ (f : LoadFile). f.aid) it ∙ same in
-            let into : file.domain ≡ to = ap (λ (f : LoadFile). f.domain) it in
-            let none : domain_of before thing ≡ None = subst (λ (a : List ℕ). domain_of before a ≡ None) same (file_has_none before apart.of old.aid old (file_found before apart.of old was)) in
-            let other : to ≢ thing = (λ here. named_has_domain before to may.into (subst (λ (a : List ℕ). domain_of before a ≡ None) (sym here) none)) in
-            inr (entrusted (AFile file) (inl aid) (into_tree other (subst (IsAtOrAbove after domain) into at)) other))
-        | inr other ↦
-            (let it : old ≡ file = sym (same_file old other) ∙ becomes in
-            let was_it = subst (Contains before.files) it was in
-            let owner = (All-contains (IsWellFile before) before.files file apart.of.well.files was_it).domain in
-            there_or_brought (AFile file) was_it (owned file.domain owner at))
-      ]
+  new (AnEntry entry) (is, at) = elim (was_so (λ (e : Entry). e.aid) entry_to thing before.entries entry is) [
+    | inl (old, was, same, it) ↦
+        (let aid : entry.aid ≡ thing = ap (λ (e : Entry). e.aid) it ∙ same in
+        let some = some_entry thing (has_by old.aid same (entry_has_domain before apart.of old was)) in
+        elim (was_in_tree entry.aid (λ here. some) at) [
+          | inl before_it ↦ thing_out old was same (subst (IsAtOrAbove before domain) aid before_it)
+          | inr brought ↦ inr (entrusted (AnEntry entry) brought.0 brought.1 brought.2)
+        ])
+    | inr (was, other) ↦ there_or_brought (AnEntry entry) was (was_in_tree entry.aid (λ here. absurd (other here)) at)
+  ]
+  new (AFile file) (is, at) = elim (was_so (λ (f : LoadFile). f.aid) file_to thing before.files file is) [
+    | inl (old, was, same, it) ↦
+        (let aid : file.aid ≡ thing = ap (λ (f : LoadFile). f.aid) it ∙ same in
+        let into : file.domain ≡ to = ap (λ (f : LoadFile). f.domain) it in
+        let none : domain_of before thing ≡ None
+        = subst (λ (a : List ℕ). domain_of before a ≡ None) same (file_has_none before apart.of old.aid old (file_found before apart.of old was)) in
+        let other : to ≢ thing
+        = (λ here. named_has_domain before to may.into (subst (λ (a : List ℕ). domain_of before a ≡ None) (sym here) none)) in
+        inr (entrusted (AFile file) (inl aid) (into_tree other (subst (IsAtOrAbove after domain) into at)) other))
+    | inr (was, other) ↦
+        there_or_brought (AFile file) was (owned file.domain (All-contains (IsWellFile before) before.files file apart.of.well.files was).domain at)
+  ]
   new (AKey key) (is, at) =
       there_or_brought (AKey key) is (owned key.owner (All-contains (IsWellKey before) before.keys key apart.of.well.keys is).owner at)
   new (AnObject object) (is, at) =
