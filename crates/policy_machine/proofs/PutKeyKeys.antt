@@ -15,6 +15,26 @@ use Rattle.card_types.specs.declared.limits.TheConstants.{DOMAIN_KEYS, KEYS}
 use Rattle.policy_machine.specs.KeyVersions.{counters_but, is_counter_numbered, is_key_numbered, keys_but, with_keys}
 use Rattle.policy_machine.proofs.Filtered.{as_many_pass, fewer_pass, most_pass, none_pass}
 
+-- things that are put in the place of those that go
+module _ {X : Type 0} (goes : X → Bool) (things added put : List X) (is : IsPermutation (added ++ filter (λ x. not (goes x)) things) put) where
+  abbrev kept : List X
+  kept = filter (λ x. not (goes x)) things
+
+  new_there : (x : X) → Contains added x → Contains put x
+  new_there x there = Contains-permutation (added ++ kept) put x is (Contains-append_left added kept x there)
+
+  still_there : (x : X) → Contains things x → goes x ≡ false → Contains put x
+  still_there x there stays =
+      Contains-permutation (added ++ kept) put x is
+      (Contains-append_right added kept x (contains_filter (λ y. not (goes y)) things x there (not_from_false (goes x) stays)))
+
+  came_from : (x : X) → Contains put x → Contains added x ⊎ (Contains things x × (goes x ≡ false))
+  came_from x there =
+      elim (Contains-append_cases added kept x (Contains-permutation put (added ++ kept) x (IsPermutation-sym (added ++ kept) put is) there)) [
+        | inl new ↦ inl new
+        | inr stays ↦ (let was = filtered (λ y. not (goes y)) things x stays in inr (was.0, not-true (goes x) was.1))
+      ]
+
 module _ (registry : Registry) (owner : List ℕ) (replaced : ℕ) (added : List Key) (new_counters : List Counter) (keys : List Key) (counters : List Counter)
     (keys_put : IsPermutation (added ++ keys_but owner replaced registry.keys) keys)
     (counters_put : IsPermutation (new_counters ++ counters_but owner replaced registry.counters) counters) where
@@ -22,23 +42,10 @@ module _ (registry : Registry) (owner : List ℕ) (replaced : ℕ) (added : List
   after = with_keys registry keys counters
 
   pub key_added : (key : Key) → Contains added key → Contains keys key
-  key_added key there = Contains-permutation (added ++ keys_but owner replaced registry.keys) keys key keys_put (Contains-append_left added (keys_but owner replaced registry.keys) key there)
-
-  key_stays : (key : Key) → Contains registry.keys key → is_key_numbered owner replaced key ≡ false → Contains keys key
-  key_stays key there other =
-      Contains-permutation (added ++ keys_but owner replaced registry.keys) keys key keys_put
-      (Contains-append_right added (keys_but owner replaced registry.keys) key
-      (contains_filter (λ k. not (is_key_numbered owner replaced k)) registry.keys key there (not_from_false (is_key_numbered owner replaced key) other)))
+  key_added = new_there (is_key_numbered owner replaced) registry.keys added keys keys_put
 
   key_from : (key : Key) → Contains keys key → Contains added key ⊎ (Contains registry.keys key × (is_key_numbered owner replaced key ≡ false))
-  key_from key there =
-      elim (Contains-append_cases added (keys_but owner replaced registry.keys) key
-      (Contains-permutation keys (added ++ keys_but owner replaced registry.keys) key (IsPermutation-sym (added ++ keys_but owner replaced registry.keys) keys keys_put) there)) [
-        | inl new ↦ inl new
-        | inr stays ↦
-            (let kept = filtered (λ k. not (is_key_numbered owner replaced k)) registry.keys key stays in
-            inr (kept.0, not-true (is_key_numbered owner replaced key) kept.1))
-      ]
+  key_from = came_from (is_key_numbered owner replaced) registry.keys added keys keys_put
 
   -- the keys that are put have other key version numbers than their owner's that stay
   abbrev pub AreApart : Type 0
@@ -53,34 +60,14 @@ module _ (registry : Registry) (owner : List ℕ) (replaced : ℕ) (added : List
   ]
 
   pub counter_begun : (counter : Counter) → Contains new_counters counter → Contains counters counter
-  counter_begun counter there =
-      Contains-permutation (new_counters ++ counters_but owner replaced registry.counters) counters counter counters_put
-      (Contains-append_left new_counters (counters_but owner replaced registry.counters) counter there)
-
-  counter_stays : (counter : Counter) → Contains registry.counters counter → is_counter_numbered owner replaced counter ≡ false → Contains counters counter
-  counter_stays counter there other =
-      Contains-permutation (new_counters ++ counters_but owner replaced registry.counters) counters counter counters_put
-      (Contains-append_right new_counters (counters_but owner replaced registry.counters) counter
-      (contains_filter (λ c. not (is_counter_numbered owner replaced c)) registry.counters counter there (not_from_false (is_counter_numbered owner replaced counter) other)))
-
-  counter_from : (counter : Counter) → Contains counters counter
-      → Contains new_counters counter ⊎ (Contains registry.counters counter × (is_counter_numbered owner replaced counter ≡ false))
-  counter_from counter there =
-      elim (Contains-append_cases new_counters (counters_but owner replaced registry.counters) counter
-      (Contains-permutation counters (new_counters ++ counters_but owner replaced registry.counters) counter
-      (IsPermutation-sym (new_counters ++ counters_but owner replaced registry.counters) counters counters_put) there)) [
-        | inl new ↦ inl new
-        | inr stays ↦
-            (let kept = filtered (λ c. not (is_counter_numbered owner replaced c)) registry.counters counter stays in
-            inr (kept.0, not-true (is_counter_numbered owner replaced counter) kept.1))
-      ]
+  counter_begun = new_there (is_counter_numbered owner replaced) registry.counters new_counters counters counters_put
 
   -- a key set that is not the replaced one stays whole
   module _ (domain : List ℕ) (version : ℕ) (other : (same_aid domain owner && version == replaced) ≡ false) where
     has_key_still : (identifier : ℕ) → HasKeyNamed registry domain version identifier → HasKeyNamed after domain version identifier
     has_key_still identifier has = record {
       key = has.key;
-      is_there = key_stays has.key has.is_there (ap (λ (o : List ℕ). same_aid o owner && has.key.version == replaced) has.owner_is
+      is_there = still_there (is_key_numbered owner replaced) registry.keys added keys keys_put has.key has.is_there (ap (λ (o : List ℕ). same_aid o owner && has.key.version == replaced) has.owner_is
           ∙ ap (λ (v : ℕ). same_aid domain owner && v == replaced) has.version_is ∙ other);
       owner_is = has.owner_is;
       version_is = has.version_is;
@@ -90,7 +77,7 @@ module _ (registry : Registry) (owner : List ℕ) (replaced : ℕ) (added : List
     has_counter_still : HasCounterOf registry domain version → HasCounterOf after domain version
     has_counter_still has = record {
       counter = has.counter;
-      is_there = counter_stays has.counter has.is_there (ap (λ (o : List ℕ). same_aid o owner && has.counter.version == replaced) has.owner_is
+      is_there = still_there (is_counter_numbered owner replaced) registry.counters new_counters counters counters_put has.counter has.is_there (ap (λ (o : List ℕ). same_aid o owner && has.counter.version == replaced) has.owner_is
           ∙ ap (λ (v : ℕ). same_aid domain owner && v == replaced) has.version_is ∙ other);
       owner_is = has.owner_is;
       version_is = has.version_is;
@@ -170,7 +157,7 @@ module _ (registry : Registry) (owner : List ℕ) (replaced : ℕ) (added : List
           ])
           keys (All-contains_itself keys);
       counters = All-weaker (Contains counters) (IsWellCounter after)
-          (λ counter there. elim (counter_from counter there) [
+          (λ counter there. elim (came_from (is_counter_numbered owner replaced) registry.counters new_counters counters counters_put counter there) [
             | inl new ↦ counters_well counter new
             | inr stays ↦ still_well_counter counter stays.1 (All-contains (IsWellCounter registry) registry.counters counter well.counters stays.0)
           ])
