@@ -1,12 +1,11 @@
 -- A command after the checks of class, channel and instruction leaves no place in a listing, unless it is GET STATUS.
-use Rattle.std.proofs.Common.{◌≡◌, ◌≢◌, ℕ, List, [], ◌∷◌, Bool, false, true, Option, None, Some, refl, sym, ap, subst, ◌∙◌, inl, inr}
+use Rattle.std.proofs.Common.{◌≡◌, ◌≢◌, ℕ, List, [], Bool, false, true, Option, None, Some, refl, sym, ap, subst, ◌∙◌, inl, inr}
 use Rattle.std.specs.Prelude.{MatchOption, ◌==◌}
 use Rattle.std.proofs.lemmas.Bool.{false≢true}
 use Rattle.apdu_core.specs.Apdu.{Apdu}
-use Rattle.policy_machine.specs.Admission.{Admitted, GeneralRefusalLeaves, Of, SessionEnds, admitted_as, channel_passed, class_passed, message_joined, without_place}
+use Rattle.policy_machine.specs.Admission.{Admits, Admitted, GeneralRefusalLeaves, Of, SessionEnds, admitted_as, channel_passed, class_passed, message_joined, without_place}
 use Rattle.policy_machine.specs.Classes.{channel_of}
-use Rattle.policy_machine.specs.CommandForm.{CommandForm}
-use Rattle.policy_machine.specs.Commands.{DoesAs, OneOf, forms_of}
+use Rattle.policy_machine.specs.Commands.{HasEffect}
 use Rattle.policy_machine.specs.Laws.{PlacesAreForgotten, is_later}
 use Rattle.policy_machine.specs.State.{Effect, State}
 use Rattle.policy_machine.specs.Step.{Outcome, keeps_load, refusal_leaves}
@@ -17,8 +16,8 @@ use Rattle.policy_machine.specs.declared.rule.Rule.TheVariants.{G}
 use Rattle.policy_machine.specs.declared.rule.RuleG.{RuleG}
 use Rattle.policy_machine.specs.declared.rule.RuleG.TheVariants.{G1, G2, G3, G4, G5, G6, G7, G8}
 use Rattle.scp03_card.specs.Session.{Session}
-use Rattle.policy_machine.proofs.AllLawful.{AllOf, all_lawful}
-use Rattle.policy_machine.proofs.Lawful.{HasNoPlaceOn, IsLawful, placeless_same, place_leaves_secure_channel}
+use Rattle.policy_machine.proofs.FormTaken.{done_by}
+use Rattle.policy_machine.proofs.Lawful.{HasNoPlaceOn, placeless_same, place_leaves_secure_channel}
 use Rattle.policy_machine.proofs.Passing.{either}
 use Rattle.policy_machine.proofs.SetChannel.{set_there}
 
@@ -88,11 +87,26 @@ left_has_none admitted rule none =
     let still = place_leaves_secure_channel admitted.at.volatile left number (without_offer (secure_channel_of (channel_at admitted.at.volatile number))) refl none in
     either (λ v. HasNoPlaceOn v number) (keeps_load rule) left (without_load left number) still still
 
-done_has_none : (admitted : Admitted) (done : Effect) → admitted.command.ins ≢ GET_STATUS → HasNoPlaceOn admitted.at.volatile admitted.channel
-    → (forms : List CommandForm) → AllOf IsLawful forms → OneOf (λ form. DoesAs form admitted done) forms → HasNoPlaceOn done.state.volatile admitted.channel
-done_has_none admitted done other none [] lawful does = absurd does
-done_has_none admitted done other none (form ∷ forms) lawful (inl does) = lawful.0.without_place (λ is. other (does.0.0 ∙ is)) admitted done none does.1
-done_has_none admitted done other none (form ∷ forms) lawful (inr does) = done_has_none admitted done other none forms lawful.1 does
+done_has_none : (admitted : Admitted) (done : Effect) → HasNoPlaceOn admitted.at.volatile admitted.channel → HasEffect admitted done
+    → admitted.command.ins ≢ GET_STATUS → HasNoPlaceOn done.state.volatile admitted.channel
+done_has_none admitted done none does other =
+    done_by admitted done (HasNoPlaceOn done.state.volatile admitted.channel)
+    (λ form lawful takes it. lawful.without_place (λ is. other (takes.0 ∙ is)) admitted done none it) does
+
+-- where an admitted command leaves none, the card has none
+left_by : (state : State) (bytes : List ℕ) (admitted : Admitted) → Admits state bytes admitted → (outcome : Outcome) (left : Volatile)
+    → outcome.state.volatile ≡ left
+    → (HasNoPlaceOn admitted.at.volatile admitted.channel → admitted.command.ins ≢ GET_STATUS → HasNoPlaceOn left admitted.channel)
+    → Of bytes (λ command. command.ins ≢ GET_STATUS → HasNoPlaceOn outcome.state.volatile (channel_of command.class))
+left_by state bytes admitted (decoded, (command, short, taken)) outcome left becomes leaves =
+    let number : admitted.channel ≡ channel_of command.class = ap (λ (a : Admitted). a.channel) taken.3 in
+    let ins : admitted.command.ins ≡ command.ins = ap (λ (a : Admitted). a.command.ins) taken.3 in
+    let none = subst (λ (a : Admitted). HasNoPlaceOn a.at.volatile a.channel) (sym taken.3) (admitted_has_none state command taken.0 taken.1) in (
+      command,
+      short,
+      λ other. placeless_same left outcome.state.volatile (channel_of command.class) becomes
+          (subst (HasNoPlaceOn left) number (leaves none (λ is. other (sym ins ∙ is)))),
+    )
 
 pub places_are_forgotten : PlacesAreForgotten
 places_are_forgotten state bytes outcome (inl rejected) later =
@@ -101,26 +115,8 @@ places_are_forgotten state bytes outcome (inl rejected) later =
     let left = rejected_has_none state bytes rejected.rule rejected.left by rejected.leaves in
     (left.0, left.1, λ other. subst (λ (o : Outcome). HasNoPlaceOn o.state.volatile (channel_of left.0.class)) (sym rejected.outcome_is) left.2)
 places_are_forgotten state bytes outcome (inr (inl refuses)) later =
-    let of = refuses.admits.1 in
-    let taken = of.2 in
-    let number : refuses.admitted.channel ≡ channel_of of.0.class = ap (λ (a : Admitted). a.channel) taken.3 in
-    let none : HasNoPlaceOn refuses.admitted.at.volatile refuses.admitted.channel =
-    subst (λ (a : Admitted). HasNoPlaceOn a.at.volatile a.channel) (sym taken.3) (admitted_has_none state of.0 taken.0 taken.1) in (
-      of.0,
-      of.1,
-      λ other. subst (λ (o : Outcome). HasNoPlaceOn o.state.volatile (channel_of of.0.class)) (sym refuses.outcome_is)
-          (subst (HasNoPlaceOn (refusal_leaves refuses.admitted refuses.rule)) number (left_has_none refuses.admitted refuses.rule none)),
-    )
+    left_by state bytes refuses.admitted refuses.admits outcome (refusal_leaves refuses.admitted refuses.rule) (ap (λ (o : Outcome). o.state.volatile) refuses.outcome_is)
+    (λ none other. left_has_none refuses.admitted refuses.rule none)
 places_are_forgotten state bytes outcome (inr (inr accepts)) later =
-    let of = accepts.admits.1 in
-    let taken = of.2 in
-    let number : accepts.admitted.channel ≡ channel_of of.0.class = ap (λ (a : Admitted). a.channel) taken.3 in
-    let ins : accepts.admitted.command.ins ≡ of.0.ins = ap (λ (a : Admitted). a.command.ins) taken.3 in
-    let none : HasNoPlaceOn accepts.admitted.at.volatile accepts.admitted.channel =
-    subst (λ (a : Admitted). HasNoPlaceOn a.at.volatile a.channel) (sym taken.3) (admitted_has_none state of.0 taken.0 taken.1) in (
-      of.0,
-      of.1,
-      λ other. subst (λ (o : Outcome). HasNoPlaceOn o.state.volatile (channel_of of.0.class)) (sym accepts.outcome_is)
-          (subst (HasNoPlaceOn accepts.done.state.volatile) number (done_has_none accepts.admitted accepts.done (λ is. other (sym ins ∙ is)) none
-          (forms_of accepts.admitted.command.ins) (all_lawful accepts.admitted.command.ins).each accepts.does)),
-    )
+    left_by state bytes accepts.admitted accepts.admits outcome accepts.done.state.volatile (ap (λ (o : Outcome). o.state.volatile) accepts.outcome_is)
+    (λ none. done_has_none accepts.admitted accepts.done none accepts.does)
