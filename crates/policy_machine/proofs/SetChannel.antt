@@ -11,8 +11,11 @@ use Rattle.policy_machine.specs.Volatile.{Channel, LoadSession, Volatile, channe
 use Rattle.policy_machine.proofs.FitsKept.{load_goes_on, same_files}
 
 -- a session is opened on the channel
+abbrev pub IsInSession : Option Channel → Type 0
+IsInSession channel = MatchOption channel ⊥ (λ opened. IsSecured opened.secure_channel)
+
 abbrev pub HasSession : Volatile → ℕ → Type 0
-HasSession volatile number = MatchOption (channel_at volatile number) ⊥ (λ channel. IsSecured channel.secure_channel)
+HasSession volatile number = IsInSession (channel_at volatile number)
 
 pub set_same : (volatile : Volatile) (number : ℕ) (channel : Option Channel) → number < length volatile.channels
     → channel_at (with_channel volatile number channel) number ≡ channel
@@ -30,12 +33,12 @@ set_there holds closed [] (suc number) channel there = closed
 set_there holds closed (first ∷ channels) zero channel there = there
 set_there holds closed (first ∷ channels) (suc number) channel there = set_there holds closed channels number channel there
 
--- a fact of each channel but the one that is set
+-- what holds of a channel holds of it where one is set, if that holds of the one that is set
 pub by_number : (holds : Option Channel → Type 0) (volatile : Volatile) (number : ℕ) (channel : Option Channel)
-    → number < length volatile.channels → holds channel → (other : ℕ) → holds (channel_at volatile other)
+    → number < length volatile.channels → (other : ℕ) → (other ≡ number → holds channel) → holds (channel_at volatile other)
     → holds (channel_at (with_channel volatile number channel) other)
-by_number holds volatile number channel low set other kept = elim (eqb_tells other number) [
-  | inl same ↦ subst holds (sym (ap (channel_at (with_channel volatile number channel)) same.1 ∙ set_same volatile number channel low)) set
+by_number holds volatile number channel low other set kept = elim (eqb_tells other number) [
+  | inl same ↦ subst holds (sym (ap (channel_at (with_channel volatile number channel)) same.1 ∙ set_same volatile number channel low)) (set same.1)
   | inr differs ↦ subst holds (sym (set_other volatile number other channel differs.1)) kept
 ]
 
@@ -70,35 +73,23 @@ pub ended_fits : (registry : Registry) (volatile : Volatile) (number : ℕ) (cha
     → Fits registry (without_load (with_channel volatile number channel) number)
 ended_fits registry volatile number channel fits low well first = record {
   channels = length-set volatile.channels number channel ∙ fits.channels;
-  basic = elim (eqb_tells 0 number) [
-    | inl same ↦ subst IsSome (sym (ap (channel_at (with_channel volatile number channel)) same.1 ∙ set_same volatile number channel low)) (first (sym same.1))
-    | inr differs ↦ subst IsSome (sym (set_other volatile number 0 channel differs.1)) fits.basic
-  ];
-  each = λ other. by_number (λ c. MatchOption c (Unit {0}) (IsWellChannel registry)) volatile number channel low well other (fits.each other);
+  basic = by_number IsSome volatile number channel low 0 (λ same. first (sym same)) fits.basic;
+  each = λ other. by_number (λ c. MatchOption c (Unit {0}) (IsWellChannel registry)) volatile number channel low other (λ same. well) (fits.each other);
   load = others_kept registry volatile (without_load (with_channel volatile number channel) number) number volatile.load fits.load
-      (λ other differs has. subst (λ (c : Option Channel). MatchOption c ⊥ (λ opened. IsSecured opened.secure_channel)) (sym (set_other volatile number other channel differs)) has);
+      (λ other differs has. by_number IsInSession volatile number channel low other (λ same. absurd (differs same)) has);
 }
 
 -- a channel is set that has a session still, if it had one
 pub set_fits : (registry : Registry) (volatile : Volatile) (number : ℕ) (channel : Option Channel) → Fits registry volatile
     → number < length volatile.channels → MatchOption channel (Unit {0}) (IsWellChannel registry) → (number ≡ 0 → IsSome channel)
-    → (HasSession volatile number → MatchOption channel ⊥ (λ opened. IsSecured opened.secure_channel))
+    → (HasSession volatile number → IsInSession channel)
     → Fits registry (with_channel volatile number channel)
 set_fits registry volatile number channel fits low well first session = record {
   channels = length-set volatile.channels number channel ∙ fits.channels;
-  basic = elim (eqb_tells 0 number) [
-    | inl same ↦ subst IsSome (sym (ap (channel_at (with_channel volatile number channel)) same.1 ∙ set_same volatile number channel low)) (first (sym same.1))
-    | inr differs ↦ subst IsSome (sym (set_other volatile number 0 channel differs.1)) fits.basic
-  ];
-  each = λ other. by_number (λ c. MatchOption c (Unit {0}) (IsWellChannel registry)) volatile number channel low well other (fits.each other);
+  basic = by_number IsSome volatile number channel low 0 (λ same. first (sym same)) fits.basic;
+  each = λ other. by_number (λ c. MatchOption c (Unit {0}) (IsWellChannel registry)) volatile number channel low other (λ same. well) (fits.each other);
   load = session_goes_on registry volatile (with_channel volatile number channel) volatile.load fits.load
-      (λ opened is has. elim (eqb_tells opened.channel number) [
-        | inl same ↦ subst (λ (c : Option Channel). MatchOption c ⊥ (λ opened. IsSecured opened.secure_channel))
-            (sym (ap (channel_at (with_channel volatile number channel)) same.1 ∙ set_same volatile number channel low))
-            (session (subst (HasSession volatile) same.1 has))
-        | inr differs ↦ subst (λ (c : Option Channel). MatchOption c ⊥ (λ opened. IsSecured opened.secure_channel))
-            (sym (set_other volatile number opened.channel channel differs.1)) has
-      ]);
+      (λ opened is has. by_number IsInSession volatile number channel low opened.channel (λ same. session (subst (HasSession volatile) same has)) has);
 }
 
 -- an open channel is changed, and has a session still, if it had one
@@ -117,7 +108,7 @@ module _ (registry : Registry) (volatile : Volatile) (number : ℕ) (change : Op
       set_fits registry volatile number (change here) fits low
       (through (λ c. MatchOption c (Unit {0}) (IsWellChannel registry)) well here (fits.each number))
       (λ first. through IsSome (λ c some. refl) here (subst (λ (n : ℕ). IsSome (channel_at volatile n)) (sym first) fits.basic))
-      (through (λ c. MatchOption c ⊥ (λ o. IsSecured o.secure_channel)) secured here)
+      (through IsInSession secured here)
 
 -- the end of a load session
 pub without_load_fits : (registry : Registry) (volatile : Volatile) (number : ℕ) → Fits registry volatile → Fits registry (without_load volatile number)
