@@ -1,10 +1,9 @@
 -- All commands are lawful.
-use Rattle.std.proofs.Common.{ℕ, Bool, true, false, List, [], ◌∷◌, refl, arith}
-use Rattle.std.specs.Prelude.{Contains}
-use Rattle.policy_machine.specs.Classes.{managing}
+use Rattle.std.proofs.Common.{ℕ, Bool, true, false, List, [], ◌∷◌}
 use Rattle.policy_machine.specs.CommandForm.{CommandForm}
 use Rattle.policy_machine.specs.Commands.{AtMostOne, Takes, forms_of, listed}
 use Rattle.policy_machine.specs.Laws.{OneForm}
+use Rattle.policy_machine.proofs.ChangingBytes.{deleting, installing, loading_in, manages, putting, setting, storing}
 use Rattle.policy_machine.proofs.Lawful.{IsLawful}
 use Rattle.policy_machine.proofs.SelectLaws.{select_lawful}
 use Rattle.policy_machine.proofs.ManageChannelLaws.{manage_channel_lawful}
@@ -18,7 +17,7 @@ use Rattle.policy_machine.proofs.DeleteKeyLaws.{managed_delete_key_lawful}
 use Rattle.policy_machine.proofs.DeleteObjectLaws.{managed_delete_object_lawful}
 use Rattle.policy_machine.proofs.DeleteForms.{deletions_apart}
 use Rattle.policy_machine.proofs.InstallApplicationLaws.{managed_install_lawful}
-use Rattle.policy_machine.proofs.InstallForms.{AreApart, extradition_apart, install_apart, managed, selectable_apart}
+use Rattle.policy_machine.proofs.InstallForms.{AreApart, extradition_apart, install_apart, selectable_apart}
 use Rattle.policy_machine.proofs.InstallLoadLaws.{install_load_lawful}
 use Rattle.policy_machine.proofs.LoadLaws.{load_lawful}
 use Rattle.policy_machine.proofs.MakeSelectableLaws.{managed_selectable_lawful}
@@ -75,22 +74,6 @@ either : (test : Bool) (these others : List CommandForm) → AreLawful these →
 either true these others these_are others_are = these_are
 either false these others these_are others_are = others_are
 
--- PUT KEY, STORE DATA, DELETE, LOAD and SET STATUS manage content
-putting : Contains managing 0xD8
-putting = (0, omega arith, refl)
-
-storing : Contains managing 0xE2
-storing = (1, omega arith, refl)
-
-deleting : Contains managing 0xE4
-deleting = (2, omega arith, refl)
-
-loading : Contains managing 0xE8
-loading = (4, omega arith, refl)
-
-setting : Contains managing 0xF0
-setting = (5, omega arith, refl)
-
 -- the one place where all commands are gone through
 pub all_lawful : (ins : ℕ) → AreLawful (forms_of ins)
 all_lawful ins =
@@ -99,14 +82,14 @@ all_lawful ins =
     (either _ _ _ (alone _ get_data_lawful)
     (either _ _ _ (alone _ initialize_update_lawful)
     (either _ _ _ (alone _ external_authenticate_lawful)
-    (either _ _ _ (alone _ (managed_lawful _ managed_put_key_lawful putting))
-    (either _ _ _ (alone _ (managed_lawful _ managed_store_data_lawful storing))
-    (either _ _ _ (beside _ _ (managed_lawful _ managed_delete_key_lawful deleting) deletions_apart (alone _ (managed_lawful _ managed_delete_object_lawful deleting)))
-    (either _ _ _ (beside _ _ (managed_lawful _ managed_install_lawful managed) install_apart
-    (beside _ _ (managed_lawful _ managed_selectable_lawful managed) selectable_apart
-    (beside _ _ (managed_lawful _ managed_extradition_lawful managed) extradition_apart (alone _ (install_load_lawful managed)))))
-    (either _ _ _ (beside _ _ (managed_lawful _ managed_card_status_lawful setting) status_forms_apart (alone _ (managed_lawful _ managed_entry_status_lawful setting)))
-    (either _ _ _ (alone _ (load_lawful loading))
+    (either _ _ _ (alone _ (managed_lawful _ managed_put_key_lawful (manages _ putting)))
+    (either _ _ _ (alone _ (managed_lawful _ managed_store_data_lawful (manages _ storing)))
+    (either _ _ _ (beside _ _ (managed_lawful _ managed_delete_key_lawful (manages _ deleting)) deletions_apart (alone _ (managed_lawful _ managed_delete_object_lawful (manages _ deleting))))
+    (either _ _ _ (beside _ _ (managed_lawful _ managed_install_lawful (manages _ installing)) install_apart
+    (beside _ _ (managed_lawful _ managed_selectable_lawful (manages _ installing)) selectable_apart
+    (beside _ _ (managed_lawful _ managed_extradition_lawful (manages _ installing)) extradition_apart (alone _ (install_load_lawful (manages _ installing))))))
+    (either _ _ _ (beside _ _ (managed_lawful _ managed_card_status_lawful (manages _ setting)) status_forms_apart (alone _ (managed_lawful _ managed_entry_status_lawful (manages _ setting))))
+    (either _ _ _ (alone _ (load_lawful (manages _ loading_in)))
     (either _ _ _ (alone _ get_status_lawful) none)))))))))))
 
 pub one_form : OneForm

@@ -1,7 +1,6 @@
 -- Receipt numbers rise with the commands of each form as they should.
 use Rattle.std.proofs.Common.{◌≡◌, ◌⊎◌, inl, inr, ℕ, Bool, List, [], ◌∷◌, refl, ap, sym, ◌∙◌, arith}
 use Rattle.std.specs.Prelude.{Contains}
-use Rattle.std.proofs.lemmas.List.Elements.{Contains-append_left}
 use Rattle.card_types.specs.Privileges.{delegated_management}
 use Rattle.card_types.specs.Registry.{Registry}
 use Rattle.policy_machine.specs.Admission.{Admitted}
@@ -18,7 +17,7 @@ use Rattle.policy_machine.specs.Volatile.{LoadSession}
 use Rattle.policy_machine.proofs.AllLawful.{HoldsOfEach, of_beside, of_listed, of_none, of_only}
 use Rattle.policy_machine.proofs.AnsweredRises.{AllRise, answered_rises, none_rises}
 use Rattle.policy_machine.proofs.CardStatusLaws.{managed_card_status_lawful}
-use Rattle.policy_machine.proofs.ChangingBytes.{deleting, installing, other_byte, putting, setting, storing}
+use Rattle.policy_machine.proofs.ChangingBytes.{deleting, installing, manages, other_byte, putting, setting, storing}
 use Rattle.policy_machine.proofs.DeleteKeyLaws.{managed_delete_key_lawful}
 use Rattle.policy_machine.proofs.DeleteObjectLaws.{managed_delete_object_lawful}
 use Rattle.policy_machine.proofs.EntryStatusLaws.{managed_entry_status_lawful}
@@ -53,7 +52,7 @@ unmanaged : (form : CommandForm) → IsLawful form → (Contains managing form.i
 unmanaged form lawful other never = quiet_rising form never (λ admitted done does. lawful.quiet other admitted done does)
 
 managed : (form : ManagedForm) → IsManagedLawful form → Contains changing form.judged.instruction → KeepsAllNumbers form → IsRising (command_form form)
-managed form lawful changes keeps = managed_rising form lawful (Contains-append_left changing (0xF2 ∷ []) form.judged.instruction changes) keeps
+managed form lawful changes keeps = managed_rising form lawful (manages form.judged.instruction changes) keeps
 
 -- the last block of a load is confirmed
 module _ (admitted : Admitted) (done : Effect) (does : LoadEffect admitted done) where

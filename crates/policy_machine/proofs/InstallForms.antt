@@ -1,8 +1,7 @@
 -- The forms of INSTALL: P1 tells which one takes a command.
-use Rattle.std.proofs.Common.{◌≡◌, ℕ, List, [], ◌∷◌, false, refl, sym, ◌∙◌, inl, inr, arith}
-use Rattle.std.specs.Prelude.{Contains, ◌==◌}
+use Rattle.std.proofs.Common.{◌≡◌, ℕ, List, [], ◌∷◌, false, refl, sym, ◌∙◌, inl, inr}
+use Rattle.std.specs.Prelude.{◌==◌}
 use Rattle.std.proofs.lemmas.Bool.{eqb-false}
-use Rattle.policy_machine.specs.Classes.{managing}
 use Rattle.policy_machine.specs.CommandForm.{CommandForm}
 use Rattle.policy_machine.specs.Commands.{OneOf, Takes}
 use Rattle.policy_machine.specs.Extradition.{managed_extradition}
@@ -14,9 +13,6 @@ use Rattle.policy_machine.specs.ManagedForm.{command_form}
 -- none of the forms takes a command that this one takes
 abbrev pub AreApart : CommandForm → List CommandForm → Type 0
 AreApart form forms = (ins p1 p2 : ℕ) (body : List ℕ) → Takes form ins p1 p2 body → OneOf (λ other. Takes other ins p1 p2 body) forms → ⊥
-
-pub managed : Contains managing 0xE6
-managed = (3, omega arith, refl)
 
 -- a P1 is one byte
 not_both : (p1 a b : ℕ) → (a == b) ≡ false → p1 ≡ a → p1 ≡ b → ⊥

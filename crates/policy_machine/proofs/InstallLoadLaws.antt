@@ -17,8 +17,8 @@ use Rattle.policy_machine.specs.Volatile.{Volatile, with_load}
 use Rattle.policy_machine.specs.declared.install_load.RuleIL.{RuleIL}
 use Rattle.policy_machine.specs.declared.install_load.RuleIL.TheVariants.{IL1, IL2, IL3, IL4, IL5, IL6, IL7}
 use Rattle.policy_machine.specs.declared.rule.Rule.{Rule}
+use Rattle.policy_machine.proofs.ChangingBytes.{installing, manages}
 use Rattle.policy_machine.proofs.ExtraditionLaws.{domain_stable}
-use Rattle.policy_machine.proofs.InstallForms.{managed}
 use Rattle.policy_machine.proofs.Judging.{judged}
 use Rattle.policy_machine.proofs.Lawful.{HasNoPlaceOn, IsLawful, IsReady, managed_apart, none_of, sound_with}
 use Rattle.policy_machine.proofs.LengthFields.{one_load_data}
@@ -82,7 +82,7 @@ begun_well admitted given aid ready is passes =
     let apart = managed_apart admitted.command.ins install_load.instruction is (omega arith) in
     record {
       aid = aid;
-      session = ready.session (subst (Contains managing) (sym is) managed);
+      session = ready.session (subst (Contains managing) (sym is) (manages 0xE6 installing));
       no_entry = none_of (entry_named registry given.file) (λ some. passes IL3 (inl some));
       no_file = none_of (file_named registry given.file) (λ some. passes IL3 (inr some));
       domain = domain_given registry given.domain (acting admitted) (ready.domain apart.0 apart.1) (passes IL4);

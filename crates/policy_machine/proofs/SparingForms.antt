@@ -1,7 +1,6 @@
 -- What is asked of the form of a command, by which it spares the trees of other domains.
-use Rattle.std.proofs.Common.{inl, ℕ, List, [], ◌∷◌, None}
+use Rattle.std.proofs.Common.{inl, ℕ, List, [], None}
 use Rattle.std.specs.Prelude.{Contains}
-use Rattle.std.proofs.lemmas.List.Elements.{Contains-append_left}
 use Rattle.card_types.specs.Registry.{Registry}
 use Rattle.card_types.specs.Well.{IsDomainNamed}
 use Rattle.policy_machine.specs.Admission.{Admitted}
@@ -17,6 +16,7 @@ use Rattle.policy_machine.proofs.AnsweredSpares.{answered_spares}
 use Rattle.policy_machine.proofs.Lawful.{IsReady, sound_of_card}
 use Rattle.policy_machine.proofs.ManagedLawful.{IsManagedLawful, IsPassedFor, passed_for}
 use Rattle.policy_machine.proofs.TreeKept.{AreApart, KeepsTree, SparesTree}
+use Rattle.policy_machine.proofs.ChangingBytes.{manages}
 use Rattle.policy_machine.proofs.TreesAlike.{same_lists_leave}
 
 -- An accepted command keeps the tree of a domain, unless the form may change the registry and acts for one that has power over it.
@@ -55,7 +55,7 @@ pub managed_sparing : (form : ManagedForm) → IsManagedLawful form → Contains
 managed_sparing form lawful changes spares = record {
   spares = λ admitted done ready judges does domain named powerless.
       (let apart = apart_when_ready admitted ready domain named (powerless changes) in
-      let passed = passed_for form lawful (Contains-append_left changing (0xF2 ∷ []) form.judged.instruction changes) admitted done ready judges does in
+      let passed = passed_for form lawful (manages form.judged.instruction changes) admitted done ready judges does in
       answered_spares admitted domain does.changed (spares admitted does.asked does.changed passed judges does.becomes domain apart)
       (form.judged.delegation.about admitted does.asked) done (form.judged.delegation.is_delegated admitted) (form.reply does.asked) does.answered);
 }
