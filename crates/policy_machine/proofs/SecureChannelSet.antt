@@ -7,7 +7,7 @@ use Rattle.policy_machine.specs.Sound.{Fits, IsSecured, IsWellChannel, IsWellLoa
 use Rattle.policy_machine.specs.Volatile.{Channel, LoadSession, Nothing, Offered, Secured, SecureChannel, Volatile, channel_at, load_without_channel, offer_in, offer_on, selected_of, selected_on, session_in, session_on, secure_channel_of, channel_with, with_offer_dropped, with_secure_channel, without_load, without_offer}
 use Rattle.scp03_card.specs.Offer.{Offer}
 use Rattle.scp03_card.specs.Session.{Session}
-use Rattle.policy_machine.proofs.SetChannel.{becomes_fits, ended_fits, set_fits}
+use Rattle.policy_machine.proofs.SetChannel.{IsInSession, becomes_fits, ended_fits, set_fits}
 
 pub within : (registry : Registry) (volatile : Volatile) (number : ℕ) → Fits registry volatile → number < 4 → number < length volatile.channels
 within registry volatile number fits low = subst (λ (n : ℕ). number < n) (sym fits.channels) low
@@ -21,8 +21,8 @@ open_so : (secure_channel : SecureChannel) (channel : Option Channel) → IsSome
 open_so secure_channel None opened = opened
 open_so secure_channel (Some channel) opened = refl
 
-secured_so : (secure_channel : SecureChannel) → IsSecured secure_channel → (channel : Option Channel) → MatchOption channel ⊥ (λ opened. IsSecured opened.secure_channel)
-    → MatchOption (channel_with secure_channel channel) ⊥ (λ opened. IsSecured opened.secure_channel)
+secured_so : (secure_channel : SecureChannel) → IsSecured secure_channel → (channel : Option Channel) → IsInSession channel
+    → IsInSession (channel_with secure_channel channel)
 secured_so secure_channel secured None has = has
 secured_so secure_channel secured (Some channel) has = secured
 
@@ -31,7 +31,7 @@ pub unloaded : (registry : Registry) (volatile : Volatile) (number : ℕ) → Fi
     → load_without_channel number volatile.load ≡ volatile.load
 unloaded registry volatile number fits none = by volatile.load fits.load
   where
-    insecure : (channel : Option Channel) → session_in (secure_channel_of channel) ≡ None → MatchOption channel ⊥ (λ opened. IsSecured opened.secure_channel) → ⊥
+    insecure : (channel : Option Channel) → session_in (secure_channel_of channel) ≡ None → IsInSession channel → ⊥
     insecure None none session = session
     insecure (Some channel) none session = no_session channel.secure_channel none session
       where
