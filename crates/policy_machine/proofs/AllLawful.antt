@@ -36,7 +36,7 @@ AllOf holds (form ∷ forms) = holds form × AllOf holds forms
 pub record HoldsOfEach (holds : CommandForm → Type 0) (forms : List CommandForm) : Type 0 where
   pub each : AllOf holds forms
 
-module _ (holds : CommandForm → Type 0) where
+module _ {holds : CommandForm → Type 0} where
   pub of_none : HoldsOfEach holds []
   of_none = record { each = tt }
 

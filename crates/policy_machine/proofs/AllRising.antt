@@ -1,12 +1,12 @@
 -- Receipt numbers rise with the commands of each form as they should.
-use Rattle.std.proofs.Common.{◌≡◌, ◌⊎◌, inl, inr, ℕ, Bool, List, [], ◌∷◌, refl, ap, sym, ◌∙◌, arith}
+use Rattle.std.proofs.Common.{◌≡◌, ◌⊎◌, inl, inr, ℕ, List, [], refl, ap, sym, ◌∙◌, arith}
 use Rattle.std.specs.Prelude.{Contains}
 use Rattle.card_types.specs.Privileges.{delegated_management}
 use Rattle.card_types.specs.Registry.{Registry}
 use Rattle.policy_machine.specs.Admission.{Admitted}
 use Rattle.policy_machine.specs.Classes.{changing, managing}
 use Rattle.policy_machine.specs.CommandForm.{CommandForm}
-use Rattle.policy_machine.specs.Commands.{forms_of, listed}
+use Rattle.policy_machine.specs.Commands.{forms_of}
 use Rattle.policy_machine.specs.Delegation.{Holds, unconfirmed}
 use Rattle.policy_machine.specs.GetStatus.{get_status}
 use Rattle.policy_machine.specs.InstallLoad.{install_load}
@@ -37,15 +37,6 @@ use Rattle.policy_machine.proofs.RisingForms.{IsRising, KeepsAllNumbers, managed
 use Rattle.policy_machine.proofs.SelectLaws.{select_lawful}
 use Rattle.policy_machine.proofs.StoreDataLaws.{managed_store_data_lawful}
 use Rattle.policy_machine.specs.ManagedForm.{ManagedForm, command_form}
-
-either : (test : Bool) (these others : List CommandForm) → HoldsOfEach IsRising these → HoldsOfEach IsRising others → HoldsOfEach IsRising (listed test these others)
-either = of_listed IsRising
-
-only : (form : CommandForm) → IsRising form → HoldsOfEach IsRising (form ∷ [])
-only = of_only IsRising
-
-beside : (form : CommandForm) (forms : List CommandForm) → IsRising form → HoldsOfEach IsRising forms → HoldsOfEach IsRising (form ∷ forms)
-beside = of_beside IsRising
 
 unmanaged : (form : CommandForm) → IsLawful form → (Contains managing form.instruction → ⊥) → ((admitted : Admitted) (aids : List (List ℕ)) → form.confirms admitted aids → ⊥)
     → IsRising form
@@ -80,20 +71,20 @@ load_rising = record {
 
 pub all_rising : (ins : ℕ) → HoldsOfEach IsRising (forms_of ins)
 all_rising ins =
-    either _ _ _ (only _ (unmanaged _ select_lawful (other_byte 0xA4 refl) (λ admitted aids so. so)))
-    (either _ _ _ (only _ (unmanaged _ manage_channel_lawful (other_byte 0x70 refl) (λ admitted aids so. so)))
-    (either _ _ _ (only _ (unmanaged _ get_data_lawful (other_byte 0xCA refl) (λ admitted aids so. so)))
-    (either _ _ _ (only _ (unmanaged _ initialize_update_lawful (other_byte 0x50 refl) (λ admitted aids so. so)))
-    (either _ _ _ (only _ (unmanaged _ external_authenticate_lawful (other_byte 0x82 refl) (λ admitted aids so. so)))
-    (either _ _ _ (only _ (managed _ managed_put_key_lawful putting put_key_numbers))
-    (either _ _ _ (only _ (managed _ managed_store_data_lawful storing store_data_numbers))
-    (either _ _ _ (beside _ _ (managed _ managed_delete_key_lawful deleting delete_key_numbers) (only _ (managed _ managed_delete_object_lawful deleting deletion_numbers)))
-    (either _ _ _ (beside _ _ (managed _ managed_install_lawful installing install_numbers)
-    (beside _ _ (managed _ managed_selectable_lawful installing selectable_numbers)
-    (beside _ _ (managed _ managed_extradition_lawful installing extradition_numbers) (only _ load_begun_rising))))
-    (either _ _ _ (beside _ _ (managed _ managed_card_status_lawful setting card_status_numbers) (only _ (managed _ managed_entry_status_lawful setting entry_status_numbers)))
-    (either _ _ _ (only _ load_rising)
-    (either _ _ _ (only _ listing_rising) (of_none IsRising))))))))))))
+    of_listed _ _ _ (of_only _ (unmanaged _ select_lawful (other_byte 0xA4 refl) (λ admitted aids so. so)))
+    (of_listed _ _ _ (of_only _ (unmanaged _ manage_channel_lawful (other_byte 0x70 refl) (λ admitted aids so. so)))
+    (of_listed _ _ _ (of_only _ (unmanaged _ get_data_lawful (other_byte 0xCA refl) (λ admitted aids so. so)))
+    (of_listed _ _ _ (of_only _ (unmanaged _ initialize_update_lawful (other_byte 0x50 refl) (λ admitted aids so. so)))
+    (of_listed _ _ _ (of_only _ (unmanaged _ external_authenticate_lawful (other_byte 0x82 refl) (λ admitted aids so. so)))
+    (of_listed _ _ _ (of_only _ (managed _ managed_put_key_lawful putting put_key_numbers))
+    (of_listed _ _ _ (of_only _ (managed _ managed_store_data_lawful storing store_data_numbers))
+    (of_listed _ _ _ (of_beside _ _ (managed _ managed_delete_key_lawful deleting delete_key_numbers) (of_only _ (managed _ managed_delete_object_lawful deleting deletion_numbers)))
+    (of_listed _ _ _ (of_beside _ _ (managed _ managed_install_lawful installing install_numbers)
+    (of_beside _ _ (managed _ managed_selectable_lawful installing selectable_numbers)
+    (of_beside _ _ (managed _ managed_extradition_lawful installing extradition_numbers) (of_only _ load_begun_rising))))
+    (of_listed _ _ _ (of_beside _ _ (managed _ managed_card_status_lawful setting card_status_numbers) (of_only _ (managed _ managed_entry_status_lawful setting entry_status_numbers)))
+    (of_listed _ _ _ (of_only _ load_rising)
+    (of_listed _ _ _ (of_only _ listing_rising) of_none)))))))))))
   where
     load_begun_rising : IsRising install_load
     load_begun_rising =

@@ -1,9 +1,9 @@
 -- All commands spare the trees of domains that the acting one has no power over.
-use Rattle.std.proofs.Common.{ℕ, Bool, List, [], ◌∷◌, refl}
+use Rattle.std.proofs.Common.{ℕ, [], refl}
 use Rattle.std.specs.Prelude.{Contains}
 use Rattle.policy_machine.specs.Classes.{managing}
 use Rattle.policy_machine.specs.CommandForm.{CommandForm}
-use Rattle.policy_machine.specs.Commands.{forms_of, listed}
+use Rattle.policy_machine.specs.Commands.{forms_of}
 use Rattle.policy_machine.specs.ExternalAuthenticate.{external_authenticate}
 use Rattle.policy_machine.specs.GetData.{get_data}
 use Rattle.policy_machine.specs.GetStatus.{get_status}
@@ -40,37 +40,28 @@ use Rattle.policy_machine.proofs.SparingForms.{IsSparing, managed_sparing, quiet
 use Rattle.policy_machine.proofs.StoreDataLaws.{managed_store_data_lawful}
 use Rattle.policy_machine.proofs.StoreDataSpares.{store_data_sparing}
 
-either : (test : Bool) (these others : List CommandForm) → HoldsOfEach IsSparing these → HoldsOfEach IsSparing others → HoldsOfEach IsSparing (listed test these others)
-either = of_listed IsSparing
-
-only : (form : CommandForm) → IsSparing form → HoldsOfEach IsSparing (form ∷ [])
-only = of_only IsSparing
-
-beside : (form : CommandForm) (forms : List CommandForm) → IsSparing form → HoldsOfEach IsSparing forms → HoldsOfEach IsSparing (form ∷ forms)
-beside = of_beside IsSparing
-
 -- what manages no content
 unmanaged : (form : CommandForm) → IsLawful form → (Contains managing form.instruction → ⊥) → IsSparing form
 unmanaged form lawful other = quiet_sparing form (λ admitted done does. lawful.quiet other admitted done does)
 
 pub all_sparing : (ins : ℕ) → HoldsOfEach IsSparing (forms_of ins)
 all_sparing ins =
-    either _ _ _ (only _ (unmanaged select select_lawful (other_byte 0xA4 refl)))
-    (either _ _ _ (only _ (unmanaged manage_channel manage_channel_lawful (other_byte 0x70 refl)))
-    (either _ _ _ (only _ (unmanaged get_data get_data_lawful (other_byte 0xCA refl)))
-    (either _ _ _ (only _ (unmanaged initialize_update initialize_update_lawful (other_byte 0x50 refl)))
-    (either _ _ _ (only _ (unmanaged external_authenticate external_authenticate_lawful (other_byte 0x82 refl)))
-    (either _ _ _ (only _ (managed_sparing _ managed_put_key_lawful putting put_key_sparing))
-    (either _ _ _ (only _ (managed_sparing _ managed_store_data_lawful storing store_data_sparing))
-    (either _ _ _ (beside _ _ (managed_sparing _ managed_delete_key_lawful deleting delete_key_sparing)
-    (only _ (managed_sparing _ managed_delete_object_lawful deleting deletion_sparing)))
-    (either _ _ _ (beside _ _ (managed_sparing _ managed_install_lawful installing install_sparing)
-    (beside _ _ (managed_sparing _ managed_selectable_lawful installing selectable_sparing)
-    (beside _ _ (managed_sparing _ managed_extradition_lawful installing extradition_sparing) (only _ load_begun_sparing))))
-    (either _ _ _ (beside _ _ (managed_sparing _ managed_card_status_lawful setting card_status_sparing)
-    (only _ (managed_sparing _ managed_entry_status_lawful setting entry_status_sparing)))
-    (either _ _ _ (only _ (load_sparing loading_in))
-    (either _ _ _ (only _ listing_sparing) (of_none IsSparing))))))))))))
+    of_listed _ _ _ (of_only _ (unmanaged select select_lawful (other_byte 0xA4 refl)))
+    (of_listed _ _ _ (of_only _ (unmanaged manage_channel manage_channel_lawful (other_byte 0x70 refl)))
+    (of_listed _ _ _ (of_only _ (unmanaged get_data get_data_lawful (other_byte 0xCA refl)))
+    (of_listed _ _ _ (of_only _ (unmanaged initialize_update initialize_update_lawful (other_byte 0x50 refl)))
+    (of_listed _ _ _ (of_only _ (unmanaged external_authenticate external_authenticate_lawful (other_byte 0x82 refl)))
+    (of_listed _ _ _ (of_only _ (managed_sparing _ managed_put_key_lawful putting put_key_sparing))
+    (of_listed _ _ _ (of_only _ (managed_sparing _ managed_store_data_lawful storing store_data_sparing))
+    (of_listed _ _ _ (of_beside _ _ (managed_sparing _ managed_delete_key_lawful deleting delete_key_sparing)
+    (of_only _ (managed_sparing _ managed_delete_object_lawful deleting deletion_sparing)))
+    (of_listed _ _ _ (of_beside _ _ (managed_sparing _ managed_install_lawful installing install_sparing)
+    (of_beside _ _ (managed_sparing _ managed_selectable_lawful installing selectable_sparing)
+    (of_beside _ _ (managed_sparing _ managed_extradition_lawful installing extradition_sparing) (of_only _ load_begun_sparing))))
+    (of_listed _ _ _ (of_beside _ _ (managed_sparing _ managed_card_status_lawful setting card_status_sparing)
+    (of_only _ (managed_sparing _ managed_entry_status_lawful setting entry_status_sparing)))
+    (of_listed _ _ _ (of_only _ (load_sparing loading_in))
+    (of_listed _ _ _ (of_only _ listing_sparing) of_none)))))))))))
   where
     load_begun_sparing : IsSparing install_load
     load_begun_sparing = quiet_sparing install_load (λ admitted done does. same_as admitted.at.registry done.state.registry does.registry)

@@ -37,34 +37,25 @@ use Rattle.policy_machine.proofs.AlikePlain.{get_data_alike, get_status_alike, i
 use Rattle.policy_machine.proofs.AllLawful.{AllOf, HoldsOfEach, of_beside, of_listed, of_none, of_only}
 use Rattle.policy_machine.proofs.FirstLike.{first_like}
 
-either : (test : Bool) (these others : List CommandForm) → HoldsOfEach IsAlikeForm these → HoldsOfEach IsAlikeForm others → HoldsOfEach IsAlikeForm (listed test these others)
-either = of_listed IsAlikeForm
-
-only : (form : CommandForm) → IsAlikeForm form → HoldsOfEach IsAlikeForm (form ∷ [])
-only = of_only IsAlikeForm
-
-beside : (form : CommandForm) (forms : List CommandForm) → IsAlikeForm form → HoldsOfEach IsAlikeForm forms → HoldsOfEach IsAlikeForm (form ∷ forms)
-beside = of_beside IsAlikeForm
-
 -- the instruction is another one
 passed_over : (test : Bool) (these others : List CommandForm) → test ≡ false → HoldsOfEach IsAlikeForm others → HoldsOfEach IsAlikeForm (listed test these others)
 passed_over test these others is each = subst (λ (t : Bool). HoldsOfEach IsAlikeForm (listed t these others)) (sym is) each
 
 all_alike : (ins : ℕ) → ins ≢ PUT_KEY → ins ≢ EXTERNAL_AUTHENTICATE → HoldsOfEach IsAlikeForm (forms_of ins)
 all_alike ins puts answers =
-    either _ _ _ (only select select_alike)
-    (either _ _ _ (only manage_channel manage_channel_alike)
-    (either _ _ _ (only get_data get_data_alike)
-    (either _ _ _ (only initialize_update initialize_update_alike)
+    of_listed _ _ _ (of_only select select_alike)
+    (of_listed _ _ _ (of_only manage_channel manage_channel_alike)
+    (of_listed _ _ _ (of_only get_data get_data_alike)
+    (of_listed _ _ _ (of_only initialize_update initialize_update_alike)
     (passed_over _ (external_authenticate ∷ []) _ (ne_eqb ins EXTERNAL_AUTHENTICATE answers)
     (passed_over _ (command_form managed_put_key ∷ []) _ (ne_eqb ins PUT_KEY puts)
-    (either _ _ _ (only (command_form managed_store_data) store_data_alike)
-    (either _ _ _ (beside (command_form managed_delete_key) _ delete_key_alike (only (command_form managed_delete_object) deletion_alike))
-    (either _ _ _ (beside (command_form managed_install) _ install_alike (beside (command_form managed_selectable) _ selectable_alike
-    (beside (command_form managed_extradition) _ extradition_alike (only install_load install_load_alike))))
-    (either _ _ _ (beside (command_form managed_card_status) _ card_status_alike (only (command_form managed_entry_status) entry_status_alike))
-    (either _ _ _ (only loading load_alike)
-    (either _ _ _ (only get_status get_status_alike) (of_none IsAlikeForm))))))))))))
+    (of_listed _ _ _ (of_only (command_form managed_store_data) store_data_alike)
+    (of_listed _ _ _ (of_beside (command_form managed_delete_key) _ delete_key_alike (of_only (command_form managed_delete_object) deletion_alike))
+    (of_listed _ _ _ (of_beside (command_form managed_install) _ install_alike (of_beside (command_form managed_selectable) _ selectable_alike
+    (of_beside (command_form managed_extradition) _ extradition_alike (of_only install_load install_load_alike))))
+    (of_listed _ _ _ (of_beside (command_form managed_card_status) _ card_status_alike (of_only (command_form managed_entry_status) entry_status_alike))
+    (of_listed _ _ _ (of_only loading load_alike)
+    (of_listed _ _ _ (of_only get_status get_status_alike) of_none)))))))))))
 
 -- of the rules on the form, where none stands before them
 abbrev on_form : List Rule
