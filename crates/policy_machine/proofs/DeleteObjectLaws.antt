@@ -107,7 +107,8 @@ module _ (admitted : Admitted) (asked : DeletionAsked) (parameters : DeleteParam
       record {
         entries = λ aid here some. subst IsSome (sym (still aid some here)) some;
         domains = λ aid here is.
-            subst (λ (o : Option Entry). MatchOption o ⊥ (λ entry. is_domain entry ≡ true)) (sym (still aid (some_there (λ entry. is_domain entry ≡ true) (entry_named before aid) is) here)) is;
+            (let some = some_there (λ entry. is_domain entry ≡ true) (entry_named before aid) is in
+            subst (λ (o : Option Entry). MatchOption o ⊥ (λ entry. is_domain entry ≡ true)) (sym (still aid some here)) is);
         room = λ load at. record {
           no_entry = no_entry load.aid;
           no_file = λ none. rest_unfound (λ (f : LoadFile). f.aid) asked.aid load.aid before.files none;

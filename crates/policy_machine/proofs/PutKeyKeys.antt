@@ -67,7 +67,8 @@ module _ (registry : Registry) (owner : List ℕ) (replaced : ℕ) (added : List
     has_key_still : (identifier : ℕ) → HasKeyNamed registry domain version identifier → HasKeyNamed after domain version identifier
     has_key_still identifier has = record {
       key = has.key;
-      is_there = still_there (is_key_numbered owner replaced) registry.keys added keys keys_put has.key has.is_there (ap (λ (o : List ℕ). same_aid o owner && has.key.version == replaced) has.owner_is
+      is_there = still_there (is_key_numbered owner replaced) registry.keys added keys keys_put has.key has.is_there
+          (ap (λ (o : List ℕ). same_aid o owner && has.key.version == replaced) has.owner_is
           ∙ ap (λ (v : ℕ). same_aid domain owner && v == replaced) has.version_is ∙ other);
       owner_is = has.owner_is;
       version_is = has.version_is;
@@ -77,7 +78,8 @@ module _ (registry : Registry) (owner : List ℕ) (replaced : ℕ) (added : List
     has_counter_still : HasCounterOf registry domain version → HasCounterOf after domain version
     has_counter_still has = record {
       counter = has.counter;
-      is_there = still_there (is_counter_numbered owner replaced) registry.counters new_counters counters counters_put has.counter has.is_there (ap (λ (o : List ℕ). same_aid o owner && has.counter.version == replaced) has.owner_is
+      is_there = still_there (is_counter_numbered owner replaced) registry.counters new_counters counters counters_put has.counter has.is_there
+          (ap (λ (o : List ℕ). same_aid o owner && has.counter.version == replaced) has.owner_is
           ∙ ap (λ (v : ℕ). same_aid domain owner && v == replaced) has.version_is ∙ other);
       owner_is = has.owner_is;
       version_is = has.version_is;

@@ -1,6 +1,11 @@
 -- The tree of a domain where keys, data objects or Executable Load Files are put or taken that are not in it.
-use Rattle.std.proofs.Common.{◌≡◌, ◌≢◌, inl, ℕ, List, sym, subst}
-use Rattle.std.specs.Prelude.{Contains}
+use Rattle.std.proofs.Common.{◌≡◌, ◌≢◌, inl, inr, ℕ, Bool, false, List, ◌++◌, sym, subst}
+use Rattle.std.specs.Prelude.{Contains, filter, not}
+use Rattle.std.specs.List.Sorted.{IsPermutation}
+use Rattle.std.proofs.lemmas.Bool.{not_from_false}
+use Rattle.std.proofs.lemmas.List.Elements.{Contains-append_cases, Contains-append_right}
+use Rattle.std.proofs.lemmas.List.Sorted.{Contains-permutation, IsPermutation-sym}
+use Rattle.card_types.proofs.Members.{contains_filter, filtered}
 use Rattle.card_types.specs.Registry.{Entry, Key, LoadFile, Object, Registry}
 use Rattle.policy_machine.specs.Admission.{Admitted}
 use Rattle.policy_machine.specs.Charge.{IsAtOrAbove}
@@ -45,9 +50,36 @@ module _ (admitted : Admitted) (domain : List ℕ) (apart : AreApart admitted do
       back (AKey key) is at = keys.back key is (another key.owner at)
       back (AnObject object) is at = objects.back object is (another object.owner at)
 
--- a list that stays
-pub same_list : {X : Type 0} (owner : X → List ℕ) (acting : List ℕ) (old new : List X) → new ≡ old → SameOfOthers owner acting old new
-same_list {X} owner acting old new same = record {
-  there = λ x is other. subst (λ (xs : List X). Contains xs x) (sym same) is;
-  back = λ x is other. subst (λ (xs : List X). Contains xs x) same is;
-}
+module _ {X : Type 0} (owner : X → List ℕ) (acting : List ℕ) where
+  -- a list that stays
+  pub same_list : (old new : List X) → new ≡ old → SameOfOthers owner acting old new
+  same_list old new same = record {
+    there = λ x is other. subst (λ (xs : List X). Contains xs x) (sym same) is;
+    back = λ x is other. subst (λ (xs : List X). Contains xs x) same is;
+  }
+
+  -- one that stays so twice, or in another order
+  pub same_then : (old next new : List X) → SameOfOthers owner acting old next → SameOfOthers owner acting next new → SameOfOthers owner acting old new
+  same_then old next new one another = record {
+    there = λ x is other. another.there x (one.there x is other) other;
+    back = λ x is other. one.back x (another.back x is other) other;
+  }
+
+  pub same_arranged : (old next new : List X) → SameOfOthers owner acting old next → IsPermutation next new → SameOfOthers owner acting old new
+  same_arranged old next new one arranged = record {
+    there = λ x is other. Contains-permutation next new x arranged (one.there x is other);
+    back = λ x is other. one.back x (Contains-permutation new next x (IsPermutation-sym next new arranged) is) other;
+  }
+
+  -- things of the acting domain go, and others of it come
+  pub same_replaced : (goes : X → Bool) (added old : List X) → ((x : X) → owner x ≢ acting → goes x ≡ false) → ((x : X) → Contains added x → owner x ≡ acting)
+      → SameOfOthers owner acting old (added ++ filter (λ x. not (goes x)) old)
+  same_replaced goes added old left own = record {
+    there = λ x is other.
+        Contains-append_right added (filter (λ y. not (goes y)) old) x
+        (contains_filter (λ y. not (goes y)) old x is (not_from_false (goes x) (left x other)));
+    back = λ x is other. elim (Contains-append_cases added (filter (λ y. not (goes y)) old) x is) [
+      | inl new ↦ absurd (other (own x new))
+      | inr kept ↦ (filtered (λ y. not (goes y)) old x kept).0
+    ];
+  }
