@@ -1,42 +1,33 @@
 -- The forms of card content management: their rules fail of both of two commands that are alike, or of neither.
 use Rattle.std.proofs.Common.{◌≡◌, ◌⊎◌, ℕ, List, Option, None, Some, inl, inr, subst}
 use Rattle.std.specs.Prelude.{MatchOption}
-use Rattle.bertlv.specs.Spelling.{Element}
 use Rattle.card_types.specs.Privileges.{delegated_management}
 use Rattle.policy_machine.specs.Admission.{Admitted}
-use Rattle.policy_machine.specs.CardStatus.{SettingCardFails, managed_card_status}
+use Rattle.policy_machine.specs.CardStatus.{managed_card_status}
 use Rattle.policy_machine.specs.Delegation.{Holds}
-use Rattle.policy_machine.specs.DeleteKey.{DeletingKeyFails, KeyChosen, managed_delete_key}
+use Rattle.policy_machine.specs.DeleteKey.{managed_delete_key}
 use Rattle.policy_machine.specs.DeleteObject.{ComesFrom, DeletingFails, DeletionAsked, HasOthers, IsDelegated, IsInUse, IsLoadedInto, IsToGo, managed_delete_object}
 use Rattle.policy_machine.specs.EntryStatus.{PersonalizesItself, SettingStatusFails, managed_entry_status}
-use Rattle.policy_machine.specs.Extradition.{ExtraditingFails, managed_extradition}
-use Rattle.policy_machine.specs.InstallApplication.{InstallAsked, InstallingFails, managed_install}
-use Rattle.policy_machine.specs.InstallFields.{InstallData}
-use Rattle.policy_machine.specs.InstallLoad.{InstallingLoadFails, LoadData, install_load, judged_install_load}
-use Rattle.policy_machine.specs.MakeSelectable.{MakingSelectableFails, managed_selectable}
+use Rattle.policy_machine.specs.Extradition.{managed_extradition}
+use Rattle.policy_machine.specs.InstallApplication.{managed_install}
+use Rattle.policy_machine.specs.InstallLoad.{install_load, judged_install_load}
+use Rattle.policy_machine.specs.MakeSelectable.{managed_selectable}
 use Rattle.policy_machine.specs.ManagedForm.{AskedFails, CommandAsks, JudgedFails, JudgedForm, command_form}
 use Rattle.policy_machine.specs.OwnRules.{selection_of}
-use Rattle.policy_machine.specs.StoreData.{StoringFails, managed_store_data}
+use Rattle.policy_machine.specs.StoreData.{managed_store_data}
 use Rattle.policy_machine.specs.Volatile.{Channel, channel_at}
-use Rattle.policy_machine.specs.declared.card_status.RuleSC.{RuleSC}
-use Rattle.policy_machine.specs.declared.card_status.RuleSC.TheVariants.{SC1, SC2}
-use Rattle.policy_machine.specs.declared.delete_key.RuleDK.{RuleDK}
-use Rattle.policy_machine.specs.declared.delete_key.RuleDK.TheVariants.{DK1, DK2}
+use Rattle.policy_machine.specs.declared.card_status.RuleSC.TheVariants.{SC1}
+use Rattle.policy_machine.specs.declared.delete_key.RuleDK.TheVariants.{DK1}
 use Rattle.policy_machine.specs.declared.delete_object.RuleDO.{RuleDO}
 use Rattle.policy_machine.specs.declared.delete_object.RuleDO.TheVariants.{DO4}
 use Rattle.policy_machine.specs.declared.entry_status.RuleSS.{RuleSS}
 use Rattle.policy_machine.specs.declared.entry_status.RuleSS.TheVariants.{SS3}
-use Rattle.policy_machine.specs.declared.extradition.RuleEX.{RuleEX}
 use Rattle.policy_machine.specs.declared.extradition.RuleEX.TheVariants.{EX1}
-use Rattle.policy_machine.specs.declared.install_application.RuleII.{RuleII}
 use Rattle.policy_machine.specs.declared.install_application.RuleII.TheVariants.{II1}
-use Rattle.policy_machine.specs.declared.install_load.RuleIL.{RuleIL}
 use Rattle.policy_machine.specs.declared.install_load.RuleIL.TheVariants.{IL1}
-use Rattle.policy_machine.specs.declared.make_selectable.RuleMS.{RuleMS}
 use Rattle.policy_machine.specs.declared.make_selectable.RuleMS.TheVariants.{MS1}
 use Rattle.policy_machine.specs.declared.rule.Rule.{Rule}
 use Rattle.policy_machine.specs.declared.rule.Rule.TheVariants.{M, RC, TK}
-use Rattle.policy_machine.specs.declared.store_data.RuleSD.{RuleSD}
 use Rattle.policy_machine.specs.declared.store_data.RuleSD.TheVariants.{SD1}
 use Rattle.policy_machine.proofs.Alike.{IsAlike, IsAlikeForm, LooksAtSeen, by_seen, management_alike, receipt_alike, same_selection, token_alike, unchanged}
 
@@ -68,53 +59,26 @@ held = by_seen (λ x. Holds x delegated_management) (λ x. unchanged)
 nobody : IsAlike (λ x. ⊥)
 nobody a b alike is = is
 
-storing_looks : (asked : List Element) (rule : RuleSD) → LooksAtSeen (λ x. StoringFails x asked rule)
-storing_looks asked SD1 a = unchanged
-
 pub store_data_alike : IsAlikeForm (command_form managed_store_data)
-store_data_alike = looking_alike managed_store_data.judged nobody storing_looks
-
-deleting_key_looks : (asked : KeyChosen) (rule : RuleDK) → LooksAtSeen (λ x. DeletingKeyFails x asked rule)
-deleting_key_looks asked DK1 a = unchanged
-deleting_key_looks asked DK2 a = unchanged
+store_data_alike = looking_alike managed_store_data.judged nobody (λ asked rule a. elim rule [ SD1 ↦ unchanged ])
 
 pub delete_key_alike : IsAlikeForm (command_form managed_delete_key)
-delete_key_alike = looking_alike managed_delete_key.judged nobody deleting_key_looks
-
-installing_looks : (asked : InstallAsked) (rule : RuleII) → LooksAtSeen (λ x. InstallingFails x asked rule)
-installing_looks asked II1 a = unchanged
-installing_looks asked rule a = unchanged
+delete_key_alike = looking_alike managed_delete_key.judged nobody (λ asked rule a. elim rule [ DK1 ↦ unchanged | _ ↦ unchanged ])
 
 pub install_alike : IsAlikeForm (command_form managed_install)
-install_alike = looking_alike managed_install.judged held installing_looks
-
-installing_load_looks : (asked : LoadData) (rule : RuleIL) → LooksAtSeen (λ x. InstallingLoadFails x asked rule)
-installing_load_looks asked IL1 a = unchanged
-installing_load_looks asked rule a = unchanged
+install_alike = looking_alike managed_install.judged held (λ asked rule a. elim rule [ II1 ↦ unchanged | _ ↦ unchanged ])
 
 pub install_load_alike : IsAlikeForm install_load
-install_load_alike = looking_alike judged_install_load held installing_load_looks
-
-making_selectable_looks : (asked : InstallData) (rule : RuleMS) → LooksAtSeen (λ x. MakingSelectableFails x asked rule)
-making_selectable_looks asked MS1 a = unchanged
-making_selectable_looks asked rule a = unchanged
+install_load_alike = looking_alike judged_install_load held (λ asked rule a. elim rule [ IL1 ↦ unchanged | _ ↦ unchanged ])
 
 pub selectable_alike : IsAlikeForm (command_form managed_selectable)
-selectable_alike = looking_alike managed_selectable.judged held making_selectable_looks
-
-extraditing_looks : (asked : InstallData) (rule : RuleEX) → LooksAtSeen (λ x. ExtraditingFails x asked rule)
-extraditing_looks asked EX1 a = unchanged
-extraditing_looks asked rule a = unchanged
+selectable_alike = looking_alike managed_selectable.judged held (λ asked rule a. elim rule [ MS1 ↦ unchanged | _ ↦ unchanged ])
 
 pub extradition_alike : IsAlikeForm (command_form managed_extradition)
-extradition_alike = looking_alike managed_extradition.judged held extraditing_looks
-
-setting_card_looks : (rule : RuleSC) → LooksAtSeen (λ x. SettingCardFails x rule)
-setting_card_looks SC1 a = unchanged
-setting_card_looks SC2 a = unchanged
+extradition_alike = looking_alike managed_extradition.judged held (λ asked rule a. elim rule [ EX1 ↦ unchanged | _ ↦ unchanged ])
 
 pub card_status_alike : IsAlikeForm (command_form managed_card_status)
-card_status_alike = looking_alike managed_card_status.judged nobody (λ asked. setting_card_looks)
+card_status_alike = looking_alike managed_card_status.judged nobody (λ asked rule a. elim rule [ SC1 ↦ unchanged | _ ↦ unchanged ])
 
 itself_looks : LooksAtSeen PersonalizesItself
 itself_looks a = (
