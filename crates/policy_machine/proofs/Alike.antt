@@ -101,22 +101,11 @@ pub unchanged : {A : Type 0} → (A → A) × (A → A)
 unchanged = ((λ is. is), (λ is. is))
 
 -- the rules that forms have in common
-management_looks : (rule : RuleM) → LooksAtSeen (λ x. ManagementFails x rule)
-management_looks M1 a = unchanged
-management_looks rule a = unchanged
-
 pub management_alike : (rule : RuleM) → IsAlike (λ x. ManagementFails x rule)
-management_alike rule = by_seen (λ x. ManagementFails x rule) (management_looks rule)
-
-token_looks : (approval : Approval) (rule : RuleTK) → LooksAtSeen (λ x. TokenFails x approval rule)
-token_looks approval TK1 a = unchanged
-token_looks approval rule a = unchanged
+management_alike rule = by_seen (λ x. ManagementFails x rule) (λ a. elim rule [ M1 ↦ unchanged | _ ↦ unchanged ])
 
 pub token_alike : (approval : Approval) (rule : RuleTK) → IsAlike (λ x. TokenFails x approval rule)
-token_alike approval rule = by_seen (λ x. TokenFails x approval rule) (token_looks approval rule)
-
-receipt_looks : (rule : RuleRC) → LooksAtSeen (λ x. ReceiptFails x rule)
-receipt_looks RC1 a = unchanged
+token_alike approval rule = by_seen (λ x. TokenFails x approval rule) (λ a. elim rule [ TK1 ↦ unchanged | _ ↦ unchanged ])
 
 pub receipt_alike : (rule : RuleRC) → IsAlike (λ x. ReceiptFails x rule)
-receipt_alike rule = by_seen (λ x. ReceiptFails x rule) (receipt_looks rule)
+receipt_alike rule = by_seen (λ x. ReceiptFails x rule) (λ a. elim rule [ RC1 ↦ unchanged ])

@@ -11,14 +11,12 @@ use Rattle.policy_machine.specs.OwnRules.{selection_of}
 use Rattle.policy_machine.specs.Select.{SelectFails, select}
 use Rattle.policy_machine.specs.Volatile.{Channel}
 use Rattle.policy_machine.specs.declared.get_data.RuleGD.TheVariants.{GD1}
-use Rattle.policy_machine.specs.declared.get_status.RuleGS.{RuleGS}
-use Rattle.policy_machine.specs.declared.get_status.RuleGS.TheVariants.{GS1, GS2}
-use Rattle.policy_machine.specs.declared.initialize_update.RuleIU.{RuleIU}
+use Rattle.policy_machine.specs.declared.get_status.RuleGS.TheVariants.{GS1}
 use Rattle.policy_machine.specs.declared.initialize_update.RuleIU.TheVariants.{IU1}
 use Rattle.policy_machine.specs.declared.manage_channel.RuleMC.TheVariants.{MC1}
 use Rattle.policy_machine.specs.declared.rule.Rule.TheVariants.{GD, GS, IU, M, MC, SE}
 use Rattle.policy_machine.specs.declared.select.RuleSE.TheVariants.{SE1}
-use Rattle.policy_machine.proofs.Alike.{IsAlikeForm, LooksAtSeen, by_seen, management_alike, unchanged}
+use Rattle.policy_machine.proofs.Alike.{IsAlikeForm, by_seen, management_alike, unchanged}
 
 pub select_alike : IsAlikeForm select
 select_alike (SE SE1) a b alike fails = by_seen (λ x. SelectFails x (SE SE1)) (λ x. unchanged) a b alike fails
@@ -28,22 +26,14 @@ pub get_data_alike : IsAlikeForm get_data
 get_data_alike (GD GD1) a b alike fails = by_seen (λ x. GetDataFails x (GD GD1)) (λ x. unchanged) a b alike fails
 get_data_alike rule a b alike fails = absurd fails
 
-offer_looks : (rule : RuleIU) → LooksAtSeen (λ x. InitializeUpdateFails x (IU rule))
-offer_looks IU1 a = unchanged
-offer_looks rule a = unchanged
-
 pub initialize_update_alike : IsAlikeForm initialize_update
 initialize_update_alike (M rule) a b alike fails = management_alike rule a b alike fails
-initialize_update_alike (IU rule) a b alike fails = by_seen (λ x. InitializeUpdateFails x (IU rule)) (offer_looks rule) a b alike fails
+initialize_update_alike (IU rule) a b alike fails = by_seen (λ x. InitializeUpdateFails x (IU rule)) (λ x. elim rule [ IU1 ↦ unchanged | _ ↦ unchanged ]) a b alike fails
 initialize_update_alike rule a b alike fails = absurd fails
-
-listing_looks : (rule : RuleGS) → LooksAtSeen (λ x. ListingFails x rule)
-listing_looks GS1 a = unchanged
-listing_looks GS2 a = unchanged
 
 pub get_status_alike : IsAlikeForm get_status
 get_status_alike (M rule) a b alike fails = management_alike rule a b alike fails
-get_status_alike (GS rule) a b alike fails = by_seen (λ x. ListingFails x rule) (listing_looks rule) a b alike fails
+get_status_alike (GS rule) a b alike fails = by_seen (λ x. ListingFails x rule) (λ x. elim rule [ GS1 ↦ unchanged | _ ↦ unchanged ]) a b alike fails
 get_status_alike rule a b alike fails = absurd fails
 
 -- the lowest closed channel, by the selections
