@@ -1,43 +1,27 @@
--- For the code inside. What stands for a device with something around it.
-use Rattle.std.specs.Prelude.{◌≡◌, ℕ, ◌+◌, Option, Some, None, Result, IsErr}
+-- For the code inside. What stands for a device with a plan of its faults around it.
+use Rattle.std.specs.Prelude.{◌≡◌, ℕ, zero, suc, Bool, true, false, Option, Some, None, Result, IsErr}
 use Rattle.faults.specs.Faults.{next_count}
 
--- a device that takes so many calls more, and how many it has refused
-pub record Fused (F : Type 0) : Type 0 where
+-- the device inside, the plan, and how many calls were refused
+pub record Faulty (F P : Type 0) : Type 0 where
   pub inner : F
-  pub left : ℕ
+  pub plan : P
   pub refused : ℕ
 
 -- a call of it was refused: it did not reach the device inside
-pub record IsRefusedByFuse {F T E : Type 0} (old new : Fused F) (result : Result T E) : Type 0 where
+pub record IsRefused {F P T E : Type 0} (old new : Faulty F P) (result : Result T E) : Type 0 where
   pub failed : IsErr result
   pub inner : new.inner ≡ old.inner
-  pub left : new.left ≡ 0
   pub refused : new.refused ≡ next_count old.refused
 
--- a call of it was passed on
-pub record IsPassed {F : Type 0} (old new : Fused F) : Type 0 where
-  pub left : new.left + 1 ≡ old.left
-  pub refused : new.refused ≡ old.refused
+-- where one call fails after so many that pass: whether this one passes
+abbrev pub passes_once : Option ℕ → Bool
+passes_once None = true
+passes_once (Some zero) = false
+passes_once (Some (suc n)) = true
 
--- a device that refuses one call: how many pass before it, until it has come, and how many were refused
-pub record Tripped (F : Type 0) : Type 0 where
-  pub inner : F
-  pub wait : Option ℕ
-  pub refused : ℕ
-
--- the call that is refused came: it did not reach the device inside
-pub record IsTripped {F T E : Type 0} (old new : Tripped F) (result : Result T E) : Type 0 where
-  pub failed : IsErr result
-  pub inner : new.inner ≡ old.inner
-  pub wait : new.wait ≡ None
-  pub refused : new.refused ≡ next_count old.refused
-
--- another call came, and was passed on
-pub record IsBefore {F : Type 0} (old new : Tripped F) (n : ℕ) : Type 0 where
-  pub wait : new.wait ≡ Some n
-  pub refused : new.refused ≡ old.refused
-
-pub record IsAfter {F : Type 0} (old new : Tripped F) : Type 0 where
-  pub wait : new.wait ≡ None
-  pub refused : new.refused ≡ old.refused
+-- and how many pass before it from then on, until it has come
+abbrev pub waits_after : Option ℕ → Option ℕ
+waits_after None = None
+waits_after (Some zero) = None
+waits_after (Some (suc n)) = Some n
