@@ -10,6 +10,7 @@ mod case_error;
 mod change;
 mod counted;
 mod device;
+mod fault_plan;
 mod image;
 mod layout;
 mod line;
@@ -19,7 +20,6 @@ mod sweep;
 mod things;
 mod tool;
 mod words;
-mod write_fuse;
 
 use bench::Bench;
 use case_error::CaseError;

@@ -4,11 +4,11 @@ use crate::act::{Act, Played};
 use crate::case_error::CaseError;
 use crate::counted::Calls;
 use crate::device::{Faults, failing};
+use crate::fault_plan::FailsAfterChanges;
 use crate::image::Image;
 use crate::line::Sweep;
 use crate::tool::{Streams, call};
-use crate::write_fuse::WriteFuse;
-use flash_core::{FuseFlash, MemFlash, OnceFlash};
+use flash_core::{FaultyFlash, FuseFlash, MemFlash, OnceFlash};
 use std::alloc::{AllocError, Global};
 use std::cell::Cell;
 
@@ -186,8 +186,9 @@ fn play_up_to(
         Sweep::CutWrites => (count, u64::MAX),
         _ => (u64::MAX, count),
     };
-    let flash = FuseFlash::new(image.device(alloc)?, calls);
-    let played = act.play(alloc, WriteFuse::new(flash, changes))?;
+    let plan = FailsAfterChanges { left: changes };
+    let flash = FaultyFlash::with_plan(FuseFlash::new(image.device(alloc)?, calls), plan);
+    let played = act.play(alloc, flash)?;
     Ok(Played {
         done: played.done,
         is_whole: played.is_whole,
