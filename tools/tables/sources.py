@@ -6,6 +6,8 @@ from pathlib import Path
 TOP = Path(__file__).resolve().parent.parent.parent
 CRATES = TOP / "crates"
 MACHINE = CRATES / "policy_machine"
+SLOTS = CRATES / "policy_slots"
+CONTENT = CRATES / "content_rules"
 RULES = CRATES / "policy_rules"
 TYPES = CRATES / "card_types"
 TOOL = CRATES / "gp_tool/src"
@@ -112,7 +114,7 @@ in_levels = [(0x01, "C-MAC"), (0x02, "C-DECRYPTION"), (0x10, "R-MAC"), (0x20, "R
 # The privileges: their bits, and who grants them.
 bits = re.findall(r"^        const (\w+) = 0x(\w+);$", (TYPES / "src/privileges.rt").read_text(), re.M)
 privileges = {name: int(number, 16) for name, number in bits}
-install = RULES / "src/install_application.rt"
+install = CONTENT / "src/install_application.rt"
 refused_privileges = constant(install, "REFUSED")
 guarded = re.search(r"^const GUARDED: .*?\];$", install.read_text(), re.M | re.S).group(0)
 
@@ -126,7 +128,7 @@ def granted_by(name):
 # The keys: key version numbers and key identifiers, as the definition of a key's name has them.
 key_name = re.search(r"^IsKeyName version identifier =\n((?:    .*\n)+)", (TYPES / "specs/Well.antt").read_text(), re.M).group(1)
 lowest, highest, least, most, *lone_versions, lone_identifier = [int(number, 16) for number in re.findall(r"0x(\w\w)", key_name)]
-lone_keys = {constant(RULES / "src/delegation.rt", name): name.replace("_", " ").lower() for name in ("TOKEN_KEY", "RECEIPT_KEY")}
+lone_keys = {constant(SLOTS / "src/delegation.rt", name): name.replace("_", " ").lower() for name in ("TOKEN_KEY", "RECEIPT_KEY")}
 
 # The data objects: for each tag how many bytes its value has.
 is_object = re.search(r"^fn is_object\(.*?^\}", (RULES / "src/store_data.rt").read_text(), re.M | re.S).group(0)
@@ -144,7 +146,7 @@ no_binary = re.search(r"^readonly no_binary=(\d+)$", (TOP / "tools/prove").read_
 # The limits.
 limits = pairs(r"^pub const (\w+): \w+ = (\w+);$", (TYPES / "src/limits.rt").read_text())
 limits = {name: int(value.replace("_", ""), 0) for name, value in limits.items()}
-limits["BLOCKS"] = constant(RULES / "src/load.rt", "BLOCKS")
+limits["BLOCKS"] = constant(CONTENT / "src/load.rt", "BLOCKS")
 limits["PAGE"] = int(re.search(r"pub bytes: \[u8; (\d+)\]", (CRATES / "flash_core/src/page.rt").read_text()).group(1))
 
 # The pages of a card, first and last of each part; and how many slots of a kind a page has, of how many bytes.

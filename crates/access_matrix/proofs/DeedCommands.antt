@@ -18,18 +18,18 @@ use Rattle.policy_machine.specs.InstallApplication.{managed_install}
 use Rattle.policy_machine.specs.InstallFields.{approval_in}
 use Rattle.policy_machine.specs.InstallLoad.{install_load, load_approval}
 use Rattle.policy_machine.specs.ManagedForm.{command_form}
-use Rattle.policy_rules.specs.DeleteObjectRequests.{IsDeletionRequest}
-use Rattle.policy_rules.specs.declared.entry_status.EntryStatusRequest.{EntryStatusRequest}
-use Rattle.policy_rules.specs.declared.extradition.ExtraditionRequest.{ExtraditionRequest}
-use Rattle.policy_rules.specs.declared.install_application.InstallRequest.{InstallRequest}
-use Rattle.policy_rules.specs.declared.install_load.LoadInstallRequest.{LoadInstallRequest}
-use Rattle.policy_rules.specs.ExtraditionRequests.{IsExtraditionRequest}
-use Rattle.policy_rules.specs.HoldersFound.{approval_of}
-use Rattle.policy_rules.specs.InstallApplicationRequests.{IsInstallRequest}
-use Rattle.policy_rules.specs.InstallLoadRequests.{IsLoadInstallRequest, NamesDomain}
+use Rattle.content_rules.specs.DeleteObjectRequests.{IsDeletionRequest}
+use Rattle.content_rules.specs.ExtraditionRequests.{IsExtraditionRequest}
+use Rattle.content_rules.specs.InstallApplicationRequests.{IsInstallRequest}
+use Rattle.content_rules.specs.InstallLoadRequests.{IsLoadInstallRequest, NamesDomain}
+use Rattle.content_rules.specs.declared.delete_object.DeletionRequest.{DeletionRequest}
+use Rattle.content_rules.specs.declared.extradition.ExtraditionRequest.{ExtraditionRequest}
+use Rattle.content_rules.specs.declared.install_application.InstallRequest.{InstallRequest}
+use Rattle.content_rules.specs.declared.install_load.LoadInstallRequest.{LoadInstallRequest}
 use Rattle.policy_rules.specs.SetStatusRequests.{IsEntryStatusRequest}
-use Rattle.policy_rules.specs.declared.delegation.Signed.{Signed}
-use Rattle.policy_rules.specs.declared.delete_object.DeletionRequest.{DeletionRequest}
+use Rattle.policy_rules.specs.declared.entry_status.EntryStatusRequest.{EntryStatusRequest}
+use Rattle.policy_slots.specs.HoldersFound.{approval_of}
+use Rattle.policy_slots.specs.declared.delegation.Signed.{Signed}
 use Rattle.tokens_receipts.specs.Receipt.{with_length}
 use Rattle.tokens_receipts.specs.Token.{object_named_by, token_element, token_field}
 use Rattle.access_matrix.specs.Commands.{IsCommandOf, IsFreeAid, IsTokenFor, module_for, privileges_for, turned}

@@ -13,11 +13,12 @@ use Rattle.card_types.specs.declared.tables.Tables.{Tables}
 use Rattle.policy_machine.proofs.FreshChannel.{fresh_is_well}
 use Rattle.policy_machine.specs.Sound.{IsSound, IsWellChannel}
 use Rattle.policy_machine.specs.Volatile.{channel_at, place_in}
-use Rattle.policy_rules.proofs.NearestHolder.{slot_named}
-use Rattle.policy_rules.specs.KeptPlaces.{place_of}
-use Rattle.policy_rules.specs.LiveEnds.{first_live, live_with_channel}
-use Rattle.policy_rules.specs.Requests.{ActsIn, IsSelectedIn, RepresentsState}
-use Rattle.policy_rules.specs.declared.live.Live.{Live}
+use Rattle.policy_slots.proofs.NearestHolder.{slot_named}
+use Rattle.policy_slots.specs.Acting.{ActsIn}
+use Rattle.policy_slots.specs.KeptPlaces.{place_of}
+use Rattle.policy_slots.specs.LiveEnds.{first_live, live_with_channel}
+use Rattle.policy_slots.specs.StateShown.{IsSelectedIn, RepresentsState}
+use Rattle.policy_slots.specs.declared.live.Live.{Live}
 use Rattle.access_matrix.specs.There.{judged_there, with_domain}
 
 abbrev pub live_there : ℕ → Live

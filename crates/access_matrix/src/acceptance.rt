@@ -9,7 +9,7 @@ ghost use Rattle.card_types.specs.Registry.{Registry};
 ghost use Rattle.card_types.specs.Represents.{Represents, domain_aid};
 ghost use Rattle.policy_machine.specs.CommandForm.{FailsFirst};
 ghost use Rattle.policy_machine.specs.InitializeUpdate.{initialize_update};
-ghost use Rattle.policy_rules.specs.LiveEnds.{first_live, live_with_channel};
+ghost use Rattle.policy_slots.specs.LiveEnds.{first_live, live_with_channel};
 
 use crate::slots::entry_aid;
 use card_types::Tables;

@@ -9,7 +9,7 @@ ghost use Rattle.policy_machine.specs.Admission.{Admitted};
 ghost use Rattle.policy_machine.specs.Delegation.{Holds};
 ghost use Rattle.policy_machine.specs.DeleteObject.{IsDelegated};
 ghost use Rattle.policy_machine.specs.Management.{acting};
-ghost use Rattle.policy_rules.specs.Requests.{ActsIn};
+ghost use Rattle.policy_slots.specs.Acting.{ActsIn};
 ghost use Rattle.tokens_receipts.specs.Token as approved;
 
 use aes_block::{BlockKey, SealingAes128, SealingAes192, SealingAes256};

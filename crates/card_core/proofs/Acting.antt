@@ -18,9 +18,10 @@ use Rattle.policy_machine.specs.GetStatus.{channel_at_place, with_place}
 use Rattle.policy_machine.specs.Volatile.{Channel, Volatile, channel_at, secure_channel_of}
 use Rattle.policy_machine.specs.declared.channels.TheConstants.{CHANNELS}
 use Rattle.policy_machine.specs.declared.rule.Rule.{Rule}
-use Rattle.policy_rules.proofs.Selected.{selected_acts}
-use Rattle.policy_rules.specs.Requests.{ActsIn, IsRequestOf}
-use Rattle.policy_rules.specs.declared.live.Live.{Live}
+use Rattle.policy_rules.specs.Requests.{IsRequestOf}
+use Rattle.policy_slots.proofs.Selected.{selected_acts}
+use Rattle.policy_slots.specs.Acting.{ActsIn}
+use Rattle.policy_slots.specs.declared.live.Live.{Live}
 use Rattle.card_core.specs.SecureChannels.{RepresentsChannels, RepresentsSecureChannel, held_on, without_offer_held}
 use Rattle.card_core.specs.Kept.{Kept, KeptRepresents, RepresentsSoundly}
 use Rattle.card_core.specs.Lists.{IsSameButPlace, Lists}

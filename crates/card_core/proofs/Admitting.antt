@@ -17,9 +17,9 @@ use Rattle.policy_machine.specs.Volatile.{channel_at, selected_on}
 use Rattle.policy_machine.specs.declared.class.Class.{Class}
 use Rattle.policy_machine.specs.declared.instruction.TheConstants.{SELECT, MANAGE_CHANNEL}
 use Rattle.policy_machine.specs.declared.rule.RuleG.TheVariants.{G1, G2, G3, G4}
-use Rattle.policy_rules.proofs.Selected.{selected_entry}
-use Rattle.policy_rules.specs.Requests.{RepresentsState}
-use Rattle.policy_rules.specs.declared.live.Live.{Live}
+use Rattle.policy_slots.proofs.Selected.{selected_entry}
+use Rattle.policy_slots.specs.StateShown.{RepresentsState}
+use Rattle.policy_slots.specs.declared.live.Live.{Live}
 use Rattle.card_core.specs.Domains.{is_domain_in}
 use Rattle.card_core.proofs.ChannelChanges.{none_selected, some_selected}
 

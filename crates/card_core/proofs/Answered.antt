@@ -11,9 +11,9 @@ use Rattle.card_types.specs.declared.found.Found.{Found}
 use Rattle.card_types.specs.declared.found.Found.TheVariants as Thing
 use Rattle.card_types.specs.declared.tables.KeyRec.{KeyRec}
 use Rattle.card_types.specs.declared.tables.Tables.{Tables}
-use Rattle.policy_rules.specs.HoldersFound.{MayReceipt}
-use Rattle.policy_rules.specs.declared.live.Live.{Live}
-use Rattle.policy_rules.specs.declared.live.LoadName.{LoadName}
+use Rattle.policy_slots.specs.HoldersFound.{MayReceipt}
+use Rattle.policy_slots.specs.declared.live.Live.{Live}
+use Rattle.policy_slots.specs.declared.live.LoadName.{LoadName}
 use Rattle.card_core.proofs.EntryCards.{KeepsNumbers, may_still}
 use Rattle.card_core.specs.Manages.{KeepsAid, KeepsAids, KeepsSelected}
 use Rattle.rec_store.specs.Keeper.{key_pages}

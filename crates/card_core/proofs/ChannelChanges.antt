@@ -23,12 +23,12 @@ use Rattle.policy_machine.specs.State.{State}
 use Rattle.policy_machine.specs.Volatile.{Channel, LoadSession, Nothing, Offered, Secured, SecureChannel, Volatile, channel_at, fresh, load_without_channel, place_in, secure_channel_of, channel_with, with_channel, with_offer_dropped, with_secure_channel, without_load, without_offer}
 use Rattle.policy_machine.specs.declared.instruction.TheConstants.{LOAD}
 use Rattle.policy_machine.specs.declared.channels.TheConstants.{CHANNELS}
-use Rattle.policy_rules.specs.LiveEnds.{kept_of_others, live_with_channel, live_without_load, live_without_place}
-use Rattle.policy_rules.specs.KeptPlaces.{place_of}
-use Rattle.policy_rules.specs.Requests.{IsLoadNamed, IsSelectedIn, RepresentsState}
-use Rattle.policy_rules.specs.declared.live.Live.{Live}
-use Rattle.policy_rules.specs.declared.live.LoadName.{LoadName}
-use Rattle.policy_rules.specs.declared.live.Place.{Place as KeptPlace}
+use Rattle.policy_slots.specs.KeptPlaces.{place_of}
+use Rattle.policy_slots.specs.LiveEnds.{kept_of_others, live_with_channel, live_without_load, live_without_place}
+use Rattle.policy_slots.specs.StateShown.{IsLoadNamed, IsSelectedIn, RepresentsState}
+use Rattle.policy_slots.specs.declared.live.Live.{Live}
+use Rattle.policy_slots.specs.declared.live.LoadName.{LoadName}
+use Rattle.policy_slots.specs.declared.live.Place.{Place as KeptPlace}
 use Rattle.card_core.specs.SecureChannels.{RepresentsSecureChannel, held_passed, without_offer_held}
 use Rattle.card_core.specs.Kept.{Kept, KeptRepresents}
 use Rattle.card_core.specs.Manages.{KeepsAid, KeepsSelected}

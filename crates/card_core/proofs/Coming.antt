@@ -26,9 +26,9 @@ use Rattle.policy_machine.specs.declared.rule.Rule.{Rule}
 use Rattle.policy_machine.specs.declared.rule.Rule.TheVariants.{G}
 use Rattle.policy_machine.specs.declared.rule.RuleG.{RuleG}
 use Rattle.policy_machine.specs.declared.rule.RuleG.TheVariants.{G5, G6}
-use Rattle.policy_rules.specs.LiveEnds.{live_without_load, live_without_place}
-use Rattle.policy_rules.specs.declared.live.Live.{Live}
-use Rattle.policy_rules.specs.declared.live.Place.{Place}
+use Rattle.policy_slots.specs.LiveEnds.{live_without_load, live_without_place}
+use Rattle.policy_slots.specs.declared.live.Live.{Live}
+use Rattle.policy_slots.specs.declared.live.Place.{Place}
 use Rattle.card_core.proofs.LoadsKept.{admitted_loading}
 use Rattle.card_core.proofs.Passed.{goes_on, holds_passed, managed_served, opened_so, opened_stands, over_served, passed_held, place_told, plain_stands, read_at, refused_served, session_of, written_at}
 use Rattle.card_core.proofs.Serving.{admits_opened, admits_plain, carried_out, protected_one}

@@ -17,10 +17,10 @@ use Rattle.card_types.specs.declared.tables.Tables.{Tables}
 use Rattle.card_types.specs.declared.tables.TheConstants.{ISSUER_SLOT}
 use Rattle.policy_machine.specs.Admission.{Admitted}
 use Rattle.policy_machine.specs.Delegation.{IsAnswered, unique_data, value_of, unconfirmed}
-use Rattle.policy_machine.specs.ObjectsFound.{is_tagged_in}
+use Rattle.policy_slots.specs.ObjectsHeld.{is_tagged_in}
 use Rattle.policy_machine.specs.State.{Effect}
-use Rattle.policy_rules.proofs.NearestHolder.{slot_named}
-use Rattle.policy_rules.specs.HoldersFound.{FindsConfirmer, IsReceipterIn}
+use Rattle.policy_slots.proofs.NearestHolder.{slot_named}
+use Rattle.policy_slots.specs.HoldersFound.{FindsConfirmer, IsReceipterIn}
 use Rattle.tokens_receipts.specs.Receipt.{receipt}
 use Rattle.card_core.specs.Confirms.{AnswersFor, HasChanged, IsAnsweredBy, IsReceiptIn, IsUniqueIn, IsValueIn, KeepsNumber}
 

@@ -19,7 +19,7 @@ use Rattle.key_sets.specs.Puts.{Deletes}
 use Rattle.policy_machine.proofs.DeleteKeyKeeps.{without_version, without_version_ascending, without_version_well}
 use Rattle.policy_machine.proofs.Filtered.{filter_same, there_any}
 use Rattle.policy_machine.specs.KeyVersions.{counters_but, keys_but}
-use Rattle.policy_rules.proofs.KeysByName.{counters_staying, keys_staying}
+use Rattle.policy_slots.proofs.KeysByName.{counters_staying, keys_staying}
 use Rattle.rec_store.specs.Contents.{Contents}
 use Rattle.rec_store.specs.Keeper.{SameElse}
 use Rattle.card_core.proofs.KeysSaid.{changed_cards, keys_said}

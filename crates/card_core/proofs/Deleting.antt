@@ -21,12 +21,12 @@ use Rattle.card_types.specs.declared.tables.LoadFile.{LoadFile}
 use Rattle.card_types.specs.declared.tables.Tables.{Tables}
 use Rattle.card_types.specs.declared.tables.TheConstants.{ISSUER_SLOT}
 use Rattle.policy_machine.specs.Admission.{Admitted}
-use Rattle.policy_rules.proofs.ReceipterKept.{receipter_has_others}
-use Rattle.policy_rules.specs.DeleteObjectFound.{IsAlone, IsRemovable, IsToGoIn, IsUnselected}
-use Rattle.policy_rules.specs.HoldersFound.{IsReceipterIn, MayReceipt}
-use Rattle.policy_rules.specs.Requests.{ActsIn}
-use Rattle.policy_rules.specs.declared.live.Live.{Live}
-use Rattle.policy_rules.specs.declared.live.LoadName.{LoadName}
+use Rattle.content_rules.proofs.ReceipterKept.{receipter_has_others}
+use Rattle.content_rules.specs.DeleteObjectFound.{IsAlone, IsRemovable, IsToGoIn, IsUnselected}
+use Rattle.policy_slots.specs.Acting.{ActsIn}
+use Rattle.policy_slots.specs.HoldersFound.{IsReceipterIn, MayReceipt}
+use Rattle.policy_slots.specs.declared.live.Live.{Live}
+use Rattle.policy_slots.specs.declared.live.LoadName.{LoadName}
 use Rattle.card_core.proofs.Confirming.{entry_in}
 use Rattle.card_core.proofs.EntryCards.{may_still}
 use Rattle.card_core.specs.Confirms.{KeepsNumber, KeepsReceipts}

@@ -29,7 +29,7 @@ use Rattle.card_core.proofs.Cards.{AreFiles, IsFactoryIn, cards_from}
 use Rattle.card_core.specs.Confirms.{KeepsNumber, KeepsReceipts}
 use Rattle.card_core.specs.Kept.{AreCards}
 use Rattle.card_core.specs.Manages.{KeepsAids}
-use Rattle.policy_rules.specs.HoldersFound.{MayReceipt}
+use Rattle.policy_slots.specs.HoldersFound.{MayReceipt}
 use Rattle.registry.specs.Adding.{AddsEntry}
 use Rattle.registry.specs.Setting.{ChangesEntry, Moves}
 

@@ -15,9 +15,9 @@ use Rattle.card_types.specs.declared.tables.Entry.{Entry}
 use Rattle.card_types.specs.declared.tables.KeyRec.{KeyRec}
 use Rattle.card_types.specs.declared.tables.Tables.{Tables}
 use Rattle.policy_machine.specs.GetData.{IsKeyInformation, key_information}
-use Rattle.policy_rules.proofs.OwnKeys.{IsAfter, keys_are, keys_from_next, keys_from_none, next_named, none_named, own_past}
-use Rattle.policy_rules.specs.KeyOrder.{follows, is_past, name_order}
-use Rattle.policy_rules.specs.declared.key_order.KeyName.{KeyName}
+use Rattle.policy_slots.proofs.OwnKeys.{IsAfter, keys_are, keys_from_next, keys_from_none, next_named, none_named, own_past}
+use Rattle.policy_slots.specs.KeyOrder.{follows, is_past, name_order}
+use Rattle.policy_slots.specs.declared.key_order.KeyName.{KeyName}
 
 -- `count` keys of the domain are written; then comes this one, and those past it.
 pub record IsListing (tables : Tables) (said : registry.Registry) (owner : ℕ) (key : KeyRec) (count : ℕ) (value : List ℕ) : Type 0 where

@@ -13,7 +13,7 @@ use Rattle.policy_machine.specs.State.{Effect}
 use Rattle.policy_machine.specs.Volatile.{Channel, secure_channel_of}
 use Rattle.policy_machine.specs.declared.channels.TheConstants.{CHANNELS}
 use Rattle.policy_machine.specs.declared.rule.Rule.{Rule}
-use Rattle.policy_rules.specs.declared.live.Live.{Live}
+use Rattle.policy_slots.specs.declared.live.Live.{Live}
 use Rattle.card_core.proofs.Carrying.{refusal_shows}
 use Rattle.card_core.proofs.ChannelChanges.{HasFour}
 use Rattle.card_core.specs.Kept.{KeptRepresents, RepresentsSoundly, kept_of}

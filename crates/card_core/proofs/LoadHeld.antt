@@ -21,10 +21,10 @@ use Rattle.policy_machine.proofs.LoadBlocksBrought.{some_announced}
 use Rattle.policy_machine.specs.LoadBlocks.{Block, BringsBytes, with_block}
 use Rattle.policy_machine.specs.Sound.{IsWellLoad}
 use Rattle.policy_machine.specs.Volatile.{LoadSession}
-use Rattle.policy_rules.specs.Requests.{IsLoadNamed}
-use Rattle.policy_rules.specs.declared.live.Live.{Live}
-use Rattle.policy_rules.specs.declared.live.LoadName.{LoadName}
-use Rattle.policy_rules.specs.declared.load.LoadRequest.{LoadRequest}
+use Rattle.content_rules.specs.declared.load.LoadRequest.{LoadRequest}
+use Rattle.policy_slots.specs.StateShown.{IsLoadNamed}
+use Rattle.policy_slots.specs.declared.live.Live.{Live}
+use Rattle.policy_slots.specs.declared.live.LoadName.{LoadName}
 use Rattle.registry.specs.Adding.{NoneHas}
 use Rattle.card_core.specs.Domains.{is_domain_held, is_domain_in}
 use Rattle.card_core.specs.Loading.{AreFree, RepresentsLoading}

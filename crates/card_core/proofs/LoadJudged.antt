@@ -17,14 +17,15 @@ use Rattle.policy_machine.specs.LoadBlocks.{Block, HasNoRoom, HasOtherCount, Has
 use Rattle.policy_machine.specs.Sound.{IsSound}
 use Rattle.policy_machine.specs.declared.rule.Rule.{Rule}
 use Rattle.policy_machine.specs.declared.rule.Rule.TheVariants.{LO}
-use Rattle.policy_rules.proofs.LoadJudging.{count_refuses, hash_refuses, last_decides, length_refuses, more_passes, room_refuses}
-use Rattle.policy_rules.proofs.LoadNamed.{IsNamedOn, named_on_channel}
-use Rattle.policy_rules.specs.LoadFound.{IsForLast}
-use Rattle.policy_rules.specs.LoadRequests.{IsLoadOf}
-use Rattle.policy_rules.specs.Requests.{ActsIn, IsLoadNamed, RepresentsState}
-use Rattle.policy_rules.specs.declared.live.Live.{Live}
-use Rattle.policy_rules.specs.declared.live.LoadName.{LoadName}
-use Rattle.policy_rules.specs.declared.load.LoadRequest.{LoadRequest}
+use Rattle.content_rules.proofs.LoadJudging.{count_refuses, hash_refuses, last_decides, length_refuses, more_passes, room_refuses}
+use Rattle.content_rules.proofs.LoadNamed.{IsNamedOn, named_on_channel}
+use Rattle.content_rules.specs.LoadFound.{IsForLast}
+use Rattle.content_rules.specs.LoadRequests.{IsLoadOf}
+use Rattle.content_rules.specs.declared.load.LoadRequest.{LoadRequest}
+use Rattle.policy_slots.specs.Acting.{ActsIn}
+use Rattle.policy_slots.specs.StateShown.{IsLoadNamed, RepresentsState}
+use Rattle.policy_slots.specs.declared.live.Live.{Live}
+use Rattle.policy_slots.specs.declared.live.LoadName.{LoadName}
 use Rattle.card_core.specs.Loading.{RepresentsLoading}
 use Rattle.card_core.specs.Loads.{IsForBlock, block_in, block_rule}
 

@@ -26,13 +26,14 @@ use Rattle.policy_machine.specs.LoadBlocks.{Block, BringsBytes, with_block}
 use Rattle.policy_machine.specs.State.{Effect, State}
 use Rattle.policy_machine.specs.Volatile.{LoadSession, Volatile, load_without_channel, without_load}
 use Rattle.policy_machine.specs.declared.rule.Rule.{Rule}
-use Rattle.policy_rules.proofs.LoadNamed.{counted_named}
-use Rattle.policy_rules.specs.HoldersFound.{FindsConfirmer}
-use Rattle.policy_rules.specs.LiveEnds.{live_with_block, live_without_load}
-use Rattle.policy_rules.specs.Requests.{ActsIn, IsLoadNamed, RepresentsState}
-use Rattle.policy_rules.specs.declared.live.Live.{Live}
-use Rattle.policy_rules.specs.declared.live.LoadName.{LoadName}
-use Rattle.policy_rules.specs.declared.load.LoadRequest.{LoadRequest}
+use Rattle.content_rules.proofs.LoadNamed.{counted_named}
+use Rattle.content_rules.specs.declared.load.LoadRequest.{LoadRequest}
+use Rattle.policy_slots.specs.Acting.{ActsIn}
+use Rattle.policy_slots.specs.HoldersFound.{FindsConfirmer}
+use Rattle.policy_slots.specs.LiveEnds.{live_with_block, live_without_load}
+use Rattle.policy_slots.specs.StateShown.{IsLoadNamed, RepresentsState}
+use Rattle.policy_slots.specs.declared.live.Live.{Live}
+use Rattle.policy_slots.specs.declared.live.LoadName.{LoadName}
 use Rattle.rec_store.specs.Reopens.{IsFree}
 use Rattle.card_core.proofs.Answered.{aids_selected}
 use Rattle.card_core.proofs.ChannelChanges.{load_left, says_kept}

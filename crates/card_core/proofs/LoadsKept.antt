@@ -26,11 +26,12 @@ use Rattle.policy_machine.specs.Step.{keeps_load, refusal_leaves}
 use Rattle.policy_machine.specs.Volatile.{LoadSession, Volatile, load_without_channel, with_offer_dropped, without_load}
 use Rattle.policy_machine.specs.declared.instruction.TheConstants.{INSTALL, LOAD}
 use Rattle.policy_machine.specs.declared.rule.Rule.{Rule}
-use Rattle.policy_rules.specs.Requests.{IsLoadNamed, IsRequestOf, RepresentsState}
-use Rattle.policy_rules.specs.declared.live.Live.{Live}
-use Rattle.policy_rules.specs.declared.live.LoadName.{LoadName}
+use Rattle.policy_rules.specs.Requests.{IsRequestOf}
 use Rattle.policy_rules.specs.declared.request.Request.{Request}
 use Rattle.policy_rules.specs.declared.request.Request.TheVariants.{Select, MoreChannel, LessChannel, Get, Initialize, Authenticate, PutKey, Store, DeleteKey, DeleteObject, Install, MakeSelectable, Extradite, InstallLoad, CardStatus, EntryStatus, Load, List as ListStatus}
+use Rattle.policy_slots.specs.StateShown.{IsLoadNamed, RepresentsState}
+use Rattle.policy_slots.specs.declared.live.Live.{Live}
+use Rattle.policy_slots.specs.declared.live.LoadName.{LoadName}
 use Rattle.scp03_card.specs.Session.{Session}
 use Rattle.card_core.specs.Loading.{AreFree, RepresentsLoading}
 use Rattle.card_core.specs.Loads.{LoadsAs}

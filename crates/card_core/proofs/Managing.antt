@@ -15,8 +15,8 @@ use Rattle.policy_machine.specs.ExternalAuthenticate.{rules_before_form}
 use Rattle.policy_machine.specs.FirstFailing.{IsFirst}
 use Rattle.policy_machine.specs.ManagedForm.{CommandAsks, ManagedForm, command_form}
 use Rattle.policy_machine.specs.declared.rule.Rule.{Rule}
-use Rattle.policy_rules.specs.HoldersFound.{FindsConfirmer}
-use Rattle.policy_rules.specs.Requests.{ActsIn}
+use Rattle.policy_slots.specs.Acting.{ActsIn}
+use Rattle.policy_slots.specs.HoldersFound.{FindsConfirmer}
 use Rattle.card_core.proofs.Cards.{in_order}
 use Rattle.card_core.proofs.Confirming.{answered_so, finds_receipter}
 use Rattle.card_core.specs.Confirms.{AnswersFor, Confirms, KeepsReceipts, leaves}

@@ -16,7 +16,8 @@ use Rattle.card_types.specs.declared.limits.TheConstants.{OBJECTS}
 use Rattle.card_types.specs.declared.tables.Object.{Object}
 use Rattle.key_rules.proofs.Stays.{any_used}
 use Rattle.policy_machine.proofs.NewTags.{count_if, first_new, with_tag}
-use Rattle.policy_machine.specs.ObjectsFound.{has_object_in, has_tag_in, is_tagged_in, new_tags}
+use Rattle.policy_machine.specs.ObjectsFound.{has_tag_in, new_tags}
+use Rattle.policy_slots.specs.ObjectsHeld.{has_object_in, is_tagged_in}
 use Rattle.card_core.specs.ObjectsPut.{IsSlotFor, object_with}
 
 -- where no slot has one, there is none

@@ -24,9 +24,10 @@ use Rattle.card_types.specs.declared.tables.Object.{Object}
 use Rattle.card_types.specs.declared.tables.Tables.{Tables}
 use Rattle.policy_machine.proofs.ObjectStored.{none_there, object_from, one_stored}
 use Rattle.policy_machine.proofs.DataWell.{data_well}
-use Rattle.policy_machine.proofs.StoredCount.{has_alike}
+use Rattle.policy_slots.proofs.ObjectsNamed.{has_alike}
 use Rattle.policy_machine.specs.Arranged.{IsArranged}
-use Rattle.policy_machine.specs.ObjectsFound.{has_object_in, is_tagged_in, new_tags}
+use Rattle.policy_machine.specs.ObjectsFound.{new_tags}
+use Rattle.policy_slots.specs.ObjectsHeld.{has_object_in, is_tagged_in}
 use Rattle.policy_machine.specs.DataObjects.{is_object_of, with_data, with_object, with_objects}
 use Rattle.card_core.proofs.ObjectSlots.{room_after}
 use Rattle.card_core.specs.Domains.{is_domain_held, is_domain_in}

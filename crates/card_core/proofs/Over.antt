@@ -10,8 +10,8 @@ use Rattle.flash_core.specs.declared.flash.Flash.{Ghosts as Flash}
 use Rattle.page_journal.specs.Journal.{stored}
 use Rattle.page_journal.specs.Moments.{LeavesOnly}
 use Rattle.policy_machine.specs.State.{State, powered_on}
-use Rattle.policy_rules.specs.LiveEnds.{first_live}
-use Rattle.policy_rules.specs.declared.live.Live.{Live}
+use Rattle.policy_slots.specs.LiveEnds.{first_live}
+use Rattle.policy_slots.specs.declared.live.Live.{Live}
 use Rattle.rec_store.proofs.OneRegistry.{said_once}
 use Rattle.rec_store.proofs.Reopening.{has_pages, spare_same}
 use Rattle.rec_store.specs.Reopens.{AreSpare, Keeps, Reopens, load_page, store_page}

@@ -12,10 +12,10 @@ use Rattle.policy_machine.proofs.KeepsSound.{starts_sound}
 use Rattle.policy_machine.specs.State.{powered_on}
 use Rattle.policy_machine.specs.Volatile.{channel_at, first_volatile, place_in, secure_channel_of}
 use Rattle.policy_machine.specs.declared.channels.TheConstants.{CHANNELS}
-use Rattle.policy_rules.specs.LiveEnds.{first_live}
-use Rattle.policy_rules.specs.KeptPlaces.{place_of}
-use Rattle.policy_rules.specs.Requests.{IsSelectedIn, RepresentsState}
-use Rattle.policy_rules.specs.declared.live.Live.{Live}
+use Rattle.policy_slots.specs.KeptPlaces.{place_of}
+use Rattle.policy_slots.specs.LiveEnds.{first_live}
+use Rattle.policy_slots.specs.StateShown.{IsSelectedIn, RepresentsState}
+use Rattle.policy_slots.specs.declared.live.Live.{Live}
 use Rattle.card_core.specs.SecureChannels.{RepresentsSecureChannel}
 use Rattle.card_core.specs.Kept.{RepresentsSoundly}
 use Rattle.card_core.specs.declared.channel_session.ChannelSession.{ChannelSession}

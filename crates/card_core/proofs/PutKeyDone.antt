@@ -20,9 +20,10 @@ use Rattle.policy_machine.specs.Commands.{Judges}
 use Rattle.policy_machine.specs.PutKey.{AreKeysPut, AreOpened, ChecksFit, SentKey, check_value, counters_from, keys_from, managed_put_key}
 use Rattle.policy_machine.specs.KeyVersions.{counters_but, keys_but, with_keys}
 use Rattle.policy_rules.proofs.PutKeyJudging.{none_holds}
-use Rattle.policy_rules.specs.Requests.{ActsIn, IsRequestOf, sent_keys}
+use Rattle.policy_rules.specs.Requests.{IsRequestOf, sent_keys}
 use Rattle.policy_rules.specs.declared.put_key.PutKeys.{PutKeys}
 use Rattle.policy_rules.specs.declared.request.Request.TheVariants.{PutKey}
+use Rattle.policy_slots.specs.Acting.{ActsIn}
 use Rattle.card_core.proofs.PutKeyTables.{put_counters, put_keys, says_after, slot_keys}
 use Rattle.card_core.specs.Domains.{is_domain_in}
 use Rattle.card_core.specs.Manages.{IsManaged}

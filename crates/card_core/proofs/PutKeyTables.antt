@@ -28,8 +28,8 @@ use Rattle.policy_machine.proofs.PutKeyKeeps.{AreOfVersion, HaveLengths, new_key
 use Rattle.policy_machine.specs.Arranged.{IsArranged}
 use Rattle.policy_machine.specs.KeyVersions.{counters_but, has_key_version, keys_but, with_keys}
 use Rattle.policy_machine.specs.PutKey.{counters_from, keys_from}
-use Rattle.policy_rules.proofs.KeyCounts.{own_count, stay_count}
-use Rattle.policy_rules.proofs.KeysByName.{counters_staying, has_version_by_name, keys_staying}
+use Rattle.policy_slots.proofs.KeyCounts.{own_count, stay_count}
+use Rattle.policy_slots.proofs.KeysByName.{counters_staying, has_version_by_name, keys_staying}
 use Rattle.card_core.specs.Domains.{is_domain_in}
 use Rattle.card_types.specs.declared.tables.Object.{Object}
 use Rattle.card_core.proofs.Cards.{cards_after}

@@ -35,7 +35,7 @@ use Rattle.card_types.specs.declared.tables.LoadFile.{LoadFile}
 use Rattle.card_types.specs.declared.tables.Object.{Object}
 use Rattle.card_types.specs.declared.tables.Tables.{Tables}
 use Rattle.card_types.specs.declared.tables.TheConstants.{ISSUER_SLOT}
-use Rattle.policy_rules.specs.DeleteObjectFound.{IsAlone, IsFrom, IsToGoIn}
+use Rattle.content_rules.specs.DeleteObjectFound.{IsAlone, IsFrom, IsToGoIn}
 use Rattle.registry.proofs.Freed.{held_freed, left_there, other_stays}
 use Rattle.registry.specs.Removing.{IsNoDomain, IsUnloaded, RemovesEntry, entry_file, freed, key_owner, object_owner}
 use Rattle.card_core.proofs.Cards.{AreFiles, cards_from, in_order}

@@ -15,8 +15,9 @@ use Rattle.card_types.specs.declared.tables.Tables.{Tables}
 use Rattle.policy_machine.specs.Admission.{Admitted}
 use Rattle.policy_machine.specs.State.{State}
 use Rattle.policy_machine.specs.Volatile.{LoadSession, fresh}
-use Rattle.policy_rules.specs.Requests.{ActsIn, IsLoadNamed}
-use Rattle.policy_rules.specs.declared.live.LoadName.{LoadName}
+use Rattle.policy_slots.specs.Acting.{ActsIn}
+use Rattle.policy_slots.specs.StateShown.{IsLoadNamed}
+use Rattle.policy_slots.specs.declared.live.LoadName.{LoadName}
 use Rattle.card_core.specs.Domains.{is_domain_held, is_domain_in}
 
 used_domain : (entries : List (Option Entry)) (domain : ℕ) (found : Option Entry) → held entries domain ≡ found → is_domain_held found ≡ true

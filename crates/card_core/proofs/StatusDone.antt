@@ -11,13 +11,15 @@ use Rattle.policy_machine.specs.State.{Effect}
 use Rattle.policy_machine.specs.Volatile.{Volatile}
 use Rattle.policy_machine.specs.declared.channels.TheConstants.{CHANNELS}
 use Rattle.policy_machine.specs.declared.rule.Rule.{Rule}
-use Rattle.policy_rules.specs.KeptPlaces.{place_of}
-use Rattle.policy_rules.specs.LiveEnds.{live_with_place}
-use Rattle.policy_rules.specs.Requests.{ActsIn, IsRequestOf, RepresentsState}
+use Rattle.policy_rules.specs.Requests.{IsRequestOf}
 use Rattle.policy_rules.specs.declared.get_status.ListRequest.{ListRequest}
-use Rattle.policy_rules.specs.declared.live.Live.{Live}
-use Rattle.policy_rules.specs.declared.live.Place.{Place}
 use Rattle.policy_rules.specs.declared.request.Request.TheVariants.{List as ListStatus}
+use Rattle.policy_slots.specs.Acting.{ActsIn}
+use Rattle.policy_slots.specs.KeptPlaces.{place_of}
+use Rattle.policy_slots.specs.LiveEnds.{live_with_place}
+use Rattle.policy_slots.specs.StateShown.{RepresentsState}
+use Rattle.policy_slots.specs.declared.live.Live.{Live}
+use Rattle.policy_slots.specs.declared.live.Place.{Place}
 use Rattle.card_core.proofs.PlaceSet.{placed_shows}
 use Rattle.card_core.specs.Lists.{IsShown}
 use Rattle.card_core.specs.ShownParts.{EndsAt, IsPart}

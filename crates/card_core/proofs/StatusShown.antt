@@ -9,9 +9,9 @@ use Rattle.policy_machine.specs.Admission.{Admitted}
 use Rattle.policy_machine.specs.GetStatus.{AreTemplates, BeginsAbove, IsTemplate, Thing, aid_in, last_aid, part_limit}
 use Rattle.policy_rules.proofs.GetStatusListed.{aid_named}
 use Rattle.policy_rules.proofs.GetStatusWhole.{IsShownTo, all_shown, last_of, more_shown, next_left, none_shown}
-use Rattle.policy_rules.specs.Requests.{ActsIn}
 use Rattle.policy_rules.specs.GetStatusRequests.{IsFirstShown, IsListOf, IsNextListed, IsThingAt, NoneListed}
 use Rattle.policy_rules.specs.declared.get_status.ListRequest.{ListRequest}
+use Rattle.policy_slots.specs.Acting.{ActsIn}
 use Rattle.card_core.specs.ShownParts.{IsPart}
 
 -- one more template after others

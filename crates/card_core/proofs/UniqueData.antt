@@ -10,7 +10,7 @@ use Rattle.card_types.specs.declared.search.InSlot.{InSlot}
 use Rattle.card_types.specs.declared.tables.Object.{Object}
 use Rattle.card_types.specs.declared.tables.Tables.{Tables}
 use Rattle.card_types.specs.declared.tables.TheConstants.{ISSUER_SLOT}
-use Rattle.policy_machine.specs.ObjectsFound.{is_tagged_in}
+use Rattle.policy_slots.specs.ObjectsHeld.{is_tagged_in}
 use Rattle.card_core.specs.Confirms.{IsValueIn}
 
 small : (tag size : ℕ) → (tag ≡ 0x42) ⊎ (tag ≡ 0x45) → IsObject tag size → size ≤ 10

@@ -9,7 +9,7 @@ use Rattle.page_journal.specs.Moments.{LeavesOnly}
 use Rattle.policy_machine.specs.State.{State}
 use Rattle.policy_machine.specs.Step.{Outcome}
 use Rattle.policy_machine.specs.declared.rule.Rule.{Rule}
-use Rattle.policy_rules.specs.declared.live.Live.{Live}
+use Rattle.policy_slots.specs.declared.live.Live.{Live}
 use Rattle.rec_store.specs.Reopens.{Keeps, ReopensEither, load_page}
 use Rattle.card_core.specs.Kept.{Kept, RepresentsSoundly}
 use Rattle.card_core.specs.Loading.{RepresentsLoading}

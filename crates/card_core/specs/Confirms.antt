@@ -14,10 +14,10 @@ use Rattle.card_types.specs.declared.tables.Tables.{Tables}
 use Rattle.card_types.specs.declared.tables.TheConstants.{ISSUER_SLOT}
 use Rattle.policy_machine.specs.Admission.{Admitted}
 use Rattle.policy_machine.specs.Delegation.{IsConfirmed, IsUnconfirmed, unconfirmed}
-use Rattle.policy_machine.specs.ObjectsFound.{is_tagged_in}
+use Rattle.policy_slots.specs.ObjectsHeld.{is_tagged_in}
 use Rattle.policy_machine.specs.State.{Effect}
-use Rattle.policy_rules.specs.HoldersFound.{IsReceipterIn}
-use Rattle.policy_rules.specs.Requests.{ActsIn}
+use Rattle.policy_slots.specs.Acting.{ActsIn}
+use Rattle.policy_slots.specs.HoldersFound.{IsReceipterIn}
 use Rattle.tokens_receipts.specs.Receipt.{receipt}
 
 -- the slot holds an entry with the AID and the receipt number that it had

@@ -3,7 +3,7 @@ use Rattle.std.specs.Prelude.{◌≡◌, ℕ, List, Bool, Option, None, Some, ma
 use Rattle.card_types.specs.Slots.{held}
 use Rattle.card_types.specs.declared.found.Found.{Found}
 use Rattle.card_types.specs.declared.tables.Tables.{Tables}
-use Rattle.policy_rules.specs.DeleteObjectFound.{IsToGoIn}
+use Rattle.content_rules.specs.DeleteObjectFound.{IsToGoIn}
 use Rattle.registry.specs.Removing.{entry_file, freed, key_owner, object_owner}
 
 -- what is left in a slot was there, and the things of owners that stay are left

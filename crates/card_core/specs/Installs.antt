@@ -2,7 +2,7 @@
 use Rattle.std.specs.Prelude.{ℕ, false, if◌then◌else◌}
 use Rattle.card_types.specs.declared.life.Life.TheVariants.{Installed, Selectable}
 use Rattle.card_types.specs.declared.tables.Entry.{Entry}
-use Rattle.policy_rules.specs.declared.install_application.InstallRequest.{InstallRequest}
+use Rattle.content_rules.specs.declared.install_application.InstallRequest.{InstallRequest}
 
 -- in the domain and from the Executable Load File in these slots
 abbrev pub slot_made : InstallRequest → ℕ → ℕ → Entry

@@ -6,8 +6,8 @@ use Rattle.policy_machine.specs.Admission.{Admitted}
 use Rattle.policy_machine.specs.Sound.{IsSound}
 use Rattle.policy_machine.specs.State.{State}
 use Rattle.policy_machine.specs.declared.channels.TheConstants.{CHANNELS}
-use Rattle.policy_rules.specs.Requests.{RepresentsState}
-use Rattle.policy_rules.specs.declared.live.Live.{Live}
+use Rattle.policy_slots.specs.StateShown.{RepresentsState}
+use Rattle.policy_slots.specs.declared.live.Live.{Live}
 use Rattle.card_core.specs.SecureChannels.{RepresentsChannels}
 use Rattle.card_core.specs.declared.channel_session.ChannelSession.{ChannelSession}
 

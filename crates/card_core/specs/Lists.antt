@@ -9,8 +9,8 @@ use Rattle.policy_machine.specs.GetStatus.{with_place}
 use Rattle.policy_machine.specs.State.{Effect}
 use Rattle.policy_machine.specs.Volatile.{Place, Volatile}
 use Rattle.policy_machine.specs.declared.rule.Rule.{Rule}
-use Rattle.policy_rules.specs.Requests.{RepresentsState}
-use Rattle.policy_rules.specs.declared.live.Live.{Live}
+use Rattle.policy_slots.specs.StateShown.{RepresentsState}
+use Rattle.policy_slots.specs.declared.live.Live.{Live}
 
 -- the volatile state is the same, or has a place on the channel
 abbrev pub IsSameButPlace : Volatile → ℕ → Volatile → Type 0

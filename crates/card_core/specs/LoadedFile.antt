@@ -6,8 +6,8 @@ use Rattle.card_types.specs.Represents.{domain_aid, file_of}
 use Rattle.card_types.specs.declared.tables.LoadFile.{LoadFile}
 use Rattle.card_types.specs.declared.tables.Tables.{Tables}
 use Rattle.policy_machine.specs.Admission.{Admitted}
-use Rattle.policy_rules.specs.HoldersFound.{IsReceipterIn}
-use Rattle.policy_rules.specs.Requests.{ActsIn}
+use Rattle.policy_slots.specs.Acting.{ActsIn}
+use Rattle.policy_slots.specs.HoldersFound.{IsReceipterIn}
 use Rattle.card_core.specs.Confirms.{AnswersFor}
 
 -- Each command that acts for a domain, and whose registry the tables said, is answered about a file that is added, and its domain; the tables

@@ -16,12 +16,13 @@ use Rattle.policy_machine.specs.declared.load.RuleLO.TheVariants.{LO3, LO4, LO5,
 use Rattle.policy_machine.specs.Sound.{IsSound}
 use Rattle.policy_machine.specs.State.{Effect, State}
 use Rattle.policy_machine.specs.declared.rule.Rule.{Rule}
-use Rattle.policy_rules.specs.LoadFound.{IsForLoad}
-use Rattle.policy_rules.specs.LoadRequests.{IsLoadOf}
-use Rattle.policy_rules.specs.Requests.{ActsIn, ForActingLive, RepresentsState}
-use Rattle.policy_rules.specs.declared.live.LoadName.{LoadName}
-use Rattle.policy_rules.specs.declared.load.LoadRequest.{LoadRequest}
-use Rattle.policy_rules.specs.declared.live.Live.{Live}
+use Rattle.content_rules.specs.LoadFound.{IsForLoad}
+use Rattle.content_rules.specs.LoadRequests.{IsLoadOf}
+use Rattle.content_rules.specs.declared.load.LoadRequest.{LoadRequest}
+use Rattle.policy_slots.specs.Acting.{ActsIn, ForActingLive}
+use Rattle.policy_slots.specs.StateShown.{RepresentsState}
+use Rattle.policy_slots.specs.declared.live.Live.{Live}
+use Rattle.policy_slots.specs.declared.live.LoadName.{LoadName}
 use Rattle.card_core.specs.Loading.{RepresentsLoading}
 
 -- no rule refused the command, it did what it does, and what is kept shows the state that it leaves

@@ -11,7 +11,7 @@ use Rattle.policy_machine.specs.Commands.{HasEffect, Judges}
 use Rattle.policy_machine.specs.State.{Effect}
 use Rattle.policy_machine.specs.declared.channels.TheConstants.{CHANNELS}
 use Rattle.policy_machine.specs.declared.rule.Rule.{Rule}
-use Rattle.policy_rules.specs.declared.live.Live.{Live}
+use Rattle.policy_slots.specs.declared.live.Live.{Live}
 use Rattle.rec_store.specs.Reopens.{IsFree}
 
 -- the slot holds an entry with the AID that it had

@@ -5,7 +5,7 @@ use Rattle.card_types.specs.Slots.{held}
 use Rattle.card_types.specs.declared.limits.TheConstants.{OBJECTS}
 use Rattle.card_types.specs.declared.tables.Object.{Object}
 use Rattle.card_types.specs.declared.tables.Tables.{Tables}
-use Rattle.policy_machine.specs.ObjectsFound.{has_object_in, is_tagged_in}
+use Rattle.policy_slots.specs.ObjectsHeld.{has_object_in, is_tagged_in}
 
 -- the slot has the data object of this domain with this tag, or it is free and there is no such object
 pub record IsSlotFor (slots : List (Option Object)) (owner tag slot : ℕ) : Type 0 where

@@ -14,8 +14,8 @@ use Rattle.policy_machine.specs.Volatile.{Secured}
 use Rattle.policy_machine.specs.declared.channels.TheConstants.{CHANNELS}
 use Rattle.policy_machine.specs.declared.rule.Rule.TheVariants.{G}
 use Rattle.policy_machine.specs.declared.rule.RuleG.{RuleG}
-use Rattle.policy_rules.specs.LiveEnds.{live_without_place}
-use Rattle.policy_rules.specs.declared.live.Live.{Live}
+use Rattle.policy_slots.specs.LiveEnds.{live_without_place}
+use Rattle.policy_slots.specs.declared.live.Live.{Live}
 use Rattle.scp03_card.specs.Session.{Session}
 use Rattle.card_core.specs.Kept.{Kept, RepresentsSoundly, kept_of}
 use Rattle.card_core.specs.Loading.{RepresentsLoading}

@@ -3,7 +3,7 @@ use Rattle.std.specs.Prelude.{◌≡◌, ◌≢◌, ◌<◌, ℕ, List, [], None
 use Rattle.policy_machine.specs.Classes.{managing}
 use Rattle.policy_machine.specs.declared.instruction.TheConstants.{MANAGE_CHANNEL, SELECT}
 use Rattle.policy_machine.specs.declared.channels.TheConstants.{CHANNELS}
-use Rattle.policy_rules.specs.declared.live.Live.{Live}
+use Rattle.policy_slots.specs.declared.live.Live.{Live}
 use Rattle.rec_store.specs.Contents.{Contents}
 use Rattle.card_core.specs.Domains.{is_domain_in}
 use Rattle.card_core.specs.Kept.{AreCards}

@@ -15,13 +15,13 @@ use Rattle.policy_machine.specs.Step.{Step, keeps_load, refusal_leaves}
 use Rattle.policy_machine.specs.declared.class.Class.{Class}
 use Rattle.policy_machine.specs.declared.instruction.TheConstants.{GET_DATA, GET_STATUS, LOAD}
 use Rattle.policy_machine.specs.declared.rule.Rule.{Rule}
-use Rattle.policy_rules.specs.LiveEnds.{live_without_load}
 use Rattle.policy_rules.specs.GetStatusRequests.{IsPlaceBefore}
-use Rattle.policy_rules.specs.declared.live.Place.{Place}
-use Rattle.policy_rules.specs.declared.live.Live.{Live}
 use Rattle.policy_rules.specs.Requests.{IsRequestOf, form_in}
 use Rattle.policy_rules.specs.declared.request.Request.{Request}
 use Rattle.policy_rules.specs.declared.request.Request.TheVariants.{InstallLoad, Load}
+use Rattle.policy_slots.specs.LiveEnds.{live_without_load}
+use Rattle.policy_slots.specs.declared.live.Live.{Live}
+use Rattle.policy_slots.specs.declared.live.Place.{Place}
 use Rattle.card_core.specs.SecureChannels.{held_on, without_offer_held}
 use Rattle.card_core.specs.Kept.{Kept, KeptRepresents}
 use Rattle.card_core.specs.Loading.{RepresentsAll, RepresentsLoading, with_due}

@@ -8,7 +8,7 @@ ghost use Rattle.policy_machine.specs.Admission.{GeneralFails, GeneralRefusalLea
 ghost use Rattle.policy_machine.specs.Classes.{IsKnown, channel_of as channel_of_byte, class_of};
 ghost use Rattle.policy_machine.specs.FirstFailing.{IsFirst};
 ghost use Rattle.policy_machine.specs.State.{State};
-ghost use Rattle.policy_rules.specs.Requests.{RepresentsState};
+ghost use Rattle.policy_slots.specs.StateShown.{RepresentsState};
 
 use apdu_core::Command;
 use bitflags::Flags;

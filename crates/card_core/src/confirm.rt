@@ -9,7 +9,7 @@ ghost use Rattle.card_core.specs.Manages.{KeepsAids};
 ghost use Rattle.card_types.specs.InOrder.{IsInOrder};
 ghost use Rattle.card_types.specs.KeySets.{HasKey};
 ghost use Rattle.card_types.specs.Well.{IsKeyLength};
-ghost use Rattle.policy_rules.specs.HoldersFound.{MayReceipt};
+ghost use Rattle.policy_slots.specs.HoldersFound.{MayReceipt};
 ghost use Rattle.rec_store.specs.Room.{HasRoomFor};
 ghost use Rattle.registry.specs.Pages.{entry_pages};
 ghost use Rattle.scp03_card.specs.declared.close.TheConstants.{DATA_LIMIT};

@@ -13,7 +13,7 @@ ghost use Rattle.card_types.specs.Slots.{held};
 ghost use Rattle.card_types.specs.Well.{Well};
 ghost use Rattle.card_types.specs.declared.factory.TheConstants.{FACTORY_FILE};
 ghost use Rattle.policy_machine.specs.DeleteObject.{without_thing};
-ghost use Rattle.policy_rules.specs.DeleteObjectFound.{HasNoneFrom, IsAlone, IsRemovable};
+ghost use Rattle.content_rules.specs.DeleteObjectFound.{HasNoneFrom, IsAlone, IsRemovable};
 ghost use Rattle.policy_rules.specs.declared.request.Request.TheVariants.{DeleteObject};
 ghost use Rattle.rec_store.specs.Room.{HasRoomFor};
 ghost use Rattle.registry.specs.Pages.{entry_pages};

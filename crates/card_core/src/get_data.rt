@@ -11,9 +11,9 @@ ghost use Rattle.card_types.specs.InOrder.{IsInOrder};
 ghost use Rattle.card_types.specs.Least.{IsLeast};
 ghost use Rattle.policy_machine.specs.GetData.{HasData, IsKeyInformation};
 ghost use Rattle.policy_rules.specs.Found.{IsFor};
-ghost use Rattle.policy_rules.specs.KeyOrder.{follows, name_order};
 ghost use Rattle.policy_rules.specs.Requests.{IsRequestOf};
 ghost use Rattle.policy_rules.specs.declared.request.Request.TheVariants.{Get};
+ghost use Rattle.policy_slots.specs.KeyOrder.{follows, name_order};
 ghost use Rattle.scp03_card.specs.declared.close.TheConstants.{DATA_LIMIT};
 
 use crate::reply::REPLY_LIMIT;

@@ -12,9 +12,10 @@ ghost use Rattle.policy_machine.specs.Admission.{Admitted};
 ghost use Rattle.policy_machine.specs.Delegation.{Holds};
 ghost use Rattle.policy_machine.specs.FirstFailing.{IsFirst};
 ghost use Rattle.policy_machine.specs.Load.{LoadFails, load_rules};
-ghost use Rattle.policy_rules.specs.HoldersFound.{FindsConfirmer, MayReceipt};
-ghost use Rattle.policy_rules.specs.Requests.{ActsIn, IsRequestOf, IsWellFormed};
+ghost use Rattle.policy_rules.specs.Requests.{IsRequestOf, IsWellFormed};
 ghost use Rattle.policy_rules.specs.declared.request.Request.TheVariants.{Load};
+ghost use Rattle.policy_slots.specs.Acting.{ActsIn};
+ghost use Rattle.policy_slots.specs.HoldersFound.{FindsConfirmer, MayReceipt};
 ghost use Rattle.rec_store.specs.StoredTables.{AreRoomy};
 ghost use Rattle.scp03_card.specs.declared.close.TheConstants.{DATA_LIMIT};
 

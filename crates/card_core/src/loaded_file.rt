@@ -10,7 +10,7 @@ ghost use Rattle.card_types.specs.First.{NoneFree};
 ghost use Rattle.card_types.specs.Well.{pages_of};
 ghost use Rattle.card_types.specs.declared.limits.TheConstants.{LOAD_PAGES};
 ghost use Rattle.load_session.specs.Pages.{AreOwn, pages_in};
-ghost use Rattle.policy_rules.specs.HoldersFound.{MayReceipt};
+ghost use Rattle.policy_slots.specs.HoldersFound.{MayReceipt};
 ghost use Rattle.registry.specs.Adding.{NoneHas};
 ghost use Rattle.scp03_card.specs.declared.close.TheConstants.{DATA_LIMIT};
 

@@ -10,7 +10,7 @@ ghost use Rattle.load_session.specs.declared.session.LoadSession.{LoadSession};
 ghost use Rattle.policy_machine.specs.Classes.{changing, managing};
 ghost use Rattle.policy_machine.specs.declared.instruction.TheConstants.{MANAGE_CHANNEL, SELECT};
 ghost use Rattle.policy_rules.specs.Requests.{IsWellFormed, form_in};
-ghost use Rattle.policy_rules.specs.declared.live.Place.{Place};
+ghost use Rattle.policy_slots.specs.declared.live.Place.{Place};
 ghost use Rattle.scp03_card.specs.declared.close.TheConstants.{DATA_LIMIT};
 
 use crate::admit::Received;

@@ -17,7 +17,7 @@ ghost use Rattle.policy_machine.specs.State.{State};
 ghost use Rattle.policy_machine.specs.Step.{sent};
 ghost use Rattle.policy_machine.specs.Volatile.{Secured};
 ghost use Rattle.policy_machine.specs.declared.instruction.TheConstants.{GET_DATA, GET_STATUS, INITIALIZE_UPDATE};
-ghost use Rattle.policy_rules.specs.LiveEnds.{live_without_place};
+ghost use Rattle.policy_slots.specs.LiveEnds.{live_without_place};
 ghost use Rattle.scp03_card.specs.Protected.{protected};
 ghost use Rattle.scp03_card.specs.Session.{Session};
 ghost use Rattle.scp03_card.specs.declared.close.TheConstants.{DATA_LIMIT};

@@ -4,7 +4,7 @@ ghost use Rattle.std.specs.Prelude.{◌≡◌, ◌<◌, ◌≤◌, length, true,
 ghost use Rattle.card_core.specs.ObjectsPut.{IsSlotFor, PutsObject, object_with};
 ghost use Rattle.card_types.specs.Represents.{used};
 ghost use Rattle.card_types.specs.declared.limits.TheConstants.{OBJECTS};
-ghost use Rattle.policy_machine.specs.ObjectsFound.{has_object_in, is_tagged_in};
+ghost use Rattle.policy_slots.specs.ObjectsHeld.{has_object_in, is_tagged_in};
 ghost use Rattle.policy_rules.specs.declared.request.Request.TheVariants.{Store};
 ghost use Rattle.rec_store.specs.Room.{HasRoomFor};
 ghost use Rattle.registry.specs.Pages.{object_pages};

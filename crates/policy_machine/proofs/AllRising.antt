@@ -1,5 +1,5 @@
 -- Receipt numbers rise with the commands of each form as they should.
-use Rattle.std.proofs.Common.{◌≡◌, ◌⊎◌, inl, inr, ℕ, List, [], refl, ap, sym, ◌∙◌, arith}
+use Rattle.std.proofs.Common.{◌≡◌, ◌⊎◌, inl, inr, ℕ, List, refl, ap, sym, ◌∙◌, arith}
 use Rattle.std.specs.Prelude.{Contains}
 use Rattle.card_types.specs.Privileges.{delegated_management}
 use Rattle.card_types.specs.Registry.{Registry}

@@ -1,5 +1,5 @@
 -- All commands spare the trees of domains that the acting one has no power over.
-use Rattle.std.proofs.Common.{ℕ, [], refl}
+use Rattle.std.proofs.Common.{ℕ, refl}
 use Rattle.std.specs.Prelude.{Contains}
 use Rattle.policy_machine.specs.Classes.{managing}
 use Rattle.policy_machine.specs.CommandForm.{CommandForm}

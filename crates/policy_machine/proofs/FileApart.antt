@@ -7,7 +7,6 @@ use Rattle.card_types.specs.AidOrder.{same_aid}
 use Rattle.card_types.specs.Registry as registry
 use Rattle.card_types.specs.Registry.{entry_named, file_named}
 use Rattle.card_types.specs.Well.{IsWellFile, Well}
-use Rattle.card_types.specs.declared.found.Found.TheVariants as found
 
 -- what is an Executable Load File is no entry
 pub file_apart : (said : registry.Registry) → Well said → (aid : List ℕ) (file : registry.LoadFile) → file_named said aid ≡ Some file → entry_named said aid ≡ None

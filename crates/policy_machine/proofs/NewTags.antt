@@ -1,17 +1,9 @@
 -- How many more data objects elements make.
-use Rattle.std.proofs.Common.{◌≡◌, inl, inr, ℕ, suc, ◌+◌, Bool, true, false, cond, ◌||◌, ◌&&◌, ◌==◌, List, [], ◌∷◌, length, Option, None, Some, refl, ap, sym, ◌∙◌, arith}
-use Rattle.std.specs.Prelude.{filter, not}
-use Rattle.std.specs.Option.{is_some}
+use Rattle.std.proofs.Common.{◌≡◌, inl, inr, ℕ, ◌+◌, Bool, true, false, cond, ◌||◌, ◌&&◌, ◌==◌, List, [], ◌∷◌, ap, sym, ◌∙◌, arith}
+use Rattle.std.specs.Prelude.{not}
 use Rattle.std.proofs.lemmas.Bool.{cases_Bool, cases_eq, eq-eqb, ne_eqb}
 use Rattle.bertlv.specs.Spelling.{Element}
-use Rattle.card_types.specs.Represents.{used}
 use Rattle.policy_machine.specs.ObjectsFound.{has_tag_in, new_tags}
-
--- the used slots are those with something
-pub count_some : {T : Type 0} (slots : List (Option T)) → length (filter is_some slots) ≡ length (used slots)
-count_some [] = refl
-count_some (None ∷ slots) = count_some slots
-count_some (Some thing ∷ slots) = ap suc (count_some slots)
 
 abbrev pub count_if : Bool → ℕ
 count_if b = cond b 1 0

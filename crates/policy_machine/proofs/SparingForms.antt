@@ -1,5 +1,5 @@
 -- What is asked of the form of a command, by which it spares the trees of other domains.
-use Rattle.std.proofs.Common.{inl, ℕ, List, [], None}
+use Rattle.std.proofs.Common.{inl, ℕ, List, None}
 use Rattle.std.specs.Prelude.{Contains}
 use Rattle.card_types.specs.Registry.{Registry}
 use Rattle.card_types.specs.Well.{IsDomainNamed}

@@ -1,52 +1,18 @@
--- How many data objects there are with those that are put, by the slots before.
-use Rattle.std.proofs.Common.{◌≡◌, inl, inr, ℕ, suc, ◌+◌, Bool, true, false, ◌||◌, ◌==◌, List, [], ◌∷◌, length, Option, None, Some, refl, ap, sym, ◌∙◌, arith}
-use Rattle.std.specs.Prelude.{filter, find, map, not}
-use Rattle.std.specs.Cmp.{both_ways}
+-- How many data objects there are with those that are put.
+use Rattle.std.proofs.Common.{◌≡◌, inl, inr, ℕ, ◌+◌, Bool, true, false, ◌||◌, List, [], ◌∷◌, length, Option, None, Some, refl, ap, sym, ◌∙◌, arith}
+use Rattle.std.specs.Prelude.{filter, find, not}
 use Rattle.std.specs.List.{cons_option, list_any}
-use Rattle.std.proofs.lemmas.Bool.{and_from, and_parts, cases_eq, eq-eqb, eqb-true, ne_eqb, not_from_false, false_from_ne_true}
+use Rattle.std.proofs.lemmas.Bool.{cases_eq, eq-eqb, ne_eqb, not_from_false, false_from_ne_true}
 use Rattle.std.proofs.lemmas.List.Sorted.{length_permutation, list_any-IsPermutation}
 use Rattle.std.proofs.lemmas.Map.Views.{any-filter_same}
 use Rattle.bertlv.specs.Spelling.{Element}
-use Rattle.card_types.proofs.Domains.{object_owner_is_used, same_domain}
 use Rattle.card_types.specs.Ascending.{object_order}
 use Rattle.card_types.specs.Registry as registry
-use Rattle.card_types.specs.Represents.{Represents, domain_aid, object_of, used}
-use Rattle.card_types.specs.Slots.{held}
-use Rattle.card_types.specs.Well.{Well}
-use Rattle.card_types.specs.declared.tables.Entry.{Entry}
-use Rattle.card_types.specs.declared.tables.Tables.{Tables}
 use Rattle.policy_machine.proofs.NewTags.{count_if, first_new, with_tag}
 use Rattle.policy_machine.proofs.ObjectStored.{is_of_from, is_of_parts, none_any, object_from, one_stored, some_any}
 use Rattle.policy_machine.specs.Arranged.{IsArranged}
-use Rattle.policy_machine.specs.ObjectsFound.{has_object_in, is_tagged_in, new_tags}
+use Rattle.policy_machine.specs.ObjectsFound.{new_tags}
 use Rattle.policy_machine.specs.DataObjects.{is_object_of, with_object, with_objects}
-
--- a test of slots that is false of a free one, and one of what they show
-any_shown : {T X : Type 0} (q : Option T → Bool) (view : T → X) (p : X → Bool) → q None ≡ false → (slots : List (Option T))
-    → ((slot : ℕ) (thing : T) → held slots slot ≡ Some thing → p (view thing) ≡ q (Some thing)) → list_any p (map view (used slots)) ≡ list_any q slots
-any_shown q view p free [] same = refl
-any_shown q view p free (None ∷ slots) same = rw free (any_shown q view p free slots (λ slot. same (suc slot)))
-any_shown q view p free (Some thing ∷ slots) same =
-    (λ i. same 0 thing refl i || any_shown q view p free slots (λ slot. same (suc slot)) i)
-
--- whether the domain in a slot has an object with a tag, by its slot and by its name
-pub has_alike : (page : ℕ → List ℕ) (tables : Tables) (said : registry.Registry) → Represents page tables said → Well said → (domain : ℕ) (entry : Entry)
-    → held tables.entries.items domain ≡ Some entry → (tag : ℕ)
-    → list_any (is_object_of (domain_aid tables.entries.items domain) tag) said.objects ≡ has_object_in tables.objects.items domain tag
-has_alike page tables said says well domain entry at tag =
-    let owner = domain_aid tables.entries.items domain in
-    let view = object_of tables.entries.items in
-    sym (list_any-IsPermutation (is_object_of owner tag) (map view (used tables.objects.items)) said.objects says.objects)
-    ∙ any_shown (is_tagged_in domain tag) view (is_object_of owner tag) refl tables.objects.items (λ slot object here.
-    both_ways (is_object_of owner tag (view object)) (is_tagged_in domain tag (Some object))
-    (λ fits.
-    (let parts = is_of_parts owner tag (view object) fits in
-    let used_by = object_owner_is_used page tables said says well slot object here in
-    let slots = same_domain page tables said says object.owner domain used_by.0 entry used_by.1 at parts.0 in
-    and_from (object.owner == domain) (object.tag == tag) (eq-eqb object.owner domain slots) (eq-eqb object.tag tag parts.1)))
-    (λ fits.
-    (let parts = and_parts (object.owner == domain) (object.tag == tag) fits in
-    is_of_from owner tag (view object) (ap (domain_aid tables.entries.items) (eqb-true object.owner domain parts.0)) (eqb-true object.tag tag parts.1))))
 
 module _ (owner : List ℕ) where
   -- with one more object its tag is there

@@ -4,9 +4,6 @@ use Rattle.std.specs.Prelude.{◌≡◌, ℕ, List, Bool, Option, Some, find, is
 use Rattle.card_types.specs.AidOrder.{same_aid}
 use Rattle.card_types.specs.Hierarchy.{IsLine}
 use Rattle.card_types.specs.Registry.{Counter, Registry, domain_of}
-use Rattle.card_types.specs.Represents.{counter_of, domain_aid}
-use Rattle.card_types.specs.declared.tables.Entry.{Entry}
-use Rattle.card_types.specs.declared.tables.KeyRec.{KeyRec}
 
 -- the counter of the key set with the lowest key version number, of a domain's own
 abbrev pub lowest_counter : Registry → List ℕ → Option Counter
@@ -38,8 +35,3 @@ UsesSet registry domain version owner counter = OwnsSets registry domain owner �
 -- there is no such key set
 abbrev pub NoSetToUse : Registry → List ℕ → ℕ → Type 0
 NoSetToUse registry domain version = (owner : List ℕ) (counter : Counter) → UsesSet registry domain version owner counter → ⊥
-
--- by slots: the key keeps the counter of the key set that a session of the domain in the slot would use
-abbrev pub UsesSetOfKey : List (Option Entry) → Registry → ℕ → ℕ → KeyRec → Type 0
-UsesSetOfKey entries registry domain version key =
-    UsesSet registry (domain_aid entries domain) version (domain_aid entries key.owner) (counter_of entries key)

@@ -1,5 +1,5 @@
 -- For the code inside. The rule on its form that a command breaks.
-use Rattle.std.specs.Prelude.{◌≡◌, ◌⊎◌, ℕ, List, not}
+use Rattle.std.specs.Prelude.{◌≡◌, ◌⊎◌, ℕ, List}
 use Rattle.policy_machine.specs.CommandForm.{CommandForm}
 use Rattle.policy_machine.specs.Commands.{HasDataField, HasParameters}
 use Rattle.policy_machine.specs.declared.rule.Rule.TheVariants.{PS}

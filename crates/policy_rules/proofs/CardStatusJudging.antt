@@ -20,10 +20,10 @@ use Rattle.policy_machine.specs.declared.card_status.RuleSC.{RuleSC}
 use Rattle.policy_machine.proofs.CardStatusLaws.{card_status_judgeable}
 use Rattle.policy_machine.proofs.ManagedJudging.{own_refuses, two_pass, approval_decides}
 use Rattle.policy_machine.specs.ManagedForm.{OwnFirst, command_form}
-use Rattle.policy_rules.specs.Requests.{ActsIn}
 use Rattle.policy_rules.specs.SetStatusRequests.{IsCardStatusOf, IsStepBy, MayStep}
 use Rattle.policy_rules.specs.declared.card_status.CardStep.{CardStep}
 use Rattle.policy_rules.specs.declared.card_status.CardStep.TheVariants.{Prepare, Lock, Terminate}
+use Rattle.policy_slots.specs.Acting.{ActsIn}
 
 -- it is the card's own state that is set
 pub of_card : (code : ℕ) (command : Apdu) → IsCardStatusOf code command → IsTrue true ↔ (command.p1 ≡ 0x80)

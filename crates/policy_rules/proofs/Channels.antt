@@ -5,7 +5,7 @@ use Rattle.std.specs.List.{position_or_len}
 use Rattle.card_types.specs.declared.tables.Entry.{Entry}
 use Rattle.policy_machine.specs.ManageChannel.{is_closed, lowest_closed}
 use Rattle.policy_machine.specs.Volatile.{Channel}
-use Rattle.policy_rules.specs.Requests.{IsSelectedIn}
+use Rattle.policy_slots.specs.StateShown.{IsSelectedIn}
 
 closed_alike : (entries : List (Option Entry)) (slot : Option ℕ) (channel : Option Channel) → IsSelectedIn entries slot channel → is_closed channel ≡ is_none slot
 closed_alike entries None None selected = refl

@@ -14,7 +14,7 @@ use Rattle.policy_machine.specs.Volatile.{selected_on}
 use Rattle.policy_rules.specs.Found.{IsFor}
 use Rattle.policy_rules.specs.declared.get_data.Datum.{Datum}
 use Rattle.policy_rules.specs.declared.get_data.Datum.TheVariants.{Keys, Counter, Object}
-use Rattle.policy_rules.proofs.OwnKeys.{keys_are, keys_from_next, next_named}
+use Rattle.policy_slots.proofs.OwnKeys.{keys_are, keys_from_next, next_named}
 
 key_spelled : (key : registry.Key) → (bytes : List ℕ) × Spelling 0xC0 (key.identifier ∷ key.version ∷ 0x88 ∷ length key.bytes ∷ []) bytes
 key_spelled key = (

@@ -19,8 +19,8 @@ use Rattle.card_types.specs.declared.tables.Tables.{Tables}
 use Rattle.scp03_card.specs.Offer.{counter_bytes}
 use Rattle.policy_machine.specs.GetData.{HasData, IsDataObject, IsSequenceCounter}
 use Rattle.policy_machine.specs.KeySets.{UsesCounter}
-use Rattle.policy_rules.specs.KeyOrder.{follows}
-use Rattle.policy_rules.proofs.OwnKeys.{keys_are, keys_from_none, none_named}
+use Rattle.policy_slots.proofs.OwnKeys.{keys_are, keys_from_none, none_named}
+use Rattle.policy_slots.specs.KeyOrder.{follows}
 
 -- each tag that a data object may have is one
 tag_of_object : (tag size : ℕ) → IsObject tag size → IsTag tag

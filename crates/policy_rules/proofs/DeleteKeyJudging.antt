@@ -15,9 +15,10 @@ use Rattle.policy_machine.specs.declared.delete_key.RuleDK.{RuleDK}
 use Rattle.policy_machine.proofs.DeleteKeyLaws.{delete_key_judgeable, deletion_judged}
 use Rattle.policy_machine.proofs.ManagedJudging.{own_refuses, approval_decides, two_pass}
 use Rattle.policy_machine.specs.ManagedForm.{OwnFirst}
-use Rattle.policy_rules.specs.Requests.{ActsIn, IsRequestOf}
+use Rattle.policy_rules.specs.Requests.{IsRequestOf}
 use Rattle.policy_rules.specs.declared.request.Request.TheVariants.{DeleteKey}
-use Rattle.policy_rules.proofs.KeysByName.{has_version_by_name}
+use Rattle.policy_slots.proofs.KeysByName.{has_version_by_name}
+use Rattle.policy_slots.specs.Acting.{ActsIn}
 
 -- the domain that a command acts for has keys by its slot exactly where it has them by its name
 pub acting_has_version : (page : ℕ → List ℕ) (tables : Tables) (domain : ℕ) (admitted : Admitted) → ActsIn page tables domain admitted

@@ -18,10 +18,10 @@ use Rattle.policy_machine.specs.Admission.{Admitted}
 use Rattle.policy_machine.specs.DeleteKey.{IsLastSet}
 use Rattle.policy_machine.specs.KeyVersions.{counters_but, is_counter_numbered}
 use Rattle.policy_machine.specs.Management.{acting}
-use Rattle.policy_rules.specs.KeyOrder.{holds_counter_but, keeps_counter_of}
-use Rattle.policy_rules.specs.Requests.{ActsIn}
-use Rattle.policy_rules.proofs.AnySlot.{passing_slot, slot_passes}
-use Rattle.policy_rules.proofs.OwnKeys.{own_is}
+use Rattle.policy_slots.proofs.AnySlot.{passing_slot, slot_passes}
+use Rattle.policy_slots.proofs.OwnKeys.{own_is}
+use Rattle.policy_slots.specs.Acting.{ActsIn}
+use Rattle.policy_slots.specs.KeyOrder.{holds_counter_but, keeps_counter_of}
 
 -- where both are not true and the first is, the second is not
 other_false : (a b : Bool) → not (a && b) ≡ true → a ≡ true → not b ≡ true

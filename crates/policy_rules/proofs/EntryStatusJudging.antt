@@ -24,11 +24,12 @@ use Rattle.policy_machine.specs.declared.entry_status.RuleSS.TheVariants.{SS1, S
 use Rattle.policy_machine.specs.declared.management.RuleM.TheVariants.{M2, M3}
 use Rattle.policy_machine.specs.declared.rule.Rule.TheVariants.{SS}
 use Rattle.policy_machine.specs.CommandForm.{FailsFirst}
-use Rattle.policy_rules.specs.Requests.{ActsIn}
-use Rattle.policy_rules.specs.SetStatusRequests.{IsChangeFor, IsEntryStatusOf, IsSlotStep, MaySet, TellsCard}
+use Rattle.policy_rules.specs.SetStatusRequests.{IsChangeFor, IsEntryStatusOf, IsSlotStep, MaySet}
 use Rattle.policy_rules.specs.declared.entry_status.EntryStatusRequest.{EntryStatusRequest}
 use Rattle.policy_rules.specs.declared.entry_status.StatusChange.TheVariants.{One, Tree}
-use Rattle.policy_rules.proofs.ThingsFound.{IsEntryAt, entry_at, named_as}
+use Rattle.policy_slots.proofs.ThingsFound.{IsEntryAt, entry_at, named_as}
+use Rattle.policy_slots.specs.Acting.{ActsIn}
+use Rattle.policy_slots.specs.Acting.{TellsCard}
 use Rattle.card_types.specs.Aid.{IsAid}
 use Rattle.policy_machine.proofs.EntryStatusLaws.{entry_status_judgeable}
 use Rattle.policy_machine.proofs.ManagedJudging.{two_pass, own_refuses, approval_decides}

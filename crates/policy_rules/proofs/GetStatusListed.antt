@@ -27,8 +27,8 @@ use Rattle.card_types.specs.declared.tables.Tables.{Tables}
 use Rattle.policy_machine.specs.Admission.{Admitted}
 use Rattle.policy_machine.specs.GetStatus.{AFile, AnEntry, IsIn, IsListed, IsListedBy, Sees, Thing, aid_in}
 use Rattle.policy_machine.specs.Management.{acting}
-use Rattle.policy_rules.specs.Requests.{ActsIn}
 use Rattle.policy_rules.specs.GetStatusRequests.{IsListedAs, IsListedAt, IsNextListed, IsThingAt, NoneListed, found_in, lower_of}
+use Rattle.policy_slots.specs.Acting.{ActsIn}
 
 -- what a slot holds is in one of the slots
 held_within : {T : Type 0} (slots : List (Option T)) (slot : ℕ) (thing : T) → held slots slot ≡ Some thing → slot < length slots

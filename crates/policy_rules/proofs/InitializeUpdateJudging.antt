@@ -28,7 +28,7 @@ use Rattle.policy_machine.specs.declared.initialize_update.RuleIU.TheVariants.{I
 use Rattle.policy_machine.specs.declared.management.RuleM.TheVariants.{M2}
 use Rattle.policy_machine.specs.declared.rule.Rule.{Rule}
 use Rattle.policy_machine.specs.declared.rule.Rule.TheVariants.{M, IU}
-use Rattle.policy_rules.proofs.SessionSets.{owns_once}
+use Rattle.policy_slots.proofs.SessionSets.{owns_once}
 
 both_true : (a b : Bool) → (a && b) ≡ true → (a ≡ true) × (b ≡ true)
 both_true true b is = (refl, is)

@@ -21,12 +21,13 @@ use Rattle.policy_machine.specs.declared.rule.Rule.TheVariants.{PK}
 use Rattle.policy_machine.specs.declared.put_key.RulePK.{RulePK}
 use Rattle.policy_machine.proofs.PutKeyOnce.{one_put, put_fails}
 use Rattle.policy_machine.specs.ManagedForm.{command_form}
-use Rattle.policy_rules.specs.Requests.{ActsIn, IsRequestOf, sent_keys}
+use Rattle.policy_rules.specs.Requests.{IsRequestOf, sent_keys}
 use Rattle.policy_rules.specs.declared.put_key.PutKeys.{PutKeys}
 use Rattle.policy_rules.specs.declared.request.Request.TheVariants.{PutKey}
-use Rattle.policy_rules.proofs.KeyCounts as by_slots
-use Rattle.policy_rules.proofs.KeysByName.{has_version_by_name}
-use Rattle.policy_rules.proofs.ManagementFirst.{behind_management}
+use Rattle.policy_slots.proofs.KeyCounts as by_slots
+use Rattle.policy_slots.proofs.KeysByName.{has_version_by_name}
+use Rattle.policy_slots.proofs.ManagementFirst.{behind_management}
+use Rattle.policy_slots.specs.Acting.{ActsIn}
 
 module _ (page : ℕ → List ℕ) (tables : Tables) (domain : ℕ) (admitted : Admitted) (acts : ActsIn page tables domain admitted)
     (replaced version : ℕ) (keys : PutKeys) (request : IsRequestOf (PutKey replaced version keys) admitted.command) where

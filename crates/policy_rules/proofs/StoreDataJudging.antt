@@ -14,9 +14,11 @@ use Rattle.std.specs.List.{list_any}
 use Rattle.std.proofs.lemmas.List.{length-map}
 use Rattle.card_types.specs.Represents.{object_of, used}
 use Rattle.card_types.specs.declared.tables.Tables.{Tables}
-use Rattle.policy_machine.proofs.StoredCount.{has_alike, stored_count}
+use Rattle.policy_machine.proofs.StoredCount.{stored_count}
+use Rattle.policy_slots.proofs.ObjectsNamed.{has_alike}
 use Rattle.policy_machine.specs.FirstFailing.{IsFirst}
-use Rattle.policy_machine.specs.ObjectsFound.{has_object_in, new_tags}
+use Rattle.policy_machine.specs.ObjectsFound.{new_tags}
+use Rattle.policy_slots.specs.ObjectsHeld.{has_object_in}
 use Rattle.policy_machine.specs.declared.management.RuleM.TheVariants.{M1, M2}
 use Rattle.policy_machine.specs.Commands.{TakesCommand, Judges}
 use Rattle.policy_machine.proofs.Judging.{judged}
@@ -25,7 +27,7 @@ use Rattle.policy_machine.specs.CommandForm.{FailsFirst}
 use Rattle.policy_machine.proofs.ManagedJudging.{two_pass, own_refuses, approval_decides}
 use Rattle.policy_machine.specs.ManagedForm.{command_form}
 use Rattle.policy_machine.proofs.StoreDataLaws.{store_judgeable}
-use Rattle.policy_rules.specs.Requests.{ActsIn}
+use Rattle.policy_slots.specs.Acting.{ActsIn}
 
 module _ (page : ℕ → List ℕ) (tables : Tables) (domain : ℕ) (admitted : Admitted) (acts : ActsIn page tables domain admitted) where
   -- the objects that there would be are counted by slots

@@ -7,9 +7,9 @@ use Rattle.card_types.specs.Represents.{domain_aid}
 use Rattle.card_types.specs.declared.tables.Tables.{Tables}
 use Rattle.scp03_card.specs.Offer.{counter_bytes}
 use Rattle.policy_machine.specs.GetData.{IsDataObject, IsSequenceCounter}
-use Rattle.policy_rules.specs.KeyOrder.{follows, name_order}
 use Rattle.policy_rules.specs.declared.get_data.Datum.{Datum}
 use Rattle.policy_rules.specs.declared.get_data.Datum.TheVariants.{Keys, Counter, Object}
+use Rattle.policy_slots.specs.KeyOrder.{follows, name_order}
 
 -- what was found for a tag, for the domain in a slot: its first key, the sequence counter, or a data object
 abbrev pub IsFor : Tables → Registry → ℕ → ℕ → Datum → Type 0

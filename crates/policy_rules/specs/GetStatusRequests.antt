@@ -15,9 +15,9 @@ use Rattle.card_types.specs.declared.tables.Tables.{Tables}
 use Rattle.policy_machine.specs.Admission.{Admitted}
 use Rattle.policy_machine.specs.GetStatus.{AFile, AnEntry, BeginsAbove, IsListed, IsSearch, StatusParameters, Thing, aid_in, place_before}
 use Rattle.policy_machine.specs.Management.{acting}
-use Rattle.policy_rules.specs.KeptPlaces.{place_of}
 use Rattle.policy_rules.specs.declared.get_status.ListRequest.{ListRequest}
-use Rattle.policy_rules.specs.declared.live.Place.{Place}
+use Rattle.policy_slots.specs.KeptPlaces.{place_of}
+use Rattle.policy_slots.specs.declared.live.Place.{Place}
 
 -- The request is that of a command with this P1, P2 and data field.
 pub record IsListRequest (request : ListRequest) (p1 p2 : ℕ) (body : List ℕ) : Type 0 where

@@ -1,14 +1,7 @@
--- What a request of the code stands for, and how what the code keeps says the state of the card.
-use Rattle.std.specs.Prelude.{◌≡◌, ◌≢◌, ℕ, ◌<◌, ◌≤◌, List, [], ◌∷◌, Option, None, Some, Result, Ok, Err, length, slice_index_or}
-use Rattle.std.specs.Option.{option_map}
+-- For the code inside. What a request of the code stands for.
+use Rattle.std.specs.Prelude.{◌≡◌, ◌≢◌, ℕ, ◌≤◌, List, [], ◌∷◌, Result, Ok, Err, length}
 use Rattle.apdu_core.specs.Apdu.{Apdu}
 use Rattle.card_types.specs.Level.{code_of}
-use Rattle.card_types.specs.Represents.{Represents, domain_aid}
-use Rattle.card_types.specs.Slots.{held}
-use Rattle.card_types.specs.Well.{Well}
-use Rattle.card_types.specs.declared.tables.Entry.{Entry}
-use Rattle.card_types.specs.declared.tables.Tables.{Tables}
-use Rattle.policy_machine.specs.Admission.{Admitted}
 use Rattle.policy_machine.specs.CardStatus.{managed_card_status}
 use Rattle.policy_machine.specs.CommandForm.{CommandForm}
 use Rattle.policy_machine.specs.Commands.{TakesCommand, Takes}
@@ -25,28 +18,21 @@ use Rattle.policy_machine.specs.InstallLoad.{install_load}
 use Rattle.policy_machine.specs.Load.{loading}
 use Rattle.policy_machine.specs.MakeSelectable.{managed_selectable}
 use Rattle.policy_machine.specs.ManageChannel.{manage_channel}
-use Rattle.policy_machine.specs.Management.{acting}
 use Rattle.policy_machine.specs.PutKey.{HasKeyFields, SentKey, managed_put_key}
 use Rattle.policy_machine.specs.Select.{select}
-use Rattle.policy_machine.specs.State.{State}
 use Rattle.policy_machine.specs.StoreData.{managed_store_data}
-use Rattle.policy_machine.specs.Volatile.{Channel, LoadSession, channel_at, place_in, selected_on}
 use Rattle.policy_machine.specs.declared.instruction.TheConstants.{EXTERNAL_AUTHENTICATE, GET_STATUS, LOAD}
-use Rattle.policy_machine.specs.declared.channels.TheConstants.{CHANNELS}
 use Rattle.policy_machine.specs.declared.rule.Rule.{Rule}
 use Rattle.policy_machine.specs.ManagedForm.{command_form}
 use Rattle.policy_machine.specs.Malformed.{IsMalformed}
-use Rattle.policy_rules.specs.DeleteObjectRequests.{IsDeletionRequest}
-use Rattle.policy_rules.specs.ExtraditionRequests.{IsExtraditionRequest}
-use Rattle.policy_rules.specs.InstallApplicationRequests.{IsInstallRequest}
-use Rattle.policy_rules.specs.InstallLoadRequests.{IsLoadInstallRequest}
-use Rattle.policy_rules.specs.LoadRequests.{IsLoadRequest}
-use Rattle.policy_rules.specs.KeptPlaces.{place_of}
-use Rattle.policy_rules.specs.MakeSelectableRequests.{IsSelectableRequest}
+use Rattle.content_rules.specs.DeleteObjectRequests.{IsDeletionRequest}
+use Rattle.content_rules.specs.ExtraditionRequests.{IsExtraditionRequest}
+use Rattle.content_rules.specs.InstallApplicationRequests.{IsInstallRequest}
+use Rattle.content_rules.specs.InstallLoadRequests.{IsLoadInstallRequest}
+use Rattle.content_rules.specs.LoadRequests.{IsLoadRequest}
+use Rattle.content_rules.specs.MakeSelectableRequests.{IsSelectableRequest}
 use Rattle.policy_rules.specs.GetStatusRequests.{IsListRequest}
 use Rattle.policy_rules.specs.SetStatusRequests.{IsEntryStatusRequest}
-use Rattle.policy_rules.specs.declared.live.Live.{Live}
-use Rattle.policy_rules.specs.declared.live.LoadName.{LoadName}
 use Rattle.policy_rules.specs.declared.put_key.PutKeys.{PutKeys}
 use Rattle.policy_rules.specs.declared.put_key.PutKeys.TheVariants.{One, Three}
 use Rattle.policy_rules.specs.declared.put_key.SealedKey.{SealedKey}
@@ -121,57 +107,7 @@ IsWellFormed request = (command : Apdu) × IsRequestOf request command × (lengt
 abbrev pub IsMeant : Request → Type 0
 IsMeant request = (p1 p2 : ℕ) × (body : List ℕ) × Decodes request p1 p2 body × (length body ≤ 255)
 
--- the slot is that of the entry that the channel has selected; where the channel is closed there is none
-abbrev pub IsSelectedIn : List (Option Entry) → Option ℕ → Option Channel → Type 0
-IsSelectedIn entries None None = Unit {0}
-IsSelectedIn entries None (Some channel) = ⊥
-IsSelectedIn entries (Some slot) None = ⊥
-IsSelectedIn entries (Some slot) (Some channel) = (entry : Entry) × (held entries slot ≡ Some entry) × (entry.aid ≡ channel.selected)
-
--- The tables say the registry that a command is judged by, and the slot is that of the domain that it acts for.
-pub record ActsIn (page : ℕ → List ℕ) (tables : Tables) (domain : ℕ) (admitted : Admitted) : Type 0 where
-  pub says : Represents page tables admitted.at.registry
-  pub well : Well admitted.at.registry
-  pub entry : Entry
-  pub at : held tables.entries.items domain ≡ Some entry
-  pub on : acting admitted ≡ domain_aid tables.entries.items domain
-
 -- the command is judged whole by what the card has once it has passed: all but EXTERNAL AUTHENTICATE, which needs the keys of the offer,
 -- GET STATUS, which goes on at the place that the channel had before, and LOAD, whose block is judged where its bytes are kept
 abbrev pub IsJudgedBehind : ℕ → Type 0
 IsJudgedBehind ins = (ins ≢ EXTERNAL_AUTHENTICATE) × (ins ≢ GET_STATUS) × (ins ≢ LOAD)
-
--- a command that has passed acts on the registry that the card had before, for the domain that was selected then
-abbrev pub ActsAsBefore : Admitted → Type 0
-ActsAsBefore admitted =
-    (admitted.at.registry ≡ admitted.before.registry)
-    × (selected_on admitted.at.volatile admitted.channel ≡ selected_on admitted.before.volatile admitted.channel)
-
--- `So` holds of each command that acts for the domain in a slot, over any load pages.
-abbrev pub ForActing : Tables → ℕ → ((ℕ → List ℕ) → Admitted → Type 0) → Type 0
-ForActing tables domain So = (page : ℕ → List ℕ) (admitted : Admitted) → ActsIn page tables domain admitted → So page admitted
-
--- the load session that the code has named: its channel, its AID, its domain by the slot, and how many blocks have come
-abbrev pub IsLoadNamed : List (Option Entry) → Option LoadName → Option LoadSession → Type 0
-IsLoadNamed entries None None = Unit {0}
-IsLoadNamed entries None (Some load) = ⊥
-IsLoadNamed entries (Some name) None = ⊥
-IsLoadNamed entries (Some name) (Some load) =
-    (name.channel ≡ load.channel) × (name.aid ≡ load.aid) × (domain_aid entries name.domain ≡ load.domain) × (name.next ≡ load.blocks)
-
--- What the code keeps says this state, as far as the rules look: the tables say the registry over these load pages, for each
--- channel its slot is that of the AID selected and its place the one in the listing, and the load session is the one named.
--- What else a channel and a load session have is said elsewhere.
-pub record RepresentsState (page : ℕ → List ℕ) (tables : Tables) (live : Live) (state : State) : Type 0 where
-  pub registry : Represents page tables state.registry
-  pub selected : (number : ℕ) → number < CHANNELS
-      → IsSelectedIn tables.entries.items (slice_index_or live.selected number None) (channel_at state.volatile number)
-  pub places : (number : ℕ) → number < CHANNELS
-      → option_map place_of (slice_index_or live.places number None) ≡ place_in (channel_at state.volatile number)
-  pub load : IsLoadNamed tables.entries.items live.load state.volatile.load
-
--- `So` holds of each command that acts for the domain in a slot, over any load pages, where what is kept beside the
--- tables says the volatile state.
-abbrev pub ForActingLive : Tables → Live → ℕ → ((ℕ → List ℕ) → Admitted → Type 0) → Type 0
-ForActingLive tables live domain So =
-    ForActing tables domain (λ page admitted. RepresentsState page tables live admitted.at → length admitted.at.volatile.channels ≡ CHANNELS → So page admitted)

@@ -1,5 +1,5 @@
 -- For the code inside. What the code reads of a SET STATUS, and what it finds.
-use Rattle.std.specs.Prelude.{◌≡◌, ◌≢◌, ◌↔◌, ◌⊎◌, ℕ, ◌==◌, Bool, IsTrue, List, false, true, MatchOption, Option}
+use Rattle.std.specs.Prelude.{◌≡◌, ◌≢◌, ◌⊎◌, ℕ, ◌==◌, List, false, true, MatchOption, Option}
 use Rattle.apdu_core.specs.Apdu.{Apdu}
 use Rattle.card_types.specs.Aid.{IsAid}
 use Rattle.card_types.specs.Privileges.{has, security_domain}
@@ -22,10 +22,6 @@ use Rattle.policy_rules.specs.declared.card_status.CardStep.TheVariants.{Prepare
 use Rattle.policy_rules.specs.declared.entry_status.EntryStatusRequest.{EntryStatusRequest}
 use Rattle.policy_rules.specs.declared.entry_status.StatusChange.{StatusChange}
 use Rattle.policy_rules.specs.declared.entry_status.StatusChange.TheVariants.{One, Tree}
-
--- what tells whether a SET STATUS sets the card's own life cycle state
-abbrev pub TellsCard : Bool → Admitted → Type 0
-TellsCard card admitted = IsTrue card ↔ (admitted.command.p1 ≡ 0x80)
 
 -- The code is that of a SET STATUS of the card.
 pub record IsCardStatusOf (code : ℕ) (command : Apdu) : Type 0 where

@@ -7,13 +7,12 @@ ghost use Rattle.policy_machine.specs.CardStatus.{CardStatusParameters, IsCardSt
 ghost use Rattle.policy_machine.specs.Malformed.{IsRefusedBy};
 ghost use Rattle.policy_machine.specs.CommandForm.{FailsFirst};
 ghost use Rattle.policy_machine.specs.ManagedForm.{command_form};
-ghost use Rattle.policy_rules.specs.Requests.{ActsIn};
 ghost use Rattle.policy_rules.specs.SetStatusRequests.{IsCardStatusOf, IsStepBy, MayStep};
+ghost use Rattle.policy_slots.specs.Acting.{ActsIn};
 
-use crate::delegation::holds;
-use crate::management::{is_issuer_in, judge_setting};
 use card_types::{CardLife, Privileges, Tables};
 use policy_machine::{Rule, RulePS, RuleSC};
+use policy_slots::{holds, is_issuer_in, judge_setting};
 
 /// The kinds of steps in a card's life cycle, by who may take them.
 #[derive(Clone, Copy, Debug, PartialEq, Eq)]

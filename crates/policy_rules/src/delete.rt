@@ -5,8 +5,8 @@ ghost use Rattle.policy_machine.specs.declared.instruction.TheConstants.{DELETE}
 ghost use Rattle.policy_rules.specs.Requests.{Parses};
 
 use crate::delete_key::parse_delete_key;
-use crate::delete_object::parse_delete_object;
 use crate::request::Request;
+use content_rules::parse_delete_object;
 use policy_machine::Rule;
 
 /// Reads P1, P2 and the data field of a DELETE.

@@ -9,15 +9,15 @@ ghost use Rattle.policy_machine.specs.DeleteKey.{Chooses, DeleteParameters, IsLa
 ghost use Rattle.policy_machine.specs.Commands.{Judges};
 ghost use Rattle.policy_machine.specs.Malformed.{IsRefusedBy};
 ghost use Rattle.policy_machine.specs.ManagedForm.{command_form};
-ghost use Rattle.policy_rules.specs.KeyOrder.{holds_counter_but as holds_counter_but_by};
-ghost use Rattle.policy_rules.specs.Requests.{ActsIn, IsRequestOf};
+ghost use Rattle.policy_rules.specs.Requests.{IsRequestOf};
 ghost use Rattle.policy_rules.specs.declared.request.Request.TheVariants.{DeleteKey};
+ghost use Rattle.policy_slots.specs.Acting.{ActsIn};
+ghost use Rattle.policy_slots.specs.KeyOrder.{holds_counter_but as holds_counter_but_by};
 
-use crate::key_order::keeps_counter;
-use crate::management::judge_management;
 use card_types::{Entry, KeyRec, Tables, in_slot};
 use key_rules::has_version;
 use policy_machine::{Rule, RuleDK, RulePS};
+use policy_slots::{judge_management, keeps_counter};
 
 // The key version number (D2), and a key identifier (D0) or none, in either order.
 fn read_choice(body: &[u8]) -> Option<(u8, Option<u8>)>

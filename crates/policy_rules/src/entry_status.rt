@@ -14,17 +14,14 @@ ghost use Rattle.policy_machine.specs.Management.{acting};
 ghost use Rattle.policy_machine.specs.declared.entry_status.RuleSS.TheVariants.{SS1};
 ghost use Rattle.policy_machine.specs.CommandForm.{FailsFirst};
 ghost use Rattle.policy_machine.specs.ManagedForm.{OwnFirst, command_form};
-ghost use Rattle.policy_rules.specs.Requests.{ActsIn};
 ghost use Rattle.policy_rules.specs.SetStatusRequests.{IsChangeFor, IsEntryStatusOf, IsEntryStatusRequest, IsOther, IsSlotStep, MaySet, slot_of};
+ghost use Rattle.policy_slots.specs.Acting.{ActsIn};
 
-use crate::charge::{find_domain, find_entry};
-use crate::delegation::holds;
-use crate::management::judge_setting;
-use crate::select::is_issuer;
 use bitflags::Flags;
 use card_types::{Aid, Entry, Life, LifeMark, Privileges, Tables, in_slot};
 use domain_tree::above;
 use policy_machine::{Rule, RulePS, RuleSS};
+use policy_slots::{find_domain, find_entry, holds, is_issuer, judge_setting};
 
 /// What a SET STATUS of an entry asks for: whether the entry is set with all below it, the new state's code, and the AID.
 #[derive(Clone, Copy, Debug)]

@@ -15,11 +15,10 @@ ghost use Rattle.policy_machine.specs.declared.instruction.TheConstants.{GET_DAT
 ghost use Rattle.policy_rules.specs.Found.{IsFor};
 ghost use Rattle.policy_rules.specs.Requests.{Parses};
 
-use crate::key_order::next_key;
 use crate::request::Request;
-use crate::session_sets::session_set;
 use card_types::{KeyRec, Object, Search, Tables, least};
 use policy_machine::{Rule, RuleGD, RulePS};
+use policy_slots::{next_key, session_set};
 
 /// Reads the data field. P1 and P2 are the tag, of any value.
 pub(crate) fn parse_get_data(p1: u8, p2: u8, body: &[u8]) -> Result<Request<'_>, Rule>

@@ -9,19 +9,15 @@ ghost use Rattle.policy_machine.specs.GetStatus.{BeginsAbove, GetStatusFails, Is
 ghost use Rattle.policy_machine.specs.Management.{acting};
 ghost use Rattle.policy_machine.specs.declared.get_status.RuleGS.TheVariants.{GS1};
 ghost use Rattle.policy_machine.specs.declared.instruction.TheConstants.{GET_STATUS};
-ghost use Rattle.policy_rules.specs.Requests.{ActsIn, Parses};
 ghost use Rattle.policy_rules.specs.GetStatusRequests.{IsFirstShown, IsListOf, IsListedAs, IsListedAt, IsNextListed, IsPlaceBefore, IsThingAt, NoneListed, found_in, lower_of};
+ghost use Rattle.policy_rules.specs.Requests.{Parses};
+ghost use Rattle.policy_slots.specs.Acting.{ActsIn};
 
-use crate::charge::is_at_or_above;
-use crate::delegation::holds;
-use crate::install_application::is_in_charge;
-use crate::live::Place;
-use crate::management::is_locked;
 use crate::request::Request;
-use crate::select::is_issuer;
 use bertlv::read;
 use card_types::{Aid, ENTRIES, Found, Privileges, Tables, in_slot};
 use policy_machine::{Rule, RuleGS, RuleM, RulePS};
+use policy_slots::{Place, holds, is_at_or_above, is_in_charge, is_issuer, is_locked};
 
 /// What a GET STATUS asks for: its P1, whether a listing goes on, what the AIDs begin with, and the whole data field.
 #[derive(Clone, Copy, Debug)]

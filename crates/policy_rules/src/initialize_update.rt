@@ -14,16 +14,16 @@ ghost use Rattle.card_types.specs.declared.tables.Entry.{Entry};
 ghost use Rattle.policy_machine.specs.Admission.{Admitted};
 ghost use Rattle.policy_machine.specs.FirstFailing.{IsFirst};
 ghost use Rattle.policy_machine.specs.InitializeUpdate.{InitializeUpdateFails, offer_rules};
-ghost use Rattle.policy_machine.specs.KeySets.{UsesSetOfKey};
+ghost use Rattle.policy_slots.specs.KeyOrder.{UsesSetOfKey};
 ghost use Rattle.policy_machine.specs.Select.{is_card_locked};
 ghost use Rattle.policy_machine.specs.declared.instruction.TheConstants.{INITIALIZE_UPDATE};
-ghost use Rattle.policy_rules.specs.Requests.{ActsIn, Parses};
+ghost use Rattle.policy_rules.specs.Requests.{Parses};
+ghost use Rattle.policy_slots.specs.Acting.{ActsIn};
 
 use crate::request::Request;
-use crate::select::is_issuer;
-use crate::session_sets::session_set;
 use card_types::{Aid, COUNTER_LIMIT, CardLife, KeySet, Tables, in_slot, set_with};
 use policy_machine::{Rule, RuleIU, RuleM, RulePS};
+use policy_slots::{is_issuer, session_set};
 
 /// Reads P2 and the data field: P1 is the key version number, and the data field the host challenge.
 pub(crate) fn parse_initialize_update(p1: u8, p2: u8, body: &[u8]) -> Result<Request<'_>, Rule>

@@ -4,11 +4,8 @@ ghost use Rattle.std.specs.Prelude.{ℕ, List};
 ghost use Rattle.policy_machine.specs.declared.instruction.TheConstants.{INSTALL};
 ghost use Rattle.policy_rules.specs.Requests.{Parses};
 
-use crate::extradition::parse_extradition;
-use crate::install_application::parse_application;
-use crate::install_load::parse_load_install;
-use crate::make_selectable::parse_selectable;
 use crate::request::Request;
+use content_rules::{parse_application, parse_extradition, parse_load_install, parse_selectable};
 use policy_machine::Rule;
 
 /// Reads P1, P2 and the data field of an INSTALL.

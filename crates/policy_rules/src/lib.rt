@@ -3,54 +3,33 @@
 #![tactic(auto)]
 
 mod card_status;
-mod charge;
-mod delegation;
 mod delete;
 mod delete_key;
-mod delete_object;
 mod entry_status;
 mod external_authenticate;
-mod extradition;
 mod get_data;
 mod get_status;
-mod in_use;
 mod initialize_update;
 mod install;
-mod install_application;
-mod install_fields;
-mod install_load;
-mod judged_request;
-mod key_order;
-mod live;
 mod load;
-mod make_selectable;
 mod manage_channel;
-mod management;
 mod own_rules;
 mod put_key;
 mod request;
 mod select;
-mod session_sets;
 mod set_status;
 mod store_data;
 
 pub use card_status::judge_card_status;
-pub use delegation::{Signed, holds, nearest_with_key};
+pub use content_rules::{
+    DeletionRequest, Extradition, ExtraditionRequest, InstallRequest, LoadInstallRequest,
+    LoadRequest, SelectableRequest, judge_load, judge_loaded, judge_loaded_by,
+};
 pub use delete_key::judge_delete_key;
-pub use delete_object::DeletionRequest;
 pub use entry_status::{EntryStatusRequest, StatusChange, judge_entry_status};
-pub use extradition::{Extradition, ExtraditionRequest};
 pub use get_data::{Datum, judge_get_data};
 pub use get_status::{ListRequest, judge_status, next_shown};
 pub use initialize_update::{OfferedSet, judge_initialize_update};
-pub use install_application::InstallRequest;
-pub use install_fields::InstallFields;
-pub use install_load::LoadInstallRequest;
-pub use judged_request::{Approving, Judged, JudgedRequest, judge_request};
-pub use key_order::{KeyName, next_key};
-pub use live::{Live, LoadName, Place};
-pub use load::{LoadRequest, judge_load, judge_loaded, judge_loaded_by};
-pub use make_selectable::SelectableRequest;
 pub use manage_channel::judge_more_channel;
 pub use own_rules::judge;
 pub use policy_machine::{
@@ -59,8 +38,11 @@ pub use policy_machine::{
     RuleIU, RuleLO, RuleM, RuleMC, RuleMS, RulePK, RulePS, RuleRC, RuleSC, RuleSD, RuleSE, RuleSS,
     RuleTK, SELECT, channel_of, is_plain_management, is_protected,
 };
+pub use policy_slots::{
+    Approving, Judged, JudgedRequest, KeyName, Live, LoadName, Place, Signed, holds, judge_request,
+    nearest_with_key, next_key, session_set,
+};
 pub use put_key::{PutKeys, SealedKey, judge_put_keys, judge_put_versions};
 pub use request::{Request, parse};
 pub use select::judge_select;
-pub use session_sets::session_set;
 pub use store_data::judge_store_data;

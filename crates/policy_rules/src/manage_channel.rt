@@ -5,11 +5,12 @@ ghost use Rattle.card_types.specs.declared.tables.Tables.{Tables};
 ghost use Rattle.policy_machine.specs.ManageChannel.{lowest_closed};
 ghost use Rattle.policy_machine.specs.State.{State};
 ghost use Rattle.policy_machine.specs.declared.instruction.TheConstants.{MANAGE_CHANNEL};
-ghost use Rattle.policy_rules.specs.Requests.{Parses, RepresentsState};
+ghost use Rattle.policy_rules.specs.Requests.{Parses};
+ghost use Rattle.policy_slots.specs.StateShown.{RepresentsState};
 
-use crate::live::Live;
 use crate::request::Request;
 use policy_machine::{CHANNELS, Rule, RuleMC, RulePS};
+use policy_slots::Live;
 
 /// Reads P1, P2 and the data field.
 pub(crate) fn parse_manage_channel(p1: u8, p2: u8, body: &[u8]) -> Result<Request<'_>, Rule>

@@ -10,7 +10,9 @@ ghost use Rattle.policy_machine.specs.Load.{LoadFails, front_rules};
 ghost use Rattle.policy_machine.specs.PutKey.{TellsChecks};
 ghost use Rattle.policy_machine.specs.Sound.{IsSound};
 ghost use Rattle.policy_machine.specs.declared.instruction.TheConstants.{EXTERNAL_AUTHENTICATE, GET_STATUS, LOAD};
-ghost use Rattle.policy_rules.specs.Requests.{ActsAsBefore, IsJudgedBehind, IsMeant, IsRequestOf, RepresentsState};
+ghost use Rattle.policy_rules.specs.Requests.{IsJudgedBehind, IsMeant, IsRequestOf};
+ghost use Rattle.policy_slots.specs.Acting.{ActsAsBefore};
+ghost use Rattle.policy_slots.specs.StateShown.{RepresentsState};
 
 use crate::card_status::judge_card_status;
 use crate::delete_key::judge_delete_key;
@@ -18,16 +20,15 @@ use crate::entry_status::judge_entry_status;
 use crate::get_data::judge_get_data;
 use crate::get_status::judge_status;
 use crate::initialize_update::judge_initialize_update;
-use crate::judged_request::judge_request;
-use crate::live::Live;
-use crate::load::judge_load;
 use crate::manage_channel::judge_more_channel;
 use crate::put_key::judge_put_key;
 use crate::request::Request;
 use crate::select::judge_select;
 use crate::store_data::judge_store_data;
 use card_types::Tables;
+use content_rules::judge_load;
 use policy_machine::{CHANNELS, Rule};
+use policy_slots::{Live, judge_request};
 
 /// The first of a well-formed command's own rules that fails, or none. Whether the check values of PUT KEY fit is told by the
 /// caller, who has the Key-DEK; of other commands it is not read.

@@ -13,15 +13,16 @@ ghost use Rattle.policy_machine.specs.PutKeyRules.{key_rules, version_rules};
 ghost use Rattle.policy_machine.specs.declared.instruction.TheConstants.{PUT_KEY};
 ghost use Rattle.policy_machine.specs.CommandForm.{FailsFirst};
 ghost use Rattle.policy_machine.specs.ManagedForm.{command_form};
-ghost use Rattle.policy_rules.specs.Requests.{ActsIn, IsRequestOf, Parses, sent_key, sent_keys};
+ghost use Rattle.policy_rules.specs.Requests.{IsRequestOf, Parses, sent_key, sent_keys};
 ghost use Rattle.policy_rules.specs.declared.put_key.PutKeys.{PutKeys as Keys};
 ghost use Rattle.policy_rules.specs.declared.request.Request.TheVariants.{PutKey};
+ghost use Rattle.policy_slots.specs.Acting.{ActsIn};
 
-use crate::management::judge_management;
 use crate::request::Request;
 use card_types::Tables;
 use key_rules::{is_full, is_taken, lacks_replaced};
 use policy_machine::{Rule, RulePK, RulePS};
+use policy_slots::judge_management;
 
 /// A key as it is sent: its length, its enciphered bytes, and its check value.
 #[derive(Clone, Copy, Debug)]

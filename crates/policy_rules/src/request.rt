@@ -5,20 +5,18 @@ ghost use Rattle.policy_machine.specs.Commands.{IsBuilt, Takes};
 ghost use Rattle.policy_machine.specs.Malformed.{IsMalformed};
 ghost use Rattle.policy_rules.specs.Requests.{Decodes, form_in};
 
-use crate::delete_object::DeletionRequest;
 use crate::entry_status::EntryStatusRequest;
-use crate::extradition::ExtraditionRequest;
 use crate::get_status::ListRequest;
-use crate::install_application::InstallRequest;
-use crate::install_load::LoadInstallRequest;
-use crate::load::LoadRequest;
-use crate::make_selectable::SelectableRequest;
 use crate::put_key::PutKeys;
 use crate::{
     delete, external_authenticate, get_data, get_status, initialize_update, install, load,
     manage_channel, put_key, select, set_status, store_data,
 };
 use card_types::Level;
+use content_rules::{
+    DeletionRequest, ExtraditionRequest, InstallRequest, LoadInstallRequest, LoadRequest,
+    SelectableRequest,
+};
 use policy_machine::{
     DELETE, GET_DATA, GET_STATUS, INITIALIZE_UPDATE, INSTALL, LOAD, MANAGE_CHANNEL, PUT_KEY, Rule,
     SELECT, SET_STATUS, STORE_DATA,

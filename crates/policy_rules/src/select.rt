@@ -15,6 +15,7 @@ ghost use Rattle.policy_rules.specs.Requests.{Parses};
 use crate::request::Request;
 use card_types::{Aid, CardLife, Entry, ISSUER, InSlot, Life, Search, Tables, least};
 use policy_machine::{Rule, RulePS, RuleSE};
+use policy_slots::is_issuer;
 
 /// Reads P1, P2 and the data field.
 pub(crate) fn parse_select(p1: u8, p2: u8, body: &[u8]) -> Result<Request<'_>, Rule>
@@ -27,13 +28,6 @@ pub(crate) fn parse_select(p1: u8, p2: u8, body: &[u8]) -> Result<Request<'_>, R
         return Err(Rule::PS(RulePS::S));
     }
     Ok(Request::Select { prefix: body })
-}
-
-/// Whether the AID is that of the Issuer Security Domain.
-pub(crate) fn is_issuer(aid: &Aid) -> bool
-    ensures { result ≡ same_aid aid.now ISSUER }
-{
-    aid.as_bytes() == ISSUER.as_slice()
 }
 
 // What SELECT looks for: entries that fit a partial AID.

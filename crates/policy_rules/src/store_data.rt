@@ -8,17 +8,19 @@ ghost use Rattle.card_types.specs.Well.{IsObject};
 ghost use Rattle.card_types.specs.declared.limits.TheConstants.{OBJECTS};
 ghost use Rattle.policy_machine.specs.Admission.{Admitted};
 ghost use Rattle.policy_machine.specs.Commands.{Judges};
-ghost use Rattle.policy_machine.specs.ObjectsFound.{AreObjects, has_object_in, has_tag_in, is_tagged_in, new_tags};
+ghost use Rattle.policy_machine.specs.ObjectsFound.{AreObjects, has_tag_in, new_tags};
+ghost use Rattle.policy_slots.specs.ObjectsHeld.{has_object_in, is_tagged_in};
 ghost use Rattle.policy_machine.specs.StoreData.{StoreDataField, StoreDataParameters};
 ghost use Rattle.policy_machine.specs.declared.instruction.TheConstants.{STORE_DATA};
-ghost use Rattle.policy_rules.specs.Requests.{ActsIn, IsRequestOf, Parses};
+ghost use Rattle.policy_rules.specs.Requests.{IsRequestOf, Parses};
 ghost use Rattle.policy_rules.specs.declared.request.Request.TheVariants.{Store};
+ghost use Rattle.policy_slots.specs.Acting.{ActsIn};
 
-use crate::management::judge_management;
 use crate::request::Request;
 use bertlv::{Tlv, read};
 use card_types::{OBJECTS, Object, Tables};
 use policy_machine::{Rule, RulePS, RuleSD};
+use policy_slots::{has_tag, judge_management};
 
 // Whether a domain may have the data object.
 fn is_object(element: &Tlv<'_>) -> bool
@@ -91,20 +93,6 @@ fn has_object(objects: &[Option<Object>], owner: u8, tag: u16) -> bool
     ensures { result ≡ has_object_in objects.now owner tag }
 {
     objects.iter().any(|held| is_tagged(held, owner, tag))
-}
-
-/// Whether one of the elements has a tag.
-pub(crate) fn has_tag(elements: &[u8], tag: u16) -> bool
-    ensures { (are : List Element) → AreElements are elements.now → result ≡ has_tag_in are tag }
-{
-    let mut rest = elements;
-    while let Ok((element, after)) = read(rest) {
-        if element.tag == tag {
-            return true;
-        }
-        rest = after;
-    }
-    false
 }
 
 // How many of the elements have a tag that the domain in a slot has no data object with. A tag counts once.

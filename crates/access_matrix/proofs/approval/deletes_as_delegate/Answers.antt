@@ -1,6 +1,6 @@
 use Rattle.std.proofs.Common.{sym, ◌∙◌}
 use Rattle.std.proofs.lemmas.Bool.{false_from_ne_true, not-true, not_from_false}
-use Rattle.policy_rules.proofs.ExtraditionJudging.{holds_told, lacks_told}
+use Rattle.policy_slots.proofs.HoldsTold.{holds_told, lacks_told}
 use Rattle.access_matrix.proofs.approval.deletes_as_delegate.Goals as goal
 
 pub returns-then-is_delegate : goal.returns-then-is_delegate

@@ -1,4 +1,4 @@
-use Rattle.policy_rules.proofs.ExtraditionJudging.{holds_told}
+use Rattle.policy_slots.proofs.HoldsTold.{holds_told}
 use Rattle.access_matrix.proofs.approval.is_delegate.Goals as goal
 
 pub returns : goal.returns

@@ -2,8 +2,8 @@ use Rattle.std.proofs.Common.{inl, inr, refl, sym, subst, ◌∙◌}
 use Rattle.card_types.specs.Represents.{domain_aid}
 use Rattle.policy_machine.specs.DeleteObject.{IsDelegated, managed_delete_object}
 use Rattle.policy_machine.specs.ManagedForm.{command_form}
-use Rattle.policy_rules.specs.Requests.{RepresentsState}
-use Rattle.policy_rules.specs.declared.live.Live.{Live}
+use Rattle.policy_slots.specs.StateShown.{RepresentsState}
+use Rattle.policy_slots.specs.declared.live.Live.{Live}
 use Rattle.std.specs.Prelude.{IsTrue}
 use Rattle.tokens_receipts.specs.Token.{object_named_by}
 use Rattle.access_matrix.specs.There.{judged_there, with_domain}

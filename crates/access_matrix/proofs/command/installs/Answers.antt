@@ -7,8 +7,8 @@ use Rattle.card_types.specs.Represents.{domain_aid}
 use Rattle.policy_machine.specs.Delegation.{Holds}
 use Rattle.policy_machine.specs.InstallApplication.{managed_install}
 use Rattle.policy_machine.specs.ManagedForm.{command_form}
-use Rattle.policy_rules.specs.Requests.{IsLoadNamed}
-use Rattle.policy_rules.specs.declared.live.Live.{Live}
+use Rattle.policy_slots.specs.StateShown.{IsLoadNamed}
+use Rattle.policy_slots.specs.declared.live.Live.{Live}
 use Rattle.tokens_receipts.specs.Receipt.{with_length}
 use Rattle.access_matrix.specs.There.{judged_there}
 use Rattle.access_matrix.proofs.DeedCommands.{install_accepted, install_command, install_front, install_request, told_token}

@@ -5,8 +5,8 @@ use Rattle.card_types.specs.Privileges.{delegated_management}
 use Rattle.card_types.specs.Represents.{domain_aid}
 use Rattle.policy_machine.specs.Delegation.{Holds}
 use Rattle.policy_machine.specs.InstallLoad.{install_load}
-use Rattle.policy_rules.specs.Requests.{IsLoadNamed}
-use Rattle.policy_rules.specs.declared.live.Live.{Live}
+use Rattle.policy_slots.specs.StateShown.{IsLoadNamed}
+use Rattle.policy_slots.specs.declared.live.Live.{Live}
 use Rattle.std.proofs.Common.{None, subst, sym}
 use Rattle.tokens_receipts.specs.Receipt.{with_length}
 use Rattle.access_matrix.specs.There.{judged_there}

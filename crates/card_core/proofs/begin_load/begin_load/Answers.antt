@@ -5,8 +5,8 @@ use Rattle.policy_machine.proofs.Judging.{IsListed, does_so, judged}
 use Rattle.policy_machine.specs.InstallLoad.{file_domain_for, install_load, load_begun}
 use Rattle.policy_machine.specs.State.{Effect, State}
 use Rattle.policy_machine.specs.Volatile.{LoadSession, with_load}
-use Rattle.policy_rules.specs.Requests.{RepresentsState}
-use Rattle.policy_rules.specs.declared.live.Live.{Live}
+use Rattle.policy_slots.specs.StateShown.{RepresentsState}
+use Rattle.policy_slots.specs.declared.live.Live.{Live}
 use Rattle.load_session.specs.Session.{RepresentsLoad}
 use Rattle.card_core.proofs.LoadsKept.{refusal_loaded}
 use Rattle.card_core.proofs.begin_load.begin_load.Goals as goal

@@ -10,7 +10,7 @@ use Rattle.card_types.specs.Slots.{held}
 use Rattle.card_types.specs.declared.limits.TheConstants.{RECEIPT_LIMIT}
 use Rattle.card_types.specs.declared.tables.Entry.{Entry}
 use Rattle.card_types.specs.declared.tables.Tables.{Tables}
-use Rattle.policy_rules.specs.HoldersFound.{MayReceipt}
+use Rattle.policy_slots.specs.HoldersFound.{MayReceipt}
 use Rattle.tokens_receipts.specs.Receipt.{aids_of}
 use Rattle.card_core.proofs.Cards.{in_order}
 use Rattle.card_core.proofs.Confirming.{confirmed}

@@ -11,7 +11,7 @@ use Rattle.card_types.specs.declared.found.Found.{Found}
 use Rattle.card_types.specs.declared.found.Found.TheVariants as Thing
 use Rattle.card_types.specs.declared.tables.Entry.{Entry}
 use Rattle.card_types.specs.declared.tables.LoadFile.{LoadFile}
-use Rattle.policy_rules.specs.DeleteObjectFound.{HasNoneFrom, IsAlone, IsRemovable}
+use Rattle.content_rules.specs.DeleteObjectFound.{HasNoneFrom, IsAlone, IsRemovable}
 use Rattle.registry.specs.Removing.{IsUnloaded}
 use Rattle.card_core.proofs.Answered.{owner_room_again}
 use Rattle.card_core.proofs.Cards.{in_order}

@@ -7,7 +7,7 @@ use Rattle.policy_machine.specs.Volatile.{selected_on}
 use Rattle.policy_machine.specs.GetData.{get_data}
 use Rattle.policy_machine.specs.declared.channels.TheConstants.{CHANNELS}
 use Rattle.policy_rules.proofs.DataAsked.{asked_for, asks}
-use Rattle.policy_rules.proofs.Selected.{selected_entry}
+use Rattle.policy_slots.proofs.Selected.{selected_entry}
 use Rattle.card_core.proofs.Carrying.{refusal_shows}
 use Rattle.card_core.proofs.get_data.get_data.Goals as goal
 

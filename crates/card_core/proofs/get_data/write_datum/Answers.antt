@@ -4,7 +4,7 @@ use Rattle.card_types.specs.Least.{IsLeast}
 use Rattle.card_types.specs.Represents.{domain_aid}
 use Rattle.card_types.specs.Slots.{held}
 use Rattle.policy_machine.specs.GetData.{IsKeyInformation}
-use Rattle.policy_rules.specs.KeyOrder.{follows, name_order}
+use Rattle.policy_slots.specs.KeyOrder.{follows, name_order}
 use Rattle.card_core.proofs.get_data.write_datum.Goals as goal
 
 -- what is appended to nothing is the element

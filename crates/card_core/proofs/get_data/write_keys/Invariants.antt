@@ -6,7 +6,7 @@ use Rattle.card_types.specs.Slots.{held}
 use Rattle.card_types.specs.Well.{Well}
 use Rattle.card_types.specs.declared.tables.Entry.{Entry}
 use Rattle.card_types.specs.declared.tables.Tables.{Tables}
-use Rattle.policy_rules.specs.KeyOrder.{follows, name_order}
+use Rattle.policy_slots.specs.KeyOrder.{follows, name_order}
 use Rattle.card_core.proofs.Listing.{IsListing}
 use Rattle.card_core.proofs.get_data.write_keys.Given as goal
 

@@ -9,7 +9,7 @@ use Rattle.card_core.proofs.OfferMade.{offer_stands, refusal_handed, set_asked}
 use Rattle.card_core.specs.Offers.{IsMade}
 use Rattle.card_core.specs.declared.channel_session.ChannelSession.TheVariants.{Offered}
 use Rattle.policy_machine.specs.Management.{acting}
-use Rattle.policy_rules.specs.Requests.{ActsIn}
+use Rattle.policy_slots.specs.Acting.{ActsIn}
 use Rattle.scp03_card.specs.Offer.{offered}
 use Rattle.policy_machine.proofs.InitializeUpdateLaws.{offer_judged}
 use Rattle.card_core.proofs.initialize_update.initialize_update.Goals as goal

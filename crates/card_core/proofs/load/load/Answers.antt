@@ -8,9 +8,9 @@ use Rattle.load_session.specs.Pages.{pages_in}
 use Rattle.load_session.specs.Session.{IsAfterBlock, IsBlockTaken, IsWholeFile, RepresentsAfter, RepresentsLoad, RepresentsWhole, len_of, load_aid, load_slot}
 use Rattle.load_session.specs.declared.session.LoadSession.{LoadSession}
 use Rattle.policy_machine.specs.LoadBlocks.{with_block}
-use Rattle.policy_rules.proofs.LoadJudging.{front_refuses}
-use Rattle.policy_rules.specs.LiveEnds.{live_without_load}
-use Rattle.policy_rules.specs.declared.live.Live.{Live}
+use Rattle.content_rules.proofs.LoadJudging.{front_refuses}
+use Rattle.policy_slots.specs.LiveEnds.{live_without_load}
+use Rattle.policy_slots.specs.declared.live.Live.{Live}
 use Rattle.card_core.proofs.Cards.{in_order}
 use Rattle.card_core.proofs.LoadHeld.{few_last, held_load, new_free, some_last}
 use Rattle.card_core.proofs.LoadJudged.{for_block, load_on, load_stands}

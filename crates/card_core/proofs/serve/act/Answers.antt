@@ -9,8 +9,8 @@ use Rattle.policy_machine.specs.Classes.{managing}
 use Rattle.policy_machine.specs.declared.instruction.TheConstants.{GET_DATA}
 use Rattle.policy_machine.specs.Admission.{Admitted}
 use Rattle.policy_rules.specs.Requests.{IsRequestOf}
-use Rattle.policy_rules.specs.declared.live.Place.{Place}
 use Rattle.policy_rules.specs.declared.request.Request.{Request}
+use Rattle.policy_slots.specs.declared.live.Place.{Place}
 use Rattle.card_core.specs.Serves.{IsAsked, IsPassed}
 use Rattle.policy_machine.specs.declared.channels.TheConstants.{CHANNELS}
 use Rattle.card_core.specs.Offers.{secure_channel_for}

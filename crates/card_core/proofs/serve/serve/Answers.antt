@@ -5,7 +5,7 @@ use Rattle.apdu_core.proofs.Octets.{length-body}
 use Rattle.apdu_core.specs.Apdu.{Apdu, apdu_of}
 use Rattle.policy_machine.proofs.Passing.{channel_is_low}
 use Rattle.policy_machine.specs.declared.channels.TheConstants.{CHANNELS}
-use Rattle.policy_rules.specs.Requests.{RepresentsState}
+use Rattle.policy_slots.specs.StateShown.{RepresentsState}
 use Rattle.card_core.proofs.Coming.{closed_over, has_come, opened_still, passed_over, still_opened, still_secured, written_on}
 use Rattle.card_core.proofs.Serving.{rejected}
 use Rattle.card_core.specs.Kept.{kept_of}

@@ -5,7 +5,7 @@ use Rattle.policy_machine.specs.declared.rule.Rule.TheVariants.{SC}
 use Rattle.policy_machine.specs.CardStatus.{managed_card_status}
 use Rattle.policy_machine.specs.ManagedForm.{command_form}
 use Rattle.policy_rules.proofs.CardStatusJudging.{barred_first, codeless_first, of_card, step_passes, stepless_first}
-use Rattle.policy_rules.proofs.ManagementFirst.{setting_handed}
+use Rattle.policy_slots.proofs.ManagementFirst.{setting_handed}
 use Rattle.policy_rules.proofs.card_status.judge_card_status.Goals as goal
 
 pub returns-in_err-judge_setting-clause-refused : goal.returns-in_err-judge_setting-clause-refused

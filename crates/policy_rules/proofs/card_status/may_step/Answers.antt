@@ -1,4 +1,4 @@
-use Rattle.policy_rules.proofs.ExtraditionJudging.{holds_told}
+use Rattle.policy_slots.proofs.HoldsTold.{holds_told}
 use Rattle.policy_rules.proofs.card_status.may_step.Goals as goal
 
 pub returns-in-Prepare : goal.returns-in-Prepare

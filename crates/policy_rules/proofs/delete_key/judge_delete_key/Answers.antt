@@ -6,7 +6,7 @@ use Rattle.policy_machine.specs.declared.rule.Rule.TheVariants.{DK}
 use Rattle.policy_machine.proofs.Judging.{err_judged}
 use Rattle.policy_machine.specs.ManagedForm.{command_form}
 use Rattle.policy_rules.proofs.DeleteKeyJudging.{acting_has_version, known_passes, refused_first, none_first}
-use Rattle.policy_rules.proofs.ManagementFirst.{management_handed}
+use Rattle.policy_slots.proofs.ManagementFirst.{management_handed}
 use Rattle.policy_rules.proofs.delete_key.judge_delete_key.Goals as goal
 use Rattle.policy_rules.proofs.delete_key.judge_delete_key.Goals.{then-not-has_version-via-then-not-has_version, then-not-has_version-via-else-not-has_version+then-names_part}
 

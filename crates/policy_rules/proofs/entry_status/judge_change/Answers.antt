@@ -8,8 +8,8 @@ use Rattle.card_types.specs.declared.life.LifeMark.{LifeMark}
 use Rattle.policy_machine.specs.Admission.{Admitted}
 use Rattle.policy_machine.specs.EntryStatus.{managed_entry_status}
 use Rattle.policy_machine.specs.ManagedForm.{OwnFirst}
-use Rattle.policy_rules.specs.Requests.{ActsIn}
 use Rattle.policy_rules.specs.SetStatusRequests.{IsEntryStatusOf, IsSlotStep}
+use Rattle.policy_slots.specs.Acting.{ActsIn}
 use Rattle.policy_rules.proofs.entry_status.judge_change.Goals as goal
 use Rattle.policy_rules.proofs.entry_status.judge_change.Goals.{After-step_of}
 

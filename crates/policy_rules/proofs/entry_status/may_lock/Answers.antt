@@ -1,9 +1,9 @@
 use Rattle.std.proofs.Common.{inl, inr, sym, ◌∙◌}
 use Rattle.domain_tree.proofs.AboveNamed.{free_of_loops}
 use Rattle.policy_machine.specs.Management.{acting}
-use Rattle.policy_rules.proofs.ChargeNamed.{above_alike}
-use Rattle.policy_rules.proofs.ExtraditionJudging.{holds_told}
-use Rattle.policy_rules.proofs.ThingsFound.{acting_named}
+use Rattle.policy_slots.proofs.ChargeNamed.{above_alike}
+use Rattle.policy_slots.proofs.HoldsTold.{holds_told}
+use Rattle.policy_slots.proofs.ThingsFound.{acting_named}
 use Rattle.policy_rules.proofs.entry_status.may_lock.Goals as goal
 
 pub above-requires-clause-no_loops : goal.above-requires-clause-no_loops

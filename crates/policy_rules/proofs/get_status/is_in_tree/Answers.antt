@@ -6,7 +6,7 @@ use Rattle.card_types.specs.declared.tables.Entry.{Entry}
 use Rattle.policy_machine.specs.GetStatus.{IsInTree, Thing}
 use Rattle.policy_machine.specs.Management.{acting}
 use Rattle.policy_rules.specs.GetStatusRequests.{IsThingAt}
-use Rattle.policy_rules.proofs.ThingsFound.{acting_named}
+use Rattle.policy_slots.proofs.ThingsFound.{acting_named}
 use Rattle.policy_rules.proofs.get_status.is_in_tree.Goals as goal
 
 pub returns-in-Entry : goal.returns-in-Entry

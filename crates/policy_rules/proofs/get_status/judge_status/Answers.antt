@@ -3,8 +3,8 @@ use Rattle.std.specs.Prelude.{option_copied}
 use Rattle.policy_machine.specs.FirstFailing.{IsFirst}
 use Rattle.policy_machine.specs.GetStatus.{GetStatusFails, get_status_rules}
 use Rattle.policy_machine.specs.declared.rule.Rule.TheVariants.{GS}
-use Rattle.policy_rules.proofs.ActingDomain.{locked_fails, unlocked_passes}
 use Rattle.policy_rules.proofs.GetStatusJudging.{locked_first, none_first, nothing_first, nothing_shown, placeless_first, something_shown}
+use Rattle.policy_slots.proofs.ActingDomain.{locked_fails, unlocked_passes}
 use Rattle.policy_rules.proofs.get_status.judge_status.Goals as goal
 
 pub returns-then-is_locked-clause-refused : goal.returns-then-is_locked-clause-refused

@@ -1,6 +1,6 @@
 use Rattle.std.proofs.Common.{inl, inr, sym, ◌∙◌}
 use Rattle.std.proofs.lemmas.Bool.{false≢true}
-use Rattle.policy_rules.proofs.InstallApplicationJudging.{holds_named}
+use Rattle.policy_slots.proofs.HoldsTold.{holds_named}
 use Rattle.policy_rules.proofs.get_status.sees.Goals as goal
 
 pub returns-then-is_in_tree : goal.returns-then-is_in_tree

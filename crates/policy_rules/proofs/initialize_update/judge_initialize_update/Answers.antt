@@ -2,8 +2,8 @@ use Rattle.std.proofs.Common.{subst, sym, ◌∙◌}
 use Rattle.card_types.specs.NamedKeys.{AreKeysOf}
 use Rattle.card_types.specs.Represents.{domain_aid}
 use Rattle.card_types.specs.declared.tables.KeyRec.{KeyRec}
-use Rattle.policy_rules.proofs.KeysByName.{least_in_slot}
 use Rattle.policy_rules.proofs.InitializeUpdateJudging.{has_next, locked_first, none_first, shut_first, spent_first, unset_first}
+use Rattle.policy_slots.proofs.KeysByName.{least_in_slot}
 use Rattle.policy_rules.proofs.initialize_update.judge_initialize_update.Goals as goal
 
 pub returns-then-entry-clause-refused : goal.returns-then-entry-clause-refused

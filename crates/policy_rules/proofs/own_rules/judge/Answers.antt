@@ -15,10 +15,11 @@ use Rattle.policy_machine.specs.MakeSelectable.{managed_selectable}
 use Rattle.policy_machine.specs.GetStatus.{get_status}
 use Rattle.policy_machine.specs.Admission.{Admitted}
 use Rattle.policy_machine.specs.Sound.{IsSound}
+use Rattle.content_rules.specs.LoadFound.{IsForLoad}
 use Rattle.policy_rules.specs.SetStatusRequests.{IsCardStatusOf}
-use Rattle.policy_rules.specs.LoadFound.{IsForLoad}
-use Rattle.policy_rules.specs.KeptPlaces.{place_of}
-use Rattle.policy_rules.specs.Requests.{ActsIn, RepresentsState}
+use Rattle.policy_slots.specs.Acting.{ActsIn}
+use Rattle.policy_slots.specs.KeptPlaces.{place_of}
+use Rattle.policy_slots.specs.StateShown.{RepresentsState}
 use Rattle.card_types.specs.Represents.{Represents}
 use Rattle.card_types.specs.Well.{Well}
 use Rattle.policy_machine.specs.Volatile.{channel_at, place_in, selected_on}
@@ -33,9 +34,9 @@ use Rattle.policy_machine.specs.CommandForm.{FailsFirst}
 use Rattle.policy_machine.specs.InstallLoad.{install_load}
 use Rattle.policy_machine.specs.PutKey.{managed_put_key}
 use Rattle.policy_machine.specs.ManagedForm.{command_form}
-use Rattle.policy_rules.specs.GetStatusRequests.{IsPlaceBefore}
 use Rattle.policy_rules.proofs.DataAsked.{asked_for, asks, has_data}
-use Rattle.policy_rules.proofs.Selected.{selected_acts, selected_entry}
+use Rattle.policy_rules.specs.GetStatusRequests.{IsPlaceBefore}
+use Rattle.policy_slots.proofs.Selected.{selected_acts, selected_entry}
 use Rattle.policy_rules.proofs.own_rules.judge.Goals as goal
 use Rattle.policy_rules.proofs.own_rules.judge.Goals.{After-unwrap-domain}
 

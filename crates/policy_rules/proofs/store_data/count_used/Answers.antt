@@ -1,10 +1,16 @@
-use Rattle.std.proofs.Common.{◌≡◌, length, ◌∙◌, rules, tests}
+use Rattle.std.proofs.Common.{◌≡◌, suc, List, [], ◌∷◌, length, Option, None, Some, refl, ap, ◌∙◌, rules, tests}
 use Rattle.std.proofs.lemmas.Iterator.{YieldsList-from_slice}
 use Rattle.std.proofs.lemmas.Iterator.Consumers.{YieldsList-from_filter, count_from_yields_List}
 use Rattle.std.specs.Prelude.{filter}
 use Rattle.std.specs.Option.{is_some}
-use Rattle.policy_machine.proofs.NewTags.{count_some}
+use Rattle.card_types.specs.Represents.{used}
 use Rattle.policy_rules.proofs.store_data.count_used.Goals as goal
+
+-- the used slots are those with something
+count_some : {T : Type 0} (slots : List (Option T)) → length (filter is_some slots) ≡ length (used slots)
+count_some [] = refl
+count_some (None ∷ slots) = count_some slots
+count_some (Some thing ∷ slots) = ap suc (count_some slots)
 
 pub returns-clause-number : goal.returns-clause-number
 returns-clause-number c =

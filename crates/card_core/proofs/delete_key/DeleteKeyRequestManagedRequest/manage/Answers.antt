@@ -10,7 +10,7 @@ use Rattle.card_types.specs.declared.tables.Tables.{Tables}
 use Rattle.policy_machine.proofs.DeleteKeyKeeps.{without_version}
 use Rattle.policy_machine.specs.DeleteKey.{managed_delete_key}
 use Rattle.policy_machine.specs.Management.{acting}
-use Rattle.policy_rules.specs.Requests.{ActsIn}
+use Rattle.policy_slots.specs.Acting.{ActsIn}
 use Rattle.card_core.proofs.delete_key.DeleteKeyRequestManagedRequest.manage.Goals as goal
 
 pub judge_delete_key-requires : goal.judge_delete_key-requires

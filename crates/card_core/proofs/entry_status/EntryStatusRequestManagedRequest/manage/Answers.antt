@@ -13,10 +13,10 @@ use Rattle.domain_tree.proofs.AboveNamed.{free_of_loops}
 use Rattle.policy_machine.proofs.Judging.{judged}
 use Rattle.policy_machine.proofs.EntryStatusLaws.{set_of_card}
 use Rattle.policy_machine.specs.EntryStatus.{managed_entry_status}
-use Rattle.policy_rules.specs.Requests.{ActsIn}
 use Rattle.policy_rules.specs.SetStatusRequests.{IsOther, slot_of}
 use Rattle.policy_rules.specs.declared.entry_status.StatusChange.{StatusChange}
 use Rattle.policy_rules.specs.declared.entry_status.StatusChange.TheVariants.{One, Tree}
+use Rattle.policy_slots.specs.Acting.{ActsIn}
 use Rattle.card_core.specs.StatusChanges.{MakesChange}
 use Rattle.card_core.proofs.entry_status.EntryStatusRequestManagedRequest.manage.Goals as goal
 use Rattle.policy_machine.specs.ManagedForm.{command_form}

@@ -14,7 +14,7 @@ use Rattle.card_types.specs.declared.tables.Entry.{Entry}
 use Rattle.policy_machine.proofs.MakeSelectableLaws.{selectable_life, selectable_of_card}
 use Rattle.policy_machine.specs.Delegation.{Holds}
 use Rattle.policy_machine.specs.MakeSelectable.{managed_selectable}
-use Rattle.policy_rules.specs.MakeSelectableRequests.{IsInstalledWith}
+use Rattle.content_rules.specs.MakeSelectableRequests.{IsInstalledWith}
 use Rattle.card_core.proofs.make_selectable.SelectableRequestManagedRequest.manage.Goals as goal
 use Rattle.policy_machine.specs.ManagedForm.{command_form}
 

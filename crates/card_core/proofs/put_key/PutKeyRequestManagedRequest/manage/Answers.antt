@@ -4,9 +4,10 @@ use Rattle.card_types.specs.Well.{IsKeyLength}
 use Rattle.policy_machine.proofs.FirstJoined.{first_behind, first_within}
 use Rattle.policy_machine.proofs.PutKeyLaws.{put_judged}
 use Rattle.policy_machine.specs.PutKeyRules.{key_rules, version_rules}
-use Rattle.policy_rules.specs.Requests.{ActsIn, IsRequestOf, IsWellFormed, sent_key}
+use Rattle.policy_rules.specs.Requests.{IsRequestOf, IsWellFormed, sent_key}
 use Rattle.policy_rules.specs.declared.put_key.PutKeys.TheVariants.{One, Three}
 use Rattle.policy_rules.specs.declared.request.Request.TheVariants.{PutKey}
+use Rattle.policy_slots.specs.Acting.{ActsIn}
 use Rattle.card_core.proofs.Answered.{entries_selected}
 use Rattle.card_core.proofs.Cards.{in_order}
 use Rattle.card_core.proofs.FreePages.{files_free}

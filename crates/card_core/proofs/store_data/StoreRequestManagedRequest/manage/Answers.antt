@@ -7,8 +7,9 @@ use Rattle.card_types.specs.Represents.{used}
 use Rattle.card_types.specs.Well.{IsObject}
 use Rattle.card_types.specs.declared.limits.TheConstants.{OBJECTS}
 use Rattle.policy_machine.proofs.StoreDataElements.{elements_behind, none_left}
-use Rattle.policy_machine.specs.ObjectsFound.{has_object_in, new_tags}
-use Rattle.policy_rules.specs.Requests.{ActsIn}
+use Rattle.policy_machine.specs.ObjectsFound.{new_tags}
+use Rattle.policy_slots.specs.ObjectsHeld.{has_object_in}
+use Rattle.policy_slots.specs.Acting.{ActsIn}
 use Rattle.card_core.proofs.Answered.{entries_selected}
 use Rattle.card_core.proofs.Cards.{in_order}
 use Rattle.card_core.proofs.FreePages.{files_free}

@@ -1,0 +1,11 @@
+pub mod DeleteObjectJudging
+pub mod DeleteObjectNames
+pub mod DeleteObjectSlots
+pub mod ExtraditionJudging
+pub mod InstallApplicationJudging
+pub mod InstallLoadJudging
+pub mod LoadJudging
+pub mod LoadNamed
+pub mod MakeSelectableJudging
+pub mod PrivilegesGiven
+pub mod ReceipterKept

@@ -1,0 +1,9 @@
+pub mod DeleteObjectFound
+pub mod DeleteObjectRequests
+pub mod ExtraditionRequests
+pub mod FieldsRead
+pub mod InstallApplicationRequests
+pub mod InstallLoadRequests
+pub mod LoadFound
+pub mod LoadRequests
+pub mod MakeSelectableRequests

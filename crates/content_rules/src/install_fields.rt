@@ -1,0 +1,75 @@
+//! The data field of INSTALL (GlobalPlatform Card Specification 2.3.1, 11.5.2.3): six fields, each after its length.
+
+ghost use Rattle.std.specs.Prelude.{◌≡◌, ◌≤◌, ◌++◌, ℕ, List, IfNone, IfSome, length};
+ghost use Rattle.std.specs.List.{flat_map};
+ghost use Rattle.tokens_receipts.specs.Receipt.{with_length};
+ghost use Rattle.policy_machine.specs.LengthField.{BeginsWithField};
+ghost use Rattle.policy_machine.specs.InstallFields.{InstallData, IsInstallData, signed_fields};
+ghost use Rattle.content_rules.specs.FieldsRead.{given_of};
+
+/// The six fields of an INSTALL, and the bytes before the token and its length, which the token signs.
+#[derive(Clone, Copy, Debug)]
+pub struct InstallFields<'a> {
+    pub first: &'a [u8],
+    pub second: &'a [u8],
+    pub third: &'a [u8],
+    pub privileges: &'a [u8],
+    pub parameters: &'a [u8],
+    pub token: &'a [u8],
+    pub before: &'a [u8],
+}
+
+/// The highest length of a field, in bytes.
+const LONGEST: usize = 0x7F;
+
+// The field that the bytes begin with, and the bytes after it.
+pub(crate) fn read_field(bytes: &[u8]) -> Option<(&[u8], &[u8])>
+    ensures some { IfSome result (λ read. BeginsWithField read.0.now bytes.now read.1.now) }
+    ensures none { IfNone result ((field rest : List ℕ) → BeginsWithField field bytes.now rest → ⊥) }
+{
+    if bytes.is_empty() {
+        return None;
+    }
+    let size = usize::from(bytes[0]);
+    let end = 1 + size;
+    if size > LONGEST || bytes.len() < end {
+        return None;
+    }
+    Some((&bytes[1..end], &bytes[end..]))
+}
+
+// The bytes that stand before others which end them.
+pub(crate) fn front<'a>(bytes: &'a [u8], behind: &[u8]) -> &'a [u8]
+    requires { length behind.now ≤ length bytes.now }
+    ensures before { (all : List ℕ) → bytes.now ≡ all ++ behind.now → result.now ≡ all }
+    ensures short { length result.now ≤ length bytes.now }
+{
+    &bytes[..bytes.len() - behind.len()]
+}
+
+/// The fields of the data field of an INSTALL, or none where it is not six such fields.
+pub(crate) fn read_fields(body: &[u8]) -> Option<InstallFields<'_>>
+    ensures some { IfSome result (λ fields. IsInstallData (given_of fields) body.now) }
+    ensures before { IfSome result (λ fields. fields.before.now ≡ flat_map with_length (signed_fields (given_of fields))) }
+    ensures short { IfSome result (λ fields. length fields.before.now ≤ length body.now) }
+    ensures none { IfNone result ((given : InstallData) → IsInstallData given body.now → ⊥) }
+{
+    let (first, rest) = read_field(body)?;
+    let (second, rest) = read_field(rest)?;
+    let (third, rest) = read_field(rest)?;
+    let (privileges, rest) = read_field(rest)?;
+    let (parameters, last) = read_field(rest)?;
+    let (token, rest) = read_field(last)?;
+    if !rest.is_empty() {
+        return None;
+    }
+    Some(InstallFields {
+        first,
+        second,
+        third,
+        privileges,
+        parameters,
+        token,
+        before: front(body, last),
+    })
+}

@@ -1,0 +1,141 @@
+//! INSTALL [for make selectable] (GlobalPlatform Card Specification 2.3.1, 9.3.3 and 11.5).
+
+ghost use Rattle.std.specs.Prelude.{◌≡◌, ◌↔◌, ◌≢◌, IfErr, IfNone, IfOk, IfSome, IsTrue, MatchOption, Option, refl, true};
+ghost use Rattle.card_types.specs.Slots.{held};
+ghost use Rattle.policy_machine.proofs.MakeSelectableLaws.{selectable_judgeable};
+ghost use Rattle.policy_machine.specs.InstallFields.{InstallData};
+ghost use Rattle.policy_machine.specs.Malformed.{IsRefusedBy};
+ghost use Rattle.policy_machine.specs.MakeSelectable.{AsksToMakeSelectable, MakeSelectableParameters, is_installed, managed_selectable};
+ghost use Rattle.policy_machine.specs.ManagedForm.{command_form};
+ghost use Rattle.content_rules.specs.MakeSelectableRequests.{AreGiven, IsInstalledWith, IsSelectableOf, IsSelectableRequest};
+
+use crate::install_fields::read_fields;
+use card_types::{Aid, Life, LifeMark, Privileges, Tables, in_slot};
+use domain_tree::above;
+use policy_machine::{Rule, RuleMS, RulePS};
+use policy_slots::{Approving, JudgedRequest, Live, Signed, find_entry, may_manage};
+
+/// What an INSTALL [for make selectable] asks for: the AID of the application, the privileges that it is to have or none, and
+/// what approves it.
+#[derive(Clone, Copy, Debug)]
+pub struct SelectableRequest<'a> {
+    pub aid: Aid,
+    pub privileges: Option<Privileges>,
+    pub signed: Signed<'a>,
+}
+
+/// The life cycle state of an application that is installed, and not locked.
+const INSTALLED: LifeMark = LifeMark {
+    life: Life::Installed,
+    locked: false,
+};
+
+fn is_just_installed(life: LifeMark) -> bool
+    ensures { IsTrue result ↔ (life ≡ is_installed) }
+{
+    life == INSTALLED
+}
+
+// Whether privileges are given, and others than these.
+fn differ(given: Option<Privileges>, privileges: Privileges) -> bool
+    ensures { IsTrue result ↔ MatchOption given ⊥ (λ these. privileges ≢ these) }
+{
+    match given {
+        Some(these) => privileges != these,
+        None => false,
+    }
+}
+
+impl JudgedRequest for SelectableRequest<'_> {
+    /// The slot of the application.
+    type Found = u8;
+
+    ghost form = { managed_selectable.judged };
+
+    ghost receipted = { true };
+
+    ghost reads = { IsSelectableOf };
+
+    ghost asked = { λ request command is. is.given };
+
+    ghost brought = { λ request. request.signed };
+
+    ghost told = { λ page tables live admitted. Unit {0} };
+
+    ghost finds = { λ request tables live domain slot. IsInstalledWith request.aid (held tables.entries.items slot) };
+
+    fn judge_own(&self, tables: &Tables, _live: &Live, domain: u8) -> Result<u8, Rule> {
+        if !may_manage(tables, domain) {
+            return Err(Rule::MS(RuleMS::MS1));
+        }
+        let Some(slot) = find_entry(tables, &self.aid) else {
+            return Err(Rule::MS(RuleMS::MS2));
+        };
+        if !above(&tables.entries, domain, slot) {
+            return Err(Rule::MS(RuleMS::MS3));
+        }
+        let entry = in_slot(&tables.entries, slot).unwrap();
+        if !is_just_installed(entry.life) {
+            return Err(Rule::MS(RuleMS::MS4));
+        }
+        if differ(self.privileges, entry.privileges) {
+            return Err(Rule::MS(RuleMS::MS5));
+        }
+        Ok(slot)
+    }
+
+    fn approving(&self, tables: &Tables, domain: u8) -> Approving<'_> {
+        Approving::of_delegate(tables, domain, self.signed, true)
+    }
+
+    ghost judgeable = { selectable_judgeable };
+
+    ghost lawful = { record { first_rules = refl; approval_rules = refl } };
+
+    ghost meant = { λ request command is. record { asks = is.asks; parameters = is.parameters; approval = is.approval } };
+}
+
+// The privileges of the bytes, or none where there are no bytes.
+fn read_privileges(bytes: &[u8]) -> Option<Option<Privileges>>
+    ensures some { IfSome result (λ given. AreGiven given bytes.now) }
+    ensures none { IfNone result ((given : Option Privileges) → AreGiven given bytes.now → ⊥) }
+{
+    if bytes.is_empty() {
+        return Some(None);
+    }
+    let privileges = Privileges::from_bytes(bytes)?;
+    Some(Some(privileges))
+}
+
+// What the data field asks for.
+fn read_request(p1: u8, p2: u8, body: &[u8]) -> Option<SelectableRequest<'_>>
+    ensures some { IfSome result (λ request. IsSelectableRequest request p1 p2 body.now) }
+    ensures none { IfNone result ((given : InstallData) → AsksToMakeSelectable body.now given → ⊥) }
+{
+    let fields = read_fields(body)?;
+    if !fields.first.is_empty() || !fields.second.is_empty() {
+        return None;
+    }
+    let aid = Aid::new(fields.third)?;
+    let privileges = read_privileges(fields.privileges)?;
+    Some(SelectableRequest {
+        aid,
+        privileges,
+        signed: Signed::over(p1, p2, fields.before, fields.token),
+    })
+}
+
+/// Reads P1, P2 and the data field of an INSTALL [for make selectable].
+pub fn parse_selectable(p1: u8, p2: u8, body: &[u8]) -> Result<SelectableRequest<'_>, Rule>
+    ensures form { IfOk result (λ request. MakeSelectableParameters p1 p2) }
+    ensures means { IfOk result (λ request. IsSelectableRequest request p1 p2 body.now) }
+    ensures refused { IfErr result (IsRefusedBy (command_form managed_selectable) p1 p2 body.now) }
+{
+    if p1 != 0x08 || p2 != 0x00 {
+        return Err(Rule::PS(RulePS::P));
+    }
+    match read_request(p1, p2, body) {
+        Some(request) => Ok(request),
+        None => Err(Rule::PS(RulePS::S)),
+    }
+}

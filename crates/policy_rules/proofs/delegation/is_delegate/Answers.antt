@@ -1,5 +1,0 @@
-use Rattle.policy_rules.proofs.ExtraditionJudging.{holds_told}
-use Rattle.policy_rules.proofs.delegation.is_delegate.Goals as goal
-
-pub returns : goal.returns
-returns c page admitted acts = holds_told page c.args.tables.now c.args.domain admitted acts _ c.holds.result (rw c.deref.ensures.value at c.holds.ensures)

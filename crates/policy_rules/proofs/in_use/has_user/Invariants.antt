@@ -1,6 +1,0 @@
-use Rattle.std.proofs.Common.{ℕ, ◌<◌}
-use Rattle.policy_rules.specs.DeleteObjectFound.{IsFrom, IsInUseIn}
-use Rattle.policy_rules.proofs.in_use.has_user.Given as goal
-
-abbrev pub invariant-loop-slot : goal.invariant-loop-slot
-invariant-loop-slot l = (k : ℕ) → k < l.slot → IsFrom l.tables l.file k → IsInUseIn l.tables l.live k → ⊥

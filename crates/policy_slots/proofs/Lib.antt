@@ -1,0 +1,17 @@
+pub mod ActingDomain
+pub mod AnySlot
+pub mod ChargeNamed
+pub mod FileCharge
+pub mod HoldsTold
+pub mod KeyCounts
+pub mod KeysByName
+pub mod ManagementFirst
+pub mod NearestHolder
+pub mod ObjectsNamed
+pub mod Options
+pub mod OwnKeys
+pub mod ReceiptPasses
+pub mod RequestJudging
+pub mod Selected
+pub mod SessionSets
+pub mod ThingsFound
