@@ -1,6 +1,6 @@
 -- What is asked of a command.
 use Rattle.std.proofs.Common.{◌≡◌, ◌≢◌, ◌⊎◌, ℕ, ◌<◌, ◌≤◌, false, Option, None, Some, refl, sym, ap, subst, ◌∙◌, inl, inr, arith}
-use Rattle.std.specs.Prelude.{◌==◌, Contains, IsSome}
+use Rattle.std.specs.Prelude.{◌==◌, Contains, IsSome, MatchOption}
 use Rattle.card_types.specs.Ascending.{IsAscending}
 use Rattle.card_types.specs.ChangeLaws.{IsOfCard}
 use Rattle.card_types.specs.Registry.{Registry}
@@ -107,6 +107,11 @@ some_same a b same = cc
 pub none_of : {A : Type 0} (o : Option A) → (IsSome o → ⊥) → o ≡ None
 none_of None without = refl
 none_of (Some x) without = absurd (without refl)
+
+-- what is so of a thing that is there
+pub found_so : {A : Type 0} (holds : A → Type 0) (o : Option A) → MatchOption o ⊥ holds → (x : A) × (o ≡ Some x) × holds x
+found_so holds None is = absurd is
+found_so holds (Some x) is = (x, refl, is)
 
 -- an equal volatile state has the same load session
 pub load_same : (before after : Volatile) → after ≡ before → LoadStays before after

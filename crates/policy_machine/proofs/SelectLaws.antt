@@ -5,7 +5,7 @@ use Rattle.card_types.proofs.SameAid.{aid_same_itself}
 use Rattle.card_types.specs.AidOrder.{same_aid}
 use Rattle.card_types.specs.Registry.{Entry, Registry, entry_named}
 use Rattle.policy_machine.specs.Admission.{Admitted}
-use Rattle.policy_machine.specs.Select.{IsSelected, fits_select, least_fitting, IsControlInformation, control_parts, select}
+use Rattle.policy_machine.specs.Select.{IsSelected, SelectEffect, fits_select, least_fitting, IsControlInformation, control_parts, select}
 use Rattle.policy_machine.specs.Sound.{Fits, IsSound}
 use Rattle.policy_machine.specs.State.{Effect}
 use Rattle.policy_machine.specs.Volatile.{Volatile, fresh, with_selected}
@@ -14,8 +14,7 @@ use Rattle.policy_machine.proofs.SecureChannelSet.{within}
 use Rattle.bertlv.proofs.SpellingLemmas.{one_spelling, one_spelling_each}
 use Rattle.bertlv.specs.Spelling.{AreElements, Spelling}
 use Rattle.policy_machine.proofs.SameEffect.{effect_same, state_same}
-use Rattle.policy_machine.specs.Changes.{IsSameButCounters}
-use Rattle.policy_machine.proofs.Lawful.{HasNoPlaceOn, IsLawful, IsReady, load_ended, placeless_same, placeless_set, same_as, sound_with, LoadStays}
+use Rattle.policy_machine.proofs.Lawful.{HasNoPlaceOn, IsLawful, IsReady, found_so, load_ended, placeless_same, placeless_set, same_as, sound_with}
 use Rattle.policy_machine.proofs.FreshChannel.{fresh_is_well}
 use Rattle.card_types.specs.Registry as registry
 use Rattle.policy_machine.proofs.Judging.{judged}
@@ -41,16 +40,20 @@ pub fitting_is_named : (registry : Registry) (partial : List ℕ) (entry : Entry
 fitting_is_named registry partial entry found =
     found_for (fits_select registry.life partial) (λ e. same_aid e.aid entry.aid) registry.entries entry found (aid_same_itself entry.aid)
 
-select_keeps : (admitted : Admitted) (done : Effect) (partial : List ℕ) (found : Option Entry) → IsReady admitted
-    → least_fitting admitted.at.registry partial ≡ found → MatchOption found ⊥ (IsSelected admitted done) → IsSound done.state
-select_keeps admitted done partial None ready is does = absurd does
-select_keeps admitted done partial (Some entry) ready is does =
+-- the entry that is selected
+selected : (admitted : Admitted) (done : Effect) → SelectEffect admitted done
+    → (entry : Entry) × (least_fitting admitted.at.registry admitted.command.body ≡ Some entry) × IsSelected admitted done entry
+selected admitted done = found_so (IsSelected admitted done) (least_fitting admitted.at.registry admitted.command.body)
+
+select_keeps : (admitted : Admitted) (done : Effect) → IsReady admitted → SelectEffect admitted done → IsSound done.state
+select_keeps admitted done ready does =
     let registry = admitted.at.registry in
     let volatile = admitted.at.volatile in
-    let fits = ended_fits registry volatile admitted.channel (Some (fresh entry.aid)) ready.sound.fits
+    let it = selected admitted done does in
+    let fits = ended_fits registry volatile admitted.channel (Some (fresh it.0.aid)) ready.sound.fits
     (within registry volatile admitted.channel ready.sound.fits ready.low)
-    (fresh_is_well registry entry.aid (fitting_is_named registry partial entry is)) (λ first. refl) in
-    sound_with admitted.at done.state ready.sound does.registry (subst (Fits registry) (sym does.volatile) fits)
+    (fresh_is_well registry it.0.aid (fitting_is_named registry admitted.command.body it.0 it.1)) (λ first. refl) in
+    sound_with admitted.at done.state ready.sound it.2.registry (subst (Fits registry) (sym it.2.volatile) fits)
 
 control_information_one : (aid a b : List ℕ) → IsControlInformation aid a → IsControlInformation aid b → a ≡ b
 control_information_one aid a b one other =
@@ -68,31 +71,21 @@ select_one admitted a b (Some entry) one other =
     (control_information_one entry.aid a.body b.body one.body other.body)
     (one.status ∙ sym other.status)
 
-selects_same : (admitted : Admitted) (done : Effect) (found : Option _) → MatchOption found ⊥ (IsSelected admitted done)
-    → IsSameButCounters admitted.at.registry done.state.registry
-selects_same admitted done None does = absurd does
-selects_same admitted done (Some entry) does = same_as admitted.at.registry done.state.registry does.registry
-
-selects_placeless : (admitted : Admitted) (done : Effect) (found : Option _) → HasNoPlaceOn admitted.at.volatile admitted.channel → MatchOption found ⊥ (IsSelected admitted done)
+selects_placeless : (admitted : Admitted) (done : Effect) → HasNoPlaceOn admitted.at.volatile admitted.channel → SelectEffect admitted done
     → HasNoPlaceOn done.state.volatile admitted.channel
-selects_placeless admitted done None none does = absurd does
-selects_placeless admitted done (Some entry) none does =
-    placeless_same (with_selected admitted.at.volatile admitted.channel entry.aid) done.state.volatile admitted.channel does.volatile
-    (placeless_set admitted.at.volatile admitted.channel admitted.channel (Some (fresh entry.aid)) refl none)
-
-selects_loads : (admitted : Admitted) (done : Effect) (found : Option _) → MatchOption found ⊥ (IsSelected admitted done)
-    → LoadStays admitted.at.volatile done.state.volatile
-selects_loads admitted done None does = absurd does
-selects_loads admitted done (Some entry) does =
-    load_ended admitted.at.volatile done.state.volatile admitted.channel (ap (λ (v : Volatile). v.load) does.volatile)
+selects_placeless admitted done none does =
+    let it = selected admitted done does in
+    placeless_same (with_selected admitted.at.volatile admitted.channel it.0.aid) done.state.volatile admitted.channel it.2.volatile
+    (placeless_set admitted.at.volatile admitted.channel admitted.channel (Some (fresh it.0.aid)) refl none)
 
 pub select_lawful : IsLawful select
 select_lawful = record {
-  keeps = λ admitted done ready judges does. select_keeps admitted done admitted.command.body _ ready refl does;
+  keeps = λ admitted done ready judges does. select_keeps admitted done ready does;
   one = λ admitted a b one other. select_one admitted a b _ one other;
-  quiet = λ unmanaged admitted done does. selects_same admitted done _ does;
-  without_place = λ other admitted done none does. selects_placeless admitted done _ none does;
-  loads_stay = λ admitted done takes other does. selects_loads admitted done _ does;
+  quiet = λ unmanaged admitted done does. same_as admitted.at.registry done.state.registry (selected admitted done does).2.registry;
+  without_place = λ other admitted done none does. selects_placeless admitted done none does;
+  loads_stay = λ admitted done takes other does.
+      load_ended admitted.at.volatile done.state.volatile admitted.channel (ap (λ (v : Volatile). v.load) (selected admitted done does).2.volatile);
 }
 
 -- how it is judged, by what was found
