@@ -82,6 +82,7 @@ pub mod PutKeyKeys
 pub mod PutKeyLaws
 pub mod PutKeyOnce
 pub mod PutKeySpares
+pub mod RejectedLeaves
 pub mod RisingForms
 pub mod SameEffect
 pub mod SameThings

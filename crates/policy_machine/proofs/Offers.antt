@@ -1,23 +1,20 @@
 -- A refused command leaves no offer.
-use Rattle.std.proofs.Common.{◌≡◌, ◌⊎◌, ℕ, Bool, List, false, true, Option, None, Some, refl, sym, subst, inl, inr, ap}
+use Rattle.std.proofs.Common.{◌≡◌, ℕ, Bool, false, true, Option, None, Some, refl, sym, subst, inl, inr, ap}
 use Rattle.std.specs.Prelude.{MatchOption, not, ◌==◌}
 use Rattle.std.proofs.lemmas.Bool.{and_parts, false≢true, not-true}
 use Rattle.apdu_core.specs.Apdu.{Apdu}
-use Rattle.policy_machine.specs.Admission.{Admitted, GeneralFails, GeneralRefusalLeaves, Of, SessionEnds, channel_passed, class_passed, general_rules, offer_passed, without_place}
-use Rattle.policy_machine.specs.Classes.{IsPlainManagement, channel_of, class_of, is_protected, is_secure, protects}
+use Rattle.policy_machine.specs.Admission.{Admitted, Of, channel_passed, class_passed, offer_passed, without_place}
+use Rattle.policy_machine.specs.Classes.{channel_of, class_of, is_protected, is_secure, protects}
 use Rattle.policy_machine.specs.Laws.{RefusalsDropOffers, is_later}
-use Rattle.policy_machine.specs.State.{State}
 use Rattle.policy_machine.specs.Step.{Outcome, keeps_load, refusal_leaves}
-use Rattle.policy_machine.specs.Volatile.{Channel, Nothing, Offered, Secured, SecureChannel, Volatile, channel_at, offer_in, secure_channel_of, channel_with, with_offer_dropped, with_secure_channel, without_load, without_offer, without_session}
+use Rattle.policy_machine.specs.Volatile.{Channel, Nothing, Offered, Secured, SecureChannel, Volatile, channel_at, offer_in, secure_channel_of, channel_with, with_offer_dropped, with_secure_channel, without_load, without_offer}
 use Rattle.policy_machine.specs.declared.class.Class.{Class}
 use Rattle.policy_machine.specs.declared.instruction.TheConstants.{EXTERNAL_AUTHENTICATE}
 use Rattle.policy_machine.specs.declared.rule.Rule.{Rule}
 use Rattle.policy_machine.specs.declared.rule.Rule.TheVariants.{G}
-use Rattle.policy_machine.specs.declared.rule.RuleG.{RuleG}
-use Rattle.policy_machine.specs.declared.rule.RuleG.TheVariants.{G1, G2, G3, G4, G5, G6, G7, G8}
-use Rattle.policy_machine.proofs.FirstUnique.{first_fails}
 use Rattle.policy_machine.proofs.OneOutcome.{of_one}
 use Rattle.policy_machine.proofs.Passing.{either}
+use Rattle.policy_machine.proofs.RejectedLeaves.{rejected_leaves}
 use Rattle.policy_machine.proofs.SetChannel.{set_there}
 
 abbrev HasNoOffer : Option Channel → Type 0
@@ -68,49 +65,16 @@ protected_is_other command protected = by (class_of command.class) protected
     by (Some class) is =
         not-true (command.ins == EXTERNAL_AUTHENTICATE) (and_parts (is_secure class) (not (command.ins == EXTERNAL_AUTHENTICATE)) is).1
 
-ended_has_none : (state : State) (bytes : List ℕ) (left : Volatile) → SessionEnds state bytes left
-    → Of bytes (λ command. HasNoOffer (channel_at left (channel_of command.class)))
-ended_has_none state bytes left ends =
-    let number = channel_of ends.0.class in (
-      ends.0,
-      ends.1,
-      subst (λ (v : Volatile). HasNoOffer (channel_at v number)) (sym ends.2)
-          (secure_channel_has_none (class_passed state.volatile ends.0) number Nothing refl),
-    )
-
--- what is refused for its session is a command of card content management, or a protected one
-unsecured_has_none : (volatile : Volatile) (command : Apdu) (left : Volatile) (none : Type 0) → IsPlainManagement command ⊎ ((is_protected command ≡ true) × none)
-    → (IsPlainManagement command × (left ≡ without_session (class_passed volatile command) (channel_of command.class)))
-    ⊎ ((IsPlainManagement command → ⊥) × (left ≡ class_passed volatile command))
-    → HasNoOffer (channel_at left (channel_of command.class))
-unsecured_has_none volatile command left none bars (inl ends) =
-    (let number = channel_of command.class in
-    subst (λ (v : Volatile). HasNoOffer (channel_at v number)) (sym ends.1)
-    (secure_channel_has_none (class_passed volatile command) number Nothing refl))
-unsecured_has_none volatile command left none (inl manages) (inr stays) = absurd (stays.0 manages)
-unsecured_has_none volatile command left none (inr protected) (inr stays) =
-    subst (λ (v : Volatile). HasNoOffer (channel_at v (channel_of command.class))) (sym stays.1)
-    (class_has_none volatile command (protected_is_other command protected.0))
-
-rejected_has_none : (state : State) (bytes : List ℕ) (rule : RuleG) (left : Volatile) → is_later (G rule) ≡ true → GeneralFails state bytes rule
-    → GeneralRefusalLeaves state bytes rule left → Of bytes (λ command. HasNoOffer (channel_at left (channel_of command.class)))
-rejected_has_none state bytes G1 left later bars leaves = absurd (false≢true later)
-rejected_has_none state bytes G2 left later bars leaves = absurd (false≢true later)
-rejected_has_none state bytes G3 left later bars leaves = absurd (false≢true later)
-rejected_has_none state bytes G4 left later bars leaves = absurd (false≢true later)
-rejected_has_none state bytes G5 left later bars leaves =
-    let number = channel_of leaves.0.class in
-    (leaves.0, leaves.1, subst (λ (v : Volatile). HasNoOffer (channel_at v number)) (sym leaves.2) (placeless_has_none state.volatile number))
-rejected_has_none state bytes G6 left later bars leaves =
-    (leaves.0, leaves.1, unsecured_has_none state.volatile leaves.0 left _ (of_one bytes _ leaves.0 leaves.1 bars) leaves.2)
-rejected_has_none state bytes G7 left later bars leaves = ended_has_none state bytes left leaves
-rejected_has_none state bytes G8 left later bars leaves = ended_has_none state bytes left leaves
-
 pub refusals_drop_offers : RefusalsDropOffers
 refusals_drop_offers state bytes outcome (inl rejected) later =
     let by : is_later (G rejected.rule) ≡ true = subst (λ (o : Outcome). MatchOption o.rule ⊥ (λ rule. is_later rule ≡ true)) rejected.outcome_is later in
-    subst (λ (o : Outcome). Of bytes (λ command. HasNoOffer (channel_at o.state.volatile (channel_of command.class)))) (sym rejected.outcome_is)
-    (rejected_has_none state bytes rejected.rule rejected.left by (first_fails (GeneralFails state bytes) general_rules rejected.rule rejected.first) rejected.leaves)
+    rejected_leaves (λ volatile number. HasNoOffer (channel_at volatile number)) state bytes (placeless_has_none state.volatile)
+    (λ command. secure_channel_has_none (class_passed state.volatile command) (channel_of command.class) Nothing refl)
+    (λ command short fails other. class_has_none state.volatile command (elim (of_one bytes _ command short fails) [
+      | inl manages ↦ absurd (other manages)
+      | inr protected ↦ protected_is_other command protected.0
+    ]))
+    outcome rejected by
 refusals_drop_offers state bytes outcome (inr (inl refuses)) later =
     let of = refuses.admits.1 in
     let taken = of.2 in

@@ -1,24 +1,22 @@
 -- A command after the checks of class, channel and instruction leaves no place in a listing, unless it is GET STATUS.
 use Rattle.std.proofs.Common.{◌≡◌, ◌≢◌, ℕ, List, Bool, false, true, Option, None, Some, refl, sym, ap, subst, ◌∙◌, inl, inr}
 use Rattle.std.specs.Prelude.{MatchOption, ◌==◌}
-use Rattle.std.proofs.lemmas.Bool.{false≢true}
 use Rattle.apdu_core.specs.Apdu.{Apdu}
-use Rattle.policy_machine.specs.Admission.{Admits, Admitted, GeneralRefusalLeaves, Of, SessionEnds, admitted_as, channel_passed, class_passed, message_joined, without_place}
+use Rattle.policy_machine.specs.Admission.{Admits, Admitted, Of, admitted_as, channel_passed, class_passed, message_joined, without_place}
 use Rattle.policy_machine.specs.Classes.{channel_of}
 use Rattle.policy_machine.specs.Commands.{HasEffect}
 use Rattle.policy_machine.specs.Laws.{PlacesAreForgotten, is_later}
 use Rattle.policy_machine.specs.State.{Effect, State}
 use Rattle.policy_machine.specs.Step.{Outcome, keeps_load, refusal_leaves}
-use Rattle.policy_machine.specs.Volatile.{Channel, Nothing, Secured, Volatile, channel_at, place_in, secure_channel_of, with_offer_dropped, with_secure_channel, without_load, without_offer}
+use Rattle.policy_machine.specs.Volatile.{Channel, Nothing, Secured, Volatile, channel_at, place_in, secure_channel_of, with_offer_dropped, with_secure_channel, without_load, without_offer, without_session}
 use Rattle.policy_machine.specs.declared.instruction.TheConstants.{EXTERNAL_AUTHENTICATE, GET_STATUS, LOAD}
 use Rattle.policy_machine.specs.declared.rule.Rule.{Rule}
 use Rattle.policy_machine.specs.declared.rule.Rule.TheVariants.{G}
-use Rattle.policy_machine.specs.declared.rule.RuleG.{RuleG}
-use Rattle.policy_machine.specs.declared.rule.RuleG.TheVariants.{G1, G2, G3, G4, G5, G6, G7, G8}
 use Rattle.scp03_card.specs.Session.{Session}
 use Rattle.policy_machine.proofs.FormTaken.{done_by}
 use Rattle.policy_machine.proofs.Lawful.{HasNoPlaceOn, placeless_same, place_leaves_secure_channel}
 use Rattle.policy_machine.proofs.Passing.{either}
+use Rattle.policy_machine.proofs.RejectedLeaves.{rejected_leaves}
 use Rattle.policy_machine.proofs.SetChannel.{set_there}
 
 passed_has_none : (volatile : Volatile) (number : ℕ) (keeps : Bool) → HasNoPlaceOn (without_place volatile number keeps) number
@@ -32,39 +30,11 @@ passed_has_none volatile number keeps =
 class_has_none : (volatile : Volatile) (command : Apdu) → HasNoPlaceOn (class_passed volatile command) (channel_of command.class)
 class_has_none volatile command = passed_has_none volatile (channel_of command.class) (command.ins == EXTERNAL_AUTHENTICATE)
 
-ended_has_none : (state : State) (bytes : List ℕ) (left : Volatile) → SessionEnds state bytes left
-    → Of bytes (λ command. HasNoPlaceOn left (channel_of command.class))
-ended_has_none state bytes left ends = (
-  ends.0,
-  ends.1,
-  (let number = channel_of ends.0.class in
-      let passed = class_passed state.volatile ends.0 in
-      placeless_same (without_load (with_secure_channel passed number Nothing) number) left number ends.2
-      (place_leaves_secure_channel passed (with_secure_channel passed number Nothing) number Nothing refl (class_has_none state.volatile ends.0))),
-)
-
-rejected_has_none : (state : State) (bytes : List ℕ) (rule : RuleG) (left : Volatile) → is_later (G rule) ≡ true → GeneralRefusalLeaves state bytes rule left
-    → Of bytes (λ command. HasNoPlaceOn left (channel_of command.class))
-rejected_has_none state bytes G1 left later leaves = absurd (false≢true later)
-rejected_has_none state bytes G2 left later leaves = absurd (false≢true later)
-rejected_has_none state bytes G3 left later leaves = absurd (false≢true later)
-rejected_has_none state bytes G4 left later leaves = absurd (false≢true later)
-rejected_has_none state bytes G5 left later leaves = (
-  leaves.0,
-  leaves.1,
-  (let number = channel_of leaves.0.class in
-      placeless_same (without_place state.volatile number false) left number leaves.2 (passed_has_none state.volatile number false)),
-)
-rejected_has_none state bytes G6 left later leaves = elim leaves.2 [
-  | inl ends ↦ ended_has_none state bytes left (leaves.0, leaves.1, ends.1)
-  | inr stays ↦ (
-    leaves.0,
-    leaves.1,
-    placeless_same (class_passed state.volatile leaves.0) left (channel_of leaves.0.class) stays.1 (class_has_none state.volatile leaves.0),
-  )
-]
-rejected_has_none state bytes G7 left later leaves = ended_has_none state bytes left leaves
-rejected_has_none state bytes G8 left later leaves = ended_has_none state bytes left leaves
+ended_has_none : (volatile : Volatile) (command : Apdu) → HasNoPlaceOn (without_session (class_passed volatile command) (channel_of command.class)) (channel_of command.class)
+ended_has_none volatile command =
+    let number = channel_of command.class in
+    let passed = class_passed volatile command in
+    place_leaves_secure_channel passed (with_secure_channel passed number Nothing) number Nothing refl (class_has_none volatile command)
 
 joined_has_none : (volatile : Volatile) (number : ℕ) (session : Option Session) → HasNoPlaceOn volatile number → HasNoPlaceOn (message_joined volatile number session) number
 joined_has_none volatile number None none = none
@@ -112,8 +82,9 @@ pub places_are_forgotten : PlacesAreForgotten
 places_are_forgotten state bytes outcome (inl rejected) later =
     let by : is_later (G rejected.rule) ≡ true =
     subst (λ (o : Outcome). MatchOption o.rule (Unit {0}) (λ rule. is_later rule ≡ true)) rejected.outcome_is later in
-    let left = rejected_has_none state bytes rejected.rule rejected.left by rejected.leaves in
-    (left.0, left.1, λ other. subst (λ (o : Outcome). HasNoPlaceOn o.state.volatile (channel_of left.0.class)) (sym rejected.outcome_is) left.2)
+    let left = rejected_leaves HasNoPlaceOn state bytes (λ number. passed_has_none state.volatile number false) (ended_has_none state.volatile)
+    (λ command short fails other. class_has_none state.volatile command) outcome rejected by in
+    (left.0, left.1, λ other. left.2)
 places_are_forgotten state bytes outcome (inr (inl refuses)) later =
     left_by state bytes refuses.admitted refuses.admits outcome (refusal_leaves refuses.admitted refuses.rule) (ap (λ (o : Outcome). o.state.volatile) refuses.outcome_is)
     (λ none other. left_has_none refuses.admitted refuses.rule none)
