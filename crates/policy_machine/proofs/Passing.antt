@@ -16,7 +16,7 @@ use Rattle.policy_machine.specs.declared.rule.RuleG.TheVariants.{G3, G4}
 use Rattle.scp03_card.specs.Opens.{Opens, accepting}
 use Rattle.scp03_card.specs.Session.{Session}
 use Rattle.policy_machine.proofs.FirstUnique.{none_fails}
-use Rattle.policy_machine.proofs.SetChannel.{HasSession, becomes_fits, set_same, without_load_fits}
+use Rattle.policy_machine.proofs.SetChannel.{HasSession, IsInSession, becomes_fits, set_same, without_load_fits}
 use Rattle.policy_machine.proofs.SecureChannelSet.{secured_dropped, secured_fits, session_stands, well_dropped, within}
 
 -- after the check of the class
@@ -155,18 +155,18 @@ module _ (state : State) (command : Apdu) (fits : Fits state.registry state.vola
       → HasSession (message_joined passed number session) number
   joined_session None plain taken protected = (let clash = sym protected ∙ taken.0 in cc)
   joined_session (Some accepted) plain taken protected =
-      subst (λ (c : Option Channel). MatchOption c ⊥ (λ opened. IsSecured opened.secure_channel))
+      subst IsInSession
       (sym (set_same passed number (channel_with (Secured accepted) (channel_at passed number)) low_after))
       (by (session_for state command) refl taken.1)
     where
       joined_to : (channel : Option Channel) → IsSome (session_in (secure_channel_of channel))
-          → MatchOption (channel_with (Secured accepted) channel) ⊥ (λ opened. IsSecured opened.secure_channel)
+          → IsInSession (channel_with (Secured accepted) channel)
       joined_to None some = cc
       joined_to (Some channel) some = tt
 
       by : (found : Option Session) → session_for state command ≡ found
           → MatchOption found ⊥ (λ session. Opens session command plain × (accepted ≡ accepting session command))
-          → MatchOption (channel_with (Secured accepted) (channel_at passed number)) ⊥ (λ opened. IsSecured opened.secure_channel)
+          → IsInSession (channel_with (Secured accepted) (channel_at passed number))
       by None is opens = absurd opens
       by (Some session) is opens = joined_to (channel_at passed number) (subst IsSome (sym (passed_session ∙ is)) refl)
 
