@@ -7,7 +7,7 @@ use Rattle.scp03_host.specs.Begin.{answer_to, cryptogram_in}
 use Rattle.scp03_host.specs.Unwrapped.{status_in}
 use Rattle.scp03_host.specs.Wrapped.{having_sent, room_for, wrapped}
 use Rattle.script_tool.specs.Channel.{number_of}
-use Rattle.script_tool.specs.Closed.{ClosedIsSilent, EndsAtRefusals, RefusalsEnd, is_in_session}
+use Rattle.script_tool.specs.Closed.{ClosedIsSilent, EndsAtRefusals, RefusalsEnd}
 use Rattle.script_tool.specs.Command.{spelled}
 use Rattle.script_tool.specs.Delete.{deleting}
 use Rattle.script_tool.specs.Extradite.{extraditing}
@@ -19,7 +19,7 @@ use Rattle.script_tool.specs.Life.{changing_life}
 use Rattle.script_tool.specs.Listing.{listing_command}
 use Rattle.script_tool.specs.Load.{beginning_load, block_element, content_bytes, loading}
 use Rattle.script_tool.specs.Loading.{block_count, loading_all, loading_blocks, playing_load}
-use Rattle.script_tool.specs.Opening.{authenticated, authenticating, counter_in, offer_under, offered_by, playing_open, updated, updating, with_field}
+use Rattle.script_tool.specs.Opening.{authenticated, authenticating, counter_in, offer_under, offered_by, updated, updating, with_field}
 use Rattle.script_tool.specs.Play.{playing_control, playing_exchange}
 use Rattle.script_tool.specs.Printed.{Cryptogram, Reply, Said}
 use Rattle.script_tool.specs.PutKey.{putting_keys}

@@ -68,6 +68,29 @@ pub own_kept : (kept : HostState) (host : Host) → RepresentsHost kept host →
 own_kept kept host r =
     subst (λ (c : Channel). MayBeSession (kept_on kept.channel kept.sessions) (session_of c host.sessions)) r.channel (kept_there kept.channel kept.sessions host.sessions r.sessions)
 
+put_gives : (channel : Channel) (session : Option Session) (all : Sessions) → session_of channel (with_session channel session all) ≡ session
+put_gives Basic session all = refl
+put_gives First session all = refl
+put_gives Second session all = refl
+put_gives Third session all = refl
+
+-- where the host has this session on its channel, what is kept there is it
+pub own_there : (kept : HostState) (whole : Host) (session : Session) → RepresentsHost kept (with_own (Some session) whole)
+    → MayBeSession (kept_on kept.channel kept.sessions) (Some session)
+own_there kept whole session r =
+    subst (MayBeSession (kept_on kept.channel kept.sessions)) (put_gives whole.channel (Some session) whole.sessions) (own_kept kept (with_own (Some session) whole) r)
+
+-- where the host has none there, none is kept
+pub none_kept : (kept : Option KeptSession) → MayBeSession kept None → kept ≡ None
+none_kept None is = refl
+none_kept (Some one) is = absurd is
+
+-- the host with the sessions that are kept is what is kept
+pub sessions_same : (kept : HostState) (host : Host) (all : ChannelSessions) → all ≡ kept.sessions → RepresentsHost kept host
+    → RepresentsHost (record { channel = kept.channel; keys = kept.keys; tokens = kept.tokens; sessions = all; last = kept.last }) host
+sessions_same kept host all same r =
+    subst (λ (s : ChannelSessions). RepresentsHost (record { channel = kept.channel; keys = kept.keys; tokens = kept.tokens; sessions = s; last = kept.last }) host) (sym same) r
+
 some_of : (one : KeptSession) (o : Option Session) → MayBeSession (Some one) o → (session : Session) × (o ≡ Some session) × RepresentsSession one session
 some_of one None is = absurd is
 some_of one (Some session) is = (session, refl, is)
@@ -77,9 +100,15 @@ pub own_some : (kept : HostState) (host : Host) (one : KeptSession) → Represen
     → (session : Session) × (own_session host ≡ Some session) × RepresentsSession one session
 own_some kept host one r is = some_of one (own_session host) (subst (λ (o : Option KeptSession). MayBeSession o (own_session host)) (sym is) (own_kept kept host r))
 
+-- another session, or none, on the host's channel
+pub own_changed : (kept : HostState) (host : Host) (all : ChannelSessions) (one : Option KeptSession) (session : Option Session) → RepresentsHost kept host
+    → all ≡ with_kept kept.channel one kept.sessions → MayBeSession one session
+    → RepresentsHost (record { channel = kept.channel; keys = kept.keys; tokens = kept.tokens; sessions = all; last = kept.last }) (with_own session host)
+own_changed kept host all one session r is may =
+    subst (λ (s : ChannelSessions). RepresentsHost (record { channel = kept.channel; keys = kept.keys; tokens = kept.tokens; sessions = s; last = kept.last }) (with_own session host))
+    (sym is) (represents_put kept host one session r may)
+
 -- the host is left without its session
 pub own_taken : (kept : HostState) (host : Host) (all : ChannelSessions) → RepresentsHost kept host → all ≡ with_kept kept.channel None kept.sessions
     → RepresentsHost (record { channel = kept.channel; keys = kept.keys; tokens = kept.tokens; sessions = all; last = kept.last }) (with_own None host)
-own_taken kept host all r is =
-    subst (λ (s : ChannelSessions). RepresentsHost (record { channel = kept.channel; keys = kept.keys; tokens = kept.tokens; sessions = s; last = kept.last }) (with_own None host))
-    (sym is) (represents_put kept host None None r tt)
+own_taken kept host all r is = own_changed kept host all None None r is tt

@@ -4,26 +4,21 @@ use Rattle.std.specs.Prelude.{IsErr}
 use Rattle.std.proofs.lemmas.Bool.{le-ltb, lt-ltb, ltb-false, ltb-true}
 use Rattle.std.proofs.lemmas.List.{length-append}
 use Rattle.apdu_core.specs.Apdu.{Apdu, Short, after_header, header}
-use Rattle.apdu_core.specs.declared.reply.Status.{Status}
 use Rattle.scp03_card.proofs.Lengths.{length-c_mac}
-use Rattle.scp03_card.specs.Kept.{KeptSession, RepresentsSession}
 use Rattle.scp03_card.specs.Session.{Session, c_mac}
-use Rattle.scp03_host.specs.Unwrapped.{HasRightMac, IsTooShort, Unwraps}
 use Rattle.scp03_host.specs.Wrapped.{having_sent, message_of, room_for, sent_field, wrapped}
 use Rattle.scp03_host.specs.declared.refusals.ReplyRefusal.{ReplyRefusal}
-use Rattle.scp03_host.specs.declared.refusals.ReplyRefusal.TheVariants as refusal
-use Rattle.script_tool.proofs.HostRules.{own_twice, represents_put, with_own_kept}
+use Rattle.script_tool.proofs.HostRules.{own_twice}
 use Rattle.script_tool.proofs.TalkRules.{goes_nothing}
 use Rattle.script_tool.specs.Channel.{number_of}
 use Rattle.script_tool.specs.Command.{spelled}
-use Rattle.script_tool.specs.Host.{Host, with_own}
-use Rattle.script_tool.specs.InSession.{after_reply, awaiting, protecting, refusal_word, spoiled}
-use Rattle.script_tool.specs.Kept.{RepresentsHost, with_kept}
-use Rattle.script_tool.specs.Link.{Breaks, Conveys}
+use Rattle.script_tool.specs.Host.{Host, own_session, with_own}
+use Rattle.script_tool.specs.InSession.{after_reply, awaiting, in_session, protecting, refusal_word, spoiled, with_some}
+use Rattle.script_tool.specs.Kept.{RepresentsHost}
+use Rattle.script_tool.specs.Link.{Conveys}
 use Rattle.script_tool.specs.Played.{Continues, IsPlayed, Leads}
 use Rattle.script_tool.specs.Printed.{Said}
-use Rattle.script_tool.specs.Talk.{Answered, Ends, IsTaken, Refused, Taken, Takes, Talk}
-use Rattle.script_tool.specs.declared.channel_sessions.ChannelSessions.{ChannelSessions}
+use Rattle.script_tool.specs.Talk.{Answered, Ends, IsTaken, Refused, Taken, Talk}
 use Rattle.script_tool.specs.declared.host_state.HostState.{HostState}
 use Rattle.script_tool.specs.declared.link.CardLink.{Ghosts as CardLink}
 use Rattle.script_tool.specs.declared.link.LinkFailed.{LinkFailed}
@@ -79,18 +74,6 @@ protecting_ends whole kept bad command rest long =
     let e : nat_lt (room_for kept.level) (length command.body) ≡ true = lt-ltb (room_for kept.level) (length command.body) long in
     rw e refl
 
-pub await_broken : {L : Type 0} (link : CardLink L) (old new : L) (whole : Host) (sent : Session) (bytes : List ℕ) (rest : Host → List ℕ → ℕ → Talk)
-    (kept : HostState) (result : Result Printout LinkFailed) → IsErr result → Breaks link old new [] bytes
-    → Continues link old new (awaiting whole sent bytes rest) rest kept result
-await_broken link old new whole sent bytes rest kept (Ok printout) e breaks = absurd (cc)
-await_broken link old new whole sent bytes rest kept (Err failed) e breaks = record {
-  events = [];
-  command = bytes;
-  rest = λ reply. Takes sent reply (after_reply (with_own (Some sent) whole) rest);
-  goes = refl;
-  breaks = breaks;
-}
-
 -- the reply was taken for what it is
 pub reply_taken : {L : Type 0} (link : CardLink L) (old new : L) (whole : Host) (sent : Session) (bytes : List ℕ) (rest : Host → List ℕ → ℕ → Talk)
     (reply : List ℕ) (taken : Taken) → Conveys link old new (Answered bytes reply ∷ []) → IsTaken sent reply taken
@@ -100,24 +83,6 @@ reply_taken link old new whole sent bytes rest reply taken conveyed is = record 
   goes = (refl, inr (taken, is, goes_nothing (after_reply (with_own (Some sent) whole) rest taken)));
   conveyed = conveyed;
 }
-
-refused_not_unwrapped : (session : Session) (reply out : List ℕ) (result : Result Status ReplyRefusal) (why : ReplyRefusal) → result ≡ Err why
-    → ((body : List ℕ) (status : ℕ) → Unwraps session reply body status → (result ≡ Ok (record { 0 = status })) × (out ≡ body))
-    → (body : List ℕ) (status : ℕ) → Unwraps session reply body status → ⊥
-refused_not_unwrapped session reply out result why is back body status unwraps = (let ok = (back body status unwraps).0 in cc (is, ok))
-
--- why a reply is refused
-pub refusal_taken : (session : Session) (reply out : List ℕ) (result : Result Status ReplyRefusal) (why : ReplyRefusal) → result ≡ Err why
-    → (result ≡ Err refusal.Short) ↔ IsTooShort session reply
-    → (result ≡ Err refusal.Mac) ↔ (IsTooShort session reply → ⊥) × (HasRightMac session reply → ⊥)
-    → (result ≡ Err refusal.Padding) ↔ (IsTooShort session reply → ⊥) × HasRightMac session reply
-    × ((body : List ℕ) (status : ℕ) → Unwraps session reply body status → ⊥)
-    → ((body : List ℕ) (status : ℕ) → Unwraps session reply body status → (result ≡ Ok (record { 0 = status })) × (out ≡ body))
-    → IsTaken session reply (Refused why)
-refusal_taken session reply out result refusal.Short is short mac padding back = (refused_not_unwrapped session reply out result refusal.Short is back, short.0 is)
-refusal_taken session reply out result refusal.Mac is short mac padding back = (refused_not_unwrapped session reply out result refusal.Mac is back, mac.0 is)
-refusal_taken session reply out result refusal.Padding is short mac padding back =
-    (let why = padding.0 is in (refused_not_unwrapped session reply out result refusal.Padding is back, (why.0, why.1)))
 
 -- a reply that can't be unwrapped ends the session
 pub refused_played : {L : Type 0} (link : CardLink L) (old new : L) (talk : Talk) (host : HostState) (whole : Host) (session : Session)
@@ -130,13 +95,9 @@ refused_played link old new talk host whole session rest why word is represents 
   stands = represents;
 }
 
--- the session is put back
-pub put_back : (host : HostState) (whole : Host) (one : KeptSession) (session : Session) (all : ChannelSessions) → all ≡ with_kept host.channel (Some one) host.sessions
-    → RepresentsHost host (with_own None whole) → RepresentsSession one session
-    → RepresentsHost (record { channel = host.channel; keys = host.keys; tokens = host.tokens; sessions = all; last = host.last }) (with_own (Some session) whole)
-put_back host whole one session all put represents is =
-    subst
-    (λ (s : ChannelSessions). RepresentsHost (record { channel = host.channel; keys = host.keys; tokens = host.tokens; sessions = s; last = host.last }) (with_own (Some session) whole))
-    (sym put)
-    (subst (RepresentsHost (with_own_kept (Some one) host)) (own_twice (Some session) None whole)
-    (represents_put host (with_own None whole) (Some one) (Some session) represents is))
+-- a line that needs a session goes on by that of the host's channel
+pub own_goes : {L : Type 0} (link : CardLink L) (old new : L) (whole : Host) (session : Session) (go : Session → Talk) (rest : Host → List ℕ → ℕ → Talk)
+    (kept : HostState) (result : Result Printout LinkFailed) → own_session whole ≡ Some session → Continues link old new (in_session whole go) rest kept result
+    → Continues link old new (go session) rest kept result
+own_goes link old new whole session go rest kept result own goes =
+    subst (λ (o : Option Session). Continues link old new (with_some o whole go) rest kept result) own goes

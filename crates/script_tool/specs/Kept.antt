@@ -1,8 +1,11 @@
 -- What the code keeps of a host.
-use Rattle.std.specs.Prelude.{◌≡◌, Option, None, Some, option_map}
+use Rattle.std.specs.Prelude.{◌≡◌, ℕ, List, Option, None, Some, option_map}
 use Rattle.scp03_card.specs.Kept.{KeptSession, RepresentsSession}
 use Rattle.scp03_card.specs.Session.{Session}
+use Rattle.scp03_host.specs.declared.refusals.ReplyRefusal.{ReplyRefusal}
 use Rattle.script_tool.specs.Host.{Host, Sessions}
+use Rattle.script_tool.specs.InSession.{refusal_word}
+use Rattle.script_tool.specs.Talk.{IsTaken, Refused}
 use Rattle.script_tool.specs.declared.channel.Channel.{Channel}
 use Rattle.script_tool.specs.declared.channel.Channel.TheVariants.{Basic, First, Second, Third}
 use Rattle.script_tool.specs.declared.channel_sessions.ChannelSessions.{ChannelSessions}
@@ -10,6 +13,7 @@ use Rattle.script_tool.specs.Printed.{Printed, Nothing, Reply, Opened, Cryptogra
 use Rattle.script_tool.specs.declared.host_state.HostState.{HostState}
 use Rattle.script_tool.specs.declared.printout.Printout as the_type
 use Rattle.script_tool.specs.declared.printout.Printout.TheVariants as printout
+use Rattle.script_tool.specs.declared.word.Word.{Word}
 
 -- no session on any channel
 abbrev pub no_kept : ChannelSessions
@@ -33,6 +37,10 @@ MayBeSession None None = Unit {0}
 MayBeSession (Some kept) (Some session) = RepresentsSession kept session
 MayBeSession None (Some session) = ⊥
 MayBeSession (Some kept) None = ⊥
+
+-- the word is said of a reply that no card sends in the session
+abbrev pub RefusesAs : Session → List ℕ → Word → Type 0
+RefusesAs session reply word = (why : ReplyRefusal) × (word ≡ refusal_word why) × IsTaken session reply (Refused why)
 
 pub record AreSessions (kept : ChannelSessions) (sessions : Sessions) : Type 0 where
   pub basic : MayBeSession kept.basic sessions.basic

@@ -1,10 +1,20 @@
 //! The sessions of a host (GlobalPlatform Amendment D, chapter 5).
 
-ghost use Rattle.std.specs.Prelude.{◌≡◌};
-ghost use Rattle.script_tool.specs.Kept.{kept_on, no_kept, with_kept};
+ghost use Rattle.std.specs.Prelude.{◌≡◌, ◌↔◌, ◌<◌, ◌≤◌, None, Some, length, IfErr, IfOk, IsErr, OnErr, OnOk};
+ghost use Rattle.apdu_core.specs.Apdu.{Short, apdu_of};
+ghost use Rattle.scp03_card.specs.Session.{Session};
+ghost use Rattle.scp03_host.specs.Unwrapped.{Unwraps};
+ghost use Rattle.scp03_host.specs.Wrapped.{having_sent, room_for, wrapped};
+ghost use Rattle.script_tool.specs.Channel.{number_of};
+ghost use Rattle.script_tool.specs.Kept.{MayBeSession, RefusesAs, kept_on, no_kept, with_kept};
+ghost use Rattle.script_tool.specs.declared.word.Word.TheVariants.{NoSession, TooLong as TooLongWord};
 
 use crate::aes_session::AesSession;
 use crate::channel::Channel;
+use crate::word::Word;
+use apdu_core::{Command, Status};
+use arrayvec::ArrayVec;
+use scp03_host::TooLong;
 
 /// A session for each logical channel that has one.
 #[derive(Drop)]
@@ -13,6 +23,58 @@ pub struct ChannelSessions {
     pub first: Option<AesSession>,
     pub second: Option<AesSession>,
     pub third: Option<AesSession>,
+}
+
+// Protects a command in the session that is kept, if one is.
+fn wrap_in(
+    kept: &mut Option<AesSession>,
+    plain: &Command<'_>,
+    channel: u8,
+    out: &mut ArrayVec<u8, 261>,
+) -> Result<(), Word>
+    requires { channel < 4 }
+    ensures none { kept.old ≡ None → result ≡ Err NoSession }
+    ensures sent { (session : Session) → MayBeSession kept.old (Some session)
+        → OnOk result (Short (wrapped session (apdu_of plain.now) channel) out.new.items) }
+    ensures accepted { (session : Session) → MayBeSession kept.old (Some session)
+        → OnOk result (MayBeSession kept.new (Some (having_sent session (apdu_of plain.now)))) }
+    ensures too_long { (session : Session) → MayBeSession kept.old (Some session)
+        → IsErr result ↔ (room_for session.level < length plain.now.body.now) }
+    ensures word { (session : Session) → MayBeSession kept.old (Some session) → IfErr result (λ word. word ≡ TooLongWord) }
+    ensures unchanged { OnErr result ((kept.new ≡ kept.old) × (out.new ≡ out.old)) }
+{
+    match kept {
+        None => Err(Word::NoSession),
+        Some(session) => match session.wrap(plain, channel, out) {
+            Ok(()) => Ok(()),
+            Err(TooLong) => Err(Word::TooLong),
+        },
+    }
+}
+
+// Reads the reply in the session that is kept, if one is. A reply that can't be read ends it.
+fn unwrap_in(
+    kept: &mut Option<AesSession>,
+    reply: &[u8],
+    out: &mut ArrayVec<u8, 256>,
+) -> Result<Status, Word>
+    requires { length reply.now ≤ 258 }
+    ensures unwrapped { (session : Session) → MayBeSession kept.old (Some session) → IfOk result (λ status. Unwraps session reply.now out.new.items status.0) }
+    ensures refused { (session : Session) → MayBeSession kept.old (Some session) → IfErr result (RefusesAs session reply.now) }
+    ensures stays { OnOk result (kept.new ≡ kept.old) }
+    ensures ended { OnErr result (kept.new ≡ None) }
+{
+    let read = match kept {
+        None => return Err(Word::NoSession),
+        Some(session) => session.unwrap(reply, out),
+    };
+    match read {
+        Ok(status) => Ok(status),
+        Err(refusal) => {
+            *kept = None;
+            Err(Word::of_refusal(refusal))
+        }
+    }
 }
 
 impl ChannelSessions {
@@ -28,16 +90,63 @@ impl ChannelSessions {
         }
     }
 
-    /// Takes away the session of a channel.
-    pub fn take(&mut self, channel: Channel) -> Option<AesSession>
-        ensures taken { result ≡ kept_on channel self.old }
-        ensures left { self.new ≡ with_kept channel None self.old }
+    /// The session of a channel.
+    pub fn on(&self, channel: Channel) -> &Option<AesSession>
+        ensures { result.now ≡ kept_on channel self.now }
     {
         match channel {
-            Channel::Basic => self.basic.take(),
-            Channel::First => self.first.take(),
-            Channel::Second => self.second.take(),
-            Channel::Third => self.third.take(),
+            Channel::Basic => &self.basic,
+            Channel::First => &self.first,
+            Channel::Second => &self.second,
+            Channel::Third => &self.third,
+        }
+    }
+
+    /// Protects a command in the session of a channel, as `HostSession::wrap` does.
+    pub fn wrap(
+        &mut self,
+        channel: Channel,
+        plain: &Command<'_>,
+        out: &mut ArrayVec<u8, 261>,
+    ) -> Result<(), Word>
+        ensures none { kept_on channel self.old ≡ None → result ≡ Err NoSession }
+        ensures sent { (session : Session) → MayBeSession (kept_on channel self.old) (Some session)
+            → OnOk result (Short (wrapped session (apdu_of plain.now) (number_of channel)) out.new.items) }
+        ensures accepted { (session : Session) → MayBeSession (kept_on channel self.old) (Some session)
+            → OnOk result (MayBeSession (kept_on channel self.new) (Some (having_sent session (apdu_of plain.now)))) }
+        ensures too_long { (session : Session) → MayBeSession (kept_on channel self.old) (Some session)
+            → IsErr result ↔ (room_for session.level < length plain.now.body.now) }
+        ensures word { (session : Session) → MayBeSession (kept_on channel self.old) (Some session) → IfErr result (λ word. word ≡ TooLongWord) }
+        ensures others { self.new ≡ with_kept channel (kept_on channel self.new) self.old }
+        ensures unchanged { OnErr result ((self.new ≡ self.old) × (out.new ≡ out.old)) }
+    {
+        match channel {
+            Channel::Basic => wrap_in(&mut self.basic, plain, 0, out),
+            Channel::First => wrap_in(&mut self.first, plain, 1, out),
+            Channel::Second => wrap_in(&mut self.second, plain, 2, out),
+            Channel::Third => wrap_in(&mut self.third, plain, 3, out),
+        }
+    }
+
+    /// Reads the reply to it, as `HostSession::unwrap` does. A reply that can't be read ends the session.
+    pub fn unwrap(
+        &mut self,
+        channel: Channel,
+        reply: &[u8],
+        out: &mut ArrayVec<u8, 256>,
+    ) -> Result<Status, Word>
+        requires { length reply.now ≤ 258 }
+        ensures unwrapped { (session : Session) → MayBeSession (kept_on channel self.old) (Some session)
+            → IfOk result (λ status. Unwraps session reply.now out.new.items status.0) }
+        ensures refused { (session : Session) → MayBeSession (kept_on channel self.old) (Some session) → IfErr result (RefusesAs session reply.now) }
+        ensures stays { OnOk result (self.new ≡ self.old) }
+        ensures ended { OnErr result (self.new ≡ with_kept channel None self.old) }
+    {
+        match channel {
+            Channel::Basic => unwrap_in(&mut self.basic, reply, out),
+            Channel::First => unwrap_in(&mut self.first, reply, out),
+            Channel::Second => unwrap_in(&mut self.second, reply, out),
+            Channel::Third => unwrap_in(&mut self.third, reply, out),
         }
     }
 
@@ -58,6 +167,11 @@ impl ChannelSessions {
     pub fn end(&mut self, channel: Channel)
         ensures { self.new ≡ with_kept channel None self.old }
     {
-        let _ended = self.take(channel);
+        match channel {
+            Channel::Basic => self.basic = None,
+            Channel::First => self.first = None,
+            Channel::Second => self.second = None,
+            Channel::Third => self.third = None,
+        }
     }
 }

@@ -15,7 +15,7 @@ ghost use Rattle.script_tool.specs.declared.printout.TheConstants.{DONE};
 
 use crate::block::load_block;
 use crate::host_state::HostState;
-use crate::in_session::{protect, send};
+use crate::in_session::send;
 use crate::link::{CardLink, LinkFailed};
 use crate::load_file::LoadFile;
 use crate::printout::{DONE, Printout};
@@ -75,11 +75,11 @@ pub fn load<L: CardLink>(
     ensures up { OnOk result (L.up link.new ≡ true) }
     ensures cause { HasCause (L.faults link.old) (L.faults link.new) result }
 {
-    let Some(session) = host.sessions.take(host.channel) else {
+    let Some(session) = host.sessions.on(host.channel) else {
         return Ok(Printout::Said(Word::NoSession));
     };
     let size = session.room();
     let install = file.install(&host.tokens);
-    let installed = protect(host, wire, link, session, false, &install.command())?;
+    let installed = send(host, wire, link, false, &install.command())?;
     send_blocks(host, wire, link, file, size, installed)
 }

@@ -16,7 +16,7 @@ use crate::control::Control;
 use crate::exchange::Exchange;
 use crate::host_state::HostState;
 use crate::in_plain::{raw, select};
-use crate::in_session::{protect, send};
+use crate::in_session::send;
 use crate::line::ScriptLine;
 use crate::link::{CardLink, LinkFailed};
 use crate::loading::load;
@@ -88,11 +88,11 @@ fn put_key<L: CardLink>(
     ensures up { OnOk result (L.up link.new ≡ true) }
     ensures cause { HasCause (L.faults link.old) (L.faults link.new) result }
 {
-    let Some(session) = host.sessions.take(host.channel) else {
+    let Some(session) = host.sessions.on(host.channel) else {
         return Ok(Printout::Said(Word::NoSession));
     };
     let command = session.put_key(putting);
-    protect(host, wire, link, session, false, &command.command())
+    send(host, wire, link, false, &command.command())
 }
 
 // Sends what a line sends, and prints what it prints.
