@@ -7,12 +7,10 @@ ghost use Rattle.host_tool.specs.Exchange.{command_line, reset_line};
 
 use arrayvec::ArrayVec;
 use io_edge::{Sink, WriteFailed};
+use line_text::push_hex;
 
 /// How many bytes of a command go by one write, at most: those of the longest short command.
 const PIECE: usize = 261;
-
-/// How many digits these have.
-const DIGITS: usize = 522;
 
 const RESET: &[u8] = b"reset\n";
 
@@ -21,11 +19,8 @@ fn digits(piece: &[u8]) -> ArrayVec<u8, 523>
     requires { length piece.now ≤ PIECE }
     ensures { result.items ≡ encode_lower piece.now }
 {
-    let mut digits = [0; DIGITS];
-    let count = 2 * piece.len();
-    hex::encode_to_slice(piece, &mut digits[..count]).unwrap();
     let mut line = ArrayVec::new();
-    line.try_extend_from_slice(&digits[..count]).unwrap();
+    push_hex(piece, &mut line);
     line
 }
 

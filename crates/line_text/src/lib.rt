@@ -3,4 +3,4 @@
 
 mod push;
 
-pub use push::{HEX_LIMIT, push_decimal, push_hex, push_word};
+pub use push::{push_decimal, push_hex, push_word};

@@ -7,8 +7,8 @@ ghost use Rattle.hex.specs.Hex.{encode_lower};
 use arrayvec::ArrayVec;
 use itoa::Buffer;
 
-/// How many bytes are written in hexadecimal digits at once, at most.
-pub const HEX_LIMIT: usize = 261;
+/// How many bytes become digits at once. Few, since the room for their digits is set to zeros first.
+const PIECE: usize = 32;
 
 /// Appends bytes as they are.
 pub fn push_word<const N: usize>(word: &[u8], line: &mut ArrayVec<u8, N>)
@@ -19,17 +19,31 @@ pub fn push_word<const N: usize>(word: &[u8], line: &mut ArrayVec<u8, N>)
     line.try_extend_from_slice(word).unwrap();
 }
 
+// Appends few bytes in hexadecimal digits.
+fn push_piece<const N: usize>(piece: &[u8], line: &mut ArrayVec<u8, N>)
+    requires few { length piece.now ≤ PIECE }
+    requires room { array_vec_len line.old + 2 * length piece.now ≤ N }
+    ensures written { line.new.items ≡ line.old.items ++ encode_lower piece.now }
+    ensures size { array_vec_len line.new ≡ array_vec_len line.old + 2 * length piece.now }
+{
+    let mut digits = [0; 2 * PIECE];
+    let count = 2 * piece.len();
+    let _ = hex::encode_to_slice(piece, &mut digits[..count]);
+    push_word(&digits[..count], line);
+}
+
 /// Appends bytes in hexadecimal digits.
 pub fn push_hex<const N: usize>(bytes: &[u8], line: &mut ArrayVec<u8, N>)
-    requires few { length bytes.now ≤ HEX_LIMIT }
     requires room { array_vec_len line.old + 2 * length bytes.now ≤ N }
     ensures written { line.new.items ≡ line.old.items ++ encode_lower bytes.now }
     ensures size { array_vec_len line.new ≡ array_vec_len line.old + 2 * length bytes.now }
 {
-    let mut digits = [0; 2 * HEX_LIMIT];
-    let count = 2 * bytes.len();
-    let _ = hex::encode_to_slice(bytes, &mut digits[..count]);
-    push_word(&digits[..count], line);
+    let mut rest = bytes;
+    while !rest.is_empty() {
+        let (piece, after) = rest.split_at(rest.len().min(PIECE));
+        push_piece(piece, line);
+        rest = after;
+    }
 }
 
 /// Appends a number in decimal digits.

@@ -11,6 +11,7 @@ use crate::played::Played;
 use crate::word::Word;
 use apdu_core::Status;
 use arrayvec::ArrayVec;
+use line_text::{push_hex, push_word};
 
 /// The status of a command that was carried out.
 pub const DONE: Status = Status(0x9000);
@@ -40,35 +41,13 @@ pub enum Printout {
     Differs(Status, Option<Status>),
 }
 
-// Adds text.
-fn push(text: &[u8], out: &mut Text)
-    requires { length out.old.items + length text.now ≤ 600 }
-    ensures added { out.new.items ≡ out.old.items ++ text.now }
-    ensures length { length out.new.items ≡ length out.old.items + length text.now }
-{
-    out.try_extend_from_slice(text).unwrap();
-}
-
-// Adds bytes in digits.
-fn push_digits(bytes: &[u8], out: &mut Text)
-    requires short { length bytes.now ≤ 256 }
-    requires room { length out.old.items + 2 * length bytes.now ≤ 600 }
-    ensures added { out.new.items ≡ out.old.items ++ encode_lower bytes.now }
-    ensures length { length out.new.items ≡ length out.old.items + 2 * length bytes.now }
-{
-    let mut digits = [0; 512];
-    let count = 2 * bytes.len();
-    hex::encode_to_slice(bytes, &mut digits[..count]).unwrap();
-    push(&digits[..count], out);
-}
-
 // Adds a status in digits.
 fn push_status(status: Status, out: &mut Text)
     requires { length out.old.items + 4 ≤ 600 }
     ensures added { out.new.items ≡ out.old.items ++ status_digits status.0 }
     ensures length { length out.new.items ≡ length out.old.items + 4 }
 {
-    push_digits(&status.to_bytes(), out);
+    push_hex(&status.to_bytes(), out);
 }
 
 // Adds a status in digits, or that there is none.
@@ -78,7 +57,7 @@ fn push_last(status: Option<Status>, out: &mut Text)
 {
     match status {
         Some(status) => push_status(status, out),
-        None => push(b"none", out),
+        None => push_word(b"none", out),
     }
 }
 
@@ -89,7 +68,7 @@ fn push_reply(field: &[u8], status: Status, quiet: bool, out: &mut Text)
     ensures { out.new.items ≡ out.old.items ++ unless_quiet quiet (encode_lower field.now) ++ status_digits status.0 }
 {
     if !quiet {
-        push_digits(field, out);
+        push_hex(field, out);
     }
     push_status(status, out);
 }
@@ -100,8 +79,8 @@ fn push_opened(counter: &[u8; 3], status: Status, quiet: bool, out: &mut Text)
     ensures { out.new.items ≡ out.old.items ++ unless_quiet quiet (encode_lower counter.now ++ codes " ") ++ status_digits status.0 }
 {
     if !quiet {
-        push_digits(counter, out);
-        push(b" ", out);
+        push_hex(counter, out);
+        push_word(b" ", out);
     }
     push_status(status, out);
 }
@@ -111,9 +90,9 @@ fn push_difference(want: Status, got: Option<Status>, out: &mut Text)
     requires { length out.old.items + 18 ≤ 600 }
     ensures { out.new.items ≡ out.old.items ++ codes "want " ++ status_digits want.0 ++ codes " got " ++ may_be_status (option_map (λ s. s.0) got) }
 {
-    push(b"want ", out);
+    push_word(b"want ", out);
     push_status(want, out);
-    push(b" got ", out);
+    push_word(b" got ", out);
     push_last(got, out);
 }
 
@@ -150,10 +129,10 @@ impl Printout {
             Printout::Reply(field, status) => push_reply(field, *status, quiet, out),
             Printout::Opened(counter, status) => push_opened(counter, *status, quiet, out),
             Printout::Cryptogram(counter) => {
-                push_digits(counter, out);
-                push(b" cryptogram", out);
+                push_hex(counter, out);
+                push_word(b" cryptogram", out);
             }
-            Printout::Said(word) => push(word.text(), out),
+            Printout::Said(word) => push_word(word.text(), out),
             Printout::Differs(want, got) => push_difference(*want, *got, out),
         }
     }

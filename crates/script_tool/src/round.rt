@@ -9,6 +9,7 @@ ghost use Rattle.script_tool.specs.Round.{application_of, challenge_of, digits_o
 
 use arrayvec::ArrayVec;
 use itoa::Buffer;
+use line_text::{push_hex, push_word};
 
 /// A line of the workload.
 pub type MillLine = ArrayVec<u8, 64>;
@@ -24,27 +25,6 @@ pub struct Round {
     pub byte: u8,
 }
 
-// Appends text.
-fn push(text: &[u8], line: &mut MillLine)
-    requires { array_vec_len line.old + length text.now ≤ 64 }
-    ensures { line.new.items ≡ line.old.items ++ text.now }
-{
-    line.try_extend_from_slice(text).unwrap();
-}
-
-// Appends bytes in digits.
-fn push_digits(bytes: &[u8], line: &mut MillLine)
-    requires few { length bytes.now ≤ 8 }
-    requires room { array_vec_len line.old + 2 * length bytes.now ≤ 64 }
-    ensures text { line.new.items ≡ line.old.items ++ encode_lower bytes.now }
-    ensures len { array_vec_len line.new ≡ array_vec_len line.old + 2 * length bytes.now }
-{
-    let mut digits = [0; 16];
-    let count = 2 * bytes.len();
-    hex::encode_to_slice(bytes, &mut digits[..count]).unwrap();
-    push(&digits[..count], line);
-}
-
 // Appends a number.
 fn push_number(number: u8, line: &mut MillLine)
     requires { array_vec_len line.old + 3 ≤ 64 }
@@ -52,7 +32,7 @@ fn push_number(number: u8, line: &mut MillLine)
     ensures len { array_vec_len line.new ≤ array_vec_len line.old + 3 }
 {
     let mut buffer = Buffer::new();
-    push(buffer.format(number).as_bytes(), line);
+    push_word(buffer.format(number).as_bytes(), line);
 }
 
 impl Round {
@@ -62,9 +42,9 @@ impl Round {
         ensures text { line.new.items ≡ line.old.items ++ file_of self.now }
         ensures len { array_vec_len line.new ≡ array_vec_len line.old + 12 }
     {
-        push(b"f0", line);
-        push_digits(&self.number.to_be_bytes(), line);
-        push(b"01", line);
+        push_word(b"f0", line);
+        push_hex(&self.number.to_be_bytes(), line);
+        push_word(b"01", line);
     }
 
     // Appends the AID of the module and of the application, `f0X02`.
@@ -73,44 +53,44 @@ impl Round {
         ensures text { line.new.items ≡ line.old.items ++ application_of self.now }
         ensures len { array_vec_len line.new ≡ array_vec_len line.old + 12 }
     {
-        push(b"f0", line);
-        push_digits(&self.number.to_be_bytes(), line);
-        push(b"02", line);
+        push_word(b"f0", line);
+        push_hex(&self.number.to_be_bytes(), line);
+        push_word(b"02", line);
     }
 
     fn push_open(&self, line: &mut MillLine)
         requires { array_vec_len line.old ≡ 0 }
         ensures { line.new.items ≡ line.old.items ++ codes "open 00 " ++ digits_of self.now.level ++ codes " " ++ challenge_of self.now }
     {
-        push(b"open 00 ", line);
-        push_digits(&[self.level], line);
-        push(b" ", line);
-        push_digits(&self.challenge.to_be_bytes(), line);
+        push_word(b"open 00 ", line);
+        push_hex(&[self.level], line);
+        push_word(b" ", line);
+        push_hex(&self.challenge.to_be_bytes(), line);
     }
 
     fn push_load(&self, line: &mut MillLine)
         requires { array_vec_len line.old ≡ 0 }
         ensures { line.new.items ≡ line.old.items ++ codes "load " ++ file_of self.now ++ codes " - none fill " ++ decimal self.now.count ++ codes " " ++ digits_of self.now.byte }
     {
-        push(b"load ", line);
+        push_word(b"load ", line);
         self.push_file(line);
-        push(b" - none fill ", line);
+        push_word(b" - none fill ", line);
         push_number(self.count, line);
-        push(b" ", line);
-        push_digits(&[self.byte], line);
+        push_word(b" ", line);
+        push_hex(&[self.byte], line);
     }
 
     fn push_install(&self, line: &mut MillLine)
         requires { array_vec_len line.old ≡ 0 }
         ensures { line.new.items ≡ line.old.items ++ codes "install 04 " ++ file_of self.now ++ codes " " ++ application_of self.now ++ codes " " ++ application_of self.now ++ codes " 00 c900" }
     {
-        push(b"install 04 ", line);
+        push_word(b"install 04 ", line);
         self.push_file(line);
-        push(b" ", line);
+        push_word(b" ", line);
         self.push_application(line);
-        push(b" ", line);
+        push_word(b" ", line);
         self.push_application(line);
-        push(b" 00 c900", line);
+        push_word(b" 00 c900", line);
     }
 
     /// The line at a place of the round, where it has so many.
@@ -119,31 +99,31 @@ impl Round {
     {
         let mut line = ArrayVec::new();
         match at {
-            0 => push(b"reset", &mut line),
+            0 => push_word(b"reset", &mut line),
             1 => self.push_open(&mut line),
             2 => {
-                push(b"store 4508", &mut line);
-                push_digits(&self.challenge.to_be_bytes(), &mut line);
+                push_word(b"store 4508", &mut line);
+                push_hex(&self.challenge.to_be_bytes(), &mut line);
             }
             3 => self.push_load(&mut line),
             4 => self.push_install(&mut line),
             5 => {
-                push(b"selectable ", &mut line);
+                push_word(b"selectable ", &mut line);
                 self.push_application(&mut line);
             }
-            6 => push(b"list 40", &mut line),
+            6 => push_word(b"list 40", &mut line),
             7 => {
-                push(b"life 40 80 ", &mut line);
+                push_word(b"life 40 80 ", &mut line);
                 self.push_application(&mut line);
             }
             8 => {
-                push(b"life 40 00 ", &mut line);
+                push_word(b"life 40 00 ", &mut line);
                 self.push_application(&mut line);
             }
             9 => {
-                push(b"delete ", &mut line);
+                push_word(b"delete ", &mut line);
                 self.push_file(&mut line);
-                push(b" 80", &mut line);
+                push_word(b" 80", &mut line);
             }
             _ => return None,
         }
