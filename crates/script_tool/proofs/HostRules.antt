@@ -1,5 +1,5 @@
 -- The sessions of a host, taken and put.
-use Rattle.std.proofs.Common.{◌≡◌, Option, Some, None, refl, sym, subst, ◌∙◌, ap}
+use Rattle.std.proofs.Common.{◌≡◌, Option, Some, None, refl, sym, subst, ap}
 use Rattle.scp03_card.specs.Kept.{KeptSession, RepresentsSession}
 use Rattle.scp03_card.specs.Session.{Session}
 use Rattle.script_tool.specs.Host.{Host, Sessions, own_session, session_of, with_own, with_session, with_sessions}
@@ -17,17 +17,6 @@ twice Third a b all = refl
 
 pub own_twice : (a b : Option Session) (host : Host) → with_own a (with_own b host) ≡ with_own a host
 own_twice a b host = ap (λ (all : Sessions). with_sessions all host) (twice host.channel a b host.sessions)
-
-put_same : (channel : Channel) (all : Sessions) → with_session channel (session_of channel all) all ≡ all
-put_same Basic all = refl
-put_same First all = refl
-put_same Second all = refl
-put_same Third all = refl
-
--- the host with its own session is the host
-pub own_same : (session : Option Session) (host : Host) → own_session host ≡ session → with_own session host ≡ host
-own_same session host is =
-    ap (λ (s : Option Session). with_own s host) (sym is) ∙ ap (λ (all : Sessions). with_sessions all host) (put_same host.channel host.sessions)
 
 -- what is kept on a channel is the session there
 pub kept_there : (channel : Channel) (kept : ChannelSessions) (sessions : Sessions) → AreSessions kept sessions → MayBeSession (kept_on channel kept) (session_of channel sessions)
