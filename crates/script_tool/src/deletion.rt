@@ -22,6 +22,7 @@ pub struct Deletion {
 
 impl Deletion {
     /// DELETE.
+    #[inline(never)]
     pub fn command(&self, tokens: &Tokens) -> Plain
         ensures { plain_of result ≡ deleting tokens.now self.now }
     {
@@ -40,6 +41,7 @@ impl Deletion {
 }
 
 /// Reads `delete AID P2`.
+#[inline(never)]
 pub fn read(words: Words<'_>) -> Option<Deletion>
     ensures { Reads (SaysDelete (left words.entry)) result }
 {

@@ -68,7 +68,8 @@ pub enum Exchange {
     More(Listing),
 }
 
-/// Reads a line that sends commands.
+/// Reads a line that sends commands. What reads a form is out of line, as what makes its command is: inlined, each would set its values
+/// to zeros for every line.
 pub fn read(words: Words<'_>) -> Option<Exchange>
     ensures { Reads (SaysExchange (left words.entry)) result }
 {

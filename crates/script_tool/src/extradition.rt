@@ -23,6 +23,7 @@ pub struct Extradition {
 
 impl Extradition {
     /// INSTALL for extradition.
+    #[inline(never)]
     pub fn command(&self, tokens: &Tokens) -> Plain
         ensures { plain_of result ≡ extraditing tokens.now self.now }
     {
@@ -32,6 +33,7 @@ impl Extradition {
 }
 
 /// Reads `extradite AID DOMAIN`.
+#[inline(never)]
 pub fn read(words: Words<'_>) -> Option<Extradition>
     ensures { Reads (SaysExtradite (left words.entry)) result }
 {

@@ -52,6 +52,7 @@ pub fn send_plain<L: CardLink>(wire: &mut Wire, link: &mut L) -> Result<Printout
 }
 
 /// Sends bytes.
+#[inline(never)]
 pub fn raw<L: CardLink>(wire: &mut Wire, link: &mut L, bytes: &[u8]) -> Result<Printout, LinkFailed>
     requires up { L.up link.old ≡ true }
     requires short { length bytes.now ≤ 261 }
@@ -95,6 +96,7 @@ fn end_if_selected(host: &mut HostState, printout: &Printout)
 }
 
 /// Selects an application, which ends the session of the channel.
+#[inline(never)]
 pub fn select<L: CardLink>(
     host: &mut HostState,
     wire: &mut Wire,

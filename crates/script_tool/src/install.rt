@@ -38,6 +38,7 @@ fn p1_of(selectable: bool) -> u8
 
 impl Installation {
     /// INSTALL for install, or for install and make selectable.
+    #[inline(never)]
     pub fn command(&self, tokens: &Tokens) -> Plain
         ensures { plain_of result ≡ installing tokens.now self.now }
     {
@@ -104,6 +105,7 @@ fn parameters(word: &[u8]) -> Option<ArrayVec<u8, 127>>
 }
 
 /// Reads `install P1 FILE MODULE AID PRIV PARAMS`.
+#[inline(never)]
 pub fn read(words: Words<'_>) -> Option<Installation>
     ensures { Reads (SaysInstall (left words.entry)) result }
 {

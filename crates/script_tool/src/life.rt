@@ -22,6 +22,7 @@ pub struct LifeChange {
 
 impl LifeChange {
     /// SET STATUS.
+    #[inline(never)]
     pub fn command(&self) -> Plain
         ensures { plain_of result ≡ changing_life self.now }
     {
@@ -54,6 +55,7 @@ fn may_name(words: Words<'_>) -> Option<Option<Aid>>
 }
 
 /// Reads `life P1 P2 [AID]`.
+#[inline(never)]
 pub fn read(words: Words<'_>) -> Option<LifeChange>
     ensures { Reads (SaysLife (left words.entry)) result }
 {

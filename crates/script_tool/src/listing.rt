@@ -21,6 +21,7 @@ pub struct Listing {
 
 impl Listing {
     /// GET STATUS with this P2.
+    #[inline(never)]
     pub fn command(&self, p2: u8) -> Plain
         ensures { plain_of result ≡ listing_command p2 self.now }
     {
@@ -52,6 +53,7 @@ fn may_begin(words: Words<'_>) -> Option<ArrayVec<u8, 16>>
 }
 
 /// Reads `list P1 [AID]` or `more P1 [AID]`.
+#[inline(never)]
 pub fn read(verb: &[u8], words: Words<'_>) -> Option<Listing>
     ensures { Reads (SaysListing verb.now (left words.entry)) result }
 {

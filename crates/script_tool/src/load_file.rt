@@ -109,6 +109,7 @@ fn held(words: Words<'_>) -> Option<Content>
 }
 
 /// Reads `load FILE DOMAIN HASH HEX` or `load FILE DOMAIN HASH fill N BB`.
+#[inline(never)]
 pub fn read(words: Words<'_>) -> Option<LoadFile>
     ensures { Reads (SaysLoad (left words.entry)) result }
 {

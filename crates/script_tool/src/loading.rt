@@ -63,6 +63,7 @@ fn send_blocks<L: CardLink>(
 }
 
 /// Sends INSTALL for load, and LOAD of each block, up to the first reply that is not 9000.
+#[inline(never)]
 pub fn load<L: CardLink>(
     host: &mut HostState,
     wire: &mut Wire,

@@ -10,6 +10,7 @@ use crate::words::Words;
 use arrayvec::ArrayVec;
 
 /// Reads `raw HEX`.
+#[inline(never)]
 pub fn read_raw(words: Words<'_>) -> Option<ArrayVec<u8, 258>>
     ensures { Reads (SaysRaw (left words.entry)) result }
 {
@@ -20,6 +21,7 @@ pub fn read_raw(words: Words<'_>) -> Option<ArrayVec<u8, 258>>
 }
 
 /// Reads `store HEX`.
+#[inline(never)]
 pub fn read_store(words: Words<'_>) -> Option<ArrayVec<u8, 258>>
     ensures { Reads (SaysStore (left words.entry)) result }
 {

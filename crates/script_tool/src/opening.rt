@@ -17,6 +17,7 @@ pub struct Opening {
 }
 
 /// Reads `open VV LL CHALLENGE`.
+#[inline(never)]
 pub fn read(words: Words<'_>) -> Option<Opening>
     ensures { Reads (SaysOpen (left words.entry)) result }
 {

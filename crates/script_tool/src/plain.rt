@@ -75,6 +75,7 @@ fn spelled(word: &[u8]) -> Option<Plain>
 }
 
 /// Reads `send HEX` or `bad HEX`.
+#[inline(never)]
 pub fn read(verb: &[u8], words: Words<'_>) -> Option<Plain>
     ensures { Reads (SaysSend verb.now (left words.entry)) result }
 {

@@ -35,6 +35,7 @@ const FIRST: u8 = 0x02;
 const NEXT: u8 = 0x03;
 
 // Sends a plain command in the session of the channel.
+#[inline(never)]
 fn send_one<L: CardLink>(
     host: &mut HostState,
     wire: &mut Wire,
@@ -52,6 +53,7 @@ fn send_one<L: CardLink>(
 }
 
 // STORE DATA of one block.
+#[inline(never)]
 fn store<L: CardLink>(
     host: &mut HostState,
     wire: &mut Wire,
@@ -76,6 +78,7 @@ fn store<L: CardLink>(
 }
 
 // PUT KEY of keys that are enciphered under the Key-DEK of the session.
+#[inline(never)]
 fn put_key<L: CardLink>(
     host: &mut HostState,
     wire: &mut Wire,

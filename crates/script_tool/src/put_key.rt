@@ -69,6 +69,7 @@ fn sized(words: Words<'_>) -> Option<OfSize<NewKeys<16>, NewKeys<24>, NewKeys<32
 }
 
 /// Reads `putkey OLD NEW KEY [KEY KEY]`.
+#[inline(never)]
 pub fn read(words: Words<'_>) -> Option<Putting>
     ensures { Reads (SaysPutKey (left words.entry)) result }
 {

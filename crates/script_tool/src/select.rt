@@ -9,6 +9,7 @@ use crate::words::Words;
 use card_types::Aid;
 
 /// Reads `select [AID]`.
+#[inline(never)]
 pub fn read(words: Words<'_>) -> Option<Option<Aid>>
     ensures { Reads (SaysSelect (left words.entry)) result }
 {

@@ -15,6 +15,7 @@ use card_types::Aid;
 use tokens_receipts::five_fields;
 
 /// Reads `selectable AID`.
+#[inline(never)]
 pub fn read(words: Words<'_>) -> Option<Aid>
     ensures { Reads (SaysSelectable (left words.entry)) result }
 {
@@ -25,6 +26,7 @@ pub fn read(words: Words<'_>) -> Option<Aid>
 }
 
 /// INSTALL for make selectable.
+#[inline(never)]
 pub fn command(aid: &Aid, tokens: &Tokens) -> Plain
     ensures { plain_of result ≡ making_selectable tokens.now aid.now }
 {

@@ -29,6 +29,7 @@ use arrayvec::ArrayVec;
 use scp03_host::BeginRefusal;
 
 /// Opens a session on the host's channel.
+#[inline(never)]
 pub fn open<L: CardLink>(
     host: &mut HostState,
     wire: &mut Wire,
