@@ -1,1 +1,2 @@
+mod Splices
 mod Staged

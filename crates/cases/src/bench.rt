@@ -2,6 +2,17 @@
 
 mod answers;
 
+ghost use Rattle.std.specs.Prelude.{◌≡◌, ◌+◌, ◌*◌, ◌++◌, ◌∷◌, [], ℕ, List, codes, map, replicate, take, Ok, Err, OnOk, OnErr, IfOk};
+ghost use Rattle.std.specs.Borrow.{Bor};
+ghost use Rattle.cases.specs.Bench.{HasPages, IsNew, LaysIn};
+ghost use Rattle.cases.specs.Image.{bytes_of, with_bytes};
+ghost use Rattle.cases.specs.Layout.{nothing_in};
+ghost use Rattle.cases.specs.declared.bench.Power.TheVariants.{Blank, Laid};
+ghost use Rattle.cases.specs.declared.case_error.CaseError.TheVariants.{NoForm};
+ghost use Rattle.cases.specs.declared.line.Line.TheVariants.{Nothing, Case, Thing, Fuse, Once, Input, Later, Change, Image as ImageLine};
+ghost use Rattle.flash_core.specs.Memory.{medium};
+ghost use Rattle.flash_core.specs.declared.page.TheConstants.{PAGES};
+
 use crate::act::Act;
 use crate::bench::answers::write_workload;
 use crate::case_error::CaseError;
@@ -13,8 +24,9 @@ use crate::line::{Line, StreamLine, Sweep};
 use crate::script::Player;
 use crate::sweep::sweep;
 use crate::tool::{Called, Streams, call};
-use crate::words::{Words, number};
+use crate::words::number;
 use flash_core::MemFlash;
+use script_tool::words::Words;
 use std::alloc::Global;
 use std::cell::Cell;
 use std::mem;
@@ -56,7 +68,9 @@ pub struct Bench<'a> {
 
 impl<'a> Bench<'a> {
     /// A device of zeros. How many calls it takes is kept in `calls`.
-    pub fn new(alloc: Global, calls: &'a Cell<Calls>) -> Bench<'a> {
+    pub fn new(alloc: Global, calls: &'a Cell<Calls>) -> Bench<'a>
+        ensures { IsNew result }
+    {
         Bench {
             alloc,
             calls,
@@ -72,12 +86,23 @@ impl<'a> Bench<'a> {
     }
 
     /// Does a line, and writes what it answers.
-    pub fn act(&mut self, line: &Line<'_>, out: &mut Vec<u8>) -> Result<(), CaseError> {
+    pub fn act(&mut self, line: &Line<'_>, out: &mut Vec<u8>) -> Result<(), CaseError>
+        ensures nothing { line.now ≡ Nothing → (result ≡ Ok tt) × (self.new ≡ self.old) × (out.new ≡ out.old) }
+        ensures case { (name : Bor (List ℕ)) → line.now ≡ Case name → OnOk result (IsNew self.new × (out.new.items ≡ out.old.items ++ codes "case " ++ name.now ++ 10 ∷ [])) }
+        ensures thing { (kind words : Bor (List ℕ)) → line.now ≡ Thing kind words → OnOk result (LaysIn kind.now words.now self.old.power self.new.power) }
+        ensures fuse { (call : ℕ) → line.now ≡ Fuse call → (result ≡ Ok tt) × (self.new ≡ record self.old { faults = record self.old.faults { fuse = call } }) }
+        ensures once { (call : ℕ) → line.now ≡ Once call → (result ≡ Ok tt) × (self.new ≡ record self.old { faults = record self.old.faults { once = call } }) }
+        ensures input { (text : Bor (List ℕ)) → line.now ≡ Input text → OnOk result (self.new.input.items ≡ self.old.input.items ++ text.now ++ 10 ∷ []) }
+        ensures later { (text : Bor (List ℕ)) → line.now ≡ Later text → OnOk result (map (λ l. l.items) self.new.script.items ≡ map (λ l. l.items) self.old.script.items ++ text.now ∷ []) }
+        ensures change { (text : Bor (List ℕ)) → line.now ≡ Change text → OnOk result (map (λ l. l.items) self.new.changes.items ≡ map (λ l. l.items) self.old.changes.items ++ text.now ∷ []) }
+        ensures image { (path : Bor (List ℕ)) → line.now ≡ ImageLine path → result ≡ Err NoForm }
+    {
         match line {
             Line::Nothing => Ok(()),
             Line::Case(name) => {
                 *self = Bench::new(self.alloc, self.calls);
-                write_line(out, &[b"case ", name])
+                out.extend_from_slice(b"case ")?;
+                write_line(out, name)
             }
             Line::Page {
                 number,
@@ -85,7 +110,7 @@ impl<'a> Bench<'a> {
                 digits,
                 times,
             } => self.put(*number, *place, digits, *times),
-            Line::Thing { kind, words } => self.laid()?.lay(kind, words),
+            Line::Thing { kind, words } => self.lay(kind, words),
             Line::Format => self.format(),
             Line::Keep => self.keep(),
             Line::Again => self.again(),
@@ -105,7 +130,12 @@ impl<'a> Bench<'a> {
     }
 
     // Does a line that gives input to a card, or asks what came of it.
-    fn play(&mut self, line: &Line<'_>, out: &mut Vec<u8>) -> Result<(), CaseError> {
+    fn play(&mut self, line: &Line<'_>, out: &mut Vec<u8>) -> Result<(), CaseError>
+        ensures input { (text : Bor (List ℕ)) → line.now ≡ Input text → OnOk result (self.new.input.items ≡ self.old.input.items ++ text.now ++ 10 ∷ []) }
+        ensures later { (text : Bor (List ℕ)) → line.now ≡ Later text → OnOk result (map (λ l. l.items) self.new.script.items ≡ map (λ l. l.items) self.old.script.items ++ text.now ∷ []) }
+        ensures change { (text : Bor (List ℕ)) → line.now ≡ Change text → OnOk result (map (λ l. l.items) self.new.changes.items ≡ map (λ l. l.items) self.old.changes.items ++ text.now ∷ []) }
+        ensures image { (path : Bor (List ℕ)) → line.now ≡ ImageLine path → result ≡ Err NoForm }
+    {
         match line {
             Line::Input(text) => {
                 self.input.extend_from_slice(text)?;
@@ -157,28 +187,43 @@ impl<'a> Bench<'a> {
         Ok(failing(self.take_flash()?, faults, self.calls))
     }
 
-    fn laid(&mut self) -> Result<&mut Layout, CaseError> {
-        if !matches!(self.power, Power::Laid(_)) {
-            let image = match &self.power {
-                Power::Blank => Image::zeros(self.alloc)?,
-                _ => Image::of(self.alloc, &self.take_flash()?)?,
-            };
-            self.power = Power::Laid(Layout::of(self.alloc, image));
-        }
-        match &mut self.power {
+    // Takes the pages to lay out more in them.
+    fn take_layout(&mut self) -> Result<Layout, CaseError>
+        ensures pages { IfOk result (HasPages self.old.power) }
+        ensures kept { OnOk result (self.new ≡ record self.old { power = Blank }) }
+    {
+        match mem::replace(&mut self.power, Power::Blank) {
+            Power::Blank => Ok(Layout::of(self.alloc, Image::zeros(self.alloc)?)),
             Power::Laid(layout) => Ok(layout),
-            _ => Err(CaseError::Device),
+            Power::Off(flash) => self.layout_of(&flash),
+            Power::On(player) => self.layout_of(&memory(player.into_flash())),
         }
+    }
+
+    fn layout_of(&self, flash: &MemFlash) -> Result<Layout, CaseError>
+        ensures { IfOk result (λ laid. laid ≡ nothing_in (bytes_of (take PAGES (medium flash.now).seen))) }
+    {
+        Ok(Layout::of(self.alloc, Image::of(self.alloc, flash)?))
+    }
+
+    fn lay(&mut self, kind: &[u8], words: &[u8]) -> Result<(), CaseError>
+        ensures { OnOk result (LaysIn kind.now words.now self.old.power self.new.power) }
+    {
+        let mut layout = self.take_layout()?;
+        layout.lay(kind, words)?;
+        self.power = Power::Laid(layout);
+        Ok(())
     }
 
     fn put(&mut self, page: u32, place: u32, digits: &[u8], times: u32) -> Result<(), CaseError> {
         let bytes = decode(self.alloc, digits)?;
-        let image = self.laid()?.image_mut();
+        let mut layout = self.take_layout()?;
         let mut at = place_of(page, place);
         for _ in 0..times {
-            image.put(at as usize, &bytes)?;
+            layout.put(at as usize, &bytes)?;
             at = at.saturating_add(bytes.len() as u64);
         }
+        self.power = Power::Laid(layout);
         Ok(())
     }
 
@@ -196,7 +241,10 @@ impl<'a> Bench<'a> {
     }
 
     /// Takes these bytes for the pages, and zeros after them.
-    pub fn lay_image(&mut self, pages: &[u8]) -> Result<(), CaseError> {
+    pub fn lay_image(&mut self, pages: &[u8]) -> Result<(), CaseError>
+        ensures ok { OnOk result (self.new ≡ record self.old { power = Laid (nothing_in (with_bytes (replicate (PAGES * 256) 0) 0 pages.now)) }) }
+        ensures err { OnErr result (self.new ≡ self.old) }
+    {
         let mut image = Image::zeros(self.alloc)?;
         image.put(0, pages)?;
         self.power = Power::Laid(Layout::of(self.alloc, image));
@@ -224,7 +272,7 @@ impl<'a> Bench<'a> {
             }
             Err(device) => {
                 self.power = Power::Off(memory(device));
-                write_line(out, &[b"no card"])
+                write_line(out, b"no card")
             }
         }
     }
@@ -265,7 +313,7 @@ impl<'a> Bench<'a> {
         out.extend_from_slice(called.sink.written())?;
         let status = format!(in self.alloc; "status {}", called.status)?;
         self.called = Some(called);
-        write_line(out, &[status.as_bytes()])
+        write_line(out, status.as_bytes())
     }
 
     fn step(&mut self, line: &[u8], out: &mut Vec<u8>) -> Result<(), CaseError> {
@@ -278,8 +326,8 @@ impl<'a> Bench<'a> {
         self.calls.set(Calls::NONE);
         match player.step(line) {
             Some(text) if text.is_empty() => Ok(()),
-            Some(text) => write_line(out, &[&text]),
-            None => write_line(out, &[b"no form"]),
+            Some(text) => write_line(out, &text),
+            None => write_line(out, b"no form"),
         }
     }
 
@@ -291,7 +339,7 @@ impl<'a> Bench<'a> {
         if played.is_whole {
             Ok(())
         } else {
-            write_line(out, &[b"failed"])
+            write_line(out, b"failed")
         }
     }
 
@@ -307,12 +355,14 @@ impl<'a> Bench<'a> {
         let outcomes = sweep(self.alloc, kind, &image, &act)?;
         self.script.clear();
         self.changes.clear();
-        write_line(out, &[outcomes.text()?.as_bytes()])
+        write_line(out, outcomes.text()?.as_bytes())
     }
 }
 
 // A place of a page among all bytes.
-fn place_of(page: u32, place: u32) -> u64 {
+fn place_of(page: u32, place: u32) -> u64
+    ensures { result ≡ page * 256 + place }
+{
     u64::from(page) * 256 + u64::from(place)
 }
 
@@ -331,9 +381,9 @@ fn numbers(alloc: Global, line: &[u8]) -> Result<Vec<u32>, CaseError> {
     Ok(numbers)
 }
 
-fn write_line(out: &mut Vec<u8>, parts: &[&[u8]]) -> Result<(), CaseError> {
-    for part in parts {
-        out.extend_from_slice(part)?;
-    }
+fn write_line(out: &mut Vec<u8>, text: &[u8]) -> Result<(), CaseError>
+    ensures { OnOk result (out.new.items ≡ out.old.items ++ text.now ++ 10 ∷ []) }
+{
+    out.extend_from_slice(text)?;
     Ok(out.push(b'\n')?)
 }

@@ -4,10 +4,11 @@ ghost use Rattle.std.specs.Prelude.{◌≡◌, ◌+◌, ◌<◌, ◌≤◌, leng
 
 use crate::case_error::CaseError;
 use crate::made::{made_entry, made_file, made_key, made_life, made_object};
-use crate::words::{Words, number};
+use crate::words::number;
 use card_types::{ENTRIES, FILES, KEYS, OBJECTS};
 use flash_core::Flash;
 use rec_store::Records;
+use script_tool::words::Words;
 
 /// Makes a change: `card` and a life cycle state, or a slot and the thing that it gets.
 #[tactic(auto, using(crate::proofs::Staged::one_more))]
@@ -20,13 +21,13 @@ pub fn change<F: Flash>(records: &mut Records<F>, line: &[u8]) -> Result<(), Cas
     let mut words = Words::new(line);
     let first = words.take().ok_or(CaseError::NoForm)?;
     if first == b"card".as_slice() {
-        records.set_card_life(made_life(&mut words)?);
+        records.set_card_life(made_life(words)?);
         return Ok(());
     }
     match words.take() {
         Some(b"domain" | b"app") => {
             let slot = made_slot(first, ENTRIES)?;
-            let entry = made_entry(records.tables(), &mut words)?;
+            let entry = made_entry(records.tables(), words)?;
             records.set_entry(slot, Some(entry));
         }
         Some(b"file") => {
@@ -36,12 +37,12 @@ pub fn change<F: Flash>(records: &mut Records<F>, line: &[u8]) -> Result<(), Cas
         }
         Some(b"key") => {
             let slot = made_slot(first, KEYS)?;
-            let key = made_key(records.tables(), &mut words)?;
+            let key = made_key(records.tables(), words)?;
             records.set_key(slot, Some(key));
         }
         Some(b"object") => {
             let slot = made_slot(first, OBJECTS)?;
-            let object = made_object(records.tables(), &mut words)?;
+            let object = made_object(records.tables(), words)?;
             records.set_object(slot, Some(object));
         }
         _ => return Err(CaseError::NoForm),

@@ -1,5 +1,7 @@
 //! A device that counts its calls.
 
+ghost use Rattle.std.specs.Prelude.{◌≡◌};
+
 use flash_core::{Flash, FlashFailed, Page};
 use std::cell::Cell;
 
@@ -27,11 +29,17 @@ pub struct CountedFlash<'a, F: Flash> {
 }
 
 impl<'a, F: Flash> CountedFlash<'a, F> {
-    pub fn new(inner: F, calls: &'a Cell<Calls>) -> CountedFlash<'a, F> {
+    /// Counts the calls on this device from now on.
+    pub fn new(inner: F, calls: &'a Cell<Calls>) -> CountedFlash<'a, F>
+        ensures { result.inner ≡ inner }
+    {
         CountedFlash { inner, calls }
     }
 
-    pub fn into_inner(self) -> F {
+    /// The device that it passes calls on to.
+    pub fn into_inner(self) -> F
+        ensures { result ≡ self.entry.inner }
+    {
         self.inner
     }
 }

@@ -1,5 +1,7 @@
 //! The device of a case: in memory, counted, and made to fail where the case says.
 
+ghost use Rattle.std.specs.Prelude.{◌≡◌};
+
 use crate::counted::{Calls, CountedFlash};
 use flash_core::{FuseFlash, MemFlash, OnceFlash};
 use std::cell::Cell;
@@ -23,12 +25,16 @@ impl Faults {
 }
 
 /// A device whose calls fail so.
-pub fn failing<'a>(flash: MemFlash, faults: Faults, calls: &'a Cell<Calls>) -> Device<'a> {
+pub fn failing<'a>(flash: MemFlash, faults: Faults, calls: &'a Cell<Calls>) -> Device<'a>
+    ensures { result.inner.inner.inner ≡ flash }
+{
     let fused = FuseFlash::new(flash, faults.fuse);
     CountedFlash::new(OnceFlash::new(fused, faults.once), calls)
 }
 
 /// The memory of a device.
-pub fn memory(device: Device<'_>) -> MemFlash {
+pub fn memory(device: Device<'_>) -> MemFlash
+    ensures { result ≡ device.entry.inner.inner.inner }
+{
     device.into_inner().into_inner().into_inner()
 }

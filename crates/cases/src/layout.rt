@@ -3,17 +3,23 @@
 //! The words are those of `gp show`, with the content of keys and files. The places of the slots are known here
 //! apart from the card's own code. Each thing gets the next slot of its kind, and an Executable Load File the next load pages.
 
+mod bytes;
 mod slot;
+
+ghost use Rattle.std.specs.Prelude.{◌≡◌, ◌<◌, OnOk, OnErr};
+ghost use Rattle.cases.specs.Image.{with_bytes};
+ghost use Rattle.script_tool.specs.Words.{left};
 
 use crate::case_error::CaseError;
 use crate::image::Image;
 use crate::things::{EntryWords, FileWords, KeyWords, Name, ObjectWords};
-use crate::words::{Words, byte};
-use slot::{
-    ENTRIES, FILES, KEYS, LOAD_PAGES, OBJECTS, Slot, Slots, name_page, push, push_name,
-    push_padded, slot_of,
-};
+use crate::words::last_after;
+use bytes::{entry_slot, file_slot, key_slot, object_slot};
+use script_tool::values::byte;
+use script_tool::words::Words;
+use slot::{ENTRIES, FILES, KEYS, LOAD_PAGES, OBJECTS, Slot, Slots, copied, name_page, slot_of};
 use std::alloc::Global;
+use std::marker::Model;
 
 /// The front of the superblock: the mark of a card, and its layout.
 const SUPERBLOCK: [u8; 5] = [0x47, 0x50, 0x43, 0x44, 0x03];
@@ -31,9 +37,29 @@ pub struct Layout {
     load_page: usize,
 }
 
+impl Model for Layout {
+    ghost use Rattle.std.specs.Prelude.{map};
+    ghost use Rattle.cases.specs.Layout.{Laid};
+
+    ghost Value = { Laid };
+
+    ghost view = { λ l. record {
+      image = l.image;
+      entries = map (λ name. name.items) l.entries.items;
+      files = map (λ name. name.items) l.files.items;
+      keys = l.keys;
+      objects = l.objects;
+      load_page = l.load_page;
+    } };
+}
+
 impl Layout {
+    ghost use Rattle.cases.specs.Layout.{Lays, LaysCard, LaysEntry, LaysFile, LaysKey, LaysObject, nothing_in, with_slot};
+
     /// Pages in which nothing was laid out.
-    pub fn of(alloc: Global, image: Image) -> Layout {
+    pub fn of(alloc: Global, image: Image) -> Layout
+        ensures { result ≡ nothing_in image }
+    {
         Layout {
             image,
             entries: Vec::new(alloc),
@@ -44,131 +70,137 @@ impl Layout {
         }
     }
 
-    pub fn image(&self) -> &Image {
+    /// The pages.
+    pub fn image(&self) -> &Image
+        ensures { result.now ≡ self.now.image }
+    {
         &self.image
     }
 
-    pub fn image_mut(&mut self) -> &mut Image {
-        &mut self.image
+    /// Puts bytes at a place. What lies past the end is refused.
+    pub fn put(&mut self, place: usize, bytes: &[u8]) -> Result<(), CaseError>
+        ensures ok { OnOk result (self.new ≡ record self.old { image = with_bytes self.old.image place bytes.now }) }
+        ensures err { OnErr result (self.new ≡ self.old) }
+    {
+        self.image.put(place, bytes)
     }
 
-    /// Lays out what a line says: `card`, or one thing.
-    pub fn lay(&mut self, kind: &[u8], line: &[u8]) -> Result<(), CaseError> {
-        let mut words = Words::new(line);
+    /// Lays out what a line says: `card`, or one thing, which has the next slot of its kind.
+    pub fn lay(&mut self, kind: &[u8], line: &[u8]) -> Result<(), CaseError>
+        ensures { OnOk result (Lays kind.now line.now self.old self.new) }
+    {
+        let words = Words::new(line);
         match kind {
-            b"card" => self.lay_card(&mut words),
-            b"file" => self.lay_file(&mut words),
-            b"key" => self.lay_key(&mut words),
-            b"object" => self.lay_object(&mut words),
-            _ => self.lay_entry(&mut words),
+            b"card" => self.lay_card(words),
+            b"file" => self.lay_file(words),
+            b"key" => self.lay_key(words),
+            b"object" => self.lay_object(words),
+            _ => self.lay_entry(words),
         }
     }
 
     // LIFE
-    fn lay_card(&mut self, words: &mut Words<'_>) -> Result<(), CaseError> {
-        let life: [u8; 1] = words.array().ok_or(CaseError::NoForm)?;
-        words.end().ok_or(CaseError::NoForm)?;
+    fn lay_card(&mut self, words: Words<'_>) -> Result<(), CaseError>
+        ensures { OnOk result (LaysCard (left words.entry) self.old self.new) }
+    {
+        let word = words.last().ok_or(CaseError::NoForm)?;
+        let life = byte(word).ok_or(CaseError::NoForm)?;
         self.image.put(0, &SUPERBLOCK)?;
-        self.image.put(SUPERBLOCK.len(), &life)
+        self.image.put(SUPERBLOCK.len(), &[life])
     }
 
-    fn lay_entry(&mut self, words: &mut Words<'_>) -> Result<(), CaseError> {
-        let EntryWords {
-            aid,
-            domain,
-            file,
-            module,
-            life,
-            privileges,
-            receipts,
-        } = EntryWords::read(words).ok_or(CaseError::NoForm)?;
-        let mut slot = Slot::new();
-        push(&mut slot, &[0x01])?;
-        push_name(&mut slot, &aid)?;
+    fn lay_entry(&mut self, words: Words<'_>) -> Result<(), CaseError>
+        ensures { OnOk result (LaysEntry (left words.entry) self.old self.new) }
+    {
+        let Some(said) = EntryWords::read(words) else {
+            return Err(CaseError::NoForm);
+        };
         let number = self.entries.len();
-        self.entries.push(aid)?;
-        let domain = slot_of(&self.entries, &domain)?;
-        let file = slot_of(&self.files, &file)?;
-        push(&mut slot, &[domain, file])?;
-        push_name(&mut slot, &module)?;
-        push(&mut slot, &life)?;
-        push(&mut slot, &privileges)?;
-        push(&mut slot, &receipts)?;
-        self.put(ENTRIES, number, &slot)
+        let file = slot_of(&self.files, &said.file)?;
+        self.entries.push(copied(&said.aid)?)?;
+        let domain = slot_of(&self.entries, &said.domain)?;
+        let slot = entry_slot(domain, file, &said)?;
+        self.put_slot(ENTRIES, number, &slot)
     }
 
-    fn lay_file(&mut self, words: &mut Words<'_>) -> Result<(), CaseError> {
-        let FileWords { aid, domain, len } = FileWords::read(words).ok_or(CaseError::NoForm)?;
+    fn lay_file(&mut self, words: Words<'_>) -> Result<(), CaseError>
+        ensures { OnOk result (LaysFile self.old self.new) }
+    {
+        let mut words = words;
+        let Some(said) = FileWords::read(&mut words) else {
+            return Err(CaseError::NoForm);
+        };
         let fill = read_fill(words).ok_or(CaseError::NoForm)?;
         // The file of the Issuer Security Domain is laid out before it.
         let domain = if self.files.is_empty() {
             0
         } else {
-            slot_of(&self.entries, &domain)?
+            slot_of(&self.entries, &said.domain)?
         };
-        let mut slot = Slot::new();
-        push(&mut slot, &[0x01])?;
-        push_name(&mut slot, &aid)?;
         let number = self.files.len();
-        self.files.push(aid)?;
-        push(&mut slot, &[domain])?;
-        push(&mut slot, &len.to_be_bytes())?;
-        push_padded(&mut slot, &[], 256 - 21)?;
-        self.fill_pages(len, fill, &mut slot)?;
-        self.put(FILES, number, &slot)
+        let mut slot = file_slot(domain, &said)?;
+        self.load_page = fill_pages(&mut self.image, self.load_page, said.len, fill, &mut slot)?;
+        self.files.push(said.aid)?;
+        self.put_slot(FILES, number, &slot)
     }
 
-    // Fills the load pages of a file, and names them in its slot.
-    fn fill_pages(&mut self, len: u16, fill: u8, slot: &mut Slot) -> Result<(), CaseError> {
-        let content = [fill; PAGE_SIZE];
-        let mut left = usize::from(len);
-        for index in 0..left.div_ceil(PAGE_SIZE) {
-            let count = PAGE_SIZE.min(left);
-            left -= count;
-            let place = self.load_page.saturating_mul(PAGE_SIZE);
-            self.image.put(place, &content[..count])?;
-            name_page(slot, index, self.load_page)?;
-            self.load_page = self.load_page.saturating_add(1);
-        }
+    fn lay_key(&mut self, words: Words<'_>) -> Result<(), CaseError>
+        ensures { OnOk result (LaysKey (left words.entry) self.old self.new) }
+    {
+        let Some(said) = KeyWords::read(words) else {
+            return Err(CaseError::NoForm);
+        };
+        let owner = slot_of(&self.entries, &said.owner)?;
+        let slot = key_slot(owner, &said)?;
+        self.put_slot(KEYS, self.keys, &slot)?;
+        self.keys = self.keys.saturating_add(1);
         Ok(())
     }
 
-    fn lay_key(&mut self, words: &mut Words<'_>) -> Result<(), CaseError> {
-        let key = KeyWords::read(words).ok_or(CaseError::NoForm)?;
-        let mut slot = Slot::new();
-        push(&mut slot, &[0x01, slot_of(&self.entries, &key.owner)?])?;
-        push(&mut slot, &key.version)?;
-        push(&mut slot, &key.identifier)?;
-        push(&mut slot, &[key.key.len() as u8])?;
-        push_padded(&mut slot, &key.key, 32)?;
-        push(&mut slot, &key.counter)?;
-        let number = self.keys;
-        self.keys = number.saturating_add(1);
-        self.put(KEYS, number, &slot)
+    fn lay_object(&mut self, words: Words<'_>) -> Result<(), CaseError>
+        ensures { OnOk result (LaysObject (left words.entry) self.old self.new) }
+    {
+        let Some(said) = ObjectWords::read(words) else {
+            return Err(CaseError::NoForm);
+        };
+        let owner = slot_of(&self.entries, &said.owner)?;
+        let slot = object_slot(owner, &said)?;
+        self.put_slot(OBJECTS, self.objects, &slot)?;
+        self.objects = self.objects.saturating_add(1);
+        Ok(())
     }
 
-    fn lay_object(&mut self, words: &mut Words<'_>) -> Result<(), CaseError> {
-        let object = ObjectWords::read(words).ok_or(CaseError::NoForm)?;
-        let mut slot = Slot::new();
-        push(&mut slot, &[0x01, slot_of(&self.entries, &object.owner)?])?;
-        push(&mut slot, &object.tag)?;
-        push(&mut slot, &[object.value.len() as u8])?;
-        push(&mut slot, &object.value)?;
-        let number = self.objects;
-        self.objects = number.saturating_add(1);
-        self.put(OBJECTS, number, &slot)
-    }
-
-    fn put(&mut self, slots: Slots, number: usize, slot: &Slot) -> Result<(), CaseError> {
+    fn put_slot(&mut self, slots: Slots, number: usize, slot: &Slot) -> Result<(), CaseError>
+        ensures laid { OnOk result (self.new ≡ record self.old { image = with_slot slots number slot.now.items self.old.image }) }
+        ensures room { OnOk result (number < slots.count) }
+    {
         let place = slots.place(number).ok_or(CaseError::NoRegistry)?;
         self.image.put(place, slot)
     }
 }
 
+// Fills the load pages of a file from this one on, and names them in its slot. Answers the page after them.
+fn fill_pages(
+    image: &mut Image,
+    first: usize,
+    len: u16,
+    fill: u8,
+    slot: &mut Slot,
+) -> Result<usize, CaseError> {
+    let content = [fill; PAGE_SIZE];
+    let mut left = usize::from(len);
+    let mut page = first;
+    for index in 0..left.div_ceil(PAGE_SIZE) {
+        let count = PAGE_SIZE.min(left);
+        left -= count;
+        image.put(page.saturating_mul(PAGE_SIZE), &content[..count])?;
+        name_page(slot, index, page)?;
+        page = page.saturating_add(1);
+    }
+    Ok(page)
+}
+
 // fill BB
-fn read_fill(words: &mut Words<'_>) -> Option<u8> {
-    words.fixed(b"fill")?;
-    let fill = byte(words.take()?)?;
-    words.end()?;
-    Some(fill)
+fn read_fill(words: Words<'_>) -> Option<u8> {
+    byte(last_after(words, b"fill")?)
 }

@@ -1,37 +1,69 @@
 //! Things of a registry, made of the words that say them.
 
-ghost use Rattle.std.specs.Prelude.{◌<◌, ◌≤◌, All, IfOk, IfSome};
+ghost use Rattle.std.specs.Prelude.{◌≡◌, ◌<◌, ◌≤◌, All, IfOk, IfSome, MatchResult, Some};
 ghost use Rattle.card_check.specs.IsCard.{IsInLoadPages};
+ghost use Rattle.card_types.specs.CardLife.{card_life_code};
+ghost use Rattle.card_types.specs.Found.{aid_of};
+ghost use Rattle.card_types.specs.declared.card_life.CardLife.{CardLife as CardLifeOf};
+ghost use Rattle.card_types.specs.declared.found.Found.TheVariants.{Entry as InEntry, File as InFile};
+ghost use Rattle.cases.specs.Made.{IsEntryOf, SaysLife, SaysMade};
 ghost use Rattle.page_journal.specs.Pages.{IsLoadPage};
 ghost use Rattle.rec_store.specs.KeySlot.{IsRoomyKey};
+ghost use Rattle.script_tool.specs.Reads.{Reads};
+ghost use Rattle.script_tool.specs.Values.{SpellsByte};
+ghost use Rattle.script_tool.specs.Words.{left};
 
 use crate::case_error::CaseError;
-use crate::things::{EntryWords, FileWords, KeyWords, Name, ObjectWords};
-use crate::words::Words;
+use crate::things::{EntryWords, FileWords, KeyWords, Name, ObjectWords, slot_number};
+use crate::words::number;
 use card_types::{
     Aid, COUNTER_LIMIT, CardLife, Entry, FILE_LIMIT, KeyRec, LifeMark, LoadFile, Object,
     Privileges, Tables,
 };
 use flash_core::PAGES;
 use page_journal::FIRST_LOAD_PAGE;
+use script_tool::values::byte;
+use script_tool::words::Words;
 
-/// LIFE
-pub fn made_life(words: &mut Words<'_>) -> Result<CardLife, CaseError> {
-    let code: [u8; 1] = words.array().ok_or(CaseError::NoForm)?;
-    words.end().ok_or(CaseError::NoForm)?;
-    CardLife::from_code(code[0]).ok_or(CaseError::NoRegistry)
+/// The life cycle state of a card: LIFE
+pub fn made_life(words: Words<'_>) -> Result<CardLife, CaseError>
+    ensures { MatchResult result (SaysLife (left words.entry)) (λ _. (life : CardLifeOf) → SaysLife (left words.entry) life → ⊥) }
+{
+    let word = words.last().ok_or(CaseError::NoForm)?;
+    match life(word) {
+        Some(life) => Ok(life),
+        None => Err(CaseError::NoRegistry),
+    }
 }
 
-pub fn made_entry(tables: &Tables, words: &mut Words<'_>) -> Result<Entry, CaseError> {
+// The life cycle state whose code two digits spell.
+#[tactic(auto, unfolding(script_tool::specs::Values::SpellsByte))]
+fn life(word: &[u8]) -> Option<CardLife>
+    ensures { Reads (λ life. SpellsByte word.now (card_life_code life)) result }
+{
+    let code = byte(word)?;
+    CardLife::from_code(code)
+}
+
+/// The entry that words say, with the slots of the domain and the file that it names.
+pub fn made_entry(tables: &Tables, words: Words<'_>) -> Result<Entry, CaseError>
+    ensures { IfOk result (SaysMade tables.now (left words.entry)) }
+{
     let words = EntryWords::read(words).ok_or(CaseError::NoForm)?;
+    entry_of(tables, &words)
+}
+
+fn entry_of(tables: &Tables, words: &EntryWords) -> Result<Entry, CaseError>
+    ensures { IfOk result (IsEntryOf tables.now words.now) }
+{
     Ok(Entry {
         aid: made_aid(&words.aid)?,
         domain: entry_slot(tables, &words.domain)?,
         file: file_slot(tables, &words.file)?,
         module: made_aid(&words.module)?,
-        life: LifeMark::from_code(words.life[0]).ok_or(CaseError::NoRegistry)?,
-        privileges: Privileges::from_bytes(&words.privileges).ok_or(CaseError::NoRegistry)?,
-        receipts: u16::from_be_bytes(words.receipts),
+        life: LifeMark::from_code(words.state.life[0]).ok_or(CaseError::NoRegistry)?,
+        privileges: Privileges::from_bytes(&words.state.privileges).ok_or(CaseError::NoRegistry)?,
+        receipts: u16::from_be_bytes(words.state.receipts),
     })
 }
 
@@ -44,12 +76,18 @@ pub fn made_file(tables: &Tables, words: &mut Words<'_>) -> Result<LoadFile, Cas
         return Err(CaseError::NoRegistry);
     }
     let pages = load_pages(words, usize::from(len).div_ceil(256)).ok_or(CaseError::NoForm)?;
+    let (aid, domain) = named_in(tables, &aid, &domain)?;
     Ok(LoadFile {
-        aid: made_aid(&aid)?,
-        domain: entry_slot(tables, &domain)?,
+        aid,
+        domain,
         len,
         pages,
     })
+}
+
+// The AID of a file, and the slot of its domain.
+fn named_in(tables: &Tables, aid: &Name, domain: &Name) -> Result<(Aid, u8), CaseError> {
+    Ok((made_aid(aid)?, entry_slot(tables, domain)?))
 }
 
 // pages PAGE PAGE ..
@@ -60,7 +98,7 @@ fn load_pages(words: &mut Words<'_>, count: usize) -> Option<[u16; 128]>
     words.fixed(b"pages")?;
     let mut pages = [FIRST_LOAD_PAGE; 128];
     for place in 0..count {
-        let page = u16::try_from(words.number()?).ok()?;
+        let page = u16::try_from(number(words.take()?)?).ok()?;
         if page < FIRST_LOAD_PAGE || page >= PAGES {
             return None;
         }
@@ -71,7 +109,7 @@ fn load_pages(words: &mut Words<'_>, count: usize) -> Option<[u16; 128]>
 }
 
 /// A sequence counter stands at the first key of a key set alone.
-pub fn made_key(tables: &Tables, words: &mut Words<'_>) -> Result<KeyRec, CaseError>
+pub fn made_key(tables: &Tables, words: Words<'_>) -> Result<KeyRec, CaseError>
     ensures { IfOk result IsRoomyKey }
 {
     let KeyWords {
@@ -94,7 +132,7 @@ pub fn made_key(tables: &Tables, words: &mut Words<'_>) -> Result<KeyRec, CaseEr
     })
 }
 
-pub fn made_object(tables: &Tables, words: &mut Words<'_>) -> Result<Object, CaseError> {
+pub fn made_object(tables: &Tables, words: Words<'_>) -> Result<Object, CaseError> {
     let ObjectWords { owner, tag, value } = ObjectWords::read(words).ok_or(CaseError::NoForm)?;
     Ok(Object {
         owner: entry_slot(tables, &owner)?,
@@ -103,27 +141,30 @@ pub fn made_object(tables: &Tables, words: &mut Words<'_>) -> Result<Object, Cas
     })
 }
 
-fn made_aid(name: &Name) -> Result<Aid, CaseError> {
+fn made_aid(name: &Name) -> Result<Aid, CaseError>
+    ensures { IfOk result (λ aid. aid ≡ name.now.items) }
+{
     Aid::new(name).ok_or(CaseError::NoRegistry)
 }
 
-fn entry_slot(tables: &Tables, name: &Name) -> Result<u8, CaseError> {
+// The slot of the entry with a name.
+fn entry_slot(tables: &Tables, name: &Name) -> Result<u8, CaseError>
+    ensures { IfOk result (λ slot. aid_of tables.now (InEntry slot) ≡ Some name.now.items) }
+{
     let slot = tables.entries.iter().position(|slot| match slot {
         Some(entry) => entry.aid.as_bytes() == name.as_slice(),
         None => false,
     });
-    slot_of(slot)
+    slot_number(slot)
 }
 
-fn file_slot(tables: &Tables, name: &Name) -> Result<u8, CaseError> {
+// The slot of the file with a name.
+fn file_slot(tables: &Tables, name: &Name) -> Result<u8, CaseError>
+    ensures { IfOk result (λ slot. aid_of tables.now (InFile slot) ≡ Some name.now.items) }
+{
     let slot = tables.files.iter().position(|slot| match slot {
         Some(file) => file.aid.as_bytes() == name.as_slice(),
         None => false,
     });
-    slot_of(slot)
-}
-
-fn slot_of(slot: Option<usize>) -> Result<u8, CaseError> {
-    let slot = slot.ok_or(CaseError::NoRegistry)?;
-    u8::try_from(slot).map_err(|_| CaseError::NoRegistry)
+    slot_number(slot)
 }

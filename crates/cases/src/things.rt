@@ -1,47 +1,71 @@
 //! The things of a registry, as words say them.
 
-use crate::words::Words;
+ghost use Rattle.std.specs.Prelude.{◌≡◌, Some, IfOk};
+ghost use Rattle.cases.specs.Things.{SaysEntry, SaysKey, SaysObject, SaysState};
+ghost use Rattle.script_tool.specs.Reads.{Reads};
+ghost use Rattle.script_tool.specs.Words.{left};
+
+use crate::case_error::CaseError;
+use crate::words::{after, last_after, number};
 use arrayvec::ArrayVec;
+use script_tool::values::{array, bytes};
+use script_tool::words::Words;
 
 /// An AID.
 pub type Name = ArrayVec<u8, 16>;
 
-/// AID in DOMAIN from FILE module MODULE life LL priv PPPPPP receipts NNNN
+/// life LL priv PPPPPP receipts NNNN
+#[derive(Drop)]
+pub struct StateWords {
+    pub life: [u8; 1],
+    pub privileges: [u8; 3],
+    pub receipts: [u8; 2],
+}
+
+impl StateWords {
+    /// Reads the words that are left.
+    pub fn read(words: Words<'_>) -> Option<StateWords>
+        ensures { Reads (SaysState (left words.entry)) result }
+    {
+        let mut words = words;
+        let life = array(after(&mut words, b"life")?)?;
+        let privileges = array(after(&mut words, b"priv")?)?;
+        let receipts = array(last_after(words, b"receipts")?)?;
+        Some(StateWords {
+            life,
+            privileges,
+            receipts,
+        })
+    }
+}
+
+/// AID in DOMAIN from FILE module MODULE, and its state
 #[derive(Drop)]
 pub struct EntryWords {
     pub aid: Name,
     pub domain: Name,
     pub file: Name,
     pub module: Name,
-    pub life: [u8; 1],
-    pub privileges: [u8; 3],
-    pub receipts: [u8; 2],
+    pub state: StateWords,
 }
 
 impl EntryWords {
-    pub fn read(words: &mut Words<'_>) -> Option<EntryWords> {
-        let aid = words.bytes()?;
-        words.fixed(b"in")?;
-        let domain = words.bytes()?;
-        words.fixed(b"from")?;
-        let file = words.bytes()?;
-        words.fixed(b"module")?;
-        let module = words.bytes()?;
-        words.fixed(b"life")?;
-        let life = words.array()?;
-        words.fixed(b"priv")?;
-        let privileges = words.array()?;
-        words.fixed(b"receipts")?;
-        let receipts = words.array()?;
-        words.end()?;
+    /// Reads the words that are left.
+    pub fn read(words: Words<'_>) -> Option<EntryWords>
+        ensures { Reads (SaysEntry (left words.entry)) result }
+    {
+        let mut words = words;
+        let aid = bytes(words.take()?)?;
+        let domain = bytes(after(&mut words, b"in")?)?;
+        let file = bytes(after(&mut words, b"from")?)?;
+        let module = bytes(after(&mut words, b"module")?)?;
+        let state = StateWords::read(words)?;
         Some(EntryWords {
             aid,
             domain,
             file,
             module,
-            life,
-            privileges,
-            receipts,
+            state,
         })
     }
 }
@@ -55,12 +79,11 @@ pub struct FileWords {
 }
 
 impl FileWords {
+    /// Reads the first words of those that are left.
     pub fn read(words: &mut Words<'_>) -> Option<FileWords> {
-        let aid = words.bytes()?;
-        words.fixed(b"in")?;
-        let domain = words.bytes()?;
-        words.fixed(b"bytes")?;
-        let len = u16::try_from(words.number()?).ok()?;
+        let aid = bytes(words.take()?)?;
+        let domain = bytes(after(words, b"in")?)?;
+        let len = u16::try_from(number(after(words, b"bytes")?)?).ok()?;
         Some(FileWords { aid, domain, len })
     }
 }
@@ -76,16 +99,18 @@ pub struct KeyWords {
 }
 
 impl KeyWords {
-    pub fn read(words: &mut Words<'_>) -> Option<KeyWords> {
-        let key = KeyWords {
-            owner: words.bytes()?,
-            version: words.array()?,
-            identifier: words.array()?,
-            key: words.bytes()?,
-            counter: words.array()?,
-        };
-        words.end()?;
-        Some(key)
+    /// Reads the words that are left.
+    pub fn read(words: Words<'_>) -> Option<KeyWords>
+        ensures { Reads (SaysKey (left words.entry)) result }
+    {
+        let mut words = words;
+        Some(KeyWords {
+            owner: bytes(words.take()?)?,
+            version: array(words.take()?)?,
+            identifier: array(words.take()?)?,
+            key: bytes(words.take()?)?,
+            counter: array(words.last()?)?,
+        })
     }
 }
 
@@ -98,13 +123,23 @@ pub struct ObjectWords {
 }
 
 impl ObjectWords {
-    pub fn read(words: &mut Words<'_>) -> Option<ObjectWords> {
-        let object = ObjectWords {
-            owner: words.bytes()?,
-            tag: words.array()?,
-            value: words.bytes()?,
-        };
-        words.end()?;
-        Some(object)
+    /// Reads the words that are left.
+    pub fn read(words: Words<'_>) -> Option<ObjectWords>
+        ensures { Reads (SaysObject (left words.entry)) result }
+    {
+        let mut words = words;
+        Some(ObjectWords {
+            owner: bytes(words.take()?)?,
+            tag: array(words.take()?)?,
+            value: bytes(words.last()?)?,
+        })
     }
+}
+
+/// A slot that was found, in a byte.
+pub fn slot_number(slot: Option<usize>) -> Result<u8, CaseError>
+    ensures { IfOk result (λ at. slot ≡ Some at) }
+{
+    let slot = slot.ok_or(CaseError::NoRegistry)?;
+    u8::try_from(slot).map_err(|_| CaseError::NoRegistry)
 }

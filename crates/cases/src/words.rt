@@ -1,104 +1,66 @@
 //! The words of a line, with one space between two.
 
-use arrayvec::ArrayVec;
+ghost use Rattle.std.specs.Prelude.{◌≡◌, ◌<◌, ◌∷◌, ◌^◌, [], ℕ, List, length, take, slice_index, decimal, Some, MatchOption};
+ghost use Rattle.script_tool.specs.Words.{words_of, left, HasNoSpace};
+
+use script_tool::words::Words;
+
+// Where the first space stands.
+fn space_in(text: &[u8]) -> Option<usize>
+    ensures { MatchOption result (HasNoSpace text.now) (λ at. (at < length text.now) × HasNoSpace (take at text.now) × (slice_index text.now at ≡ 32)) }
+{
+    text.iter().position(|byte| *byte == b' ')
+}
 
 /// The word before the first space, and what follows the space.
-pub fn cut(words: &[u8]) -> Option<(&[u8], &[u8])> {
-    let at = words.iter().position(|byte| *byte == b' ')?;
-    Some((&words[..at], &words[at + 1..]))
-}
-
-/// The byte that two digits write.
-pub fn byte(word: &[u8]) -> Option<u8> {
-    let bytes: [u8; 1] = array(word)?;
-    Some(bytes[0])
-}
-
-/// The bytes that so many digits write, and no more.
-pub fn array<const N: usize>(word: &[u8]) -> Option<[u8; N]> {
-    let mut bytes = [0; N];
-    hex::decode_to_slice(word, &mut bytes).ok()?;
-    Some(bytes)
-}
-
-/// At least one byte in digits, and at most `N`.
-pub fn bytes<const N: usize>(word: &[u8]) -> Option<ArrayVec<u8, N>> {
-    if word.is_empty() {
-        return None;
+pub fn cut(text: &[u8]) -> Option<(&[u8], &[u8])>
+    ensures { MatchOption result (words_of text.now ≡ text.now ∷ []) (λ cut. words_of text.now ≡ cut.0.now ∷ words_of cut.1.now) }
+{
+    match space_in(text) {
+        None => None,
+        Some(at) => Some((&text[..at], &text[at + 1..])),
     }
-    let mut bytes = ArrayVec::new();
-    for _ in 0..word.len() / 2 {
-        bytes.try_push(0).ok()?;
-    }
-    hex::decode_to_slice(word, bytes.as_mut_slice()).ok()?;
-    Some(bytes)
 }
 
 /// A number in decimal digits.
-pub fn number(word: &[u8]) -> Option<u32> {
-    std::str::from_utf8(word).ok()?.parse().ok()
+pub fn number(word: &[u8]) -> Option<u32>
+    ensures { (n : ℕ) → n < 2 ^ 32 → word.now ≡ decimal n → result ≡ Some n }
+{
+    match std::str::from_utf8(word) {
+        Ok(text) => match text.parse() {
+            Ok(number) => Some(number),
+            Err(_) => None,
+        },
+        Err(_) => None,
+    }
 }
 
 /// A number of up to 64 bits.
-pub fn long_number(word: &[u8]) -> Option<u64> {
-    std::str::from_utf8(word).ok()?.parse().ok()
+pub fn long_number(word: &[u8]) -> Option<u64>
+    ensures { (n : ℕ) → n < 2 ^ 64 → word.now ≡ decimal n → result ≡ Some n }
+{
+    match std::str::from_utf8(word) {
+        Ok(text) => match text.parse() {
+            Ok(number) => Some(number),
+            Err(_) => None,
+        },
+        Err(_) => None,
+    }
 }
 
-/// The words that are left of a line.
-#[derive(Clone, Copy)]
-pub struct Words<'a> {
-    rest: Option<&'a [u8]>,
+/// Takes this very word, and answers the next one.
+pub fn after<'a>(words: &mut Words<'a>, label: &[u8]) -> Option<&'a [u8]>
+    ensures { MatchOption result ((word : List ℕ) (rest : List (List ℕ)) → left words.old ≡ label.now ∷ word ∷ rest → ⊥) (λ word. left words.old ≡ label.now ∷ word.now ∷ left words.new) }
+{
+    words.fixed(label)?;
+    words.take()
 }
 
-impl<'a> Words<'a> {
-    pub fn new(line: &'a [u8]) -> Words<'a> {
-        Words { rest: Some(line) }
-    }
-
-    /// The next word, if there is one.
-    pub fn take(&mut self) -> Option<&'a [u8]> {
-        let line = self.rest?;
-        match cut(line) {
-            Some((word, rest)) => {
-                self.rest = Some(rest);
-                Some(word)
-            }
-            None => {
-                self.rest = None;
-                Some(line)
-            }
-        }
-    }
-
-    /// Takes this very word.
-    pub fn fixed(&mut self, wanted: &[u8]) -> Option<()> {
-        if self.take()? == wanted {
-            Some(())
-        } else {
-            None
-        }
-    }
-
-    /// Takes a word of so many bytes in digits.
-    pub fn array<const N: usize>(&mut self) -> Option<[u8; N]> {
-        array(self.take()?)
-    }
-
-    /// Takes a word of at most so many bytes in digits.
-    pub fn bytes<const N: usize>(&mut self) -> Option<ArrayVec<u8, N>> {
-        bytes(self.take()?)
-    }
-
-    /// Takes a decimal number.
-    pub fn number(&mut self) -> Option<u32> {
-        number(self.take()?)
-    }
-
-    /// Nothing is left.
-    pub fn end(&self) -> Option<()> {
-        match self.rest {
-            None => Some(()),
-            Some(_) => None,
-        }
-    }
+/// Takes this very word and the next one, which is the last, and answers that.
+pub fn last_after<'a>(words: Words<'a>, label: &[u8]) -> Option<&'a [u8]>
+    ensures { MatchOption result ((word : List ℕ) → left words.entry ≡ label.now ∷ word ∷ [] → ⊥) (λ word. left words.entry ≡ label.now ∷ word.now ∷ []) }
+{
+    let mut words = words;
+    words.fixed(label)?;
+    words.last()
 }

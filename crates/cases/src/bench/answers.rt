@@ -22,7 +22,7 @@ impl<'a> Bench<'a> {
             called.sink.written().len(),
             called.sink.handed_on().len()
         )?;
-        write_line(out, &[text.as_bytes()])
+        write_line(out, text.as_bytes())
     }
 
     // The host and the card, which is on.
@@ -34,12 +34,12 @@ impl<'a> Bench<'a> {
     }
 
     pub(super) fn write_rule(&self, out: &mut Vec<u8>) -> Result<(), CaseError> {
-        write_line(out, &[self.player()?.rule_name().as_bytes()])
+        write_line(out, self.player()?.rule_name().as_bytes())
     }
 
     pub(super) fn write_sent(&self, out: &mut Vec<u8>) -> Result<(), CaseError> {
         let digits = hex::encode(self.alloc, self.player()?.sent())?;
-        write_line(out, &[digits.as_bytes()])
+        write_line(out, digits.as_bytes())
     }
 
     pub(super) fn write_calls(&self, out: &mut Vec<u8>) -> Result<(), CaseError> {
@@ -48,7 +48,7 @@ impl<'a> Bench<'a> {
             "reads {}, writes {}, syncs {}",
             calls.reads, calls.writes, calls.syncs
         )?;
-        write_line(out, &[text.as_bytes()])
+        write_line(out, text.as_bytes())
     }
 
     // Bytes of the pages, as they are read.
@@ -64,7 +64,7 @@ impl<'a> Bench<'a> {
         self.power = Power::Off(flash);
         let place = place_of(page, place) as usize;
         let digits = hex::encode(self.alloc, &image.bytes(self.alloc, place, count as usize)?)?;
-        write_line(out, &[digits.as_bytes()])
+        write_line(out, digits.as_bytes())
     }
 
     // How many lines of the registry begin with a word.
@@ -75,7 +75,7 @@ impl<'a> Bench<'a> {
         self.power = Power::Off(flash);
         let count = count_lines(called.sink.written(), word);
         let text = format!(in self.alloc; "{count}")?;
-        write_line(out, &[text.as_bytes()])
+        write_line(out, text.as_bytes())
     }
 }
 
@@ -87,7 +87,7 @@ pub(super) fn write_workload(seed: u64, rounds: u32, out: &mut Vec<u8>) -> Resul
         if !mill.next_line(&mut line) {
             break;
         }
-        write_line(out, &[&line])?;
+        write_line(out, &line)?;
     }
     Ok(())
 }

@@ -1,10 +1,11 @@
 //! The slots of each kind of thing, and their bytes.
 
-ghost use Rattle.std.specs.Prelude.{◌≡◌, ◌+◌, ◌-◌, ◌<◌, ◌++◌, ◌∷◌, [], length, take, OnOk, OnErr};
-ghost use Rattle.cases.specs.declared.layout.slot.TheConstants.{ZEROS};
+ghost use Rattle.std.specs.Prelude.{◌≡◌, ◌⊎◌, ◌+◌, ◌-◌, ◌/◌, ◌^◌, ◌<◌, ◌≤◌, ◌++◌, length, IfOk, IfNone, IfSome, OnOk, OnErr};
+ghost use Rattle.cases.specs.Slots.{named, padded, place_of, with_page};
+ghost use Rattle.cases.specs.declared.layout.slot.TheConstants.{LOAD_PAGES};
 
 use crate::case_error::CaseError;
-use crate::things::Name;
+use crate::things::{Name, slot_number};
 use arrayvec::ArrayVec;
 
 /// The first load page.
@@ -43,7 +44,11 @@ pub const OBJECTS: Slots = Slots {
 };
 
 impl Slots {
-    pub fn place(&self, slot: usize) -> Option<usize> {
+    /// Where the slot with this number begins, where there is one.
+    pub fn place(&self, slot: usize) -> Option<usize>
+        ensures some { IfSome result (λ place. (slot < self.now.count) × (place ≡ place_of self.now slot)) }
+        ensures none { IfNone result ((self.now.count ≤ slot) ⊎ (2 ^ 64 ≤ place_of self.now slot)) }
+    {
         if slot < self.count {
             slot.checked_mul(self.size)?.checked_add(self.first)
         } else {
@@ -61,9 +66,18 @@ pub type Slot = ArrayVec<u8, 256>;
 pub fn slot_of(names: &[Name], name: &Name) -> Result<u8, CaseError> {
     let slot = names
         .iter()
-        .position(|other| other.as_slice() == name.as_slice())
-        .ok_or(CaseError::NoRegistry)?;
-    u8::try_from(slot).map_err(|_| CaseError::NoRegistry)
+        .position(|other| other.as_slice() == name.as_slice());
+    slot_number(slot)
+}
+
+/// The same name.
+pub fn copied(name: &Name) -> Result<Name, CaseError>
+    ensures { IfOk result (λ copy. copy.items ≡ name.now.items) }
+{
+    let mut copy = Name::new();
+    copy.try_extend_from_slice(name)
+        .map_err(|_| CaseError::NoRegistry)?;
+    Ok(copy)
 }
 
 /// Pushes bytes after those that are there.
@@ -77,7 +91,7 @@ pub fn push(slot: &mut Slot, bytes: &[u8]) -> Result<(), CaseError>
 
 /// Pushes bytes, and zeros up to this count.
 pub fn push_padded(slot: &mut Slot, bytes: &[u8], count: usize) -> Result<(), CaseError>
-    ensures ok { OnOk result (slot.new.items ≡ slot.old.items ++ bytes.now ++ take (count - length bytes.now) ZEROS) }
+    ensures ok { OnOk result (slot.new.items ≡ slot.old.items ++ padded count bytes.now) }
 {
     let padding = count.saturating_sub(bytes.len());
     push(slot, bytes)?;
@@ -86,22 +100,31 @@ pub fn push_padded(slot: &mut Slot, bytes: &[u8], count: usize) -> Result<(), Ca
 
 /// Pushes the length of a name, and the name in 16 bytes.
 pub fn push_name(slot: &mut Slot, name: &Name) -> Result<(), CaseError>
-    ensures ok { OnOk result (slot.new.items ≡ (slot.old.items ++ length name.now.items ∷ []) ++ name.now.items ++ take (16 - length name.now.items) ZEROS) }
+    ensures ok { OnOk result (slot.new.items ≡ slot.old.items ++ named name.now.items) }
 {
     push(slot, &[name.len() as u8])?;
     push_padded(slot, name, 16)
 }
 
 /// Names a load page in a file's slot: the low eight bits of its number among the load pages, and apart from them the ninth.
-pub fn name_page(slot: &mut Slot, index: usize, page: usize) -> Result<(), CaseError> {
-    let number = page.saturating_sub(LOAD_PAGES);
-    let low = slot
-        .get_mut(index.saturating_add(64))
-        .ok_or(CaseError::NoRegistry)?;
-    *low = (number % 256) as u8;
-    let high = slot.get_mut(192 + index / 8).ok_or(CaseError::NoRegistry)?;
-    if number >= 256 {
-        *high |= 0x80 >> (index % 8);
+pub fn name_page(slot: &mut Slot, index: usize, page: usize) -> Result<(), CaseError>
+    ensures ok { OnOk result (slot.new.items ≡ with_page slot.old.items index (page - LOAD_PAGES)) }
+    ensures err { OnErr result ((slot.new ≡ slot.old) × ((128 ≤ index) ⊎ (length slot.old.items < 256))) }
+{
+    if index >= 128 || slot.len() < 256 {
+        return Err(CaseError::NoRegistry);
     }
+    let number = page.saturating_sub(LOAD_PAGES);
+    put_number(slot.as_mut_slice(), index, number);
     Ok(())
+}
+
+fn put_number(slot: &mut [u8], index: usize, number: usize)
+    requires { (index < 128) × (256 ≤ length slot.old) }
+    ensures { slot.new ≡ with_page slot.old index number }
+{
+    slot[64 + index] = (number % 256) as u8;
+    if number >= 256 {
+        slot[192 + index / 8] |= 0x80 >> (index % 8);
+    }
 }

@@ -1,0 +1,6 @@
+pub mod Image
+pub mod Things
+pub mod Made
+pub mod Slots
+pub mod Layout
+pub mod Bench

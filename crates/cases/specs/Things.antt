@@ -1,0 +1,35 @@
+-- For the code inside. The things of a registry, as words say them.
+use Rattle.std.specs.Prelude.{◌≡◌, ℕ, List, [], ◌∷◌, codes}
+use Rattle.script_tool.specs.Values.{SpellsSome, SpellsUpTo}
+use Rattle.cases.specs.declared.things.EntryWords.{EntryWords}
+use Rattle.cases.specs.declared.things.KeyWords.{KeyWords}
+use Rattle.cases.specs.declared.things.ObjectWords.{ObjectWords}
+use Rattle.cases.specs.declared.things.StateWords.{StateWords}
+
+-- `life LL priv PPPPPP receipts NNNN`
+abbrev pub SaysState : List (List ℕ) → StateWords → Type 0
+SaysState (state ∷ life ∷ holds ∷ privileges ∷ counts ∷ receipts ∷ []) s =
+    (state ≡ codes "life") × (holds ≡ codes "priv") × (counts ≡ codes "receipts")
+    × SpellsSome 1 life s.life × SpellsSome 3 privileges s.privileges × SpellsSome 2 receipts s.receipts
+SaysState _ s = ⊥
+
+-- `AID in DOMAIN from FILE module MODULE`, and then the state
+abbrev pub SaysEntry : List (List ℕ) → EntryWords → Type 0
+SaysEntry (aid ∷ in' ∷ domain ∷ from ∷ file ∷ of ∷ module' ∷ state) e =
+    (in' ≡ codes "in") × (from ≡ codes "from") × (of ≡ codes "module")
+    × SpellsUpTo 16 aid e.aid.items × SpellsUpTo 16 domain e.domain.items × SpellsUpTo 16 file e.file.items
+    × SpellsUpTo 16 module' e.«module».items × SaysState state e.state
+SaysEntry _ e = ⊥
+
+-- `OWNER VV II KEY CCCCCC`
+abbrev pub SaysKey : List (List ℕ) → KeyWords → Type 0
+SaysKey (owner ∷ version ∷ identifier ∷ key ∷ counter ∷ []) k =
+    SpellsUpTo 16 owner k.owner.items × SpellsSome 1 version k.version × SpellsSome 1 identifier k.identifier
+    × SpellsUpTo 32 key k.key.items × SpellsSome 3 counter k.counter
+SaysKey _ k = ⊥
+
+-- `OWNER TTTT VALUE`
+abbrev pub SaysObject : List (List ℕ) → ObjectWords → Type 0
+SaysObject (owner ∷ tag ∷ value ∷ []) o =
+    SpellsUpTo 16 owner o.owner.items × SpellsSome 2 tag o.tag × SpellsUpTo 120 value o.value.items
+SaysObject _ o = ⊥
