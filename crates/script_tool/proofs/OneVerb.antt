@@ -5,25 +5,32 @@ use Rattle.std.proofs.lemmas.Bool.{eqb-false}
 use Rattle.script_tool.proofs.OneKey.{first, one_putting}
 use Rattle.script_tool.proofs.OneOrder.{one_deletion, one_extradition, one_installation, one_life, one_listing, one_load, one_opening, one_raw, one_select, one_selectable, one_send, one_store}
 use Rattle.script_tool.specs.Exchange.{SaysExchange}
+use Rattle.script_tool.specs.Verb.{word_of}
 use Rattle.script_tool.specs.declared.exchange.Exchange as the_type
 use Rattle.script_tool.specs.declared.exchange.Exchange.TheVariants.{Select, Raw, Open, Send, Bad, Install, Selectable, Extradite, Load, Delete, PutKey, Store, Life, List as Listed, More}
+use Rattle.script_tool.specs.declared.verb.Verb as verb
+use Rattle.script_tool.specs.declared.verb.Verb.TheVariants as verbs
+
+-- the verb of what is said
+abbrev pub kind_of : the_type.Exchange → verb.Verb
+kind_of (Select aid) = verbs.Select
+kind_of (Raw bytes) = verbs.Raw
+kind_of (Open opening) = verbs.Open
+kind_of (Send command) = verbs.Send
+kind_of (Bad command) = verbs.Bad
+kind_of (Install installation) = verbs.Install
+kind_of (Selectable aid) = verbs.Selectable
+kind_of (Extradite extradition) = verbs.Extradite
+kind_of (Load file) = verbs.Load
+kind_of (Delete deletion) = verbs.Delete
+kind_of (PutKey putting) = verbs.PutKey
+kind_of (Store field) = verbs.Store
+kind_of (Life change) = verbs.Life
+kind_of (Listed listing) = verbs.List
+kind_of (More listing) = verbs.More
 
 abbrev pub verb_of : the_type.Exchange → List ℕ
-verb_of (Select aid) = codes "select"
-verb_of (Raw bytes) = codes "raw"
-verb_of (Open opening) = codes "open"
-verb_of (Send command) = codes "send"
-verb_of (Bad command) = codes "bad"
-verb_of (Install installation) = codes "install"
-verb_of (Selectable aid) = codes "selectable"
-verb_of (Extradite extradition) = codes "extradite"
-verb_of (Load file) = codes "load"
-verb_of (Delete deletion) = codes "delete"
-verb_of (PutKey putting) = codes "putkey"
-verb_of (Store field) = codes "store"
-verb_of (Life change) = codes "life"
-verb_of (Listed listing) = codes "list"
-verb_of (More listing) = codes "more"
+verb_of e = word_of (kind_of e)
 
 pub begins : (words : List (List ℕ)) (e : the_type.Exchange) → SaysExchange words e → first words ≡ verb_of e
 begins (verb ∷ []) (Select None) x = x

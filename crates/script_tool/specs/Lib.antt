@@ -44,5 +44,6 @@ pub mod Talk
 pub mod TokenKey
 pub mod Tokens
 pub mod Values
+pub mod Verb
 pub mod Words
 pub mod Workload

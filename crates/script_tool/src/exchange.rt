@@ -14,6 +14,7 @@ use crate::octets::{read_raw, read_store};
 use crate::opening::{self, Opening};
 use crate::plain::{self, Plain};
 use crate::put_key::{self, Putting};
+use crate::verb::Verb;
 use crate::words::Words;
 use crate::{select, selectable};
 use arrayvec::ArrayVec;
@@ -68,55 +69,26 @@ pub enum Exchange {
     More(Listing),
 }
 
-/// Reads a line that sends commands. What reads a form is out of line, as what makes its command is: inlined, each would set its values
-/// to zeros for every line.
+/// Reads a line that sends commands. Its first word tells which form it may have.
 pub fn read(words: Words<'_>) -> Option<Exchange>
     ensures { Reads (SaysExchange (left words.entry)) result }
 {
-    if let Some(aid) = select::read(words) {
-        return Some(Exchange::Select(aid));
+    let mut rest = words;
+    match Verb::read(rest.take()?)? {
+        Verb::Select => select::read(words).map(Exchange::Select),
+        Verb::Raw => read_raw(words).map(Exchange::Raw),
+        Verb::Open => opening::read(words).map(Exchange::Open),
+        Verb::Send => plain::read(b"send", words).map(Exchange::Send),
+        Verb::Bad => plain::read(b"bad", words).map(Exchange::Bad),
+        Verb::Install => install::read(words).map(Exchange::Install),
+        Verb::Selectable => selectable::read(words).map(Exchange::Selectable),
+        Verb::Extradite => extradition::read(words).map(Exchange::Extradite),
+        Verb::Load => load_file::read(words).map(Exchange::Load),
+        Verb::Delete => deletion::read(words).map(Exchange::Delete),
+        Verb::PutKey => put_key::read(words).map(Exchange::PutKey),
+        Verb::Store => read_store(words).map(Exchange::Store),
+        Verb::Life => life::read(words).map(Exchange::Life),
+        Verb::List => listing::read(b"list", words).map(Exchange::List),
+        Verb::More => listing::read(b"more", words).map(Exchange::More),
     }
-    if let Some(bytes) = read_raw(words) {
-        return Some(Exchange::Raw(bytes));
-    }
-    if let Some(opening) = opening::read(words) {
-        return Some(Exchange::Open(opening));
-    }
-    if let Some(command) = plain::read(b"send", words) {
-        return Some(Exchange::Send(command));
-    }
-    if let Some(command) = plain::read(b"bad", words) {
-        return Some(Exchange::Bad(command));
-    }
-    if let Some(installation) = install::read(words) {
-        return Some(Exchange::Install(installation));
-    }
-    if let Some(aid) = selectable::read(words) {
-        return Some(Exchange::Selectable(aid));
-    }
-    if let Some(extradition) = extradition::read(words) {
-        return Some(Exchange::Extradite(extradition));
-    }
-    if let Some(file) = load_file::read(words) {
-        return Some(Exchange::Load(file));
-    }
-    if let Some(deletion) = deletion::read(words) {
-        return Some(Exchange::Delete(deletion));
-    }
-    if let Some(putting) = put_key::read(words) {
-        return Some(Exchange::PutKey(putting));
-    }
-    if let Some(field) = read_store(words) {
-        return Some(Exchange::Store(field));
-    }
-    if let Some(change) = life::read(words) {
-        return Some(Exchange::Life(change));
-    }
-    if let Some(listing) = listing::read(b"list", words) {
-        return Some(Exchange::List(listing));
-    }
-    if let Some(listing) = listing::read(b"more", words) {
-        return Some(Exchange::More(listing));
-    }
-    None
 }

@@ -74,6 +74,7 @@ mod session_opening;
 mod session_start;
 mod tokens;
 pub mod values;
+mod verb;
 mod wire;
 mod word;
 pub mod words;

@@ -1,19 +1,13 @@
-use Rattle.script_tool.specs.declared.exchange.Exchange.TheVariants.{Select, Raw, Open, Send, Bad, Install, Selectable, Extradite, Load, Delete, PutKey, Store, Life, List, More}
+use Rattle.std.proofs.Common.{◌≡◌, None, ap, subst, sym, ◌∙◌}
+use Rattle.script_tool.proofs.OneKey.{first}
+use Rattle.script_tool.proofs.OneVerb.{begins, kind_of}
+use Rattle.script_tool.specs.Exchange.{SaysExchange}
+use Rattle.script_tool.specs.Reads.{Reads}
+use Rattle.script_tool.specs.Words.{left}
 use Rattle.script_tool.proofs.exchange.read.Goals as goal
 
-pub returns : goal.returns
-returns c (Select aid) h = c.in_default.ensures aid h
-returns c (Raw bytes) h = c.in_default-read_raw.ensures bytes h
-returns c (Open opening) h = c.in_default-read.ensures opening h
-returns c (Send command) h = c.in_default-read-2.ensures command h
-returns c (Bad command) h = c.in_default-read-3.ensures command h
-returns c (Install installation) h = c.in_default-read-4.ensures installation h
-returns c (Selectable aid) h = c.in_default-read-5.ensures aid h
-returns c (Extradite extradition) h = c.in_default-read-6.ensures extradition h
-returns c (Load file) h = c.in_default-read-7.ensures file h
-returns c (Delete deletion) h = c.in_default-read-8.ensures deletion h
-returns c (PutKey putting) h = c.in_default-read-9.ensures putting h
-returns c (Store field) h = c.in_default-read_store.ensures field h
-returns c (Life change) h = c.in_default-read-10.ensures change h
-returns c (List listing) h = c.in_default-read-11.ensures listing h
-returns c (More listing) h = c.in_default-read-12.ensures listing h
+pub returns-in_err-read : goal.returns-in_err-read
+returns-in_err-read c =
+    let none : Reads (SaysExchange (left c.args.words)) None =
+        λ e says. c.in_err-read.ensures (kind_of e) (sym (ap first c.in_ok-take.ensures) ∙ begins (left c.args.words) e says) in
+    subst (Reads (SaysExchange (left c.args.words))) (sym c.from_residual-in_err-read.ensures) none
