@@ -1,6 +1,8 @@
 //! The forms of a line of the language of cases. docs/TESTS.md lists them.
 
-use crate::words::{cut, long_number, number};
+use crate::words::number;
+use script_tool::spelled_number;
+use script_tool::words::cut;
 
 /// A line that changes how the streams of the next call of `gp` are made.
 #[derive(Clone, Copy)]
@@ -216,7 +218,7 @@ fn read_look(words: &[u8]) -> Option<Line<'_>> {
 fn read_mill(words: &[u8]) -> Option<Line<'_>> {
     let (seed, rounds) = cut(words)?;
     Some(Line::Mill {
-        seed: long_number(seed)?,
+        seed: spelled_number(seed)?,
         rounds: number(rounds)?,
     })
 }
@@ -237,7 +239,7 @@ fn device_line<'a>(verb: &'a [u8], rest: &'a [u8]) -> Option<Line<'a>> {
             b"twice" => Some(Line::Sweep(Sweep::CutTwice)),
             b"writes" => Some(Line::Sweep(Sweep::CutWrites)),
             b"on" => Some(Line::Sweep(Sweep::CutOn)),
-            _ => Some(Line::Cut(long_number(rest)?)),
+            _ => Some(Line::Cut(spelled_number(rest)?)),
         },
         b"fail" if rest == b"each".as_slice() => Some(Line::Sweep(Sweep::Fail)),
         b"power" => match rest {

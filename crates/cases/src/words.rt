@@ -1,51 +1,16 @@
 //! The words of a line, with one space between two.
 
-ghost use Rattle.std.specs.Prelude.{◌≡◌, ◌<◌, ◌∷◌, ◌^◌, [], ℕ, List, length, take, slice_index, decimal, Some, MatchOption};
-ghost use Rattle.script_tool.specs.Words.{words_of, left, HasNoSpace};
+ghost use Rattle.std.specs.Prelude.{◌≡◌, ◌<◌, ◌∷◌, ◌^◌, [], ℕ, List, decimal, Some, MatchOption};
+ghost use Rattle.script_tool.specs.Words.{left};
 
+use script_tool::spelled_number;
 use script_tool::words::Words;
-
-// Where the first space stands.
-fn space_in(text: &[u8]) -> Option<usize>
-    ensures { MatchOption result (HasNoSpace text.now) (λ at. (at < length text.now) × HasNoSpace (take at text.now) × (slice_index text.now at ≡ 32)) }
-{
-    text.iter().position(|byte| *byte == b' ')
-}
-
-/// The word before the first space, and what follows the space.
-pub fn cut(text: &[u8]) -> Option<(&[u8], &[u8])>
-    ensures { MatchOption result (words_of text.now ≡ text.now ∷ []) (λ cut. words_of text.now ≡ cut.0.now ∷ words_of cut.1.now) }
-{
-    match space_in(text) {
-        None => None,
-        Some(at) => Some((&text[..at], &text[at + 1..])),
-    }
-}
 
 /// A number in decimal digits.
 pub fn number(word: &[u8]) -> Option<u32>
     ensures { (n : ℕ) → n < 2 ^ 32 → word.now ≡ decimal n → result ≡ Some n }
 {
-    match std::str::from_utf8(word) {
-        Ok(text) => match text.parse() {
-            Ok(number) => Some(number),
-            Err(_) => None,
-        },
-        Err(_) => None,
-    }
-}
-
-/// A number of up to 64 bits.
-pub fn long_number(word: &[u8]) -> Option<u64>
-    ensures { (n : ℕ) → n < 2 ^ 64 → word.now ≡ decimal n → result ≡ Some n }
-{
-    match std::str::from_utf8(word) {
-        Ok(text) => match text.parse() {
-            Ok(number) => Some(number),
-            Err(_) => None,
-        },
-        Err(_) => None,
-    }
+    u32::try_from(spelled_number(word)?).ok()
 }
 
 /// Takes this very word, and answers the next one.

@@ -7,9 +7,9 @@ ghost use Rattle.script_tool.specs.Reads.{Reads};
 use itoa::Buffer;
 use std::str;
 
-// The number that digits spell, perhaps with leading zeros.
-fn parsed(word: &[u8]) -> Option<u16>
-    ensures { (n : ℕ) → n < 2 ^ 16 → word.now ≡ decimal n → result ≡ Some n }
+/// The number that digits spell, perhaps with leading zeros.
+pub fn spelled_number(word: &[u8]) -> Option<u64>
+    ensures { (n : ℕ) → n < 2 ^ 64 → word.now ≡ decimal n → result ≡ Some n }
 {
     match str::from_utf8(word) {
         Ok(text) => match text.parse() {
@@ -18,6 +18,13 @@ fn parsed(word: &[u8]) -> Option<u16>
         },
         Err(_) => None,
     }
+}
+
+// The same, of 16 bits.
+fn parsed(word: &[u8]) -> Option<u16>
+    ensures { (n : ℕ) → n < 2 ^ 16 → word.now ≡ decimal n → result ≡ Some n }
+{
+    u16::try_from(spelled_number(word)?).ok()
 }
 
 // Whether these are the digits of a number.

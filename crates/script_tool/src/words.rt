@@ -16,8 +16,8 @@ fn space_in(text: &[u8]) -> Option<usize>
     text.iter().position(|byte| *byte == b' ')
 }
 
-// The word before the first space and what follows the space, or nothing where there is one word.
-fn cut(text: &[u8]) -> Option<(&[u8], &[u8])>
+/// The word before the first space and what follows the space, or nothing where there is one word.
+pub fn cut(text: &[u8]) -> Option<(&[u8], &[u8])>
     ensures { MatchOption result (words_of text.now ≡ text.now ∷ []) (λ cut. words_of text.now ≡ cut.0.now ∷ words_of cut.1.now) }
 {
     match space_in(text) {

@@ -2,16 +2,16 @@ use Rattle.std.proofs.Common.{arith, sym, ◌∙◌, subst}
 use Rattle.std.proofs.lemmas.Fmt.{IsAscii-decimal, parse-decimal}
 use Rattle.std.proofs.lemmas.Str.{IsUtf8-from_ascii}
 use Rattle.std.specs.Str.{IsAscii}
-use Rattle.cases.proofs.words.number.Goals as goal
+use Rattle.script_tool.proofs.number.spelled_number.Goals as goal
 
 pub returns-in-Ok-parse : goal.returns-in-Ok-parse
 returns-in-Ok-parse c = λ n small digits.
-    let read = parse-decimal 32 n c.in-Ok.text.now c.parse.result small (omega (arith, small)) (c.in-Ok.ensures.cases.0 ∙ digits) c.parse.ensures.value.0 in
+    let read = parse-decimal 64 n c.in-Ok.text.now c.parse.result small (omega (arith, small)) (c.in-Ok.ensures.cases.0 ∙ digits) c.parse.ensures.value.0 in
     cc (read, c.in-Ok-parse.is)
 
 pub returns-in-Err-parse : goal.returns-in-Err-parse
 returns-in-Err-parse c = λ n small digits.
-    let read = parse-decimal 32 n c.in-Ok.text.now c.parse.result small (omega (arith, small)) (c.in-Ok.ensures.cases.0 ∙ digits) c.parse.ensures.value.0 in
+    let read = parse-decimal 64 n c.in-Ok.text.now c.parse.result small (omega (arith, small)) (c.in-Ok.ensures.cases.0 ∙ digits) c.parse.ensures.value.0 in
     cc (read, c.in-Err-parse.is)
 
 pub returns-in-Err : goal.returns-in-Err
