@@ -38,7 +38,7 @@ impl ChannelSession {
         ensures { self.new ≡ without_offer_held self.old }
     {
         if self.is_offered() {
-            *self = ChannelSession::Nothing;
+            self.end();
         }
     }
 }

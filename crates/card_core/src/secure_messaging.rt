@@ -35,11 +35,11 @@ pub fn open_command(
     match session.open_command(command, plain) {
         Ok(count) => Ok(count),
         Err(OpenRefusal::Mac) => {
-            *held = ChannelSession::Nothing;
+            held.end();
             Err(RuleG::G7)
         }
         Err(OpenRefusal::Padding) => {
-            *held = ChannelSession::Nothing;
+            held.end();
             Err(RuleG::G8)
         }
     }

@@ -70,12 +70,15 @@ impl Live {
         self.selected.iter().position(Option::is_none)
     }
 
-    /// The channel's place in a listing is forgotten.
+    /// The channel's place in a listing is forgotten. Where there is none, nothing is written.
     pub fn forget_place(&mut self, channel: u8)
         requires { channel < CHANNELS }
         ensures { self.new ≡ live_without_place self.old channel }
     {
-        self.places[usize::from(channel)] = None;
+        let place = &mut self.places[usize::from(channel)];
+        if place.is_some() {
+            *place = None;
+        }
     }
 
     /// Takes the channel's place in a listing, which is forgotten then.
