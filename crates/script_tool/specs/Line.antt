@@ -20,11 +20,16 @@ abbrev pub SaysQuietly : List (List ℕ) → exchange.Exchange → Type 0
 SaysQuietly (mark ∷ words) e = (mark ≡ codes "-") × SaysExchange words e
 SaysQuietly [] e = ⊥
 
+-- something to send, with that mark or without
+abbrev pub SaysSending : List (List ℕ) → ScriptLine → Type 0
+SaysSending words (Exchange e) = SaysExchange words e
+SaysSending words (Quiet e) = SaysQuietly words e
+SaysSending words _ = ⊥
+
 abbrev pub SaysLine : List ℕ → ScriptLine → Type 0
 SaysLine text Nothing = IsBlank text ⊎ IsComment text
 SaysLine text (Control control) = SaysControl (words_of text) control
-SaysLine text (Exchange e) = SaysExchange (words_of text) e
-SaysLine text (Quiet e) = SaysQuietly (words_of text) e
+SaysLine text line = SaysSending (words_of text) line
 
 -- no line is said by the text
 abbrev pub HasNoForm : List ℕ → Type 0

@@ -52,6 +52,16 @@ fn wrap_in(
     }
 }
 
+// Drops what is kept. Where nothing is, nothing is written. It is out of line, so that its callers have a small stack frame.
+#[inline(never)]
+fn drop_kept(kept: &mut Option<AesSession>)
+    ensures { kept.new ≡ None }
+{
+    if kept.is_some() {
+        *kept = None;
+    }
+}
+
 // Reads the reply in the session that is kept, if one is. A reply that can't be read ends it.
 fn unwrap_in(
     kept: &mut Option<AesSession>,
@@ -59,6 +69,7 @@ fn unwrap_in(
     out: &mut ArrayVec<u8, 256>,
 ) -> Result<Status, Word>
     requires { length reply.now ≤ 258 }
+    ensures none { kept.old ≡ None → result ≡ Err NoSession }
     ensures unwrapped { (session : Session) → MayBeSession kept.old (Some session) → IfOk result (λ status. Unwraps session reply.now out.new.items status.0) }
     ensures refused { (session : Session) → MayBeSession kept.old (Some session) → IfErr result (RefusesAs session reply.now) }
     ensures stays { OnOk result (kept.new ≡ kept.old) }
@@ -71,7 +82,7 @@ fn unwrap_in(
     match read {
         Ok(status) => Ok(status),
         Err(refusal) => {
-            *kept = None;
+            drop_kept(kept);
             Err(Word::of_refusal(refusal))
         }
     }
@@ -136,6 +147,7 @@ impl ChannelSessions {
         out: &mut ArrayVec<u8, 256>,
     ) -> Result<Status, Word>
         requires { length reply.now ≤ 258 }
+        ensures none { kept_on channel self.old ≡ None → result ≡ Err NoSession }
         ensures unwrapped { (session : Session) → MayBeSession (kept_on channel self.old) (Some session)
             → IfOk result (λ status. Unwraps session reply.now out.new.items status.0) }
         ensures refused { (session : Session) → MayBeSession (kept_on channel self.old) (Some session) → IfErr result (RefusesAs session reply.now) }
@@ -168,10 +180,10 @@ impl ChannelSessions {
         ensures { self.new ≡ with_kept channel None self.old }
     {
         match channel {
-            Channel::Basic => self.basic = None,
-            Channel::First => self.first = None,
-            Channel::Second => self.second = None,
-            Channel::Third => self.third = None,
+            Channel::Basic => drop_kept(&mut self.basic),
+            Channel::First => drop_kept(&mut self.first),
+            Channel::Second => drop_kept(&mut self.second),
+            Channel::Third => drop_kept(&mut self.third),
         }
     }
 }

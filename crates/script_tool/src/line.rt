@@ -1,7 +1,7 @@
 //! What a line says (this profile's own).
 
 ghost use Rattle.std.specs.Prelude.{◌≡◌, IfNone, IfSome};
-ghost use Rattle.script_tool.specs.Line.{HasNoForm, SaysLine, SaysQuietly};
+ghost use Rattle.script_tool.specs.Line.{HasNoForm, SaysLine, SaysSending};
 ghost use Rattle.script_tool.specs.Quiet.{is_quiet};
 ghost use Rattle.script_tool.specs.Reads.{Reads};
 ghost use Rattle.script_tool.specs.Words.{left};
@@ -27,13 +27,15 @@ pub enum ScriptLine {
     Quiet(Exchange),
 }
 
-// `- ` and something to send.
-fn quiet(words: Words<'_>) -> Option<Exchange>
-    ensures { Reads (SaysQuietly (left words.entry)) result }
+// Something to send, perhaps after `- `.
+fn sending(words: Words<'_>) -> Option<ScriptLine>
+    ensures { Reads (SaysSending (left words.entry)) result }
 {
-    let mut words = words;
-    words.fixed(b"-")?;
-    exchange::read(words)
+    let mut rest = words;
+    match rest.fixed(b"-") {
+        Some(()) => exchange::read(rest).map(ScriptLine::Quiet),
+        None => exchange::read(words).map(ScriptLine::Exchange),
+    }
 }
 
 impl ScriptLine {
@@ -56,12 +58,6 @@ impl ScriptLine {
         if let Some(control) = control::read(words) {
             return Some(ScriptLine::Control(control));
         }
-        if let Some(exchange) = exchange::read(words) {
-            return Some(ScriptLine::Exchange(exchange));
-        }
-        if let Some(exchange) = quiet(words) {
-            return Some(ScriptLine::Quiet(exchange));
-        }
-        None
+        sending(words)
     }
 }
