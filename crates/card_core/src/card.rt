@@ -25,6 +25,7 @@ use crate::loading::Loading;
 use crate::power::{PowerCause, PowerError};
 use crate::reply::{REPLY_LIMIT, write_failure};
 use crate::serve::serve;
+use crate::workspace::Workspace;
 use arrayvec::ArrayVec;
 use card_types::Tables;
 use flash_core::{Flash, FlashFailed};
@@ -40,6 +41,7 @@ pub struct Card<F: Flash> {
     pub(crate) volatile: Live,
     pub(crate) held: [ChannelSession; CHANNELS],
     pub(crate) loading: Loading,
+    pub(crate) space: Workspace,
     pub(crate) live: bool,
 }
 
@@ -95,6 +97,7 @@ impl<F: Flash> Card<F> {
                 volatile: Live::powered_on(),
                 held: nothing_held(),
                 loading: Loading::new(),
+                space: Workspace::new(),
                 live: true,
             }),
             Err(refused) => Err(PowerError {
@@ -140,6 +143,7 @@ impl<F: Flash> Card<F> {
             &mut self.volatile,
             &mut self.held,
             &mut self.loading,
+            &mut self.space,
             command,
             reply,
         );

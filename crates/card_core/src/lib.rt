@@ -44,6 +44,7 @@ mod select;
 mod serve;
 mod status_template;
 mod store_data;
+mod workspace;
 
 pub use card::Card;
 pub use formatting::format;

@@ -29,6 +29,7 @@ use crate::perform::perform;
 use crate::read_request::read_request;
 use crate::reply::{REPLY_LIMIT, write_status};
 use crate::secure_messaging::{close_reply, open_command};
+use crate::workspace::Workspace;
 use apdu_core::{Command, Status};
 use arrayvec::ArrayVec;
 use card_types::CardLife;
@@ -58,14 +59,19 @@ fn check_class(
     if over { Err(RuleG::G5) } else { Ok(()) }
 }
 
-// Forgets the place in a listing that the channel has, and answers it for the command that may go on at it.
-fn take_place(live: &mut Live, received: &Received<'_>) -> Option<Place>
+// Forgets the place in a listing that the channel has, and answers it for the command that may go on at it: `taken` keeps it.
+fn take_place<'a>(
+    live: &mut Live,
+    received: &Received<'_>,
+    taken: &'a mut Option<Place>,
+) -> Option<&'a Place>
     requires { received.now.channel < CHANNELS }
-    ensures place { received.now.command.ins ≡ GET_STATUS → result ≡ slice_index_or live.old.places received.now.channel None }
+    ensures place { received.now.command.ins ≡ GET_STATUS → option_copied result ≡ slice_index_or live.old.places received.now.channel None }
     ensures forgotten { live.new ≡ live_without_place live.old received.now.channel }
 {
     if received.command.ins == GET_STATUS {
-        return live.take_place(received.channel);
+        *taken = live.take_place(received.channel);
+        return taken.as_ref();
     }
     live.forget_place(received.channel);
     None
@@ -258,6 +264,7 @@ pub fn serve<F: Flash>(
     live: &mut Live,
     held: &mut [ChannelSession; CHANNELS],
     loading: &mut Loading,
+    space: &mut Workspace,
     bytes: &[u8],
     reply: &mut ArrayVec<u8, REPLY_LIMIT>,
 ) -> Option<Rule>
@@ -280,26 +287,19 @@ pub fn serve<F: Flash>(
         Err(rule) => return close_plain(Err(Rule::G(rule)), reply),
     };
     let channel = usize::from(received.channel);
-    let place = take_place(live, &received);
+    let place = take_place(live, &received, &mut space.place);
     let life = records.tables().life;
-    let mut plain = [0; 255];
-    let opened = match pass(life, &received, live, &mut held[channel], &mut plain) {
+    let plain = &mut space.plain;
+    let opened = match pass(life, &received, live, &mut held[channel], plain) {
         Ok(opened) => opened,
         Err(rule) => return close_plain(Err(Rule::G(rule)), reply),
     };
     let command = Command {
-        body: plain_body(&received.command, opened, &plain),
+        body: plain_body(&received.command, opened, plain),
         ..received.command
     };
     let served = act(
-        records,
-        live,
-        held,
-        loading,
-        &received,
-        &command,
-        place.as_ref(),
-        reply,
+        records, live, held, loading, &received, &command, place, reply,
     );
     close(served, opened, &mut held[channel], reply)
 }

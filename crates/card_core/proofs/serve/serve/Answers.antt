@@ -71,7 +71,7 @@ act-served-requires-clause-passed g c =
     passed_over page c.args.records.now.tables c.args.live.now c.args.held.now state c.args.bytes.now received c.take_place-place.new.live _ come c.args.loading.now.session some.shows.loading
     c.pass.new.live c.pass.new.held c.in-Ok-pass.opened c.pass.new.plain
     (c.in-Ok-pass.ensures.passed page c.args.records.now.tables c.args.live.now c.args.held.now state c.args.bytes.now come (ap (λ t. t.life) (sym c.tables-2.ensures.tables)))
-    some.whole c.from-channel.result c.from-channel.ensures c.plain_body.result.now c.plain_body.ensures.plain _ (λ ins. c.as_ref.ensures.value ∙ c.take_place-place.ensures.place ins)
+    some.whole c.from-channel.result c.from-channel.ensures c.plain_body.result.now c.plain_body.ensures.plain _ (λ ins. c.take_place-place.ensures.place ins)
 
 pub close-requires-clause-secured : goal.close-requires-clause-secured
 close-requires-clause-secured g c =
@@ -96,7 +96,7 @@ returns-clause-served g c = λ page state whole all.
     (rw c.close.ensures.rule (closed_over page c.args.records.now.tables c.args.live.now c.args.held.now state c.args.bytes.now received c.take_place-place.new.live _ come c.args.loading.now.session all.loading
     c.pass.new.live c.pass.new.held c.in-Ok-pass.opened c.pass.new.plain
     (c.in-Ok-pass.ensures.passed page c.args.records.now.tables c.args.live.now c.args.held.now state c.args.bytes.now come (ap (λ t. t.life) (sym c.tables-2.ensures.tables)))
-    whole c.from-channel.result c.from-channel.ensures c.plain_body.result.now c.plain_body.ensures.plain _ (λ ins. c.as_ref.ensures.value ∙ c.take_place-place.ensures.place ins)
+    whole c.from-channel.result c.from-channel.ensures c.plain_body.result.now c.plain_body.ensures.plain _ (λ ins. c.take_place-place.ensures.place ins)
     (kept_of c.act-served.new.records.tables c.act-served.new.live c.act-served.new.held) c.act-served.new.loading c.act-served.new.reply.items c.close.new.reply.items c.act-served.result c.act-served.ensures.done
     (λ session opened. c.close.ensures.closed session (still_opened c.in-Ok-pass.opened c.pass.new.held (slice_index_or c.act-served.new.held c.from-channel.result c.index-held-channel-2.result) still session opened))))
 

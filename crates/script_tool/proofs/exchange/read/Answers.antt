@@ -9,5 +9,5 @@ use Rattle.script_tool.proofs.exchange.read.Goals as goal
 pub returns-in_err-read : goal.returns-in_err-read
 returns-in_err-read c =
     let none : Reads (SaysExchange (left c.args.words)) None =
-        λ e says. c.in_err-read.ensures (kind_of e) (sym (ap first c.in_ok-take.ensures) ∙ begins (left c.args.words) e says) in
+    λ e says. c.in_err-read.ensures (kind_of e) (sym (ap first c.in_ok-take.ensures) ∙ begins (left c.args.words) e says) in
     subst (Reads (SaysExchange (left c.args.words))) (sym c.from_residual-in_err-read.ensures) none

@@ -12,12 +12,12 @@ no_form : (text : List ℕ) (line : Option ScriptLine) → (SaysLine text Nothin
     → Reads (SaysSending (words_of text)) line → IfNone line (HasNoForm text)
 no_form text (Some line) something no_control reads = tt
 no_form text None something no_control reads = none
-    where
-        none : HasNoForm text
-        none Nothing says = something says
-        none (Control c) says = no_control c says
-        none (Exchange e) says = reads (Exchange e) says
-        none (Quiet e) says = reads (Quiet e) says
+  where
+    none : HasNoForm text
+    none Nothing says = something says
+    none (Control c) says = no_control c says
+    none (Exchange e) says = reads (Exchange e) says
+    none (Quiet e) says = reads (Quiet e) says
 
 pub returns-clause-none : goal.returns-clause-none
 returns-clause-none c =
