@@ -1,5 +1,7 @@
 //! Room for the command at hand.
 
+ghost use Rattle.std.specs.Prelude.{◌≡◌, None};
+
 use policy_rules::Place;
 
 /// What the command at hand needs room for. It is made once: made for each command, it would be set to zeros each time.
@@ -13,7 +15,10 @@ pub struct Workspace {
 }
 
 impl Workspace {
-    pub fn new() -> Workspace {
+    /// No command has come yet.
+    pub fn new() -> Workspace
+        ensures { result.place ≡ None }
+    {
         Workspace {
             plain: [0; 255],
             place: None,

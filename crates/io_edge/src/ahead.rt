@@ -10,6 +10,7 @@ ghost use Rattle.io_edge.specs.declared.line.TheConstants.{HELD_LIMIT};
 use crate::buffer::Buffer;
 use crate::line::LINE_LIMIT;
 use crate::source::{ReadFailed, Source};
+use memchr::memchr;
 
 /// What is found ahead of a reading, once enough is held to tell.
 #[derive(Clone, Copy)]
@@ -28,7 +29,7 @@ pub enum Ahead {
 fn newline_in(bytes: &[u8]) -> Option<usize>
     ensures { MatchOption result (NoNewline bytes.now) (λ at. (at < length bytes.now) × NoNewline (take at bytes.now) × (slice_index bytes.now at ≡ 10)) }
 {
-    bytes.iter().position(|byte| *byte == b'\n')
+    memchr(b'\n', bytes)
 }
 
 /// How many bytes a piece has without the carriage return at its end.
