@@ -1,9 +1,9 @@
 //! The rules of delegated management (GlobalPlatform Card Specification 2.3.1, 9.2 to 9.4).
 
-ghost use Rattle.std.specs.Prelude.{◌≡◌, ◌≤◌, length};
+ghost use Rattle.std.specs.Prelude.{◌≡◌};
 ghost use Rattle.policy_machine.specs.Delegation.{receipt_refusal, token_refusal};
 
-use apdu_core::Status;
+use crate::refusal::Refusal;
 
 /// The rules on the token of a delegated command.
 #[derive(Clone, Copy, Debug, PartialEq, Eq)]
@@ -24,47 +24,25 @@ pub enum RuleRC {
 }
 
 impl RuleTK {
-    /// The status word of a command that the rule refuses.
-    pub fn status(&self) -> Status
-        ensures { result.0 ≡ (token_refusal self.now).status }
+    /// The rule's name, and the status word of a command that it refuses.
+    pub fn refusal(&self) -> Refusal
+        ensures { result ≡ token_refusal self.now }
     {
         match self {
-            RuleTK::TK1 => Status(0x6A80),
-            RuleTK::TK2 => Status(0x6982),
-            RuleTK::TK3 => Status(0x6982),
-        }
-    }
-
-    /// The rule's name.
-    pub fn name(&self) -> &'static str
-        ensures name { result.now ≡ (token_refusal self.now).name }
-        ensures short { length result.now ≤ 3 }
-    {
-        match self {
-            RuleTK::TK1 => "TK1",
-            RuleTK::TK2 => "TK2",
-            RuleTK::TK3 => "TK3",
+            RuleTK::TK1 => Refusal::new("TK1", 0x6A80),
+            RuleTK::TK2 => Refusal::new("TK2", 0x6982),
+            RuleTK::TK3 => Refusal::new("TK3", 0x6982),
         }
     }
 }
 
 impl RuleRC {
-    /// The status word of a command that the rule refuses.
-    pub fn status(&self) -> Status
-        ensures { result.0 ≡ (receipt_refusal self.now).status }
+    /// The rule's name, and the status word of a command that it refuses.
+    pub fn refusal(&self) -> Refusal
+        ensures { result ≡ receipt_refusal self.now }
     {
         match self {
-            RuleRC::RC1 => Status(0x6985),
-        }
-    }
-
-    /// The rule's name.
-    pub fn name(&self) -> &'static str
-        ensures name { result.now ≡ (receipt_refusal self.now).name }
-        ensures short { length result.now ≤ 3 }
-    {
-        match self {
-            RuleRC::RC1 => "RC1",
+            RuleRC::RC1 => Refusal::new("RC1", 0x6985),
         }
     }
 }

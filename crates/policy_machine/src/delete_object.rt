@@ -1,9 +1,9 @@
 //! The rules of DELETE of an application, a security domain or an Executable Load File (GlobalPlatform Card Specification 2.3.1, 9.5 and 11.2).
 
-ghost use Rattle.std.specs.Prelude.{◌≡◌, ◌≤◌, length};
+ghost use Rattle.std.specs.Prelude.{◌≡◌};
 ghost use Rattle.policy_machine.specs.DeleteObject.{delete_object_refusal};
 
-use apdu_core::Status;
+use crate::refusal::Refusal;
 
 /// The rules of DELETE of an object.
 #[derive(Clone, Copy, Debug, PartialEq, Eq)]
@@ -19,28 +19,15 @@ pub enum RuleDO {
 }
 
 impl RuleDO {
-    /// The status word of a command that the rule refuses.
-    pub fn status(&self) -> Status
-        ensures { result.0 ≡ (delete_object_refusal self.now).status }
+    /// The rule's name, and the status word of a command that it refuses.
+    pub fn refusal(&self) -> Refusal
+        ensures { result ≡ delete_object_refusal self.now }
     {
         match self {
-            RuleDO::DO1 => Status(0x6A88),
-            RuleDO::DO2 => Status(0x6985),
-            RuleDO::DO3 => Status(0x6982),
-            RuleDO::DO4 => Status(0x6985),
-        }
-    }
-
-    /// The rule's name.
-    pub fn name(&self) -> &'static str
-        ensures name { result.now ≡ (delete_object_refusal self.now).name }
-        ensures short { length result.now ≤ 3 }
-    {
-        match self {
-            RuleDO::DO1 => "DO1",
-            RuleDO::DO2 => "DO2",
-            RuleDO::DO3 => "DO3",
-            RuleDO::DO4 => "DO4",
+            RuleDO::DO1 => Refusal::new("DO1", 0x6A88),
+            RuleDO::DO2 => Refusal::new("DO2", 0x6985),
+            RuleDO::DO3 => Refusal::new("DO3", 0x6982),
+            RuleDO::DO4 => Refusal::new("DO4", 0x6985),
         }
     }
 }

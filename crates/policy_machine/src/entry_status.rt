@@ -1,9 +1,9 @@
 //! The rules of SET STATUS of an application or a security domain (GlobalPlatform Card Specification 2.3.1, 5.3 and 11.10).
 
-ghost use Rattle.std.specs.Prelude.{◌≡◌, ◌≤◌, length};
+ghost use Rattle.std.specs.Prelude.{◌≡◌};
 ghost use Rattle.policy_machine.specs.EntryStatus.{entry_status_refusal};
 
-use apdu_core::Status;
+use crate::refusal::Refusal;
 
 /// The rules of SET STATUS of an entry.
 #[derive(Clone, Copy, Debug, PartialEq, Eq)]
@@ -19,28 +19,15 @@ pub enum RuleSS {
 }
 
 impl RuleSS {
-    /// The status word of a command that the rule refuses.
-    pub fn status(&self) -> Status
-        ensures { result.0 ≡ (entry_status_refusal self.now).status }
+    /// The rule's name, and the status word of a command that it refuses.
+    pub fn refusal(&self) -> Refusal
+        ensures { result ≡ entry_status_refusal self.now }
     {
         match self {
-            RuleSS::SS1 => Status(0x6A88),
-            RuleSS::SS2 => Status(0x6985),
-            RuleSS::SS3 => Status(0x6982),
-            RuleSS::SS4 => Status(0x6985),
-        }
-    }
-
-    /// The rule's name.
-    pub fn name(&self) -> &'static str
-        ensures name { result.now ≡ (entry_status_refusal self.now).name }
-        ensures short { length result.now ≤ 3 }
-    {
-        match self {
-            RuleSS::SS1 => "SS1",
-            RuleSS::SS2 => "SS2",
-            RuleSS::SS3 => "SS3",
-            RuleSS::SS4 => "SS4",
+            RuleSS::SS1 => Refusal::new("SS1", 0x6A88),
+            RuleSS::SS2 => Refusal::new("SS2", 0x6985),
+            RuleSS::SS3 => Refusal::new("SS3", 0x6982),
+            RuleSS::SS4 => Refusal::new("SS4", 0x6985),
         }
     }
 }

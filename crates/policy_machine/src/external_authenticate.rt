@@ -1,9 +1,9 @@
 //! The rules of EXTERNAL AUTHENTICATE (GlobalPlatform Amendment D, 7.1.2).
 
-ghost use Rattle.std.specs.Prelude.{◌≡◌, ◌≤◌, length};
+ghost use Rattle.std.specs.Prelude.{◌≡◌};
 ghost use Rattle.policy_machine.specs.ExternalAuthenticate.{external_authenticate_refusal};
 
-use apdu_core::Status;
+use crate::refusal::Refusal;
 
 /// The rules of EXTERNAL AUTHENTICATE.
 #[derive(Clone, Copy, Debug, PartialEq, Eq)]
@@ -17,26 +17,14 @@ pub enum RuleEA {
 }
 
 impl RuleEA {
-    /// The status word of an EXTERNAL AUTHENTICATE that the rule refuses.
-    pub fn status(&self) -> Status
-        ensures { result.0 ≡ (external_authenticate_refusal self.now).status }
+    /// The rule's name, and the status word of a command that it refuses.
+    pub fn refusal(&self) -> Refusal
+        ensures { result ≡ external_authenticate_refusal self.now }
     {
         match self {
-            RuleEA::EA1 => Status(0x6985),
-            RuleEA::EA2 => Status(0x6300),
-            RuleEA::EA3 => Status(0x6982),
-        }
-    }
-
-    /// The rule's name.
-    pub fn name(&self) -> &'static str
-        ensures name { result.now ≡ (external_authenticate_refusal self.now).name }
-        ensures short { length result.now ≤ 3 }
-    {
-        match self {
-            RuleEA::EA1 => "EA1",
-            RuleEA::EA2 => "EA2",
-            RuleEA::EA3 => "EA3",
+            RuleEA::EA1 => Refusal::new("EA1", 0x6985),
+            RuleEA::EA2 => Refusal::new("EA2", 0x6300),
+            RuleEA::EA3 => Refusal::new("EA3", 0x6982),
         }
     }
 }

@@ -1,9 +1,9 @@
 //! The rules of INSTALL [for extradition] (GlobalPlatform Card Specification 2.3.1, 9.4.1 and 11.5).
 
-ghost use Rattle.std.specs.Prelude.{◌≡◌, ◌≤◌, length};
+ghost use Rattle.std.specs.Prelude.{◌≡◌};
 ghost use Rattle.policy_machine.specs.Extradition.{extradition_refusal};
 
-use apdu_core::Status;
+use crate::refusal::Refusal;
 
 /// The rules of INSTALL [for extradition].
 #[derive(Clone, Copy, Debug, PartialEq, Eq)]
@@ -25,34 +25,18 @@ pub enum RuleEX {
 }
 
 impl RuleEX {
-    /// The status word of a command that the rule refuses.
-    pub fn status(&self) -> Status
-        ensures { result.0 ≡ (extradition_refusal self.now).status }
+    /// The rule's name, and the status word of a command that it refuses.
+    pub fn refusal(&self) -> Refusal
+        ensures { result ≡ extradition_refusal self.now }
     {
         match self {
-            RuleEX::EX1 => Status(0x6982),
-            RuleEX::EX2 => Status(0x6A88),
-            RuleEX::EX3 => Status(0x6985),
-            RuleEX::EX4 => Status(0x6982),
-            RuleEX::EX5 => Status(0x6985),
-            RuleEX::EX6 => Status(0x6985),
-            RuleEX::EX7 => Status(0x6982),
-        }
-    }
-
-    /// The rule's name.
-    pub fn name(&self) -> &'static str
-        ensures name { result.now ≡ (extradition_refusal self.now).name }
-        ensures short { length result.now ≤ 3 }
-    {
-        match self {
-            RuleEX::EX1 => "EX1",
-            RuleEX::EX2 => "EX2",
-            RuleEX::EX3 => "EX3",
-            RuleEX::EX4 => "EX4",
-            RuleEX::EX5 => "EX5",
-            RuleEX::EX6 => "EX6",
-            RuleEX::EX7 => "EX7",
+            RuleEX::EX1 => Refusal::new("EX1", 0x6982),
+            RuleEX::EX2 => Refusal::new("EX2", 0x6A88),
+            RuleEX::EX3 => Refusal::new("EX3", 0x6985),
+            RuleEX::EX4 => Refusal::new("EX4", 0x6982),
+            RuleEX::EX5 => Refusal::new("EX5", 0x6985),
+            RuleEX::EX6 => Refusal::new("EX6", 0x6985),
+            RuleEX::EX7 => Refusal::new("EX7", 0x6982),
         }
     }
 }

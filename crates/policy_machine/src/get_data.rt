@@ -1,9 +1,9 @@
 //! The rules of GET DATA (GlobalPlatform Card Specification 2.3.1, 11.3).
 
-ghost use Rattle.std.specs.Prelude.{◌≡◌, ◌≤◌, length};
+ghost use Rattle.std.specs.Prelude.{◌≡◌};
 ghost use Rattle.policy_machine.specs.GetData.{get_data_refusal};
 
-use apdu_core::Status;
+use crate::refusal::Refusal;
 
 /// The rules of GET DATA.
 #[derive(Clone, Copy, Debug, PartialEq, Eq)]
@@ -13,22 +13,12 @@ pub enum RuleGD {
 }
 
 impl RuleGD {
-    /// The status word of a GET DATA that the rule refuses.
-    pub fn status(&self) -> Status
-        ensures { result.0 ≡ (get_data_refusal self.now).status }
+    /// The rule's name, and the status word of a command that it refuses.
+    pub fn refusal(&self) -> Refusal
+        ensures { result ≡ get_data_refusal self.now }
     {
         match self {
-            RuleGD::GD1 => Status(0x6A88),
-        }
-    }
-
-    /// The rule's name.
-    pub fn name(&self) -> &'static str
-        ensures name { result.now ≡ (get_data_refusal self.now).name }
-        ensures short { length result.now ≤ 3 }
-    {
-        match self {
-            RuleGD::GD1 => "GD1",
+            RuleGD::GD1 => Refusal::new("GD1", 0x6A88),
         }
     }
 }

@@ -1,9 +1,9 @@
 //! The rules of GET STATUS (GlobalPlatform Card Specification 2.3.1, 11.4).
 
-ghost use Rattle.std.specs.Prelude.{◌≡◌, ◌≤◌, length};
+ghost use Rattle.std.specs.Prelude.{◌≡◌};
 ghost use Rattle.policy_machine.specs.GetStatus.{get_status_refusal};
 
-use apdu_core::Status;
+use crate::refusal::Refusal;
 
 /// The rules of GET STATUS.
 #[derive(Clone, Copy, Debug, PartialEq, Eq)]
@@ -15,24 +15,13 @@ pub enum RuleGS {
 }
 
 impl RuleGS {
-    /// The status word of a GET STATUS that the rule refuses.
-    pub fn status(&self) -> Status
-        ensures { result.0 ≡ (get_status_refusal self.now).status }
+    /// The rule's name, and the status word of a command that it refuses.
+    pub fn refusal(&self) -> Refusal
+        ensures { result ≡ get_status_refusal self.now }
     {
         match self {
-            RuleGS::GS1 => Status(0x6985),
-            RuleGS::GS2 => Status(0x6A88),
-        }
-    }
-
-    /// The rule's name.
-    pub fn name(&self) -> &'static str
-        ensures name { result.now ≡ (get_status_refusal self.now).name }
-        ensures short { length result.now ≤ 3 }
-    {
-        match self {
-            RuleGS::GS1 => "GS1",
-            RuleGS::GS2 => "GS2",
+            RuleGS::GS1 => Refusal::new("GS1", 0x6985),
+            RuleGS::GS2 => Refusal::new("GS2", 0x6A88),
         }
     }
 }

@@ -1,9 +1,9 @@
 //! The rules of INITIALIZE UPDATE (GlobalPlatform Amendment D, 7.1.1).
 
-ghost use Rattle.std.specs.Prelude.{◌≡◌, ◌≤◌, length};
+ghost use Rattle.std.specs.Prelude.{◌≡◌};
 ghost use Rattle.policy_machine.specs.InitializeUpdate.{initialize_update_refusal};
 
-use apdu_core::Status;
+use crate::refusal::Refusal;
 
 /// The rules of INITIALIZE UPDATE.
 #[derive(Clone, Copy, Debug, PartialEq, Eq)]
@@ -17,26 +17,14 @@ pub enum RuleIU {
 }
 
 impl RuleIU {
-    /// The status word of an INITIALIZE UPDATE that the rule refuses.
-    pub fn status(&self) -> Status
-        ensures { result.0 ≡ (initialize_update_refusal self.now).status }
+    /// The rule's name, and the status word of a command that it refuses.
+    pub fn refusal(&self) -> Refusal
+        ensures { result ≡ initialize_update_refusal self.now }
     {
         match self {
-            RuleIU::IU1 => Status(0x6985),
-            RuleIU::IU2 => Status(0x6A88),
-            RuleIU::IU3 => Status(0x6985),
-        }
-    }
-
-    /// The rule's name.
-    pub fn name(&self) -> &'static str
-        ensures name { result.now ≡ (initialize_update_refusal self.now).name }
-        ensures short { length result.now ≤ 3 }
-    {
-        match self {
-            RuleIU::IU1 => "IU1",
-            RuleIU::IU2 => "IU2",
-            RuleIU::IU3 => "IU3",
+            RuleIU::IU1 => Refusal::new("IU1", 0x6985),
+            RuleIU::IU2 => Refusal::new("IU2", 0x6A88),
+            RuleIU::IU3 => Refusal::new("IU3", 0x6985),
         }
     }
 }

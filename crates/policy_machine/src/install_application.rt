@@ -1,9 +1,9 @@
 //! The rules of INSTALL [for install] (GlobalPlatform Card Specification 2.3.1, 9.3.2 and 11.5).
 
-ghost use Rattle.std.specs.Prelude.{◌≡◌, ◌≤◌, length};
+ghost use Rattle.std.specs.Prelude.{◌≡◌};
 ghost use Rattle.policy_machine.specs.InstallApplication.{install_refusal};
 
-use apdu_core::Status;
+use crate::refusal::Refusal;
 
 /// The rules of INSTALL [for install].
 #[derive(Clone, Copy, Debug, PartialEq, Eq)]
@@ -25,34 +25,18 @@ pub enum RuleII {
 }
 
 impl RuleII {
-    /// The status word of a command that the rule refuses.
-    pub fn status(&self) -> Status
-        ensures { result.0 ≡ (install_refusal self.now).status }
+    /// The rule's name, and the status word of a command that it refuses.
+    pub fn refusal(&self) -> Refusal
+        ensures { result ≡ install_refusal self.now }
     {
         match self {
-            RuleII::II1 => Status(0x6982),
-            RuleII::II2 => Status(0x6A88),
-            RuleII::II3 => Status(0x6982),
-            RuleII::II4 => Status(0x6A80),
-            RuleII::II5 => Status(0x6A80),
-            RuleII::II6 => Status(0x6982),
-            RuleII::II7 => Status(0x6A84),
-        }
-    }
-
-    /// The rule's name.
-    pub fn name(&self) -> &'static str
-        ensures name { result.now ≡ (install_refusal self.now).name }
-        ensures short { length result.now ≤ 3 }
-    {
-        match self {
-            RuleII::II1 => "II1",
-            RuleII::II2 => "II2",
-            RuleII::II3 => "II3",
-            RuleII::II4 => "II4",
-            RuleII::II5 => "II5",
-            RuleII::II6 => "II6",
-            RuleII::II7 => "II7",
+            RuleII::II1 => Refusal::new("II1", 0x6982),
+            RuleII::II2 => Refusal::new("II2", 0x6A88),
+            RuleII::II3 => Refusal::new("II3", 0x6982),
+            RuleII::II4 => Refusal::new("II4", 0x6A80),
+            RuleII::II5 => Refusal::new("II5", 0x6A80),
+            RuleII::II6 => Refusal::new("II6", 0x6982),
+            RuleII::II7 => Refusal::new("II7", 0x6A84),
         }
     }
 }

@@ -1,9 +1,9 @@
 //! The rules of INSTALL [for load] (GlobalPlatform Card Specification 2.3.1, 9.3.1 and 11.5).
 
-ghost use Rattle.std.specs.Prelude.{◌≡◌, ◌≤◌, length};
+ghost use Rattle.std.specs.Prelude.{◌≡◌};
 ghost use Rattle.policy_machine.specs.InstallLoad.{install_load_refusal};
 
-use apdu_core::Status;
+use crate::refusal::Refusal;
 
 /// The rules of INSTALL [for load].
 #[derive(Clone, Copy, Debug, PartialEq, Eq)]
@@ -25,34 +25,18 @@ pub enum RuleIL {
 }
 
 impl RuleIL {
-    /// The status word of a command that the rule refuses.
-    pub fn status(&self) -> Status
-        ensures { result.0 ≡ (install_load_refusal self.now).status }
+    /// The rule's name, and the status word of a command that it refuses.
+    pub fn refusal(&self) -> Refusal
+        ensures { result ≡ install_load_refusal self.now }
     {
         match self {
-            RuleIL::IL1 => Status(0x6982),
-            RuleIL::IL2 => Status(0x6985),
-            RuleIL::IL3 => Status(0x6A80),
-            RuleIL::IL4 => Status(0x6A88),
-            RuleIL::IL5 => Status(0x6982),
-            RuleIL::IL6 => Status(0x6A80),
-            RuleIL::IL7 => Status(0x6A84),
-        }
-    }
-
-    /// The rule's name.
-    pub fn name(&self) -> &'static str
-        ensures name { result.now ≡ (install_load_refusal self.now).name }
-        ensures short { length result.now ≤ 3 }
-    {
-        match self {
-            RuleIL::IL1 => "IL1",
-            RuleIL::IL2 => "IL2",
-            RuleIL::IL3 => "IL3",
-            RuleIL::IL4 => "IL4",
-            RuleIL::IL5 => "IL5",
-            RuleIL::IL6 => "IL6",
-            RuleIL::IL7 => "IL7",
+            RuleIL::IL1 => Refusal::new("IL1", 0x6982),
+            RuleIL::IL2 => Refusal::new("IL2", 0x6985),
+            RuleIL::IL3 => Refusal::new("IL3", 0x6A80),
+            RuleIL::IL4 => Refusal::new("IL4", 0x6A88),
+            RuleIL::IL5 => Refusal::new("IL5", 0x6982),
+            RuleIL::IL6 => Refusal::new("IL6", 0x6A80),
+            RuleIL::IL7 => Refusal::new("IL7", 0x6A84),
         }
     }
 }

@@ -1,9 +1,9 @@
 //! The rules of LOAD (GlobalPlatform Card Specification 2.3.1, 9.3.5 and 11.6).
 
-ghost use Rattle.std.specs.Prelude.{◌≡◌, ◌≤◌, length};
+ghost use Rattle.std.specs.Prelude.{◌≡◌};
 ghost use Rattle.policy_machine.specs.Load.{load_refusal};
 
-use apdu_core::Status;
+use crate::refusal::Refusal;
 
 /// The rules of LOAD.
 #[derive(Clone, Copy, Debug, PartialEq, Eq)]
@@ -27,36 +27,19 @@ pub enum RuleLO {
 }
 
 impl RuleLO {
-    /// The status word of a LOAD that the rule refuses.
-    pub fn status(&self) -> Status
-        ensures { result.0 ≡ (load_refusal self.now).status }
+    /// The rule's name, and the status word of a command that it refuses.
+    pub fn refusal(&self) -> Refusal
+        ensures { result ≡ load_refusal self.now }
     {
         match self {
-            RuleLO::LO1 => Status(0x6985),
-            RuleLO::LO2 => Status(0x6A86),
-            RuleLO::LO3 => Status(0x6A80),
-            RuleLO::LO4 => Status(0x6A84),
-            RuleLO::LO5 => Status(0x6A80),
-            RuleLO::LO6 => Status(0x6A80),
-            RuleLO::LO7 => Status(0x6982),
-            RuleLO::LO8 => Status(0x6985),
-        }
-    }
-
-    /// The rule's name.
-    pub fn name(&self) -> &'static str
-        ensures name { result.now ≡ (load_refusal self.now).name }
-        ensures short { length result.now ≤ 3 }
-    {
-        match self {
-            RuleLO::LO1 => "LO1",
-            RuleLO::LO2 => "LO2",
-            RuleLO::LO3 => "LO3",
-            RuleLO::LO4 => "LO4",
-            RuleLO::LO5 => "LO5",
-            RuleLO::LO6 => "LO6",
-            RuleLO::LO7 => "LO7",
-            RuleLO::LO8 => "LO8",
+            RuleLO::LO1 => Refusal::new("LO1", 0x6985),
+            RuleLO::LO2 => Refusal::new("LO2", 0x6A86),
+            RuleLO::LO3 => Refusal::new("LO3", 0x6A80),
+            RuleLO::LO4 => Refusal::new("LO4", 0x6A84),
+            RuleLO::LO5 => Refusal::new("LO5", 0x6A80),
+            RuleLO::LO6 => Refusal::new("LO6", 0x6A80),
+            RuleLO::LO7 => Refusal::new("LO7", 0x6982),
+            RuleLO::LO8 => Refusal::new("LO8", 0x6985),
         }
     }
 }

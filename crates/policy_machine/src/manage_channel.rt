@@ -1,9 +1,9 @@
 //! The rules of MANAGE CHANNEL (ISO/IEC 7816-4:2013, 11.1.2; GlobalPlatform Card Specification 2.3.1, 11.7).
 
-ghost use Rattle.std.specs.Prelude.{◌≡◌, length, ◌≤◌};
+ghost use Rattle.std.specs.Prelude.{◌≡◌};
 ghost use Rattle.policy_machine.specs.ManageChannel.{manage_channel_refusal};
 
-use apdu_core::Status;
+use crate::refusal::Refusal;
 
 /// The rules of MANAGE CHANNEL.
 #[derive(Clone, Copy, Debug, PartialEq, Eq)]
@@ -13,22 +13,12 @@ pub enum RuleMC {
 }
 
 impl RuleMC {
-    /// The status word of a MANAGE CHANNEL that the rule refuses.
-    pub fn status(&self) -> Status
-        ensures { result.0 ≡ (manage_channel_refusal self.now).status }
+    /// The rule's name, and the status word of a command that it refuses.
+    pub fn refusal(&self) -> Refusal
+        ensures { result ≡ manage_channel_refusal self.now }
     {
         match self {
-            RuleMC::MC1 => Status(0x6A81),
-        }
-    }
-
-    /// The rule's name.
-    pub fn name(&self) -> &'static str
-        ensures name { result.now ≡ (manage_channel_refusal self.now).name }
-        ensures short { length result.now ≤ 3 }
-    {
-        match self {
-            RuleMC::MC1 => "MC1",
+            RuleMC::MC1 => Refusal::new("MC1", 0x6A81),
         }
     }
 }

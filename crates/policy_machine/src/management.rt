@@ -1,9 +1,9 @@
 //! The rules that the commands of card content management and INITIALIZE UPDATE have in common.
 
-ghost use Rattle.std.specs.Prelude.{◌≡◌, ◌≤◌, length};
+ghost use Rattle.std.specs.Prelude.{◌≡◌};
 ghost use Rattle.policy_machine.specs.Management.{management_refusal};
 
-use apdu_core::Status;
+use crate::refusal::Refusal;
 
 /// The rules of card content management.
 #[derive(Clone, Copy, Debug, PartialEq, Eq)]
@@ -17,26 +17,14 @@ pub enum RuleM {
 }
 
 impl RuleM {
-    /// The status word of a command that the rule refuses.
-    pub fn status(&self) -> Status
-        ensures { result.0 ≡ (management_refusal self.now).status }
+    /// The rule's name, and the status word of a command that it refuses.
+    pub fn refusal(&self) -> Refusal
+        ensures { result ≡ management_refusal self.now }
     {
         match self {
-            RuleM::M1 => Status(0x6985),
-            RuleM::M2 => Status(0x6985),
-            RuleM::M3 => Status(0x6985),
-        }
-    }
-
-    /// The rule's name.
-    pub fn name(&self) -> &'static str
-        ensures name { result.now ≡ (management_refusal self.now).name }
-        ensures short { length result.now ≤ 3 }
-    {
-        match self {
-            RuleM::M1 => "M1",
-            RuleM::M2 => "M2",
-            RuleM::M3 => "M3",
+            RuleM::M1 => Refusal::new("M1", 0x6985),
+            RuleM::M2 => Refusal::new("M2", 0x6985),
+            RuleM::M3 => Refusal::new("M3", 0x6985),
         }
     }
 }

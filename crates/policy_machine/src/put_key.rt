@@ -1,9 +1,9 @@
 //! The rules of PUT KEY (GlobalPlatform Card Specification 2.3.1, 11.8; Amendment D, 7.2).
 
-ghost use Rattle.std.specs.Prelude.{◌≡◌, ◌≤◌, length};
+ghost use Rattle.std.specs.Prelude.{◌≡◌};
 ghost use Rattle.policy_machine.specs.PutKey.{put_key_refusal};
 
-use apdu_core::Status;
+use crate::refusal::Refusal;
 
 /// The rules of PUT KEY.
 #[derive(Clone, Copy, Debug, PartialEq, Eq)]
@@ -19,28 +19,15 @@ pub enum RulePK {
 }
 
 impl RulePK {
-    /// The status word of a PUT KEY that the rule refuses.
-    pub fn status(&self) -> Status
-        ensures { result.0 ≡ (put_key_refusal self.now).status }
+    /// The rule's name, and the status word of a command that it refuses.
+    pub fn refusal(&self) -> Refusal
+        ensures { result ≡ put_key_refusal self.now }
     {
         match self {
-            RulePK::PK1 => Status(0x6A88),
-            RulePK::PK2 => Status(0x6A80),
-            RulePK::PK3 => Status(0x6A80),
-            RulePK::PK4 => Status(0x6A84),
-        }
-    }
-
-    /// The rule's name.
-    pub fn name(&self) -> &'static str
-        ensures name { result.now ≡ (put_key_refusal self.now).name }
-        ensures short { length result.now ≤ 3 }
-    {
-        match self {
-            RulePK::PK1 => "PK1",
-            RulePK::PK2 => "PK2",
-            RulePK::PK3 => "PK3",
-            RulePK::PK4 => "PK4",
+            RulePK::PK1 => Refusal::new("PK1", 0x6A88),
+            RulePK::PK2 => Refusal::new("PK2", 0x6A80),
+            RulePK::PK3 => Refusal::new("PK3", 0x6A80),
+            RulePK::PK4 => Refusal::new("PK4", 0x6A84),
         }
     }
 }

@@ -1,7 +1,7 @@
 //! The rules that refuse a command.
 
 ghost use Rattle.std.specs.Prelude.{◌≡◌, ◌≤◌, length};
-ghost use Rattle.policy_machine.specs.Rules.{name_of, status_of};
+ghost use Rattle.policy_machine.specs.Rules.{name_of, refusal_by, status_of};
 ghost use Rattle.policy_machine.specs.Step.{keeps_load as keeps_load_by};
 
 use crate::card_status::RuleSC;
@@ -21,6 +21,7 @@ use crate::make_selectable::RuleMS;
 use crate::manage_channel::RuleMC;
 use crate::management::RuleM;
 use crate::put_key::RulePK;
+use crate::refusal::Refusal;
 use crate::select::RuleSE;
 use crate::store_data::RuleSD;
 use apdu_core::Status;
@@ -83,42 +84,49 @@ pub enum RulePS {
 }
 
 impl Rule {
+    /// The rule's name, and the status word of a command that it refuses.
+    pub fn refusal(&self) -> Refusal
+        ensures { result ≡ refusal_by self.now }
+    {
+        match self {
+            Rule::G(RuleG::G1) => Refusal::new("G1", 0x6700),
+            Rule::G(RuleG::G2) => Refusal::new("G2", 0x6E00),
+            Rule::G(RuleG::G3) => Refusal::new("G3", 0x6881),
+            Rule::G(RuleG::G4) => Refusal::new("G4", 0x6D00),
+            Rule::G(RuleG::G5) => Refusal::new("G5", 0x6985),
+            Rule::G(RuleG::G6) => Refusal::new("G6", 0x6982),
+            Rule::G(RuleG::G7) => Refusal::new("G7", 0x6982),
+            Rule::G(RuleG::G8) => Refusal::new("G8", 0x6982),
+            Rule::PS(RulePS::P) => Refusal::new("P", 0x6A86),
+            Rule::PS(RulePS::S) => Refusal::new("S", 0x6A80),
+            Rule::M(rule) => rule.refusal(),
+            Rule::SE(rule) => rule.refusal(),
+            Rule::MC(rule) => rule.refusal(),
+            Rule::GD(rule) => rule.refusal(),
+            Rule::IU(rule) => rule.refusal(),
+            Rule::EA(rule) => rule.refusal(),
+            Rule::PK(rule) => rule.refusal(),
+            Rule::DK(rule) => rule.refusal(),
+            Rule::SD(rule) => rule.refusal(),
+            Rule::II(rule) => rule.refusal(),
+            Rule::IL(rule) => rule.refusal(),
+            Rule::MS(rule) => rule.refusal(),
+            Rule::EX(rule) => rule.refusal(),
+            Rule::DO(rule) => rule.refusal(),
+            Rule::SC(rule) => rule.refusal(),
+            Rule::SS(rule) => rule.refusal(),
+            Rule::GS(rule) => rule.refusal(),
+            Rule::LO(rule) => rule.refusal(),
+            Rule::TK(rule) => rule.refusal(),
+            Rule::RC(rule) => rule.refusal(),
+        }
+    }
+
     /// The status word of a command that the rule refuses.
     pub fn status(&self) -> Status
         ensures { result.0 ≡ status_of self.now }
     {
-        match self {
-            Rule::G(RuleG::G1) => Status(0x6700),
-            Rule::G(RuleG::G2) => Status(0x6E00),
-            Rule::G(RuleG::G3) => Status(0x6881),
-            Rule::G(RuleG::G4) => Status(0x6D00),
-            Rule::G(RuleG::G5) => Status(0x6985),
-            Rule::G(RuleG::G6) => Status(0x6982),
-            Rule::G(RuleG::G7) => Status(0x6982),
-            Rule::G(RuleG::G8) => Status(0x6982),
-            Rule::PS(RulePS::P) => Status(0x6A86),
-            Rule::PS(RulePS::S) => Status(0x6A80),
-            Rule::M(rule) => rule.status(),
-            Rule::SE(rule) => rule.status(),
-            Rule::MC(rule) => rule.status(),
-            Rule::GD(rule) => rule.status(),
-            Rule::IU(rule) => rule.status(),
-            Rule::EA(rule) => rule.status(),
-            Rule::PK(rule) => rule.status(),
-            Rule::DK(rule) => rule.status(),
-            Rule::SD(rule) => rule.status(),
-            Rule::II(rule) => rule.status(),
-            Rule::IL(rule) => rule.status(),
-            Rule::MS(rule) => rule.status(),
-            Rule::EX(rule) => rule.status(),
-            Rule::DO(rule) => rule.status(),
-            Rule::SC(rule) => rule.status(),
-            Rule::SS(rule) => rule.status(),
-            Rule::GS(rule) => rule.status(),
-            Rule::LO(rule) => rule.status(),
-            Rule::TK(rule) => rule.status(),
-            Rule::RC(rule) => rule.status(),
-        }
+        self.refusal().status()
     }
 
     /// Whether a command that the rule refuses leaves the load session of its channel, so that the host may go on with it.
@@ -133,37 +141,6 @@ impl Rule {
         ensures name { result.now ≡ name_of self.now }
         ensures short { length result.now ≤ 3 }
     {
-        match self {
-            Rule::G(RuleG::G1) => "G1",
-            Rule::G(RuleG::G2) => "G2",
-            Rule::G(RuleG::G3) => "G3",
-            Rule::G(RuleG::G4) => "G4",
-            Rule::G(RuleG::G5) => "G5",
-            Rule::G(RuleG::G6) => "G6",
-            Rule::G(RuleG::G7) => "G7",
-            Rule::G(RuleG::G8) => "G8",
-            Rule::PS(RulePS::P) => "P",
-            Rule::PS(RulePS::S) => "S",
-            Rule::M(rule) => rule.name(),
-            Rule::SE(rule) => rule.name(),
-            Rule::MC(rule) => rule.name(),
-            Rule::GD(rule) => rule.name(),
-            Rule::IU(rule) => rule.name(),
-            Rule::EA(rule) => rule.name(),
-            Rule::PK(rule) => rule.name(),
-            Rule::DK(rule) => rule.name(),
-            Rule::SD(rule) => rule.name(),
-            Rule::II(rule) => rule.name(),
-            Rule::IL(rule) => rule.name(),
-            Rule::MS(rule) => rule.name(),
-            Rule::EX(rule) => rule.name(),
-            Rule::DO(rule) => rule.name(),
-            Rule::SC(rule) => rule.name(),
-            Rule::SS(rule) => rule.name(),
-            Rule::GS(rule) => rule.name(),
-            Rule::LO(rule) => rule.name(),
-            Rule::TK(rule) => rule.name(),
-            Rule::RC(rule) => rule.name(),
-        }
+        self.refusal().name()
     }
 }

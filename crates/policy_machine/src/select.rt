@@ -1,9 +1,9 @@
 //! The rules of SELECT by partial AID (ISO/IEC 7816-4:2013, 11.1.1; GlobalPlatform Card Specification 2.3.1, 11.9).
 
-ghost use Rattle.std.specs.Prelude.{◌≡◌, ◌≤◌, length};
+ghost use Rattle.std.specs.Prelude.{◌≡◌};
 ghost use Rattle.policy_machine.specs.Select.{select_refusal};
 
-use apdu_core::Status;
+use crate::refusal::Refusal;
 
 /// The rules of SELECT.
 #[derive(Clone, Copy, Debug, PartialEq, Eq)]
@@ -13,22 +13,12 @@ pub enum RuleSE {
 }
 
 impl RuleSE {
-    /// The status word of a SELECT that the rule refuses.
-    pub fn status(&self) -> Status
-        ensures { result.0 ≡ (select_refusal self.now).status }
+    /// The rule's name, and the status word of a command that it refuses.
+    pub fn refusal(&self) -> Refusal
+        ensures { result ≡ select_refusal self.now }
     {
         match self {
-            RuleSE::SE1 => Status(0x6A82),
-        }
-    }
-
-    /// The rule's name.
-    pub fn name(&self) -> &'static str
-        ensures name { result.now ≡ (select_refusal self.now).name }
-        ensures short { length result.now ≤ 3 }
-    {
-        match self {
-            RuleSE::SE1 => "SE1",
+            RuleSE::SE1 => Refusal::new("SE1", 0x6A82),
         }
     }
 }

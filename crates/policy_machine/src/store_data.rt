@@ -1,9 +1,9 @@
 //! The rules of STORE DATA (GlobalPlatform Card Specification 2.3.1, 11.11).
 
-ghost use Rattle.std.specs.Prelude.{◌≡◌, ◌≤◌, length};
+ghost use Rattle.std.specs.Prelude.{◌≡◌};
 ghost use Rattle.policy_machine.specs.StoreData.{store_data_refusal};
 
-use apdu_core::Status;
+use crate::refusal::Refusal;
 
 /// The rules of STORE DATA.
 #[derive(Clone, Copy, Debug, PartialEq, Eq)]
@@ -13,22 +13,12 @@ pub enum RuleSD {
 }
 
 impl RuleSD {
-    /// The status word of a STORE DATA that the rule refuses.
-    pub fn status(&self) -> Status
-        ensures { result.0 ≡ (store_data_refusal self.now).status }
+    /// The rule's name, and the status word of a command that it refuses.
+    pub fn refusal(&self) -> Refusal
+        ensures { result ≡ store_data_refusal self.now }
     {
         match self {
-            RuleSD::SD1 => Status(0x6A84),
-        }
-    }
-
-    /// The rule's name.
-    pub fn name(&self) -> &'static str
-        ensures name { result.now ≡ (store_data_refusal self.now).name }
-        ensures short { length result.now ≤ 3 }
-    {
-        match self {
-            RuleSD::SD1 => "SD1",
+            RuleSD::SD1 => Refusal::new("SD1", 0x6A84),
         }
     }
 }
