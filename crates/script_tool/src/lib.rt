@@ -38,6 +38,7 @@ mod aes_session;
 mod block;
 mod channel;
 mod channel_sessions;
+mod commands;
 mod content;
 mod control;
 mod deletion;

@@ -81,6 +81,5 @@ pub fn read(verb: &[u8], words: Words<'_>) -> Option<Plain>
 {
     let mut words = words;
     words.fixed(verb)?;
-    let command = spelled(words.last()?)?;
-    Some(command)
+    spelled(words.last()?)
 }

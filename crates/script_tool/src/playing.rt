@@ -12,91 +12,25 @@ ghost use Rattle.script_tool.specs.Played.{IsPlayed, Plays};
 ghost use Rattle.script_tool.specs.Send.{plain_of};
 ghost use Rattle.script_tool.specs.Store.{storing};
 
+use crate::commands::{
+    change_life, delete, extradite, install, list, make_selectable, put_key, send_one, store,
+};
 use crate::control::Control;
 use crate::exchange::Exchange;
 use crate::host_state::HostState;
 use crate::in_plain::{raw, select};
-use crate::in_session::send;
 use crate::line::ScriptLine;
 use crate::link::{CardLink, LinkFailed};
 use crate::loading::load;
-use crate::plain::Plain;
 use crate::printout::Printout;
-use crate::put_key::Putting;
-use crate::selectable;
 use crate::session_opening::open;
 use crate::wire::Wire;
-use crate::word::Word;
-use apdu_core::{Command, Status};
+use apdu_core::Status;
 
 /// P2 of GET STATUS, for the first objects and for the next ones.
 const FIRST: u8 = 0x02;
 
 const NEXT: u8 = 0x03;
-
-// Sends a plain command in the session of the channel.
-#[inline(never)]
-fn send_one<L: CardLink>(
-    host: &mut HostState,
-    wire: &mut Wire,
-    link: &mut L,
-    bad: bool,
-    command: &Plain,
-) -> Result<Printout, LinkFailed>
-    requires up { L.up link.old ≡ true }
-    ensures played { (whole : Host) (wanted : Apdu) → RepresentsHost host.old whole → plain_of command.now ≡ wanted
-        → Plays L.CardLink link.old link.new (sending bad whole wanted) host.new result }
-    ensures up { OnOk result (L.up link.new ≡ true) }
-    ensures cause { HasCause (L.faults link.old) (L.faults link.new) result }
-{
-    send(host, wire, link, bad, &command.command())
-}
-
-// STORE DATA of one block.
-#[inline(never)]
-fn store<L: CardLink>(
-    host: &mut HostState,
-    wire: &mut Wire,
-    link: &mut L,
-    field: &[u8],
-) -> Result<Printout, LinkFailed>
-    requires up { L.up link.old ≡ true }
-    ensures played { (whole : Host) → RepresentsHost host.old whole
-        → Plays L.CardLink link.old link.new (sending false whole (storing field.now)) host.new result }
-    ensures up { OnOk result (L.up link.new ≡ true) }
-    ensures cause { HasCause (L.faults link.old) (L.faults link.new) result }
-{
-    let command = Command {
-        class: 0x80,
-        ins: 0xe2,
-        p1: 0x90,
-        p2: 0x00,
-        body: field,
-        le: None,
-    };
-    send(host, wire, link, false, &command)
-}
-
-// PUT KEY of keys that are enciphered under the Key-DEK of the session.
-#[inline(never)]
-fn put_key<L: CardLink>(
-    host: &mut HostState,
-    wire: &mut Wire,
-    link: &mut L,
-    putting: &Putting,
-) -> Result<Printout, LinkFailed>
-    requires up { L.up link.old ≡ true }
-    ensures played { (whole : Host) → RepresentsHost host.old whole
-        → Plays L.CardLink link.old link.new (playing_put_key whole putting.now) host.new result }
-    ensures up { OnOk result (L.up link.new ≡ true) }
-    ensures cause { HasCause (L.faults link.old) (L.faults link.new) result }
-{
-    let Some(session) = host.sessions.on(host.channel) else {
-        return Ok(Printout::Said(Word::NoSession));
-    };
-    let command = session.put_key(putting);
-    send(host, wire, link, false, &command.command())
-}
 
 // Sends what a line sends, and prints what it prints.
 fn play_exchange<L: CardLink>(
@@ -121,25 +55,13 @@ fn play_exchange<L: CardLink>(
         Exchange::Store(field) => store(host, wire, link, field),
         Exchange::Send(command) => send_one(host, wire, link, false, command),
         Exchange::Bad(command) => send_one(host, wire, link, true, command),
-        Exchange::Install(installation) => {
-            let command = installation.command(&host.tokens);
-            send_one(host, wire, link, false, &command)
-        }
-        Exchange::Selectable(aid) => {
-            let command = selectable::command(aid, &host.tokens);
-            send_one(host, wire, link, false, &command)
-        }
-        Exchange::Extradite(extradition) => {
-            let command = extradition.command(&host.tokens);
-            send_one(host, wire, link, false, &command)
-        }
-        Exchange::Delete(deletion) => {
-            let command = deletion.command(&host.tokens);
-            send_one(host, wire, link, false, &command)
-        }
-        Exchange::Life(change) => send_one(host, wire, link, false, &change.command()),
-        Exchange::List(listing) => send_one(host, wire, link, false, &listing.command(FIRST)),
-        Exchange::More(listing) => send_one(host, wire, link, false, &listing.command(NEXT)),
+        Exchange::Install(installation) => install(host, wire, link, installation),
+        Exchange::Selectable(aid) => make_selectable(host, wire, link, aid),
+        Exchange::Extradite(extradition) => extradite(host, wire, link, extradition),
+        Exchange::Delete(deletion) => delete(host, wire, link, deletion),
+        Exchange::Life(change) => change_life(host, wire, link, change),
+        Exchange::List(listing) => list(host, wire, link, listing, FIRST),
+        Exchange::More(listing) => list(host, wire, link, listing, NEXT),
     }
 }
 

@@ -4,7 +4,7 @@ use Rattle.script_tool.specs.Played.{Plays}
 use Rattle.std.proofs.Common.{subst, ◌∙◌}
 use Rattle.script_tool.proofs.Plainly.{continues_plays}
 use Rattle.script_tool.specs.InSession.{printing}
-use Rattle.script_tool.proofs.playing.send_one.Goals as goal
+use Rattle.script_tool.proofs.commands.send_one.Goals as goal
 
 pub returns-clause-played : goal.returns-clause-played
 returns-clause-played g c whole wanted represents is =

@@ -3,7 +3,7 @@ use Rattle.script_tool.specs.InSession.{sending}
 use Rattle.script_tool.specs.Store.{storing}
 use Rattle.script_tool.proofs.Plainly.{continues_plays}
 use Rattle.script_tool.specs.InSession.{printing}
-use Rattle.script_tool.proofs.playing.store.Goals as goal
+use Rattle.script_tool.proofs.commands.store.Goals as goal
 
 pub returns-clause-played : goal.returns-clause-played
 returns-clause-played g c whole represents =

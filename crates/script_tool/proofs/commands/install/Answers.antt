@@ -1,0 +1,8 @@
+use Rattle.std.proofs.Common.{ap, ◌∙◌}
+use Rattle.script_tool.specs.Install.{installing}
+use Rattle.script_tool.specs.declared.tokens.Tokens.{Tokens}
+use Rattle.script_tool.proofs.commands.install.Goals as goal
+
+pub returns-clause-played : goal.returns-clause-played
+returns-clause-played g c whole represents =
+    c.send_one.ensures.played whole (installing whole.tokens c.args.installation.now) represents (c.command-command.ensures ∙ ap (λ (t : Tokens). installing t c.args.installation.now) represents.tokens)
