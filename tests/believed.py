@@ -85,6 +85,15 @@ def all_specs():
     return {(path.parts[-3], path.stem): Specs(path) for path in sorted(CRATES.glob("*/specs/*.antt")) if path.stem != "Lib"}
 
 
+def passed_on():
+    """Where each file of specs/ stands that a crate passes on from another."""
+    return {
+        (path.parts[-3], module): (crate, module)
+        for path in CRATES.glob("*/specs/Lib.antt")
+        for crate, module in re.findall(r"(?m)^pub use Rattle\.(\w+)\.specs\.(\w+)$", path.read_text())
+    }
+
+
 def clauses(crate, file, begin):
     """The words of the clauses, and what the file imports."""
     text = (CRATES / crate / "src" / file).read_text()
@@ -96,9 +105,10 @@ def clauses(crate, file, begin):
 
 def reached(specs, words, uses):
     """The definitions that these words lead to."""
-    seen, left = set(), []
+    seen, left, stands = set(), [], passed_on()
 
     def push(crate, module, name):
+        crate, module = stands.get((crate, module), (crate, module))
         file = specs.get((crate, module))
         name = file and (name if name in file.first else file.owner.get(name))
         if name and (crate, module, name) not in seen:

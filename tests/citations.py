@@ -5,7 +5,7 @@
     tests/citations.py --list     before it each citation: page and line, name and place
 
 A citation is a name in a code span, or several joined by commas and `and`, and after it a place: `IsBlank` in
-`script_tool/specs/Line.antt`, `playing` (in `Play.antt` of `script_tool`), `run` (`src/run.rt`), `IsCard` of `card_check`. A place is a
+`script_lines/specs/Line.antt`, `playing` (in `Play.antt` of `script_tool`), `run` (`src/run.rt`), `IsCard` of `card_check`. A place is a
 file, a folder or a crate. A file is cited so too, with a folder or a crate. A part of a definition stands before it: `Differs`
 in `EndsAt` of `Ends.antt`. In a list of files a name in brackets is cited with the file before it: - `Spelling.antt`: ..
 (`AreElements`). Besides, each file has to be there, and each name of two words in capitals, as `IsCard`, somewhere in the code.

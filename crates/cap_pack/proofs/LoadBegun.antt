@@ -30,7 +30,7 @@ use Rattle.scp03_card.specs.Session.{Session}
 use Rattle.scp03_host.specs.Wrapped.{having_sent}
 use Rattle.script_tool.specs.Load.{block_element}
 use Rattle.script_tool.specs.Tokens.{install_command}
-use Rattle.script_tool.specs.declared.tokens.Tokens.TheVariants.{Absent}
+use Rattle.script_lines.specs.declared.tokens.Tokens.TheVariants.{Absent}
 use Rattle.sha2.specs.Sha256.{sha256}
 use Rattle.sha2.proofs.Facts256.{length-sha256}
 use Rattle.tokens_receipts.specs.Receipt.{with_length}

@@ -9,7 +9,7 @@ use Rattle.card_types.specs.Aid.{IsAid}
 use Rattle.script_tool.specs.Load.{block_element, load_blocks, loading}
 use Rattle.script_tool.specs.Loading.{block_count}
 use Rattle.script_tool.specs.Tokens.{install_command}
-use Rattle.script_tool.specs.declared.tokens.Tokens.TheVariants.{Absent}
+use Rattle.script_lines.specs.declared.tokens.Tokens.TheVariants.{Absent}
 use Rattle.tokens_receipts.specs.Receipt.{with_length}
 use Rattle.cap_pack.specs.Pack.{block_at, block_size, installing_applet, installing_file, pack, send_line}
 use Rattle.cap_pack.proofs.Fronts.{get_back, get_front}

@@ -8,7 +8,7 @@ use Rattle.script_tool.specs.Command.{spelled}
 use Rattle.script_tool.specs.Load.{block_element, load_blocks, loading}
 use Rattle.script_tool.specs.Loading.{block_count}
 use Rattle.script_tool.specs.Tokens.{install_command}
-use Rattle.script_tool.specs.declared.tokens.Tokens.TheVariants.{Absent}
+use Rattle.script_lines.specs.declared.tokens.Tokens.TheVariants.{Absent}
 use Rattle.sha2.specs.Sha256.{sha256}
 
 -- how many bytes a block has: as many as a session that enciphers lets a data field have, so that each level takes them

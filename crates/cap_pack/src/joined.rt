@@ -23,7 +23,7 @@ use std::marker::Model;
 const LINE_BYTES: usize = LINE_LIMIT / 2;
 
 // The bytes that a line spells, or nothing where it is malformed.
-#[tactic(auto, unfolding(script_tool::specs::Values::SpellsUpTo))]
+#[tactic(auto, unfolding(script_lines::specs::Values::SpellsUpTo))]
 fn spelled(line: &[u8]) -> Option<ArrayVec<u8, LINE_BYTES>>
     requires { length line.now ≤ LINE_LIMIT }
     ensures { Reads (λ bytes. SpellsLine line.now bytes.items) result }

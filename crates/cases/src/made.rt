@@ -37,7 +37,7 @@ pub fn made_life(words: Words<'_>) -> Result<CardLife, CaseError>
 }
 
 // The life cycle state whose code two digits spell.
-#[tactic(auto, unfolding(script_tool::specs::Values::SpellsByte))]
+#[tactic(auto, unfolding(script_lines::specs::Values::SpellsByte))]
 fn life(word: &[u8]) -> Option<CardLife>
     ensures { Reads (λ life. SpellsByte word.now (card_life_code life)) result }
 {

@@ -9,7 +9,7 @@ use Rattle.policy_machine.specs.State.{State}
 use Rattle.policy_machine.specs.Step.{Outcome}
 use Rattle.rand_chacha.specs.ChaCha.{ChaCha}
 use Rattle.script_tool.specs.Host.{first_host}
-use Rattle.script_tool.proofs.WorkloadLines.{workload_lines}
+use Rattle.script_lines.proofs.WorkloadLines.{workload_lines}
 use Rattle.script_tool.specs.Kept.{RepresentsHost}
 use Rattle.script_tool.specs.Mill.{after_round, generator, rounds, workload}
 use Rattle.script_tool.specs.Round.{lines_of}

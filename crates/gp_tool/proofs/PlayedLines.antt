@@ -13,7 +13,7 @@ use Rattle.script_tool.specs.Play.{playing, remembering}
 use Rattle.script_tool.specs.Printed.{Printed, Nothing, Reply, Opened, Cryptogram, Said, Differs, printed_text, status_printed}
 use Rattle.script_tool.specs.Quiet.{is_quiet}
 use Rattle.script_tool.specs.declared.host_state.HostState.{HostState}
-use Rattle.script_tool.specs.declared.line.ScriptLine.{ScriptLine}
+use Rattle.script_lines.specs.declared.line.ScriptLine.{ScriptLine}
 use Rattle.script_tool.specs.declared.played.Played as the_played
 use Rattle.script_tool.specs.declared.played.StepStop.{StepStop}
 use Rattle.script_tool.specs.declared.played.StepStop.TheVariants.{Form, LinkFailed}

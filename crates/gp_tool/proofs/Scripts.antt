@@ -7,7 +7,7 @@ use Rattle.policy_machine.proofs.OneOutcome.{one_outcome}
 use Rattle.policy_machine.specs.Run.{Run}
 use Rattle.policy_machine.specs.State.{State, powered_on}
 use Rattle.policy_machine.specs.Step.{Outcome}
-use Rattle.script_tool.proofs.OneLine.{one_line}
+use Rattle.script_lines.proofs.OneLine.{one_line}
 use Rattle.script_tool.proofs.OneTalk.{one_talk}
 use Rattle.script_tool.specs.Host.{Host}
 use Rattle.script_tool.specs.HostLines.{is_difference}
@@ -16,7 +16,7 @@ use Rattle.script_tool.specs.Play.{playing, remembering}
 use Rattle.script_tool.specs.Printed.{status_printed}
 use Rattle.script_tool.specs.Quiet.{is_quiet}
 use Rattle.script_tool.specs.Talk.{Answered, Ends, Event, Goes, Reset}
-use Rattle.script_tool.specs.declared.line.ScriptLine.{ScriptLine}
+use Rattle.script_lines.specs.declared.line.ScriptLine.{ScriptLine}
 use Rattle.gp_tool.specs.Device.{registries}
 use Rattle.gp_tool.specs.Effects.{Effect, Place}
 use Rattle.gp_tool.specs.Script.{AnswersEvents, PlaysScript, texts_of}

@@ -11,7 +11,7 @@ use Rattle.script_tool.specs.Played.{IsBroken, Leads}
 use Rattle.script_tool.specs.Step.{StepPlays}
 use Rattle.script_tool.specs.Talk.{Talk}
 use Rattle.script_tool.specs.declared.host_state.HostState.{HostState}
-use Rattle.script_tool.specs.declared.line.ScriptLine.{ScriptLine}
+use Rattle.script_lines.specs.declared.line.ScriptLine.{ScriptLine}
 use Rattle.script_tool.specs.declared.link.CardLink.{Ghosts as CardLink}
 use Rattle.script_tool.specs.declared.played.Played as the_played
 use Rattle.script_tool.specs.declared.played.StepStop.{StepStop}

@@ -9,7 +9,7 @@ use Rattle.script_tool.specs.Play.{playing, remembering}
 use Rattle.script_tool.specs.Printed.{Nothing, Printed, printed_text, status_printed}
 use Rattle.script_tool.specs.Quiet.{is_quiet}
 use Rattle.script_tool.specs.Talk.{Answered, Ends, Event, Goes, Reset, Sends, Talk}
-use Rattle.script_tool.specs.declared.line.ScriptLine.{ScriptLine}
+use Rattle.script_lines.specs.declared.line.ScriptLine.{ScriptLine}
 use Rattle.gp_tool.specs.Effects.{Effect, Place}
 
 -- From one state of the card the events lead to another: each reply is that of the outcome of its command.

@@ -7,7 +7,7 @@ ghost use Rattle.policy_machine.specs.State.{State};
 ghost use Rattle.script_tool.specs.Host.{Host};
 ghost use Rattle.script_tool.specs.Kept.{RepresentsHost};
 ghost use Rattle.script_tool.specs.Line.{HasNoForm, SaysLine};
-ghost use Rattle.script_tool.specs.declared.line.ScriptLine.{ScriptLine};
+ghost use Rattle.script_lines.specs.declared.line.ScriptLine.{ScriptLine};
 ghost use Rattle.gp_tool.specs.StepsCard.{StepsCard, counting};
 
 use crate::card_end::CardEnd;

@@ -20,7 +20,7 @@ use Rattle.script_tool.specs.Quiet.{is_quiet}
 use Rattle.script_tool.specs.Step.{HasPlayed}
 use Rattle.script_tool.specs.declared.link.CardLink.{Ghosts as CardLink}
 use Rattle.script_tool.specs.Talk.{Event}
-use Rattle.script_tool.specs.declared.line.ScriptLine.{ScriptLine}
+use Rattle.script_lines.specs.declared.line.ScriptLine.{ScriptLine}
 use Rattle.script_tool.specs.declared.played.Played as the_played
 use Rattle.script_tool.specs.declared.played.Played.TheVariants.{Quiet, Answer, Note, WantDiffers}
 use Rattle.script_tool.specs.declared.played.StepStop.{StepStop}

@@ -6,7 +6,7 @@ use Rattle.script_tool.specs.Keys.{SpellsKey}
 use Rattle.script_tool.specs.Line.{IsBlank, IsComment}
 use Rattle.script_tool.specs.Values.{SpellsAid, SpellsByte, SpellsUpTo}
 use Rattle.script_tool.specs.Words.{words_of}
-use Rattle.script_tool.specs.declared.keys.OfSize.{OfSize}
+use Rattle.script_lines.specs.declared.keys.OfSize.{OfSize}
 use Rattle.receipt_desk.specs.declared.aids.Aids.{Aids}
 use Rattle.receipt_desk.specs.declared.aids.Aids.TheVariants.{One, Two, Three}
 use Rattle.receipt_desk.specs.declared.line.DeskLine.{DeskLine}

@@ -34,7 +34,7 @@ pub enum DeskLine {
 }
 
 // The number that four digits spell.
-#[tactic(auto, unfolding(crate::specs::Lines::SpellsNumber, script_tool::specs::Values::SpellsSome))]
+#[tactic(auto, unfolding(crate::specs::Lines::SpellsNumber, script_lines::specs::Values::SpellsSome))]
 fn number(word: &[u8]) -> Option<u16>
     ensures { Reads (SpellsNumber word.now) result }
 {

@@ -13,7 +13,7 @@ use Rattle.script_tool.proofs.PlayedRules.{continues_on}
 use Rattle.script_tool.specs.Host.{Host, own_session}
 use Rattle.script_tool.specs.InSession.{in_session, protecting, with_some}
 use Rattle.script_tool.specs.Kept.{RepresentsHost}
-use Rattle.script_tool.specs.Load.{beginning_load, loading}
+use Rattle.script_lines.specs.Load.{beginning_load, loading}
 use Rattle.script_tool.specs.Loading.{block_count, loading_all, loading_blocks, playing_load}
 use Rattle.script_tool.specs.Played.{Continues, ContinuesWith, IsBroken, IsPlayed, Leads, Plays}
 use Rattle.script_tool.specs.Printed.{Printed, Nothing, Reply, Opened, Cryptogram, Said, Differs, status_printed}
@@ -21,7 +21,7 @@ use Rattle.script_tool.specs.Talk.{Ends, Talk}
 use Rattle.script_tool.specs.declared.host_state.HostState.{HostState}
 use Rattle.script_tool.specs.declared.link.CardLink.{Ghosts as CardLink}
 use Rattle.script_tool.specs.declared.link.LinkFailed.{LinkFailed}
-use Rattle.script_tool.specs.declared.load_file.LoadFile.{LoadFile}
+use Rattle.script_lines.specs.declared.load_file.LoadFile.{LoadFile}
 use Rattle.script_tool.specs.declared.printout.Printout.{Printout}
 
 -- a quotient rounded up, said in two ways

@@ -6,37 +6,37 @@ use Rattle.scp03_card.specs.Session.{Session}
 use Rattle.scp03_host.specs.Begin.{answer_to, cryptogram_in}
 use Rattle.scp03_host.specs.Unwrapped.{status_in}
 use Rattle.scp03_host.specs.Wrapped.{having_sent, room_for, wrapped}
-use Rattle.script_tool.specs.Channel.{number_of}
+use Rattle.script_lines.specs.Channel.{number_of}
 use Rattle.script_tool.specs.Closed.{ClosedIsSilent, EndsAtRefusals, RefusalsEnd}
-use Rattle.script_tool.specs.Command.{spelled}
-use Rattle.script_tool.specs.Delete.{deleting}
-use Rattle.script_tool.specs.Extradite.{extraditing}
+use Rattle.script_lines.specs.Command.{spelled}
+use Rattle.script_lines.specs.Delete.{deleting}
+use Rattle.script_lines.specs.Extradite.{extraditing}
 use Rattle.script_tool.specs.Host.{Host, Sessions, own_session, session_of, with_own, with_session}
 use Rattle.script_tool.specs.InPlain.{body_in, in_plain, selected}
 use Rattle.script_tool.specs.InSession.{Rest, after_reply, awaiting, in_session, printing, protecting, sending, spoiled, with_some}
-use Rattle.script_tool.specs.Install.{installing}
-use Rattle.script_tool.specs.Life.{changing_life}
-use Rattle.script_tool.specs.Listing.{listing_command}
-use Rattle.script_tool.specs.Load.{beginning_load, block_element, content_bytes, loading}
+use Rattle.script_lines.specs.Install.{installing}
+use Rattle.script_lines.specs.Life.{changing_life}
+use Rattle.script_lines.specs.Listing.{listing_command}
+use Rattle.script_lines.specs.Load.{beginning_load, block_element, content_bytes, loading}
 use Rattle.script_tool.specs.Loading.{block_count, loading_all, loading_blocks, playing_load}
 use Rattle.script_tool.specs.Opening.{authenticated, authenticating, counter_in, offer_under, offered_by, updated, updating, with_field}
 use Rattle.script_tool.specs.Play.{playing_control, playing_exchange}
 use Rattle.script_tool.specs.Printed.{Cryptogram, Reply, Said}
-use Rattle.script_tool.specs.PutKey.{putting_keys}
-use Rattle.script_tool.specs.Select.{selecting}
-use Rattle.script_tool.specs.Selectable.{making_selectable}
-use Rattle.script_tool.specs.Send.{plain_of}
-use Rattle.script_tool.specs.Store.{storing}
+use Rattle.script_lines.specs.PutKey.{putting_keys}
+use Rattle.script_lines.specs.Select.{selecting}
+use Rattle.script_lines.specs.Selectable.{making_selectable}
+use Rattle.script_lines.specs.Send.{plain_of}
+use Rattle.script_lines.specs.Store.{storing}
 use Rattle.script_tool.specs.Talk.{Ends, Plain, Refused, Taken, Talk}
-use Rattle.script_tool.specs.declared.channel.Channel.{Channel}
-use Rattle.script_tool.specs.declared.channel.Channel.TheVariants.{Basic, First, Second, Third}
-use Rattle.script_tool.specs.declared.control.Control as the_control
-use Rattle.script_tool.specs.declared.control.Control.TheVariants as control
-use Rattle.script_tool.specs.declared.exchange.Exchange as the_exchange
-use Rattle.script_tool.specs.declared.exchange.Exchange.TheVariants.{Select, Raw, Open, Send, Bad, Install, Selectable, Extradite, Load, Delete, PutKey, Store, Life, List as Listed, More}
-use Rattle.script_tool.specs.declared.line.ScriptLine.TheVariants as line
-use Rattle.script_tool.specs.declared.load_file.LoadFile.{LoadFile}
-use Rattle.script_tool.specs.declared.opening.Opening.{Opening}
+use Rattle.script_lines.specs.declared.channel.Channel.{Channel}
+use Rattle.script_lines.specs.declared.channel.Channel.TheVariants.{Basic, First, Second, Third}
+use Rattle.script_lines.specs.declared.control.Control as the_control
+use Rattle.script_lines.specs.declared.control.Control.TheVariants as control
+use Rattle.script_lines.specs.declared.exchange.Exchange as the_exchange
+use Rattle.script_lines.specs.declared.exchange.Exchange.TheVariants.{Select, Raw, Open, Send, Bad, Install, Selectable, Extradite, Load, Delete, PutKey, Store, Life, List as Listed, More}
+use Rattle.script_lines.specs.declared.line.ScriptLine.TheVariants as line
+use Rattle.script_lines.specs.declared.load_file.LoadFile.{LoadFile}
+use Rattle.script_lines.specs.declared.opening.Opening.{Opening}
 use Rattle.script_tool.specs.declared.word.Word.TheVariants.{NoSession, Short, TooLong}
 
 none_there : (channel : Channel) (all : Sessions) → session_of channel (with_session channel None all) ≡ None

@@ -6,11 +6,11 @@ use Rattle.scp03_host.specs.Wrapped.{room_for}
 use Rattle.script_tool.proofs.SendsAtMost.{SendsAtMost, most_if, most_in, most_protecting}
 use Rattle.script_tool.specs.Host.{Host, own_session}
 use Rattle.script_tool.specs.InSession.{in_session, protecting}
-use Rattle.script_tool.specs.Load.{beginning_load, block_element, content_bytes, length_field, loading}
+use Rattle.script_lines.specs.Load.{beginning_load, block_element, content_bytes, length_field, loading}
 use Rattle.script_tool.specs.Loading.{block_count, loading_all, loading_blocks, playing_load}
 use Rattle.script_tool.specs.Printed.{Reply}
 use Rattle.script_tool.specs.Talk.{Ends}
-use Rattle.script_tool.specs.declared.load_file.LoadFile.{LoadFile}
+use Rattle.script_lines.specs.declared.load_file.LoadFile.{LoadFile}
 
 -- a Load File Data Block has at most four bytes before its content
 short_field : (a b : Bool) (size : ℕ) → length (if a then size ∷ [] else if b then 0x81 ∷ size ∷ [] else 0x82 ∷ size / 0x100 ∷ size % 0x100 ∷ []) ≤ 3

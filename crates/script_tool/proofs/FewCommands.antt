@@ -3,34 +3,34 @@ use Rattle.std.proofs.Common.{◌≤◌, ◌+◌, ◌*◌, ℕ, List, [], ◌∷
 use Rattle.script_tool.proofs.FewBlocks.{most_load}
 use Rattle.script_tool.proofs.FitsBlocks.{said_fits}
 use Rattle.script_tool.proofs.SendsAtMost.{SendsAtMost, goes_most, most_in, most_open, most_plain, most_protecting, most_sending}
-use Rattle.script_tool.proofs.WideWords.{load_wide, other_wide, wide, words_wide}
-use Rattle.script_tool.specs.Channel.{number_of}
-use Rattle.script_tool.specs.Command.{spelled}
+use Rattle.script_lines.proofs.WideWords.{load_wide, other_wide, wide, words_wide}
+use Rattle.script_lines.specs.Channel.{number_of}
+use Rattle.script_lines.specs.Command.{spelled}
 use Rattle.script_tool.specs.Count.{FewCommands, command_count}
-use Rattle.script_tool.specs.Delete.{deleting}
-use Rattle.script_tool.specs.Exchange.{SaysExchange}
-use Rattle.script_tool.specs.Extradite.{extraditing}
+use Rattle.script_lines.specs.Delete.{deleting}
+use Rattle.script_lines.specs.Exchange.{SaysExchange}
+use Rattle.script_lines.specs.Extradite.{extraditing}
 use Rattle.script_tool.specs.Host.{Host, own_session}
 use Rattle.script_tool.specs.InPlain.{selected}
 use Rattle.script_tool.specs.InSession.{printing, protecting}
-use Rattle.script_tool.specs.Install.{installing}
-use Rattle.script_tool.specs.Life.{changing_life}
-use Rattle.script_tool.specs.Line.{SaysQuietly}
-use Rattle.script_tool.specs.Listing.{listing_command}
+use Rattle.script_lines.specs.Install.{installing}
+use Rattle.script_lines.specs.Life.{changing_life}
+use Rattle.script_lines.specs.Line.{SaysQuietly}
+use Rattle.script_lines.specs.Listing.{listing_command}
 use Rattle.script_tool.specs.Play.{FitsBlocks, playing_control, playing_exchange}
 use Rattle.script_tool.specs.Printed.{Nothing}
-use Rattle.script_tool.specs.PutKey.{putting_keys}
-use Rattle.script_tool.specs.Select.{selecting}
-use Rattle.script_tool.specs.Selectable.{making_selectable}
-use Rattle.script_tool.specs.Send.{plain_of}
-use Rattle.script_tool.specs.Store.{storing}
+use Rattle.script_lines.specs.PutKey.{putting_keys}
+use Rattle.script_lines.specs.Select.{selecting}
+use Rattle.script_lines.specs.Selectable.{making_selectable}
+use Rattle.script_lines.specs.Send.{plain_of}
+use Rattle.script_lines.specs.Store.{storing}
 use Rattle.script_tool.specs.Talk.{Ends, Event, Goes, Talk}
-use Rattle.script_tool.specs.Words.{words_of}
-use Rattle.script_tool.specs.declared.control.Control as the_control
-use Rattle.script_tool.specs.declared.control.Control.TheVariants as control
-use Rattle.script_tool.specs.declared.exchange.Exchange as the_type
-use Rattle.script_tool.specs.declared.exchange.Exchange.TheVariants.{Select, Raw, Open, Send, Bad, Install, Selectable, Extradite, Load, Delete, PutKey, Store, Life, List as Listed, More}
-use Rattle.script_tool.specs.declared.line.ScriptLine.TheVariants as line
+use Rattle.script_lines.specs.Words.{words_of}
+use Rattle.script_lines.specs.declared.control.Control as the_control
+use Rattle.script_lines.specs.declared.control.Control.TheVariants as control
+use Rattle.script_lines.specs.declared.exchange.Exchange as the_type
+use Rattle.script_lines.specs.declared.exchange.Exchange.TheVariants.{Select, Raw, Open, Send, Bad, Install, Selectable, Extradite, Load, Delete, PutKey, Store, Life, List as Listed, More}
+use Rattle.script_lines.specs.declared.line.ScriptLine.TheVariants as line
 
 -- how many commands a line makes at most
 abbrev most_of : the_type.Exchange → ℕ

@@ -1,19 +1,19 @@
 -- A file that a line loads makes no more blocks than can be numbered.
 use Rattle.std.proofs.Common.{◌≡◌, ◌≤◌, ◌⊎◌, ℕ, List, [], ◌∷◌, length, inl, inr, subst, arith}
 use Rattle.std.proofs.lemmas.List.{length-replicate}
-use Rattle.script_tool.specs.Exchange.{SaysExchange}
-use Rattle.script_tool.specs.Line.{SaysLine, SaysQuietly}
-use Rattle.script_tool.specs.Load.{SaysContent, SaysLoad, SpellsCount, content_bytes}
+use Rattle.script_lines.specs.Exchange.{SaysExchange}
+use Rattle.script_lines.specs.Line.{SaysLine, SaysQuietly}
+use Rattle.script_lines.specs.Load.{SaysContent, SaysLoad, SpellsCount, content_bytes}
 use Rattle.script_tool.specs.Play.{FitsBlocks}
-use Rattle.script_tool.specs.Values.{SpellsUpTo}
-use Rattle.script_tool.specs.Words.{words_of}
-use Rattle.script_tool.specs.declared.line.ScriptLine.{ScriptLine}
-use Rattle.script_tool.specs.declared.line.ScriptLine.TheVariants as line
-use Rattle.script_tool.specs.declared.exchange.Exchange as the_type
-use Rattle.script_tool.specs.declared.exchange.Exchange.TheVariants as exchange
-use Rattle.script_tool.specs.declared.load_file.Content.{Content}
-use Rattle.script_tool.specs.declared.load_file.Content.TheVariants.{Written, Filled}
-use Rattle.script_tool.specs.declared.load_file.LoadFile.{LoadFile}
+use Rattle.script_lines.specs.Values.{SpellsUpTo}
+use Rattle.script_lines.specs.Words.{words_of}
+use Rattle.script_lines.specs.declared.line.ScriptLine.{ScriptLine}
+use Rattle.script_lines.specs.declared.line.ScriptLine.TheVariants as line
+use Rattle.script_lines.specs.declared.exchange.Exchange as the_type
+use Rattle.script_lines.specs.declared.exchange.Exchange.TheVariants as exchange
+use Rattle.script_lines.specs.declared.load_file.Content.{Content}
+use Rattle.script_lines.specs.declared.load_file.Content.TheVariants.{Written, Filled}
+use Rattle.script_lines.specs.declared.load_file.LoadFile.{LoadFile}
 
 content_fits : (words : List (List ℕ)) (content : Content) → SaysContent words content → length (content_bytes content) ≤ 60_000
 unfolding SpellsUpTo SpellsCount

@@ -4,8 +4,8 @@ use Rattle.scp03_card.specs.Kept.{KeptSession, RepresentsSession}
 use Rattle.scp03_card.specs.Session.{Session}
 use Rattle.script_tool.specs.Host.{Host, Sessions, own_session, session_of, with_own, with_session, with_sessions}
 use Rattle.script_tool.specs.Kept.{AreSessions, MayBeSession, RepresentsHost, kept_on, with_kept}
-use Rattle.script_tool.specs.declared.channel.Channel.{Channel}
-use Rattle.script_tool.specs.declared.channel.Channel.TheVariants.{Basic, First, Second, Third}
+use Rattle.script_lines.specs.declared.channel.Channel.{Channel}
+use Rattle.script_lines.specs.declared.channel.Channel.TheVariants.{Basic, First, Second, Third}
 use Rattle.script_tool.specs.declared.channel_sessions.ChannelSessions.{ChannelSessions}
 use Rattle.script_tool.specs.declared.host_state.HostState.{HostState}
 

@@ -12,8 +12,8 @@ use Rattle.scp03_card.specs.Session.{answered}
 use Rattle.scp03_host.specs.Begin.{IsOfCard, cryptogram_in}
 use Rattle.script_tool.proofs.HostRules.{represents_put}
 use Rattle.script_tool.proofs.PlayedRules.{broken_on, leads_nowhere, played_on}
-use Rattle.script_tool.specs.Channel.{number_of}
-use Rattle.script_tool.specs.Command.{spelled}
+use Rattle.script_lines.specs.Channel.{number_of}
+use Rattle.script_lines.specs.Command.{spelled}
 use Rattle.script_tool.specs.Host.{Host, with_own}
 use Rattle.script_tool.specs.InPlain.{in_plain}
 use Rattle.script_tool.specs.Kept.{RepresentsHost, printed_of, with_kept}
@@ -21,14 +21,14 @@ use Rattle.script_tool.specs.Opening.{authenticated, authenticating, counter_in,
 use Rattle.script_tool.specs.Played.{ContinuesWith, IsPlayed, Leads, Plays}
 use Rattle.script_tool.specs.Printed.{Cryptogram, Opened, Reply, Said}
 use Rattle.script_tool.specs.Talk.{Ends, Talk}
-use Rattle.script_tool.specs.declared.channel.Channel.{Channel}
+use Rattle.script_lines.specs.declared.channel.Channel.{Channel}
 use Rattle.script_tool.specs.declared.channel_sessions.ChannelSessions.{ChannelSessions}
 use Rattle.script_tool.specs.declared.host_state.HostState.{HostState}
-use Rattle.script_tool.specs.declared.keys.OfSize.{OfSize}
-use Rattle.script_tool.specs.declared.keys.Trio.{Trio}
+use Rattle.script_lines.specs.declared.keys.OfSize.{OfSize}
+use Rattle.script_lines.specs.declared.keys.Trio.{Trio}
 use Rattle.script_tool.specs.declared.link.CardLink.{Ghosts as CardLink}
 use Rattle.script_tool.specs.declared.link.LinkFailed.{LinkFailed}
-use Rattle.script_tool.specs.declared.opening.Opening.{Opening}
+use Rattle.script_lines.specs.declared.opening.Opening.{Opening}
 use Rattle.script_tool.specs.declared.printout.Printout.{Printout}
 use Rattle.script_tool.specs.declared.printout.Printout.TheVariants as printout
 use Rattle.script_tool.specs.declared.word.Word.TheVariants.{Short}

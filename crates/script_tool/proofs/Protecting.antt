@@ -10,8 +10,8 @@ use Rattle.scp03_host.specs.Wrapped.{having_sent, message_of, room_for, sent_fie
 use Rattle.scp03_host.specs.declared.refusals.ReplyRefusal.{ReplyRefusal}
 use Rattle.script_tool.proofs.HostRules.{own_twice}
 use Rattle.script_tool.proofs.TalkRules.{goes_nothing}
-use Rattle.script_tool.specs.Channel.{number_of}
-use Rattle.script_tool.specs.Command.{spelled}
+use Rattle.script_lines.specs.Channel.{number_of}
+use Rattle.script_lines.specs.Command.{spelled}
 use Rattle.script_tool.specs.Host.{Host, own_session, with_own}
 use Rattle.script_tool.specs.InSession.{after_reply, awaiting, in_session, protecting, refusal_word, spoiled, with_some}
 use Rattle.script_tool.specs.Kept.{RepresentsHost}

@@ -5,8 +5,8 @@ use Rattle.scp03_card.specs.Offer.{Offer, card_cryptogram}
 use Rattle.scp03_card.specs.Session.{Session}
 use Rattle.scp03_host.specs.Begin.{answer_to, cryptogram_in}
 use Rattle.scp03_host.specs.Wrapped.{having_sent, room_for, wrapped}
-use Rattle.script_tool.specs.Channel.{number_of}
-use Rattle.script_tool.specs.Command.{spelled}
+use Rattle.script_lines.specs.Channel.{number_of}
+use Rattle.script_lines.specs.Command.{spelled}
 use Rattle.script_tool.specs.Count.{command_count}
 use Rattle.script_tool.specs.Host.{Host, own_session, with_own}
 use Rattle.script_tool.specs.InPlain.{body_in, in_plain}
@@ -14,7 +14,7 @@ use Rattle.script_tool.specs.InSession.{Rest, after_reply, awaiting, protecting,
 use Rattle.script_tool.specs.Opening.{authenticated, authenticating, counter_in, offer_under, offered_by, playing_open, updated, updating, with_field}
 use Rattle.script_tool.specs.Printed.{Cryptogram, Reply, Said}
 use Rattle.script_tool.specs.Talk.{Answered, Ends, Event, Goes, Plain, Refused, Reset, Resets, Sends, Taken, Takes, Talk}
-use Rattle.script_tool.specs.declared.opening.Opening.{Opening}
+use Rattle.script_lines.specs.declared.opening.Opening.{Opening}
 use Rattle.script_tool.specs.declared.word.Word.TheVariants.{Short, TooLong}
 use Rattle.scp03_host.specs.Unwrapped.{status_in}
 

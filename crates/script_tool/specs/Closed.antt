@@ -6,9 +6,9 @@ use Rattle.script_tool.specs.InSession.{refusal_word}
 use Rattle.script_tool.specs.Play.{playing, playing_exchange}
 use Rattle.script_tool.specs.Printed.{Said}
 use Rattle.script_tool.specs.Talk.{Ends, Refused, Resets, Sends, Taken, Takes, Talk}
-use Rattle.script_tool.specs.declared.exchange.Exchange as the_exchange
-use Rattle.script_tool.specs.declared.exchange.Exchange.TheVariants.{Select, Raw, Open}
-use Rattle.script_tool.specs.declared.line.ScriptLine.{ScriptLine}
+use Rattle.script_lines.specs.declared.exchange.Exchange as the_exchange
+use Rattle.script_lines.specs.declared.exchange.Exchange.TheVariants.{Select, Raw, Open}
+use Rattle.script_lines.specs.declared.line.ScriptLine.{ScriptLine}
 use Rattle.script_tool.specs.declared.word.Word.TheVariants.{NoSession}
 
 -- Wherever the talk takes a reply to a protected command and can't open it, it ends with a word, and the host has no session on its channel.

@@ -1,10 +1,10 @@
 -- How many commands a line makes.
 use Rattle.std.specs.Prelude.{ℕ, ◌+◌, ◌*◌, ◌≤◌, List, [], ◌∷◌, length}
 use Rattle.script_tool.specs.Host.{Host}
-use Rattle.script_tool.specs.Line.{SaysLine}
+use Rattle.script_lines.specs.Line.{SaysLine}
 use Rattle.script_tool.specs.Play.{playing}
 use Rattle.script_tool.specs.Talk.{Answered, Event, Goes, Reset, Talk}
-use Rattle.script_tool.specs.declared.line.ScriptLine.{ScriptLine}
+use Rattle.script_lines.specs.declared.line.ScriptLine.{ScriptLine}
 
 -- how many of the events are commands
 abbrev pub command_count : List Event → ℕ

@@ -3,13 +3,13 @@ use Rattle.std.specs.Prelude.{Option, None}
 use Rattle.apdu_core.specs.declared.reply.Status.{Status}
 use Rattle.card_types.specs.declared.factory.TheConstants.{FACTORY_KEY}
 use Rattle.scp03_card.specs.Session.{Session}
-use Rattle.script_tool.specs.declared.channel.Channel.{Channel}
-use Rattle.script_tool.specs.declared.channel.Channel.TheVariants.{Basic, First, Second, Third}
-use Rattle.script_tool.specs.declared.keys.OfSize.{OfSize}
-use Rattle.script_tool.specs.declared.keys.OfSize.TheVariants.{Aes128}
-use Rattle.script_tool.specs.declared.keys.Trio.{Trio}
-use Rattle.script_tool.specs.declared.tokens.Tokens.{Tokens}
-use Rattle.script_tool.specs.declared.tokens.Tokens.TheVariants.{Absent}
+use Rattle.script_lines.specs.declared.channel.Channel.{Channel}
+use Rattle.script_lines.specs.declared.channel.Channel.TheVariants.{Basic, First, Second, Third}
+use Rattle.script_lines.specs.declared.keys.OfSize.{OfSize}
+use Rattle.script_lines.specs.declared.keys.OfSize.TheVariants.{Aes128}
+use Rattle.script_lines.specs.declared.keys.Trio.{Trio}
+use Rattle.script_lines.specs.declared.tokens.Tokens.{Tokens}
+use Rattle.script_lines.specs.declared.tokens.Tokens.TheVariants.{Absent}
 
 -- a session for each logical channel that has one
 pub record Sessions : Type 0 where

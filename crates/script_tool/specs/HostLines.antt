@@ -2,12 +2,12 @@
 -- This profile's own.
 use Rattle.std.specs.Prelude.{◌≡◌, ℕ, Bool, true, false, ◌||◌, List, [], ◌∷◌, ◌++◌}
 use Rattle.script_tool.specs.Host.{Host}
-use Rattle.script_tool.specs.Line.{SaysLine}
+use Rattle.script_lines.specs.Line.{SaysLine}
 use Rattle.script_tool.specs.Play.{playing, remembering}
 use Rattle.script_tool.specs.Printed.{Differs, Nothing, Printed, printed_text, status_printed}
-use Rattle.script_tool.specs.Quiet.{is_quiet}
+use Rattle.script_lines.specs.Quiet.{is_quiet}
 use Rattle.script_tool.specs.Talk.{Ends, Event, Goes, Sends, Talk}
-use Rattle.script_tool.specs.declared.line.ScriptLine.{ScriptLine}
+use Rattle.script_lines.specs.declared.line.ScriptLine.{ScriptLine}
 
 -- what is printed is a line of text, and nothing is none
 abbrev pub text_line : Bool → Printed → List ℕ

@@ -1,12 +1,12 @@
 -- A command that is sent as it is, and its reply (ISO/IEC 7816-4:2013, chapter 5).
 use Rattle.std.specs.Prelude.{ℕ, ◌-◌, List, length, take, Bool, nat_lt, ◌==◌, ◌||◌, None, Option, if◌then◌else◌}
 use Rattle.scp03_host.specs.Unwrapped.{status_in}
-use Rattle.script_tool.specs.Channel.{number_of}
-use Rattle.script_tool.specs.Command.{spelled}
+use Rattle.script_lines.specs.Channel.{number_of}
+use Rattle.script_lines.specs.Command.{spelled}
 use Rattle.script_tool.specs.Host.{Host, with_own}
 use Rattle.script_tool.specs.InSession.{printing}
 use Rattle.script_tool.specs.Printed.{Reply, Said}
-use Rattle.script_tool.specs.Select.{selecting}
+use Rattle.script_lines.specs.Select.{selecting}
 use Rattle.script_tool.specs.Talk.{Ends, Sends, Talk}
 use Rattle.script_tool.specs.declared.word.Word.TheVariants.{Short}
 

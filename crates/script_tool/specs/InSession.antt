@@ -5,8 +5,8 @@ use Rattle.scp03_card.specs.Session.{Session}
 use Rattle.scp03_host.specs.Wrapped.{having_sent, room_for, wrapped}
 use Rattle.scp03_host.specs.declared.refusals.ReplyRefusal.{ReplyRefusal}
 use Rattle.scp03_host.specs.declared.refusals.ReplyRefusal.TheVariants as refusal
-use Rattle.script_tool.specs.Channel.{number_of}
-use Rattle.script_tool.specs.Command.{spelled, turned_at}
+use Rattle.script_lines.specs.Channel.{number_of}
+use Rattle.script_lines.specs.Command.{spelled, turned_at}
 use Rattle.script_tool.specs.Host.{Host, own_session, with_own}
 use Rattle.script_tool.specs.Printed.{Reply, Said}
 use Rattle.script_tool.specs.Talk.{Ends, Plain, Refused, Sends, Taken, Takes, Talk}

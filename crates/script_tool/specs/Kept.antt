@@ -6,8 +6,8 @@ use Rattle.scp03_host.specs.declared.refusals.ReplyRefusal.{ReplyRefusal}
 use Rattle.script_tool.specs.Host.{Host, Sessions}
 use Rattle.script_tool.specs.InSession.{refusal_word}
 use Rattle.script_tool.specs.Talk.{IsTaken, Refused}
-use Rattle.script_tool.specs.declared.channel.Channel.{Channel}
-use Rattle.script_tool.specs.declared.channel.Channel.TheVariants.{Basic, First, Second, Third}
+use Rattle.script_lines.specs.declared.channel.Channel.{Channel}
+use Rattle.script_lines.specs.declared.channel.Channel.TheVariants.{Basic, First, Second, Third}
 use Rattle.script_tool.specs.declared.channel_sessions.ChannelSessions.{ChannelSessions}
 use Rattle.script_tool.specs.Printed.{Printed, Nothing, Reply, Opened, Cryptogram, Said, Differs}
 use Rattle.script_tool.specs.declared.host_state.HostState.{HostState}

@@ -3,10 +3,10 @@ use Rattle.std.specs.Prelude.{ℕ, zero, suc, ◌+◌, ◌-◌, ◌/◌, List, l
 use Rattle.scp03_host.specs.Wrapped.{room_for}
 use Rattle.script_tool.specs.Host.{Host}
 use Rattle.script_tool.specs.InSession.{in_session, protecting}
-use Rattle.script_tool.specs.Load.{beginning_load, block_element, content_bytes, loading}
+use Rattle.script_lines.specs.Load.{beginning_load, block_element, content_bytes, loading}
 use Rattle.script_tool.specs.Printed.{Reply}
 use Rattle.script_tool.specs.Talk.{Ends, Talk}
-use Rattle.script_tool.specs.declared.load_file.LoadFile.{LoadFile}
+use Rattle.script_lines.specs.declared.load_file.LoadFile.{LoadFile}
 
 -- LOAD of so many blocks of a size, up to the first command whose reply is not 9000
 abbrev pub loading_blocks : (size left number : ℕ) → List ℕ → Host → List ℕ → ℕ → Talk

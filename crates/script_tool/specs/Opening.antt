@@ -4,16 +4,16 @@ use Rattle.apdu_core.specs.Apdu.{Apdu}
 use Rattle.scp03_card.specs.Offer.{Offer, card_cryptogram}
 use Rattle.scp03_card.specs.Session.{answered}
 use Rattle.scp03_host.specs.Begin.{answer_to, cryptogram_in, offer_from_reply}
-use Rattle.script_tool.specs.Channel.{number_of}
-use Rattle.script_tool.specs.Command.{spelled}
+use Rattle.script_lines.specs.Channel.{number_of}
+use Rattle.script_lines.specs.Command.{spelled}
 use Rattle.script_tool.specs.Host.{Host, with_own}
 use Rattle.script_tool.specs.InPlain.{in_plain}
 use Rattle.script_tool.specs.Printed.{Cryptogram, Opened, Reply, Said}
 use Rattle.script_tool.specs.Talk.{Ends, Talk}
-use Rattle.script_tool.specs.declared.keys.OfSize.{OfSize}
-use Rattle.script_tool.specs.declared.keys.OfSize.TheVariants.{Aes128, Aes192, Aes256}
-use Rattle.script_tool.specs.declared.keys.Trio.{Trio}
-use Rattle.script_tool.specs.declared.opening.Opening as the_type
+use Rattle.script_lines.specs.declared.keys.OfSize.{OfSize}
+use Rattle.script_lines.specs.declared.keys.OfSize.TheVariants.{Aes128, Aes192, Aes256}
+use Rattle.script_lines.specs.declared.keys.Trio.{Trio}
+use Rattle.script_lines.specs.declared.opening.Opening as the_type
 use Rattle.script_tool.specs.declared.word.Word.TheVariants.{Short}
 
 -- INITIALIZE UPDATE, with the key version number and the host challenge

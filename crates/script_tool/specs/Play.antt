@@ -1,30 +1,30 @@
 -- What a host does for a line: what it sends, and what it prints.
 use Rattle.std.specs.Prelude.{ℕ, ◌≤◌, length, Option, None, Some, false, true, ◌==◌, if◌then◌else◌}
 use Rattle.apdu_core.specs.declared.reply.Status.{Status}
-use Rattle.script_tool.specs.Delete.{deleting}
-use Rattle.script_tool.specs.Extradite.{extraditing}
+use Rattle.script_lines.specs.Delete.{deleting}
+use Rattle.script_lines.specs.Extradite.{extraditing}
 use Rattle.script_tool.specs.Host.{Host, after_reset, with_channel, with_keys, with_last, with_tokens}
 use Rattle.script_tool.specs.InPlain.{playing_raw, playing_select}
 use Rattle.script_tool.specs.InSession.{in_session, printing, protecting, sending}
-use Rattle.script_tool.specs.Install.{installing}
-use Rattle.script_tool.specs.Life.{changing_life}
-use Rattle.script_tool.specs.Listing.{listing_command}
-use Rattle.script_tool.specs.Load.{content_bytes}
+use Rattle.script_lines.specs.Install.{installing}
+use Rattle.script_lines.specs.Life.{changing_life}
+use Rattle.script_lines.specs.Listing.{listing_command}
+use Rattle.script_lines.specs.Load.{content_bytes}
 use Rattle.script_tool.specs.Loading.{playing_load}
 use Rattle.script_tool.specs.Opening.{playing_open}
 use Rattle.script_tool.specs.Printed.{Differs, Nothing, Printed}
-use Rattle.script_tool.specs.PutKey.{putting_keys}
-use Rattle.script_tool.specs.Selectable.{making_selectable}
-use Rattle.script_tool.specs.Send.{plain_of}
-use Rattle.script_tool.specs.Store.{storing}
+use Rattle.script_lines.specs.PutKey.{putting_keys}
+use Rattle.script_lines.specs.Selectable.{making_selectable}
+use Rattle.script_lines.specs.Send.{plain_of}
+use Rattle.script_lines.specs.Store.{storing}
 use Rattle.script_tool.specs.Talk.{Ends, Resets, Talk}
-use Rattle.script_tool.specs.declared.control.Control as the_control
-use Rattle.script_tool.specs.declared.control.Control.TheVariants.{Reset, Channel, Keys, Tokens, Want}
-use Rattle.script_tool.specs.declared.exchange.Exchange as the_exchange
-use Rattle.script_tool.specs.declared.exchange.Exchange.TheVariants.{Select, Raw, Open, Send, Bad, Install, Selectable, Extradite, Load, Delete, PutKey, Store, Life, List as First, More}
-use Rattle.script_tool.specs.declared.line.ScriptLine.{ScriptLine}
-use Rattle.script_tool.specs.declared.line.ScriptLine.TheVariants as line
-use Rattle.script_tool.specs.declared.put_key.Putting.{Putting}
+use Rattle.script_lines.specs.declared.control.Control as the_control
+use Rattle.script_lines.specs.declared.control.Control.TheVariants.{Reset, Channel, Keys, Tokens, Want}
+use Rattle.script_lines.specs.declared.exchange.Exchange as the_exchange
+use Rattle.script_lines.specs.declared.exchange.Exchange.TheVariants.{Select, Raw, Open, Send, Bad, Install, Selectable, Extradite, Load, Delete, PutKey, Store, Life, List as First, More}
+use Rattle.script_lines.specs.declared.line.ScriptLine.{ScriptLine}
+use Rattle.script_lines.specs.declared.line.ScriptLine.TheVariants as line
+use Rattle.script_lines.specs.declared.put_key.Putting.{Putting}
 
 -- `putkey`: the keys are enciphered under the Key-DEK of the session
 abbrev pub playing_put_key : Host → Putting → Talk

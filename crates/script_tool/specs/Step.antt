@@ -6,10 +6,10 @@ use Rattle.script_tool.specs.Kind.{kind_of}
 use Rattle.script_tool.specs.Play.{playing, remembering}
 use Rattle.script_tool.specs.Played.{IsBroken, Leads}
 use Rattle.script_tool.specs.Printed.{Printed, printed_text, status_printed}
-use Rattle.script_tool.specs.Quiet.{is_quiet}
+use Rattle.script_lines.specs.Quiet.{is_quiet}
 use Rattle.script_tool.specs.Talk.{Ends}
 use Rattle.script_tool.specs.declared.host_state.HostState.{HostState}
-use Rattle.script_tool.specs.declared.line.ScriptLine.{ScriptLine}
+use Rattle.script_lines.specs.declared.line.ScriptLine.{ScriptLine}
 use Rattle.script_tool.specs.declared.link.CardLink.{Ghosts as CardLink}
 use Rattle.script_tool.specs.declared.played.Played as the_played
 use Rattle.script_tool.specs.declared.played.StepStop.{StepStop}

@@ -6,18 +6,16 @@ ghost use Rattle.scp03_card.specs.Kept.{RepresentsSession};
 ghost use Rattle.scp03_card.specs.Session as model;
 ghost use Rattle.scp03_host.specs.Unwrapped.{HasRightMac, IsTooShort, Unwraps};
 ghost use Rattle.scp03_host.specs.Wrapped.{having_sent, room_for, wrapped};
-ghost use Rattle.script_tool.specs.PutKey.{putting_keys};
-ghost use Rattle.script_tool.specs.Send.{plain_of};
+ghost use Rattle.script_lines.specs.PutKey.{putting_keys};
+ghost use Rattle.script_lines.specs.Send.{plain_of};
 
-use crate::keys::OfSize;
-use crate::plain::Plain;
-use crate::put_key::Putting;
 use aes_block::{Aes128, Aes192, Aes256};
 use apdu_core::{Command, Status};
 use arrayvec::ArrayVec;
 use card_types::Level;
 use scp03_card::has_c_decryption;
 use scp03_host::{HostSession, ReplyRefusal, TooLong};
+use script_lines::{OfSize, Plain, Putting};
 use std::marker::Model;
 
 /// A session that the host has begun, whichever length its keys have.

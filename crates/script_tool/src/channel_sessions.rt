@@ -5,16 +5,16 @@ ghost use Rattle.apdu_core.specs.Apdu.{Short, apdu_of};
 ghost use Rattle.scp03_card.specs.Session.{Session};
 ghost use Rattle.scp03_host.specs.Unwrapped.{Unwraps};
 ghost use Rattle.scp03_host.specs.Wrapped.{having_sent, room_for, wrapped};
-ghost use Rattle.script_tool.specs.Channel.{number_of};
+ghost use Rattle.script_lines.specs.Channel.{number_of};
 ghost use Rattle.script_tool.specs.Kept.{MayBeSession, RefusesAs, kept_on, no_kept, with_kept};
 ghost use Rattle.script_tool.specs.declared.word.Word.TheVariants.{NoSession, TooLong as TooLongWord};
 
 use crate::aes_session::AesSession;
-use crate::channel::Channel;
 use crate::word::Word;
 use apdu_core::{Command, Status};
 use arrayvec::ArrayVec;
 use scp03_host::TooLong;
+use script_lines::Channel;
 
 /// A session for each logical channel that has one.
 #[derive(Drop)]

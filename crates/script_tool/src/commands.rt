@@ -3,36 +3,31 @@
 ghost use Rattle.std.specs.Prelude.{◌≡◌, ℕ, true, false, OnOk};
 ghost use Rattle.apdu_core.specs.Apdu.{Apdu};
 ghost use Rattle.faults.specs.Faults.{HasCause};
-ghost use Rattle.script_tool.specs.Delete.{deleting};
-ghost use Rattle.script_tool.specs.Extradite.{extraditing};
+ghost use Rattle.script_lines.specs.Delete.{deleting};
+ghost use Rattle.script_lines.specs.Extradite.{extraditing};
+ghost use Rattle.script_lines.specs.Install.{installing};
+ghost use Rattle.script_lines.specs.Life.{changing_life};
+ghost use Rattle.script_lines.specs.Listing.{listing_command};
+ghost use Rattle.script_lines.specs.Selectable.{making_selectable};
+ghost use Rattle.script_lines.specs.Send.{plain_of};
+ghost use Rattle.script_lines.specs.Store.{storing};
 ghost use Rattle.script_tool.specs.Host.{Host};
 ghost use Rattle.script_tool.specs.InSession.{sending};
-ghost use Rattle.script_tool.specs.Install.{installing};
 ghost use Rattle.script_tool.specs.Kept.{RepresentsHost};
-ghost use Rattle.script_tool.specs.Life.{changing_life};
-ghost use Rattle.script_tool.specs.Listing.{listing_command};
 ghost use Rattle.script_tool.specs.Play.{playing_put_key};
 ghost use Rattle.script_tool.specs.Played.{Plays};
-ghost use Rattle.script_tool.specs.Selectable.{making_selectable};
-ghost use Rattle.script_tool.specs.Send.{plain_of};
-ghost use Rattle.script_tool.specs.Store.{storing};
 
-use crate::deletion::Deletion;
-use crate::extradition::Extradition;
 use crate::host_state::HostState;
 use crate::in_session::send;
-use crate::install::Installation;
-use crate::life::LifeChange;
 use crate::link::{CardLink, LinkFailed};
-use crate::listing::Listing;
-use crate::plain::Plain;
 use crate::printout::Printout;
-use crate::put_key::Putting;
-use crate::selectable;
 use crate::wire::Wire;
 use crate::word::Word;
 use apdu_core::Command;
 use card_types::Aid;
+use script_lines::{
+    Deletion, Extradition, Installation, LifeChange, Listing, Plain, Putting, selectable,
+};
 
 /// Sends a plain command. It is out of line, as the others are: what they make is set to zeros where they are called.
 #[inline(never)]

@@ -4,12 +4,10 @@ ghost use Rattle.std.specs.Prelude.{◌≡◌};
 ghost use Rattle.script_tool.specs.Host.{Host, after_reset, first_host};
 ghost use Rattle.script_tool.specs.Kept.{RepresentsHost};
 
-use crate::channel::Channel;
 use crate::channel_sessions::ChannelSessions;
-use crate::keys::{Keys, OfSize, Trio};
-use crate::tokens::Tokens;
 use apdu_core::Status;
 use card_types::FACTORY_KEY;
+use script_lines::{Channel, Keys, OfSize, Tokens, Trio};
 
 /// The channel of the next lines, the static keys of the next sessions, the tokens that commands carry, the sessions, and the
 /// status printed last.

@@ -2,18 +2,17 @@
 
 ghost use Rattle.std.specs.Prelude.{◌≡◌, ◌≤◌, ℕ, List, true, length, OnOk, None, MatchOption, if◌then◌else◌};
 ghost use Rattle.faults.specs.Faults.{HasCause};
-ghost use Rattle.script_tool.specs.Channel.{number_of};
-ghost use Rattle.script_tool.specs.Command.{spelled};
+ghost use Rattle.script_lines.specs.Channel.{number_of};
+ghost use Rattle.script_lines.specs.Command.{spelled};
+ghost use Rattle.script_lines.specs.Select.{selecting};
 ghost use Rattle.script_tool.specs.Host.{Host, with_own};
 ghost use Rattle.script_tool.specs.InPlain.{has_selected, in_plain, playing_raw, playing_select};
 ghost use Rattle.script_tool.specs.Kept.{RepresentsHost, printed_of};
 ghost use Rattle.script_tool.specs.Played.{Continues, IsRead, Plays};
 ghost use Rattle.script_tool.specs.Printed.{status_printed};
-ghost use Rattle.script_tool.specs.Select.{selecting};
 ghost use Rattle.script_tool.specs.Talk.{Talk};
 ghost use Rattle.script_tool.specs.declared.host_state.HostState.{HostState};
 
-use crate::channel::Channel;
 use crate::host_state::HostState;
 use crate::link::{CardLink, LinkFailed};
 use crate::printout::{DONE, Printout};
@@ -22,6 +21,7 @@ use crate::word::Word;
 use apdu_core::{Command, Reply, Status};
 use arrayvec::ArrayVec;
 use card_types::Aid;
+use script_lines::Channel;
 
 /// A card that is locked has selected what was named.
 const LOCKED: Status = Status(0x6283);

@@ -1,23 +1,11 @@
-//! The laws of lines, as functions that do nothing when they run (this profile's own).
+//! The laws of a host, as functions that do nothing when they run (this profile's own).
 ghost use Rattle.script_tool.specs.Closed.{ClosedIsSilent, RefusalsEnd};
 ghost use Rattle.script_tool.specs.Count.{FewCommands};
-ghost use Rattle.script_tool.specs.Line.{OneLine};
 ghost use Rattle.script_tool.specs.Once.{OneTalk};
-ghost use Rattle.script_tool.specs.Workload.{WorkloadLines};
-
-/// A text says at most one line.
-pub fn one_line()
-    ensures { OneLine }
-{}
 
 /// From one state of the card a line comes to one end, by one list of commands.
 pub fn one_talk()
     ensures { OneTalk }
-{}
-
-/// Each line of the workload has a form, and fits a line.
-pub fn workload_lines()
-    ensures { WorkloadLines }
 {}
 
 /// However a card answers, a line makes at most 60 commands for each of its bytes.

@@ -3,25 +3,24 @@
 ghost use Rattle.std.specs.Prelude.{◌≡◌, ◌↔◌, ◌≤◌, Some, true, length, IsTrue, OnOk};
 ghost use Rattle.apdu_core.specs.Apdu.{apdu_of};
 ghost use Rattle.faults.specs.Faults.{HasCause};
+ghost use Rattle.script_lines.specs.Load as standard;
+ghost use Rattle.script_lines.specs.Load.{content_bytes};
 ghost use Rattle.script_tool.specs.Host.{Host};
 ghost use Rattle.script_tool.specs.Kept.{RepresentsHost, printed_of};
-ghost use Rattle.script_tool.specs.Load as standard;
-ghost use Rattle.script_tool.specs.Load.{content_bytes};
 ghost use Rattle.script_tool.specs.Loading.{loading_all, playing_load};
 ghost use Rattle.script_tool.specs.Played.{ContinuesWith, Plays};
 ghost use Rattle.script_tool.specs.Printed.{status_printed};
 ghost use Rattle.script_tool.specs.Talk.{Talk};
 ghost use Rattle.script_tool.specs.declared.printout.TheConstants.{DONE};
 
-use crate::block::load_block;
 use crate::host_state::HostState;
 use crate::in_session::send;
 use crate::link::{CardLink, LinkFailed};
-use crate::load_file::LoadFile;
 use crate::printout::{DONE, Printout};
 use crate::wire::Wire;
 use crate::word::Word;
 use apdu_core::Command;
+use script_lines::{LoadFile, load_block};
 
 // Whether the status is 9000.
 fn is_done(printout: &Printout) -> bool

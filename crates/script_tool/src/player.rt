@@ -2,22 +2,22 @@
 
 ghost use Rattle.std.specs.Prelude.{◌≡◌, ◌≤◌, ◌↔◌, ◌⊎◌, ℕ, length, true, OnOk};
 ghost use Rattle.faults.specs.Faults.{HasCause, Rose};
+ghost use Rattle.script_lines.specs.Line.{HasNoForm, SaysLine};
+ghost use Rattle.script_lines.specs.declared.line.ScriptLine.{ScriptLine};
 ghost use Rattle.script_tool.specs.Host.{Host, first_host};
 ghost use Rattle.script_tool.specs.Kept.{RepresentsHost, printed_of};
-ghost use Rattle.script_tool.specs.Line.{HasNoForm, SaysLine};
 ghost use Rattle.script_tool.specs.Play.{remembering};
 ghost use Rattle.script_tool.specs.Printed.{status_printed};
 ghost use Rattle.script_tool.specs.Step.{StepPlays};
-ghost use Rattle.script_tool.specs.declared.line.ScriptLine.{ScriptLine};
 
 use crate::host_state::HostState;
-use crate::line::ScriptLine;
 use crate::link::CardLink;
 use crate::played::{Played, StepStop};
 use crate::playing::play;
 use crate::printout::{Printout, Text};
 use crate::wire::Wire;
 use io_edge::Line;
+use script_lines::ScriptLine;
 use std::marker::Model;
 
 /// A host that plays lines: the channel, the static keys, the tokens, a session for each channel, and the status that was

@@ -3,29 +3,27 @@
 ghost use Rattle.std.specs.Prelude.{◌≡◌, ℕ, List, true, false, OnOk};
 ghost use Rattle.apdu_core.specs.Apdu.{Apdu};
 ghost use Rattle.faults.specs.Faults.{HasCause};
+ghost use Rattle.script_lines.specs.Line.{SaysLine};
+ghost use Rattle.script_lines.specs.Send.{plain_of};
+ghost use Rattle.script_lines.specs.Store.{storing};
 ghost use Rattle.script_tool.specs.Host.{Host};
 ghost use Rattle.script_tool.specs.InSession.{sending};
 ghost use Rattle.script_tool.specs.Kept.{RepresentsHost, printed_of};
-ghost use Rattle.script_tool.specs.Line.{SaysLine};
 ghost use Rattle.script_tool.specs.Play.{FitsBlocks, playing, playing_control, playing_exchange, playing_put_key, wanting};
 ghost use Rattle.script_tool.specs.Played.{IsPlayed, Plays};
-ghost use Rattle.script_tool.specs.Send.{plain_of};
-ghost use Rattle.script_tool.specs.Store.{storing};
 
 use crate::commands::{
     change_life, delete, extradite, install, list, make_selectable, put_key, send_one, store,
 };
-use crate::control::Control;
-use crate::exchange::Exchange;
 use crate::host_state::HostState;
 use crate::in_plain::{raw, select};
-use crate::line::ScriptLine;
 use crate::link::{CardLink, LinkFailed};
 use crate::loading::load;
 use crate::printout::Printout;
 use crate::session_opening::open;
 use crate::wire::Wire;
 use apdu_core::Status;
+use script_lines::{Control, Exchange, ScriptLine};
 
 /// P2 of GET STATUS, for the first objects and for the next ones.
 const FIRST: u8 = 0x02;

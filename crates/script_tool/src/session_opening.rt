@@ -6,27 +6,26 @@ ghost use Rattle.faults.specs.Faults.{HasCause};
 ghost use Rattle.scp03_card.specs.Kept.{RepresentsSession};
 ghost use Rattle.scp03_card.specs.Offer.{Offer};
 ghost use Rattle.scp03_card.specs.Session.{answered};
-ghost use Rattle.script_tool.specs.Channel.{number_of};
+ghost use Rattle.script_lines.specs.Channel.{number_of};
+ghost use Rattle.script_lines.specs.declared.opening.Opening.{Opening};
 ghost use Rattle.script_tool.specs.Host.{Host};
 ghost use Rattle.script_tool.specs.InPlain.{in_plain};
 ghost use Rattle.script_tool.specs.Kept.{RepresentsHost};
 ghost use Rattle.script_tool.specs.Opening as standard;
 ghost use Rattle.script_tool.specs.Opening.{authenticated, playing_open, updating, with_field};
 ghost use Rattle.script_tool.specs.Played.{Plays};
-ghost use Rattle.script_tool.specs.declared.opening.Opening.{Opening};
 
 use crate::aes_session::AesSession;
-use crate::channel::Channel;
 use crate::host_state::HostState;
 use crate::in_plain::send_plain;
 use crate::link::{CardLink, LinkFailed};
-use crate::opening::Opening;
 use crate::printout::{DONE, Printout};
 use crate::wire::Wire;
 use crate::word::Word;
 use apdu_core::Command;
 use arrayvec::ArrayVec;
 use scp03_host::BeginRefusal;
+use script_lines::{Channel, Opening};
 
 /// Opens a session on the host's channel.
 #[inline(never)]

@@ -8,12 +8,11 @@ ghost use Rattle.scp03_host.specs.Begin.{IsOfCard, answer_to, offer_from_reply};
 ghost use Rattle.script_tool.specs.Opening.{offer_under};
 
 use crate::aes_session::AesSession;
-use crate::keys::{Keys, OfSize, Trio};
-use crate::opening::Opening;
 use aes_block::BlockKey;
 use arrayvec::ArrayVec;
 use scp03_card::StaticKeys;
 use scp03_host::{BeginRefusal, HostSession, begin};
+use script_lines::{Keys, OfSize, Opening, Trio};
 
 impl AesSession {
     /// Begins a session, as `scp03_host::begin` does. `reply` is the data field that the card answered to INITIALIZE

@@ -1,5 +1,5 @@
 use Rattle.std.proofs.Common.{◌≡◌, ℕ, List, ◌-◌, ◌*◌, ◌++◌, ap, drop, length, take, ◌∙◌}
-use Rattle.script_tool.proofs.Pieces.{two_parts}
+use Rattle.script_lines.proofs.Pieces.{two_parts}
 use Rattle.cap_pack.specs.Pack.{block_size}
 use Rattle.cap_pack.proofs.blocks.block.Goals as goal
 

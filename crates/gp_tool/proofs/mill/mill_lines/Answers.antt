@@ -1,9 +1,9 @@
 use Rattle.std.proofs.Common.{ℕ, List, length, refl, sym, ap, subst, ◌∙◌, arith}
 use Rattle.std.specs.Prelude.{Result, Ok, Err, OnErr}
-use Rattle.script_tool.proofs.WorkloadLines.{workload_lines}
+use Rattle.script_lines.proofs.WorkloadLines.{workload_lines}
 use Rattle.script_tool.specs.Line.{SaysLine}
 use Rattle.script_tool.specs.Workload.{AreLines}
-use Rattle.script_tool.specs.declared.line.ScriptLine.{ScriptLine}
+use Rattle.script_lines.specs.declared.line.ScriptLine.{ScriptLine}
 use Rattle.gp_tool.proofs.MilledLines.{milled, milling_broken, milling_first, milling_more, workload_long}
 use Rattle.gp_tool.proofs.Moments.{nothing_done}
 use Rattle.gp_tool.proofs.Powered.{rose_since}

@@ -1,4 +1,4 @@
-use Rattle.script_tool.specs.Life.{changing_life}
+use Rattle.script_lines.specs.Life.{changing_life}
 use Rattle.script_tool.proofs.commands.change_life.Goals as goal
 
 pub returns-clause-played : goal.returns-clause-played

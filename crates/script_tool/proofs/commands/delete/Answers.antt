@@ -1,6 +1,6 @@
 use Rattle.std.proofs.Common.{ap, ◌∙◌}
-use Rattle.script_tool.specs.Delete.{deleting}
-use Rattle.script_tool.specs.declared.tokens.Tokens.{Tokens}
+use Rattle.script_lines.specs.Delete.{deleting}
+use Rattle.script_lines.specs.declared.tokens.Tokens.{Tokens}
 use Rattle.script_tool.proofs.commands.delete.Goals as goal
 
 pub returns-clause-played : goal.returns-clause-played

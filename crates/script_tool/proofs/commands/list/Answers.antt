@@ -1,4 +1,4 @@
-use Rattle.script_tool.specs.Listing.{listing_command}
+use Rattle.script_lines.specs.Listing.{listing_command}
 use Rattle.script_tool.proofs.commands.list.Goals as goal
 
 pub returns-clause-played : goal.returns-clause-played

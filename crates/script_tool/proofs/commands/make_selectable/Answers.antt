@@ -1,6 +1,6 @@
 use Rattle.std.proofs.Common.{ap, ◌∙◌}
-use Rattle.script_tool.specs.Selectable.{making_selectable}
-use Rattle.script_tool.specs.declared.tokens.Tokens.{Tokens}
+use Rattle.script_lines.specs.Selectable.{making_selectable}
+use Rattle.script_lines.specs.declared.tokens.Tokens.{Tokens}
 use Rattle.script_tool.proofs.commands.make_selectable.Goals as goal
 
 pub returns-clause-played : goal.returns-clause-played

@@ -7,7 +7,7 @@ use Rattle.script_tool.proofs.Protecting.{own_goes}
 use Rattle.script_tool.specs.InSession.{printing, protecting, with_some}
 use Rattle.script_tool.specs.Play.{playing_put_key}
 use Rattle.script_tool.specs.Played.{Continues}
-use Rattle.script_tool.specs.PutKey.{putting_keys}
+use Rattle.script_lines.specs.PutKey.{putting_keys}
 use Rattle.script_tool.proofs.commands.put_key.Goals as goal
 
 pub returns-clause-played : goal.returns-clause-played

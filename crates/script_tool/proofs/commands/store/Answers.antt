@@ -1,6 +1,6 @@
 use Rattle.std.proofs.Common.{false}
 use Rattle.script_tool.specs.InSession.{sending}
-use Rattle.script_tool.specs.Store.{storing}
+use Rattle.script_lines.specs.Store.{storing}
 use Rattle.script_tool.proofs.Plainly.{continues_plays}
 use Rattle.script_tool.specs.InSession.{printing}
 use Rattle.script_tool.proofs.commands.store.Goals as goal

@@ -2,12 +2,12 @@ use Rattle.std.proofs.Common.{ℕ, List}
 use Rattle.script_tool.specs.InPlain.{in_plain}
 use Rattle.script_tool.specs.Kept.{printed_of}
 use Rattle.std.proofs.Common.{subst, ap, ◌∙◌}
-use Rattle.script_tool.specs.declared.channel.Channel.{Channel}
+use Rattle.script_lines.specs.declared.channel.Channel.{Channel}
 use Rattle.script_tool.specs.Played.{IsPlayed}
 use Rattle.script_tool.proofs.Plainly.{select_played}
-use Rattle.script_tool.specs.Channel.{number_of}
-use Rattle.script_tool.specs.Command.{spelled}
-use Rattle.script_tool.specs.Select.{selecting}
+use Rattle.script_lines.specs.Channel.{number_of}
+use Rattle.script_lines.specs.Command.{spelled}
+use Rattle.script_lines.specs.Select.{selecting}
 use Rattle.script_tool.specs.InPlain.{selected}
 use Rattle.script_tool.proofs.in_plain.select.Goals as goal
 

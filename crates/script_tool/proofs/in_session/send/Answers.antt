@@ -3,7 +3,7 @@ use Rattle.std.specs.Prelude.{IsErr}
 use Rattle.apdu_core.specs.Apdu.{Short, apdu_of}
 use Rattle.scp03_card.specs.Session.{Session}
 use Rattle.scp03_host.specs.Wrapped.{having_sent, room_for, wrapped}
-use Rattle.script_tool.specs.Channel.{number_of}
+use Rattle.script_lines.specs.Channel.{number_of}
 use Rattle.script_tool.specs.Host.{own_session}
 use Rattle.script_tool.specs.InSession.{protecting, with_some}
 use Rattle.script_tool.specs.Kept.{MayBeSession, RepresentsHost, kept_on}

@@ -3,10 +3,10 @@ use Rattle.apdu_core.specs.Apdu.{apdu_of}
 use Rattle.scp03_card.specs.Session.{Session}
 use Rattle.script_tool.specs.Host.{Host}
 use Rattle.script_tool.specs.InSession.{protecting}
-use Rattle.script_tool.specs.Load.{beginning_load}
+use Rattle.script_lines.specs.Load.{beginning_load}
 use Rattle.script_tool.specs.Loading.{playing_load}
 use Rattle.script_tool.specs.Talk.{Talk}
-use Rattle.script_tool.specs.declared.tokens.Tokens.{Tokens}
+use Rattle.script_lines.specs.declared.tokens.Tokens.{Tokens}
 use Rattle.script_tool.proofs.Blocks.{broken, load_begun}
 use Rattle.script_tool.proofs.HostRules.{own_some}
 use Rattle.script_tool.proofs.Protecting.{own_goes}

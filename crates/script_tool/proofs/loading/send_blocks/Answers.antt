@@ -1,7 +1,7 @@
 use Rattle.std.proofs.Common.{◌≡◌, ◌+◌, ◌-◌, ◌*◌, ◌/◌, ◌%◌, min, ℕ, List, Ok, Err, drop, length, refl, subst, ap, ◌∙◌, arith}
 use Rattle.apdu_core.specs.Apdu.{apdu_of}
 use Rattle.script_tool.specs.Kept.{printed_of}
-use Rattle.script_tool.specs.Load.{block_element, content_bytes}
+use Rattle.script_lines.specs.Load.{block_element, content_bytes}
 use Rattle.script_tool.proofs.Blocks.{AtBlock, all_sent, broken, first_block, next_block, stopped}
 use Rattle.script_tool.proofs.loading.send_blocks.Goals as goal
 

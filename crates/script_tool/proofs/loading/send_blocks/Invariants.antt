@@ -1,6 +1,6 @@
 use Rattle.std.proofs.Common.{◌≡◌, ◌*◌, ◌-◌, true, drop}
 use Rattle.script_tool.specs.Kept.{printed_of}
-use Rattle.script_tool.specs.Load.{block_element, content_bytes}
+use Rattle.script_lines.specs.Load.{block_element, content_bytes}
 use Rattle.script_tool.specs.Loading.{loading_all}
 use Rattle.script_tool.specs.Played.{ContinuesWith}
 use Rattle.script_tool.specs.Talk.{Talk}

@@ -7,7 +7,7 @@ use Rattle.script_tool.proofs.PlayedRules.{ends_here}
 use Rattle.script_tool.specs.Host.{after_reset, with_channel, with_keys, with_tokens}
 use Rattle.script_tool.specs.Printed.{Nothing}
 use Rattle.script_tool.specs.Talk.{Reset}
-use Rattle.script_tool.specs.declared.control.Control.{Control}
+use Rattle.script_lines.specs.declared.control.Control.{Control}
 use Rattle.script_tool.specs.declared.host_state.HostState.{HostState}
 use Rattle.script_tool.proofs.playing.obey.Goals as goal
 

@@ -1,8 +1,8 @@
 use Rattle.script_tool.specs.Play.{playing_exchange}
 use Rattle.script_tool.specs.Played.{Plays}
-use Rattle.script_tool.specs.Send.{plain_of}
+use Rattle.script_lines.specs.Send.{plain_of}
 use Rattle.std.proofs.Common.{subst, sym, ap, ◌∙◌, refl}
-use Rattle.script_tool.specs.declared.exchange.Exchange.{Exchange}
+use Rattle.script_lines.specs.declared.exchange.Exchange.{Exchange}
 use Rattle.script_tool.proofs.playing.play_exchange.Goals as goal
 
 pub returns-in-Send-clause-played : goal.returns-in-Send-clause-played

@@ -1,7 +1,7 @@
 use Rattle.std.proofs.Common.{◌≡◌, ◌≤◌, ap, arith, length, ◌∙◌, ℕ, List, [], ◌∷◌}
 use Rattle.apdu_core.specs.Apdu.{Apdu}
 use Rattle.script_tool.specs.Tokens.{install_command}
-use Rattle.script_tool.specs.declared.tokens.Tokens.TheVariants.{Absent}
+use Rattle.script_lines.specs.declared.tokens.Tokens.TheVariants.{Absent}
 use Rattle.cap_pack.proofs.PackRules.{short_file}
 use Rattle.cap_pack.proofs.cap.Cap.write_install.Goals as goal
 

@@ -1,8 +1,8 @@
 use Rattle.std.proofs.Common.{Bool}
 use Rattle.script_tool.specs.Kept.{printed_of}
-use Rattle.script_tool.specs.declared.line.ScriptLine.{ScriptLine}
+use Rattle.script_lines.specs.declared.line.ScriptLine.{ScriptLine}
 use Rattle.std.proofs.Common.{subst, ap, ◌∙◌}
-use Rattle.script_tool.proofs.OneLine.{one_line}
+use Rattle.script_lines.proofs.OneLine.{one_line}
 use Rattle.std.proofs.Common.{Bool}
 use Rattle.script_tool.specs.Play.{playing}
 use Rattle.script_tool.specs.Printed.{printed_text}

@@ -1,0 +1,16 @@
+pub mod Digits
+pub mod OneControl
+pub mod OneKey
+pub mod OneLine
+pub mod OneOrder
+pub mod OneValue
+pub mod OneVerb
+pub mod Pieces
+pub mod RoundLines
+pub mod ShortCommand
+pub mod Spelled
+pub mod Split
+pub mod Verbs
+pub mod WideWords
+pub mod Workload
+pub mod WorkloadLines

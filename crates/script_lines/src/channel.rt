@@ -1,0 +1,50 @@
+//! Logical channels (GlobalPlatform Card Specification 2.3.1, 11.1.4).
+
+ghost use Rattle.std.specs.Prelude.{◌≡◌, ◌+◌, ◌∷◌, [], ◌<◌};
+ghost use Rattle.script_lines.specs.Channel.{SaysChannel, number_of};
+ghost use Rattle.script_lines.specs.Reads.{Reads};
+ghost use Rattle.script_lines.specs.Words.{left};
+
+use crate::words::Words;
+
+/// A logical channel.
+#[derive(Clone, Copy)]
+pub enum Channel {
+    Basic = 0,
+    First = 1,
+    Second = 2,
+    Third = 3,
+}
+
+impl Channel {
+    /// Its number.
+    pub fn number(&self) -> u8
+        ensures number { result ≡ number_of self.now }
+        ensures few { result < 4 }
+    {
+        *self as u8
+    }
+}
+
+// The channel that a digit names.
+fn named(word: &[u8]) -> Option<Channel>
+    ensures { Reads (λ channel. word.now ≡ (48 + number_of channel) ∷ []) result }
+{
+    match word {
+        [b'0'] => Some(Channel::Basic),
+        [b'1'] => Some(Channel::First),
+        [b'2'] => Some(Channel::Second),
+        [b'3'] => Some(Channel::Third),
+        _ => None,
+    }
+}
+
+/// Reads `channel N`.
+pub fn read(words: Words<'_>) -> Option<Channel>
+    ensures { Reads (SaysChannel (left words.entry)) result }
+{
+    let mut words = words;
+    words.fixed(b"channel")?;
+    let channel = named(words.last()?)?;
+    Some(channel)
+}

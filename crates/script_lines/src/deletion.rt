@@ -1,0 +1,53 @@
+//! Objects to delete (GlobalPlatform Card Specification 2.3.1, 11.2).
+
+ghost use Rattle.std.specs.Prelude.{◌≡◌};
+ghost use Rattle.script_lines.specs.Delete.{SaysDelete, deleting};
+ghost use Rattle.script_lines.specs.Reads.{Reads};
+ghost use Rattle.script_lines.specs.Send.{plain_of};
+ghost use Rattle.script_lines.specs.Words.{left};
+
+use crate::plain::Plain;
+use crate::tokens::Tokens;
+use crate::values::{aid, byte};
+use crate::words::Words;
+use card_types::Aid;
+use tokens_receipts::{object_field, push_field};
+
+/// An object to delete, and P2.
+#[derive(Clone, Copy)]
+pub struct Deletion {
+    pub aid: Aid,
+    pub p2: u8,
+}
+
+impl Deletion {
+    /// DELETE.
+    #[inline(never)]
+    pub fn command(&self, tokens: &Tokens) -> Plain
+        ensures { plain_of result ≡ deleting tokens.now self.now }
+    {
+        let mut body = object_field(&self.aid);
+        if let Some(token) = tokens.token(0x00, self.p2, &body) {
+            body.push(0x9e);
+            push_field(&token, &mut body);
+        }
+        Plain {
+            ins: 0xe4,
+            p1: 0x00,
+            p2: self.p2,
+            body,
+        }
+    }
+}
+
+/// Reads `delete AID P2`.
+#[inline(never)]
+pub fn read(words: Words<'_>) -> Option<Deletion>
+    ensures { Reads (SaysDelete (left words.entry)) result }
+{
+    let mut words = words;
+    words.fixed(b"delete")?;
+    let aid = aid(words.take()?)?;
+    let p2 = byte(words.last()?)?;
+    Some(Deletion { aid, p2 })
+}

@@ -1,0 +1,94 @@
+//! The lines that send commands to the card (this profile's own).
+
+ghost use Rattle.script_lines.specs.Exchange.{SaysExchange};
+ghost use Rattle.script_lines.specs.Reads.{Reads};
+ghost use Rattle.script_lines.specs.Words.{left};
+
+use crate::deletion::{self, Deletion};
+use crate::extradition::{self, Extradition};
+use crate::install::{self, Installation};
+use crate::life::{self, LifeChange};
+use crate::listing::{self, Listing};
+use crate::load_file::{self, LoadFile};
+use crate::octets::{read_raw, read_store};
+use crate::opening::{self, Opening};
+use crate::plain::{self, Plain};
+use crate::put_key::{self, Putting};
+use crate::verb::Verb;
+use crate::words::Words;
+use crate::{select, selectable};
+use arrayvec::ArrayVec;
+use card_types::Aid;
+
+/// What a line sends to the card.
+#[derive(Drop)]
+pub enum Exchange {
+    /// SELECT, with an AID or without.
+    Select(Option<Aid>),
+
+    /// Bytes as they are.
+    Raw(ArrayVec<u8, 258>),
+
+    /// INITIALIZE UPDATE and EXTERNAL AUTHENTICATE.
+    Open(Opening),
+
+    /// A command in the session.
+    Send(Plain),
+
+    /// A command in the session with the lowest bit of its first MAC byte turned.
+    Bad(Plain),
+
+    /// INSTALL for install, and make selectable.
+    Install(Installation),
+
+    /// INSTALL for make selectable.
+    Selectable(Aid),
+
+    /// INSTALL for extradition.
+    Extradite(Extradition),
+
+    /// INSTALL for load, and LOAD of each block.
+    Load(LoadFile),
+
+    /// DELETE of an object.
+    Delete(Deletion),
+
+    /// PUT KEY.
+    PutKey(Putting),
+
+    /// STORE DATA of one block, with its data.
+    Store(ArrayVec<u8, 258>),
+
+    /// SET STATUS.
+    Life(LifeChange),
+
+    /// GET STATUS for the first objects.
+    List(Listing),
+
+    /// GET STATUS for the next objects.
+    More(Listing),
+}
+
+/// Reads a line that sends commands. Its first word tells which form it may have.
+pub fn read(words: Words<'_>) -> Option<Exchange>
+    ensures { Reads (SaysExchange (left words.entry)) result }
+{
+    let mut rest = words;
+    match Verb::read(rest.take()?)? {
+        Verb::Select => select::read(words).map(Exchange::Select),
+        Verb::Raw => read_raw(words).map(Exchange::Raw),
+        Verb::Open => opening::read(words).map(Exchange::Open),
+        Verb::Send => plain::read(b"send", words).map(Exchange::Send),
+        Verb::Bad => plain::read(b"bad", words).map(Exchange::Bad),
+        Verb::Install => install::read(words).map(Exchange::Install),
+        Verb::Selectable => selectable::read(words).map(Exchange::Selectable),
+        Verb::Extradite => extradition::read(words).map(Exchange::Extradite),
+        Verb::Load => load_file::read(words).map(Exchange::Load),
+        Verb::Delete => deletion::read(words).map(Exchange::Delete),
+        Verb::PutKey => put_key::read(words).map(Exchange::PutKey),
+        Verb::Store => read_store(words).map(Exchange::Store),
+        Verb::Life => life::read(words).map(Exchange::Life),
+        Verb::List => listing::read(b"list", words).map(Exchange::List),
+        Verb::More => listing::read(b"more", words).map(Exchange::More),
+    }
+}

@@ -1,0 +1,65 @@
+//! Lists of objects (GlobalPlatform Card Specification 2.3.1, 11.4).
+
+ghost use Rattle.std.specs.Prelude.{◌≡◌};
+ghost use Rattle.script_lines.specs.Listing.{MayBegin, SaysListing, listing_command};
+ghost use Rattle.script_lines.specs.Reads.{Reads};
+ghost use Rattle.script_lines.specs.Send.{plain_of};
+ghost use Rattle.script_lines.specs.Words.{left};
+
+use crate::plain::Plain;
+use crate::values::{byte, bytes};
+use crate::words::Words;
+use arrayvec::ArrayVec;
+use tokens_receipts::{DataField, push_field};
+
+/// A GET STATUS: P1, and the bytes that each AID begins with.
+#[derive(Drop)]
+pub struct Listing {
+    pub p1: u8,
+    pub prefix: ArrayVec<u8, 16>,
+}
+
+impl Listing {
+    /// GET STATUS with this P2.
+    #[inline(never)]
+    pub fn command(&self, p2: u8) -> Plain
+        ensures { plain_of result ≡ listing_command p2 self.now }
+    {
+        let mut body = DataField::new();
+        body.push(0x4f);
+        push_field(&self.prefix, &mut body);
+        Plain {
+            ins: 0xf2,
+            p1: self.p1,
+            p2,
+            body,
+        }
+    }
+}
+
+// The bytes that each AID begins with, or none where the words end.
+fn may_begin(words: Words<'_>) -> Option<ArrayVec<u8, 16>>
+    ensures { Reads (λ prefix. MayBegin (left words.entry) prefix.items) result }
+{
+    let mut words = words;
+    match words.take() {
+        None => Some(ArrayVec::new()),
+        Some(word) => {
+            let prefix = bytes(word)?;
+            words.end()?;
+            Some(prefix)
+        }
+    }
+}
+
+/// Reads `list P1 [AID]` or `more P1 [AID]`.
+#[inline(never)]
+pub fn read(verb: &[u8], words: Words<'_>) -> Option<Listing>
+    ensures { Reads (SaysListing verb.now (left words.entry)) result }
+{
+    let mut words = words;
+    words.fixed(verb)?;
+    let p1 = byte(words.take()?)?;
+    let prefix = may_begin(words)?;
+    Some(Listing { p1, prefix })
+}

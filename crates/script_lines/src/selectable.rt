@@ -1,0 +1,35 @@
+//! Applications to make selectable (GlobalPlatform Card Specification 2.3.1, 11.5).
+
+ghost use Rattle.std.specs.Prelude.{◌≡◌};
+ghost use Rattle.script_lines.specs.Reads.{Reads};
+ghost use Rattle.script_lines.specs.Selectable.{SaysSelectable, making_selectable};
+ghost use Rattle.script_lines.specs.Send.{plain_of};
+ghost use Rattle.script_lines.specs.Words.{left};
+
+use crate::install::install;
+use crate::plain::Plain;
+use crate::tokens::Tokens;
+use crate::values::aid;
+use crate::words::Words;
+use card_types::Aid;
+use tokens_receipts::five_fields;
+
+/// Reads `selectable AID`.
+#[inline(never)]
+pub fn read(words: Words<'_>) -> Option<Aid>
+    ensures { Reads (SaysSelectable (left words.entry)) result }
+{
+    let mut words = words;
+    words.fixed(b"selectable")?;
+    let aid = aid(words.last()?)?;
+    Some(aid)
+}
+
+/// INSTALL for make selectable.
+#[inline(never)]
+pub fn command(aid: &Aid, tokens: &Tokens) -> Plain
+    ensures { plain_of result ≡ making_selectable tokens.now aid.now }
+{
+    let fields = five_fields(&[], &[], aid.as_bytes(), &[], &[]);
+    install(tokens, 0x08, fields)
+}

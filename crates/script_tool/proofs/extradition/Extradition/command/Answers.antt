@@ -1,9 +1,0 @@
-use Rattle.std.proofs.Common.{◌∷◌, [], ◌∙◌}
-use Rattle.std.specs.List.{flat_map}
-use Rattle.tokens_receipts.specs.Receipt.{with_length}
-use Rattle.script_tool.proofs.extradition.Extradition.command.Goals as goal
-
-pub returns : goal.returns
-returns c =
-    c.install.ensures (c.args.self.now.domain ∷ [] ∷ c.args.self.now.aid ∷ [] ∷ [] ∷ [])
-    (c.five_fields-fields.ensures.items ∙ (λ j. flat_map with_length (c.as_bytes.ensures.bytes j ∷ [] ∷ c.as_bytes-2.ensures.bytes j ∷ [] ∷ [] ∷ [])))

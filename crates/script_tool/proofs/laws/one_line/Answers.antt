@@ -1,5 +1,0 @@
-use Rattle.script_tool.proofs.OneLine as proof
-use Rattle.script_tool.proofs.laws.one_line.Goals as goal
-
-pub returns : goal.returns
-returns c = proof.one_line
