@@ -14,7 +14,7 @@ ghost use Rattle.gp_tool.specs.Serve.{BreaksLine};
 ghost use Rattle.gp_tool.specs.Standing.{standing};
 
 use crate::card_end::CardEnd;
-use crate::play::{has_printed, printed_line};
+use crate::play::{PrintedLine, fill_line, has_printed};
 use crate::step_card::step_card;
 use crate::tally::Tally;
 use crate::workload::Workload;
@@ -50,7 +50,9 @@ fn mill_line<F: Flash>(
     match step_card(&line, end, player, &mut printed) {
         Ok(played) => {
             if has_printed(played) {
-                tally.count(&printed_line(&printed));
+                let mut text = PrintedLine::new();
+                fill_line(&printed, &mut text);
+                tally.count(&text);
             }
             Ok(())
         }

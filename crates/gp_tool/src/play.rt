@@ -18,8 +18,8 @@ use flash_core::Flash;
 use io_edge::{Line, Sink, WriteFailed};
 use script_tool::{Played, StepStop, Text};
 
-/// How many bytes a printed line has, with its newline, at most.
-const PRINTED_LIMIT: usize = 601;
+/// What a line has printed, and a newline.
+pub type PrintedLine = ArrayVec<u8, 601>;
 
 // Keeps that a status differed from the one that a line wants.
 fn note_difference(differs: &mut bool, played: Played)
@@ -37,24 +37,28 @@ pub fn has_printed(played: Played) -> bool
     !matches!(played, Played::Quiet)
 }
 
-/// What a line has printed, and a newline.
-pub fn printed_line(printed: &Text) -> ArrayVec<u8, PRINTED_LIMIT>
-    ensures { result.items ≡ printed.now.items ++ 10 ∷ [] }
+/// Replaces what `line` holds by what a line has printed, and a newline.
+pub fn fill_line(printed: &Text, line: &mut PrintedLine)
+    ensures { line.new.items ≡ printed.now.items ++ 10 ∷ [] }
 {
-    let mut line = ArrayVec::new();
+    line.clear();
     line.try_extend_from_slice(printed).unwrap();
     line.push(b'\n');
-    line
 }
 
 // Writes what a line has printed as one line, by one write.
-fn write_printed<K: Sink>(printed: &Text, sink: &mut K) -> Result<(), WriteFailed>
+fn write_printed<K: Sink>(
+    printed: &Text,
+    line: &mut PrintedLine,
+    sink: &mut K,
+) -> Result<(), WriteFailed>
     ensures ok { K.tells → OnOk result ((K.state sink.new).written ≡ (K.state sink.old).written ++ (printed.now.items ++ 10 ∷ [])) }
     ensures err { K.tells → OnErr result ((n : ℕ) × ((K.state sink.new).written ≡ (K.state sink.old).written ++ take n (printed.now.items ++ 10 ∷ []))) }
     ensures flushes { (K.state sink.new).flushes ≡ (K.state sink.old).flushes }
     ensures cause { HasCause (K.state sink.old).faults (K.state sink.new).faults result }
 {
-    sink.write_all(&printed_line(printed))
+    fill_line(printed, line);
+    sink.write_all(line)
 }
 
 /// Plays a line over the card, and writes what it prints.
@@ -82,7 +86,7 @@ pub fn play_line<K: Sink, F: Flash>(
         Ok(played) => {
             note_difference(differs, played);
             if has_printed(played) {
-                match write_printed(&space.printed, sink) {
+                match write_printed(&space.printed, &mut space.printed_line, sink) {
                     Ok(()) => LineEnd::Done,
                     Err(_) => LineEnd::WriteFault,
                 }

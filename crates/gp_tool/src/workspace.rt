@@ -5,6 +5,7 @@ ghost use Rattle.script_tool.specs.Host.{first_host};
 ghost use Rattle.script_tool.specs.Kept.{RepresentsHost};
 
 use crate::form::COMMAND_LIMIT;
+use crate::play::PrintedLine;
 use crate::reply::REPLY_LINE_LIMIT;
 use arrayvec::ArrayVec;
 use card_core::REPLY_LIMIT;
@@ -21,6 +22,7 @@ pub struct Workspace {
     pub text: [u8; REPLY_LINE_LIMIT],
     pub player: Player,
     pub printed: Text,
+    pub printed_line: PrintedLine,
 }
 
 impl Workspace {
@@ -36,6 +38,7 @@ impl Workspace {
             text: [0; REPLY_LINE_LIMIT],
             player: Player::new(),
             printed: Text::new(),
+            printed_line: PrintedLine::new(),
         }
     }
 }

@@ -16,7 +16,7 @@ returns-then-has_printed-clause-played g c place stands host =
     record {
       differs = is_difference_kind c.in-Ok.played;
       runs = run.0;
-      tally_is = c.count.ensures ∙ ap (λ text. with_text text c.args.tally.now) (c.deref.ensures.0 ∙ c.printed_line.ensures) ∙ ap (λ texts. with_texts texts c.args.tally.now) (sym run.1);
+      tally_is = c.count.ensures ∙ ap (λ text. with_text text c.args.tally.now) (c.deref.ensures.0 ∙ c.fill_line.ensures) ∙ ap (λ texts. with_texts texts c.args.tally.now) (sym run.1);
     }
 
 pub returns-else-has_printed-clause-played : goal.returns-else-has_printed-clause-played
