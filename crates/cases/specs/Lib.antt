@@ -4,3 +4,4 @@ pub mod Made
 pub mod Slots
 pub mod Layout
 pub mod Bench
+pub mod Why

@@ -2,6 +2,7 @@
 use Rattle.std.specs.Prelude.{◌≡◌, ℕ, List, [], ◌∷◌, codes}
 use Rattle.script_tool.specs.Values.{SpellsSome, SpellsUpTo}
 use Rattle.cases.specs.declared.things.EntryWords.{EntryWords}
+use Rattle.cases.specs.declared.things.FileWords.{FileWords}
 use Rattle.cases.specs.declared.things.KeyWords.{KeyWords}
 use Rattle.cases.specs.declared.things.ObjectWords.{ObjectWords}
 use Rattle.cases.specs.declared.things.StateWords.{StateWords}
@@ -20,6 +21,13 @@ SaysEntry (aid ∷ in' ∷ domain ∷ from ∷ file ∷ of ∷ module' ∷ state
     × SpellsUpTo 16 aid e.aid.items × SpellsUpTo 16 domain e.domain.items × SpellsUpTo 16 file e.file.items
     × SpellsUpTo 16 module' e.«module».items × SaysState state e.state
 SaysEntry _ e = ⊥
+
+-- `AID in DOMAIN bytes N` with these digits of N, and then the rest
+abbrev pub SaysFile : List (List ℕ) → FileWords → List ℕ → List (List ℕ) → Type 0
+SaysFile (aid ∷ in' ∷ domain ∷ size ∷ digits ∷ more) f count rest =
+    (in' ≡ codes "in") × (size ≡ codes "bytes") × (digits ≡ count) × (more ≡ rest)
+    × SpellsUpTo 16 aid f.aid.items × SpellsUpTo 16 domain f.domain.items
+SaysFile _ f count rest = ⊥
 
 -- `OWNER VV II KEY CCCCCC`
 abbrev pub SaysKey : List (List ℕ) → KeyWords → Type 0

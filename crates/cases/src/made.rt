@@ -15,7 +15,7 @@ ghost use Rattle.script_tool.specs.Words.{left};
 
 use crate::case_error::CaseError;
 use crate::things::{EntryWords, FileWords, KeyWords, Name, ObjectWords, slot_number};
-use crate::words::number;
+use crate::words::short_number;
 use card_types::{
     Aid, COUNTER_LIMIT, CardLife, Entry, FILE_LIMIT, KeyRec, LifeMark, LoadFile, Object,
     Privileges, Tables,
@@ -98,7 +98,7 @@ fn load_pages(words: &mut Words<'_>, count: usize) -> Option<[u16; 128]>
     words.fixed(b"pages")?;
     let mut pages = [FIRST_LOAD_PAGE; 128];
     for place in 0..count {
-        let page = u16::try_from(number(words.take()?)?).ok()?;
+        let page = short_number(words.take()?)?;
         if page < FIRST_LOAD_PAGE || page >= PAGES {
             return None;
         }

@@ -1,12 +1,13 @@
 //! The things of a registry, as words say them.
 
-ghost use Rattle.std.specs.Prelude.{◌≡◌, Some, IfOk};
-ghost use Rattle.cases.specs.Things.{SaysEntry, SaysKey, SaysObject, SaysState};
+ghost use Rattle.std.specs.Prelude.{◌≡◌, ◌<◌, ◌^◌, ℕ, List, decimal, Some, IfNone, IfOk, IfSome};
+ghost use Rattle.cases.specs.Things.{SaysEntry, SaysFile, SaysKey, SaysObject, SaysState};
+ghost use Rattle.cases.specs.declared.things.FileWords.{FileWords};
 ghost use Rattle.script_tool.specs.Reads.{Reads};
 ghost use Rattle.script_tool.specs.Words.{left};
 
 use crate::case_error::CaseError;
-use crate::words::{after, last_after, number};
+use crate::words::{after, last_after, short_number};
 use arrayvec::ArrayVec;
 use script_tool::values::{array, bytes};
 use script_tool::words::Words;
@@ -80,10 +81,14 @@ pub struct FileWords {
 
 impl FileWords {
     /// Reads the first words of those that are left.
-    pub fn read(words: &mut Words<'_>) -> Option<FileWords> {
+    pub fn read(words: &mut Words<'_>) -> Option<FileWords>
+        ensures said { IfSome result (λ file. (digits : List ℕ) × SaysFile (left words.old) file digits (left words.new)
+            × ((n : ℕ) → n < 2 ^ 16 → digits ≡ decimal n → file.len ≡ n)) }
+        ensures none { IfNone result ((file : FileWords) (rest : List (List ℕ)) → file.len < 2 ^ 16 → SaysFile (left words.old) file (decimal file.len) rest → ⊥) }
+    {
         let aid = bytes(words.take()?)?;
         let domain = bytes(after(words, b"in")?)?;
-        let len = u16::try_from(number(after(words, b"bytes")?)?).ok()?;
+        let len = short_number(after(words, b"bytes")?)?;
         Some(FileWords { aid, domain, len })
     }
 }

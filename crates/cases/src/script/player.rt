@@ -1,5 +1,10 @@
 //! A host and a card, with a script between them.
 
+ghost use Rattle.std.specs.Prelude.{◌≡◌, ◌⊎◌, ℕ, List, IsSome};
+ghost use Rattle.cases.specs.Why.{AsksWhy};
+ghost use Rattle.script_tool.specs.Line.{SaysLine};
+ghost use Rattle.script_lines.specs.declared.line.ScriptLine.{ScriptLine};
+
 use crate::script::card::CardEnd;
 use crate::script::why::raw_of;
 use arrayvec::ArrayVec;
@@ -46,28 +51,40 @@ impl<F: Flash> Player<F> {
 
     /// Does a line, and answers what it prints, or nothing where it is malformed. `why` prints what `raw` does, and after a
     /// status the rule that refused the command, or `-`.
-    pub fn step(&mut self, line: &[u8]) -> Option<Text> {
+    pub fn step(&mut self, line: &[u8]) -> Option<Text>
+        ensures { IsSome result → (played : List ℕ) × ((played ≡ line.now) ⊎ AsksWhy line.now played) × (said : ScriptLine) × SaysLine played said }
+    {
         let mut text = ArrayVec::new();
-        match raw_of(line) {
-            Some(raw) => {
-                if let Played::Answer(_) = self.play(&raw, &mut text)? {
-                    self.push_rule(&mut text);
-                }
-            }
-            None => {
-                self.play(line, &mut text)?;
-            }
-        }
+        let Some(raw) = raw_of(line) else {
+            self.play(line, &mut text)?;
+            return Some(text);
+        };
+        self.explain(&raw, &mut text)?;
         Some(text)
     }
 
+    // Plays a line, and adds to the status that it prints why.
+    fn explain(&mut self, line: &[u8], text: &mut Text) -> Option<()>
+        ensures { IsSome result → (said : ScriptLine) × SaysLine line.now said }
+    {
+        if let Played::Answer(_) = self.play(line, text)? {
+            self.push_rule(text);
+        }
+        Some(())
+    }
+
     // Plays a line that has a form. The card always answers, so no other line stops the host.
-    fn play(&mut self, line: &[u8], text: &mut Text) -> Option<Played> {
+    fn play(&mut self, line: &[u8], text: &mut Text) -> Option<Played>
+        ensures { IsSome result → (said : ScriptLine) × SaysLine line.now said }
+    {
         let line = Line {
             number: 1,
             text: line,
         };
-        self.host.step(&mut self.card, &line, text).ok()
+        match self.host.step(&mut self.card, &line, text) {
+            Ok(played) => Some(played),
+            Err(_) => None,
+        }
     }
 
     fn push_rule(&self, text: &mut Text) {
