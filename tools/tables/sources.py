@@ -39,8 +39,8 @@ source = text_of(MACHINE / "src", "*.rt")
 specs = text_of(MACHINE / "specs", "*.antt")
 enums = "".join(re.findall(r"^pub enum Rule[A-Z]+ \{(.*?)^\}", source, re.M | re.S))
 variants = re.findall(r"^    (\w+),$", enums, re.M)
-names = pairs(r'::(\w+)\)? => "(\w+)",$', source)
-statuses = pairs(r"::(\w+)\)? => Status\(0x(\w{4})\),$", source)
+names = pairs(r'::(\w+)\)? => Refusal::new\("(\w+)", 0x\w{4}\),$', source)
+statuses = pairs(r'::(\w+)\)? => Refusal::new\("\w+", 0x(\w{4})\),$', source)
 refusals = pairs(r'refusal \(codes "(\w+)"\) 0x(\w{4})$', specs)
 
 # The status words: those of rules, those of accepted commands, and that of a failed device.
